@@ -1,0 +1,29 @@
+use crate::address::Mac;
+
+/// A moment or a length of time, in milliseconds.
+pub type Millis = u64;
+
+/// A VLAN by its wire number: 0 for untagged, 32768 plus the number (1 to 4094) for tagged.
+#[derive(Clone, Copy, Debug, PartialEq, Eq, PartialOrd, Ord, Hash)]
+pub struct Vid(pub u16);
+
+impl Vid {
+    /// No VLAN.
+    pub const UNTAGGED: Vid = Vid(0);
+    /// The bit of the wire number that says that the VLAN is tagged.
+    pub const TAGGED: u16 = 0x8000;
+}
+
+/// A client's address in a VLAN. Keys are ordered by the address bytes, then by the wire number.
+#[derive(Clone, Copy, Debug, PartialEq, Eq, PartialOrd, Ord, Hash)]
+pub struct Key {
+    pub mac: Mac,
+    pub vid: Vid,
+}
+
+/// A client of a table: its key and its flags, of which WIFI (bit 4) and ISOLATED (bit 5) count.
+#[derive(Clone, Copy, Debug, PartialEq, Eq, PartialOrd, Ord, Hash)]
+pub struct Entry {
+    pub key: Key,
+    pub flags: u8,
+}

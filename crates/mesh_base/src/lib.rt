@@ -1,0 +1,16 @@
+//! The values that every layer of batmesh speaks of, and its doors to the outside.
+//!
+//! `Mac`, `Vid`, `Key` and `Entry` name clients and nodes; `Bytes` holds bytes of its own; `Intake` and `Sink` are
+//! what the program reads from and writes to.
+
+#![tactic(auto)]
+
+pub mod address;
+pub mod byte_list;
+pub mod client;
+pub mod failure;
+
+pub use address::Mac;
+pub use byte_list::Bytes;
+pub use client::{Entry, Key, Millis, Vid};
+pub use failure::NoMemory;
