@@ -1,0 +1,125 @@
+-- The state of a plain run and what a command does to it. A node keeps its log alone; the clock stands at a moment in
+-- milliseconds; the events are what the run prints, in order. A command is refused by the first rule that it breaks: a
+-- second node isn't built, and a name that a line uses must be that of a node. The main word is `carried_out`.
+use Rattle.std.specs.Prelude.{ℕ, Bool, true, not, List, [], ◌∷◌, ◌++◌, map, find, bytes_eq, Option, Some, None, Result, Ok, Err, if◌then◌else◌}
+use Rattle.std.specs.List.{list_any}
+use Rattle.std.specs.Option.{option_or, option_map_or}
+use Rattle.mesh_base.specs.declared.address.Mac.{Mac}
+use Rattle.mesh_model.specs.declared.ending.Refusal.{Refusal}
+use Rattle.mesh_model.specs.declared.ending.Refusal.TheVariants.{NotBuilt, UnknownName}
+use Rattle.mesh_model.specs.declared.ending.Stop.{Stop}
+use Rattle.mesh_model.specs.declared.ending.Stop.TheVariants.{Refused}
+use Rattle.mesh_model.specs.declared.line_form.Command.{Command}
+use Rattle.mesh_model.specs.declared.line_form.Command.TheVariants.{Nothing, Node, Frame, Show}
+use Rattle.mesh_model.specs.declared.line_form.Table.{Table}
+use Rattle.mesh_model.specs.declared.line_form.Table.TheVariants.{Locals}
+use Rattle.mesh_model.specs.Log.{Given, Log}
+use Rattle.mesh_model.specs.Log.{Frame as GivenFrame}
+use Rattle.mesh_model.specs.Mentions.{mentions}
+use Rattle.mesh_model.specs.Present.{present_clients}
+use Rattle.mesh_model.specs.TableText.{LocalTable, table_text}
+
+-- a node: its name, its address and its log
+pub record NodeLog : Type 0 where
+  pub name : List ℕ
+  pub mac : Mac
+  pub log : Log
+
+-- what a run prints
+pub data Event : Type 0 where
+  LocalsShown : LocalTable → Event
+
+-- the nodes in the order of their lines, the clock, and the events so far
+pub record State : Type 0 where
+  pub nodes : List NodeLog
+  pub clock : ℕ
+  pub events : List Event
+
+-- before the first line
+abbrev pub no_nodes : State
+no_nodes = record { nodes = []; clock = 0; events = [] }
+
+-- whether a node has this name
+abbrev pub is_named : List ℕ → NodeLog → Bool
+is_named name node = bytes_eq node.name name
+
+-- the node of this name
+abbrev pub node_named : List ℕ → List NodeLog → Option NodeLog
+node_named name nodes = find (is_named name) nodes
+
+-- the log of the node of this name
+abbrev pub log_of : List ℕ → List NodeLog → Log
+log_of name nodes = option_map_or (λ node. node.log) (node_named name nodes) []
+
+-- the names that a command uses and doesn't itself give
+abbrev pub names_used : Command → List (List ℕ)
+names_used Nothing = []
+names_used (Node name mac) = []
+names_used (Frame place src dst vid text) = place ∷ []
+names_used (Show node table) = node ∷ []
+
+-- a refusal where a condition holds
+abbrev pub refusal_if : Bool → Refusal → Option Refusal
+refusal_if holds refusal = if holds then Some refusal else None
+
+-- a run has one node: a second one isn't built
+abbrev pub not_built : State → Command → Option Refusal
+not_built state Nothing = None
+not_built state (Node name mac) = refusal_if (list_any (λ node. true) state.nodes) NotBuilt
+not_built state (Frame place src dst vid text) = None
+not_built state (Show node table) = None
+
+-- each name that a command uses is that of a node
+abbrev pub unknown_name : State → Command → Option Refusal
+unknown_name state command =
+    refusal_if (list_any (λ name. not (list_any (is_named name) state.nodes)) (names_used command)) UnknownName
+
+-- the first rule that a command breaks
+abbrev pub first_refused_rule : State → Command → Option Refusal
+first_refused_rule state command = option_or (not_built state command) (unknown_name state command)
+
+-- the log with an input at a moment; a node without links puts nothing
+abbrev pub with_input : ℕ → Given → Log → Log
+with_input now given log = record { moment = now; given = given; acts = [] } ∷ log
+
+-- a node that is given an input, where it has this name
+abbrev pub given_to : List ℕ → ℕ → Given → NodeLog → NodeLog
+given_to name now given node = if is_named name node then record node { log = with_input now given node.log } else node
+
+-- the state after a node is given an input
+abbrev pub after_input : List ℕ → Given → State → State
+after_input name given state = record state { nodes = map (given_to name state.clock given) state.nodes }
+
+-- the local table of a node, before any commit
+abbrev pub local_table : List ℕ → State → LocalTable
+local_table name state = record {
+  name = name;
+  version = 0;
+  sums = [];
+  rows = present_clients state.clock (mentions (log_of name state.nodes));
+}
+
+-- the event of a table that is shown
+abbrev pub shown : List ℕ → Table → State → Event
+shown name Locals state = LocalsShown (local_table name state)
+
+-- the state after a command that breaks no rule
+abbrev pub after_command : State → Command → State
+after_command state Nothing = state
+after_command state (Node name mac) =
+    record state { nodes = state.nodes ++ record { name = name; mac = mac; log = [] } ∷ [] }
+after_command state (Frame place src dst vid text) = after_input place (GivenFrame src dst vid text) state
+after_command state (Show node table) = record state { events = state.events ++ shown node table state ∷ [] }
+
+-- the outcome of a rule's answer
+abbrev pub unless_refused : State → Option Refusal → Result State Stop
+unless_refused after (Some refusal) = Err (Refused refusal)
+unless_refused after None = Ok after
+
+-- the state after a command, or what ends the run there
+abbrev pub carried_out : State → Command → Result State Stop
+carried_out state command = unless_refused (after_command state command) (first_refused_rule state command)
+
+-- an event as it is printed
+abbrev pub event_text : Event → List ℕ
+event_text (LocalsShown table) = table_text table
