@@ -1,2 +1,4 @@
 -- The words that the contracts of this crate cite, in reading order.
 pub mod Address
+pub mod Faults
+pub mod Writes

@@ -9,8 +9,12 @@ pub mod address;
 pub mod byte_list;
 pub mod client;
 pub mod failure;
+pub mod outside;
+pub mod transfer;
 
 pub use address::Mac;
 pub use byte_list::Bytes;
 pub use client::{Entry, Key, Millis, Vid};
-pub use failure::NoMemory;
+pub use failure::{Failed, NoMemory, OpenErr};
+pub use outside::{Intake, PIECE_LIMIT, Sink};
+pub use transfer::write_all;

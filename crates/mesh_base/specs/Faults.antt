@@ -1,0 +1,17 @@
+-- A count of faults: it only ever rises, and stays at its last value once it is there. The main word is `Rose`.
+use Rattle.std.specs.Prelude.{◌≡◌, ℕ, ◌-◌, ◌^◌, ◌<◌, ◌⊎◌}
+use Rattle.mesh_base.specs.declared.failure.OpenErr.{OpenErr}
+use Rattle.mesh_base.specs.declared.failure.OpenErr.TheVariants.{Failed, Memory}
+
+-- the last value of a count
+abbrev pub last_count : ℕ
+last_count = 2 ^ 64 - 1
+
+-- the count rose, or stood at its last value and still does
+abbrev pub Rose : ℕ → ℕ → Type 0
+Rose old new = (old < new) ⊎ ((old ≡ last_count) × (new ≡ last_count))
+
+-- the cause of an open's answer: `Failed` only where the count rose, and want of memory is free
+abbrev pub HasOpenCause : ℕ → ℕ → OpenErr → Type 0
+HasOpenCause old new Failed = Rose old new
+HasOpenCause old new Memory = Unit {0}
