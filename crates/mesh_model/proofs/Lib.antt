@@ -1,2 +1,4 @@
 -- What the laws rest on.
 pub mod OnLiterals
+pub mod CutLemmas
+pub mod RunLemmas

@@ -11,3 +11,5 @@ pub mod State
 pub mod PlainRun
 pub mod Messages
 pub mod Rows
+pub mod Cuts
+pub mod RunLaws

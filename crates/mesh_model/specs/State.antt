@@ -1,7 +1,7 @@
 -- The state of a plain run and what a command does to it. A node keeps its log alone; the clock stands at a moment in
 -- milliseconds; the events are what the run prints, in order. A command is refused by the first rule that it breaks: a
 -- second node isn't built, and a name that a line uses must be that of a node. The main word is `carried_out`.
-use Rattle.std.specs.Prelude.{ℕ, Bool, true, not, List, [], ◌∷◌, ◌++◌, map, find, bytes_eq, Option, Some, None, Result, Ok, Err, if◌then◌else◌}
+use Rattle.std.specs.Prelude.{ℕ, Bool, true, not, List, [], ◌∷◌, ◌++◌, find, bytes_eq, Option, Some, None, Result, Ok, Err, if◌then◌else◌}
 use Rattle.std.specs.List.{list_any}
 use Rattle.std.specs.Option.{option_or, option_map_or}
 use Rattle.mesh_base.specs.declared.address.Mac.{Mac}
@@ -82,13 +82,20 @@ first_refused_rule state command = option_or (not_built state command) (unknown_
 abbrev pub with_input : ℕ → Given → Log → Log
 with_input now given log = record { moment = now; given = given; acts = [] } ∷ log
 
--- a node that is given an input, where it has this name
-abbrev pub given_to : List ℕ → ℕ → Given → NodeLog → NodeLog
-given_to name now given node = if is_named name node then record node { log = with_input now given node.log } else node
+-- the nodes, of which the one of this name changes
+abbrev pub change_named : List ℕ → (NodeLog → NodeLog) → List NodeLog → List NodeLog
+change_named name change [] = []
+change_named name change (node ∷ rest) =
+    if is_named name node then change node ∷ rest else node ∷ change_named name change rest
+
+-- a node that is given an input at a moment
+abbrev pub given_at : ℕ → Given → NodeLog → NodeLog
+given_at now given node = record node { log = with_input now given node.log }
 
 -- the state after a node is given an input
 abbrev pub after_input : List ℕ → Given → State → State
-after_input name given state = record state { nodes = map (given_to name state.clock given) state.nodes }
+after_input name given state =
+    record state { nodes = change_named name (given_at state.clock given) state.nodes }
 
 -- the local table of a node, before any commit
 abbrev pub local_table : List ℕ → State → LocalTable

@@ -7,6 +7,7 @@
 pub mod ending;
 pub mod line_form;
 pub mod rows;
+pub mod run_laws;
 pub mod table_row;
 
 pub use ending::{LimitName, Refusal, Stop};
