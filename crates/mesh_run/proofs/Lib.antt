@@ -1,0 +1,2 @@
+-- What the proofs rest on.
+pub mod MacLemmas
