@@ -1,10 +1,11 @@
 -- Lemmas on lines and on how far an input was read.
-use Rattle.std.proofs.Common.{◌≡◌, ℕ, true, false, List, [], ◌∷◌, ◌++◌, refl, sym, ap, ◌∙◌, append_assoc, append-nil}
-use Rattle.std.specs.List.{concat}
+use Rattle.std.proofs.Common.{◌≡◌, ℕ, ◌+◌, ◌-◌, ◌≤◌, ◌==◌, Bool, true, false, if◌then◌else◌, List, [], ◌∷◌, ◌++◌, length, take, length-append, length-take, refl, sym, ap, ◌∙◌, append_assoc, append-nil, arith}
+use Rattle.std.specs.List.{concat, onto_first}
 use Rattle.std.specs.Prelude.{filter}
+use Rattle.std.proofs.lemmas.List.{take_at}
 use Rattle.std.proofs.lemmas.List.Elements.{filter-append}
 use Rattle.mesh_model.specs.Cuts.{IsUnbroken, IsLine, AreLines, IsCut}
-use Rattle.mesh_model.specs.Lines.{newline, lines_of, is_complete, complete_lines}
+use Rattle.mesh_model.specs.Lines.{newline, lines_of, is_complete, complete_lines, before_newline, without_carriage_return, content}
 
 -- the line that bytes without a newline are
 abbrev pub open_line : List ℕ → List (List ℕ)
@@ -108,3 +109,63 @@ IsCut-newline bytes lines rest cut =
           ∙ ap (λ more. concat lines ++ more) (sym (append-nil line))
           ∙ sym (concat-append lines (line ∷ [])) ∙ sym (append-nil (concat (lines ++ line ∷ [])));
     }
+
+-- ---- the first line after an unfinished one
+
+-- the lines of bytes that follow an unfinished line, with it
+abbrev pub join_first : List ℕ → List (List ℕ) → List (List ℕ)
+join_first text [] = open_line text
+join_first text (line ∷ lines) = (text ++ line) ∷ lines
+
+onto_first-join : (b : ℕ) (text : List ℕ) (lines : List (List ℕ)) → onto_first b (join_first text lines) ≡ join_first (b ∷ text) lines
+onto_first-join b [] [] = refl
+onto_first-join b (x ∷ xs) [] = refl
+onto_first-join b text (line ∷ lines) = refl
+
+join_first-nil : (lines : List (List ℕ)) → join_first [] lines ≡ lines
+join_first-nil [] = refl
+join_first-nil (line ∷ lines) = refl
+
+pub lines_of-unbroken_then : (text more : List ℕ) → IsUnbroken text → lines_of (text ++ more) ≡ join_first text (lines_of more)
+lines_of-unbroken_then [] more h = sym (join_first-nil (lines_of more))
+lines_of-unbroken_then (b ∷ text) more h = rw (h.0, lines_of-unbroken_then text more h.1) (onto_first-join b text (lines_of more))
+
+-- the first line of bytes isn't empty
+onto_first-first : (b : ℕ) (lines : List (List ℕ)) → (line : List ℕ) × (rest : List (List ℕ)) × (onto_first b lines ≡ (b ∷ line) ∷ rest)
+onto_first-first b [] = ([], [], refl)
+onto_first-first b (line ∷ rest) = (line, rest, refl)
+
+first_of-lines : (b : ℕ) (bs : List ℕ) (test : Bool) → (b == newline) ≡ test → (line : List ℕ) × (rest : List (List ℕ)) × (lines_of (b ∷ bs) ≡ (b ∷ line) ∷ rest)
+first_of-lines b bs true h = ([], lines_of bs, rw h refl)
+first_of-lines b bs false h = let first = onto_first-first b (lines_of bs) in (first.0, first.1, rw h first.2)
+
+pub lines_of-first : (b : ℕ) (bs : List ℕ) → (line : List ℕ) × (rest : List (List ℕ)) × (lines_of (b ∷ bs) ≡ (b ∷ line) ∷ rest)
+lines_of-first b bs = first_of-lines b bs (b == newline) refl
+
+-- ---- what stands before a newline
+
+length-take_less : (line : List ℕ) → length (take (length line - 1) line) ≡ length line - 1
+length-take_less line = length-take (length line - 1) line ∙ omega arith
+
+-- at most the newline is taken off a line
+pub length-before_newline : (line : List ℕ) → length line ≤ length (before_newline line) + 1
+length-before_newline line = by_test (is_complete line)
+  where
+    by_test : (test : Bool) → length line ≤ length (if test then take (length line - 1) line else line) + 1
+    by_test true = rw (length-take_less line) (omega arith)
+    by_test false = omega arith
+
+take_front : (text : List ℕ) (b : ℕ) → take (length (text ++ b ∷ []) - 1) (text ++ b ∷ []) ≡ text
+take_front text b = ap (λ n. take n (text ++ b ∷ [])) (ap (λ n. n - 1) (length-append text (b ∷ [])) ∙ omega arith) ∙ take_at text (b ∷ []) (length text) refl
+
+pub before_newline-line : (text : List ℕ) → before_newline (text ++ newline ∷ []) ≡ text
+before_newline-line text = rw (is_complete-line text) (take_front text newline)
+
+pub before_newline-unbroken : (text : List ℕ) → IsUnbroken text → before_newline text ≡ text
+before_newline-unbroken text h = rw (is_complete-unbroken text h) refl
+
+pub content-line : (text : List ℕ) → content (text ++ newline ∷ []) ≡ without_carriage_return text
+content-line text = rw (is_complete-line text) (ap without_carriage_return (take_front text newline))
+
+pub content-unbroken : (text : List ℕ) → IsUnbroken text → content text ≡ text
+content-unbroken text h = rw (is_complete-unbroken text h) refl

@@ -2,3 +2,4 @@
 pub mod OnLiterals
 pub mod CutLemmas
 pub mod RunLemmas
+pub mod HaltLemmas

@@ -9,6 +9,7 @@ pub mod Present
 pub mod TableText
 pub mod State
 pub mod PlainRun
+pub mod Reached
 pub mod Messages
 pub mod Rows
 pub mod Cuts
