@@ -1,4 +1,4 @@
-ghost use Rattle.std.specs.Prelude.{◌≡◌, ℕ, List, IfOk};
+ghost use Rattle.std.specs.Prelude.{◌≡◌, ℕ, List, IfOk, length};
 
 use crate::failure::NoMemory;
 use std::alloc::Global;
@@ -29,5 +29,11 @@ impl Bytes {
         ensures value { result.now ≡ self.now }
     {
         self.bytes.as_slice()
+    }
+
+    pub fn len(&self) -> usize
+        ensures value { result ≡ length self.now }
+    {
+        self.bytes.len()
     }
 }
