@@ -3,3 +3,5 @@ pub mod Address
 pub mod KeyOrder
 pub mod Faults
 pub mod Writes
+pub mod CallPlan
+pub mod Memory

@@ -7,8 +7,8 @@
 
 pub mod address;
 pub mod byte_list;
+mod call_plan;
 pub mod client;
-mod failing_calls;
 pub mod failure;
 mod fault_count;
 pub mod memory_intake;
