@@ -1,7 +1,7 @@
 -- The state of a plain run and what a command does to it. A node keeps its log alone; the clock stands at a moment in
 -- milliseconds; the events are what the run prints, in order. A command is refused by the first rule that it breaks: a
 -- second node isn't built, and a name that a line uses must be that of a node. The main word is `carried_out`.
-use Rattle.std.specs.Prelude.{ℕ, Bool, true, not, List, [], ◌∷◌, ◌++◌, find, bytes_eq, Option, Some, None, Result, Ok, Err, if◌then◌else◌}
+use Rattle.std.specs.Prelude.{ℕ, Bool, true, not, List, [], ◌∷◌, ◌++◌, find, flat_map, bytes_eq, Option, Some, None, Result, Ok, Err, if◌then◌else◌}
 use Rattle.std.specs.List.{list_any}
 use Rattle.std.specs.Option.{option_or, option_map_or}
 use Rattle.mesh_base.specs.declared.address.Mac.{Mac}
@@ -130,3 +130,7 @@ carried_out state command = unless_refused (after_command state command) (first_
 -- an event as it is printed
 abbrev pub event_text : Event → List ℕ
 event_text (LocalsShown table) = table_text table
+
+-- what the events of a state print
+abbrev pub events_text : State → List ℕ
+events_text state = flat_map event_text state.events

@@ -2,4 +2,9 @@
 
 #![tactic(auto)]
 
+mod carrying;
+mod fault;
+mod reading;
+mod runner;
+mod scene;
 mod table_text;

@@ -1,0 +1,3 @@
+-- The words of this crate's contracts, in reading order.
+pub mod Scene
+pub mod Progress
