@@ -1,2 +1,4 @@
 -- What the laws rest on.
 pub mod OnLiterals
+pub mod KeyLists
+pub mod PresentLemmas
