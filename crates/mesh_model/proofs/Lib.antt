@@ -3,3 +3,5 @@ pub mod OnLiterals
 pub mod CutLemmas
 pub mod RunLemmas
 pub mod HaltLemmas
+pub mod KeyLists
+pub mod PresentLemmas
