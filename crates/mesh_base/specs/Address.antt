@@ -1,7 +1,7 @@
 -- The text of a hardware address: six pairs of hex digits, of either case, joined by colons; and its printed text.
--- The main words are `mac_of_text` and `mac_text`.
-use Rattle.std.specs.Prelude.{ℕ, ◌+◌, ◌*◌, ◌/◌, ◌%◌, ◌==◌, List, [], ◌∷◌, ◌++◌, length, slice_index, Option, Some, None, option_and_then, if◌then◌else◌}
-use Rattle.std.specs.List.{slice_split}
+-- The main words are `mac_of_text` and `mac_text`. A unicast address is no group's and isn't zero.
+use Rattle.std.specs.Prelude.{ℕ, Bool, ◌+◌, ◌*◌, ◌/◌, ◌%◌, ◌==◌, ◌&&◌, not, List, [], ◌∷◌, ◌++◌, length, slice_index, Option, Some, None, option_and_then, if◌then◌else◌}
+use Rattle.std.specs.List.{slice_split, list_all}
 use Rattle.hex.specs.Hex.{hex_digit_value, lower_digits}
 use Rattle.mesh_base.specs.declared.address.Mac.{Mac}
 
@@ -48,3 +48,15 @@ pairs_text (byte ∷ next ∷ rest) = hex_of_byte byte ++ colon ∷ pairs_text (
 -- an address as it is printed, in lower case
 abbrev pub mac_text : Mac → List ℕ
 mac_text mac = pairs_text mac.0
+
+-- whether an address is one of a group: bit 0 of its first byte
+abbrev pub is_group : Mac → Bool
+is_group mac = slice_index mac.0 0 % 2 == 1
+
+-- whether every byte of an address is 0
+abbrev pub is_zero : Mac → Bool
+is_zero mac = list_all (λ byte. byte == 0) mac.0
+
+-- whether an address is one station's
+abbrev pub is_unicast : Mac → Bool
+is_unicast mac = not (is_group mac) && not (is_zero mac)

@@ -1,11 +1,15 @@
 -- A count of faults: it only ever rises, and stays at its last value once it is there. The main word is `Rose`.
-use Rattle.std.specs.Prelude.{◌≡◌, ℕ, ◌-◌, ◌^◌, ◌<◌, ◌⊎◌}
+use Rattle.std.specs.Prelude.{◌≡◌, ℕ, ◌+◌, ◌-◌, ◌^◌, ◌<◌, min, ◌⊎◌}
 use Rattle.mesh_base.specs.declared.failure.OpenErr.{OpenErr}
 use Rattle.mesh_base.specs.declared.failure.OpenErr.TheVariants.{Failed, Memory}
 
 -- the last value of a count
 abbrev pub last_count : ℕ
 last_count = 2 ^ 64 - 1
+
+-- a count after one more
+abbrev pub one_more : ℕ → ℕ
+one_more count = min (count + 1) last_count
 
 -- the count rose, or stood at its last value and still does
 abbrev pub Rose : ℕ → ℕ → Type 0

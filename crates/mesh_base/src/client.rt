@@ -1,3 +1,7 @@
+ghost use Rattle.std.specs.Prelude.{◌≡◌};
+ghost use Rattle.mesh_base.specs.KeyOrder.{key_order};
+ghost use Rattle.mesh_base.specs.declared.client.Key.{Key};
+
 use crate::address::Mac;
 
 /// A moment or a length of time, in milliseconds.
@@ -27,3 +31,8 @@ pub struct Entry {
     pub key: Key,
     pub flags: u8,
 }
+
+/// A law: keys are ordered by the address bytes, then by the wire number.
+pub fn keys_are_ordered_by_address_then_vlan()
+    ensures { (a b : Key) → ⟦<Key as Ord>⟧.cmp a b ≡ key_order a b }
+{}

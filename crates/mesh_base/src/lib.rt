@@ -8,13 +8,21 @@
 pub mod address;
 pub mod byte_list;
 pub mod client;
+mod failing_calls;
 pub mod failure;
+mod fault_count;
+pub mod memory_intake;
+pub mod memory_sink;
 pub mod outside;
+pub mod real;
 pub mod transfer;
 
 pub use address::Mac;
 pub use byte_list::Bytes;
 pub use client::{Entry, Key, Millis, Vid};
 pub use failure::{Failed, NoMemory, OpenErr};
+pub use memory_intake::MemIntake;
+pub use memory_sink::MemSink;
 pub use outside::{Intake, PIECE_LIMIT, Sink};
+pub use real::{RealIntake, RealSink};
 pub use transfer::write_all;
