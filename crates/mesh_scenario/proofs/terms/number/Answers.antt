@@ -1,0 +1,24 @@
+use Rattle.std.proofs.Common.{rules, tests, arith, ap, sym, ◌∙◌, take_all}
+use Rattle.std.specs.Prelude.{Some, option_map}
+use Rattle.std.proofs.lemmas.Iterator.{YieldsList-from_slice}
+use Rattle.std.proofs.lemmas.Iterator.Search.{all_from_yields_List}
+use Rattle.mesh_model.specs.Terms.{is_digit, digits_value}
+use Rattle.mesh_scenario.specs.Reads.{capped}
+use Rattle.mesh_scenario.proofs.TermsLemmas.{number_of-digits, digits_value-more}
+use Rattle.mesh_scenario.proofs.terms.number.Goals as goal
+
+pub returns : goal.returns
+returns c =
+    let word = c.args.word.now in
+    let all = all_from_yields_List is_digit _ _ c.all.result c.all.ensures.ran (YieldsList-from_slice word cc)
+    (λ x b q k. search (rules, tests)) in
+    let is = number_of-digits word (sym c.is_empty.ensures ∙ c.if-is_empty.false) (sym all ∙ c.if-not-all.false) in
+    ap (λ n. Some n) (c.loop-digit.invariant
+    ∙ ap (λ digits. capped (digits_value digits)) (take_all _ word (omega arith)))
+    ∙ sym (ap (option_map capped) is)
+
+pub loop-digit-preserved : goal.loop-digit-preserved
+loop-digit-preserved c =
+    let more = digits_value-more c.args.word.now c.loop-digit.digit-index c.loop-digit.value (omega arith)
+    c.loop-digit.invariant in
+    cc

@@ -1,0 +1,90 @@
+//! What a single word may say.
+
+ghost use Rattle.std.specs.Prelude.{◌≡◌, option_map};
+ghost use Rattle.mesh_model.specs.Terms.{is_letter, is_digit, is_name_character, is_name, number_of, vid_of, is_unicast, is_broadcast};
+ghost use Rattle.mesh_scenario.specs.Reads.{capped};
+
+use mesh_base::{Mac, Vid};
+
+/// The most characters of a name.
+const NAME_LIMIT: usize = 16;
+/// The greatest number of a VLAN (IEEE 802.1Q).
+const VLAN_LIMIT: u64 = 4094;
+
+/// Whether a character is an ASCII letter.
+fn is_letter(character: u8) -> bool
+    ensures { result ≡ is_letter character }
+{
+    matches!(character, b'a'..=b'z' | b'A'..=b'Z')
+}
+
+/// Whether a character is a decimal digit.
+fn is_digit(character: u8) -> bool
+    ensures { result ≡ is_digit character }
+{
+    matches!(character, b'0'..=b'9')
+}
+
+/// Whether a character may stand in a name.
+fn is_name_character(character: u8) -> bool
+    ensures { result ≡ is_name_character character }
+{
+    is_letter(character) || is_digit(character) || character == b'_'
+}
+
+/// Whether a word is a name.
+pub fn is_name(word: &[u8]) -> bool
+    ensures { result ≡ is_name word.now }
+{
+    let [first, rest @ ..] = word else {
+        return false;
+    };
+    if !is_letter(*first) || word.len() > NAME_LIMIT {
+        return false;
+    }
+    rest.iter().all(|character| is_name_character(*character))
+}
+
+/// The number that a word of decimal digits spells; `u64::MAX` stands for all that are greater.
+fn number(word: &[u8]) -> Option<u64>
+    ensures { result ≡ option_map capped (number_of word.now) }
+{
+    if word.is_empty() || !word.iter().all(|digit| is_digit(*digit)) {
+        return None;
+    }
+    let mut value: u64 = 0;
+    for digit in word {
+        value = value
+            .saturating_mul(10)
+            .saturating_add(u64::from(digit.saturating_sub(b'0')));
+    }
+    Some(value)
+}
+
+/// The VLAN that a word names: `-` for untagged, or a number 1 to 4094.
+pub fn vid(word: &[u8]) -> Option<Vid>
+    ensures { result ≡ vid_of word.now }
+{
+    if word == b"-".as_slice() {
+        return Some(Vid::UNTAGGED);
+    }
+    match number(word)? {
+        number @ 1..=VLAN_LIMIT => Some(Vid(Vid::TAGGED + number as u16)),
+        _ => None,
+    }
+}
+
+/// Whether an address is one station's.
+#[tactic(auto, using(crate::proofs::TermsLemmas::is_group_bytes_first))]
+pub fn is_unicast(mac: Mac) -> bool
+    ensures { result ≡ is_unicast mac }
+{
+    !mac.is_group() && !mac.is_zero()
+}
+
+/// Whether an address is that of all stations.
+pub fn is_broadcast(mac: Mac) -> bool
+    ensures { result ≡ is_broadcast mac }
+{
+    mac.0.iter().all(|byte| *byte == 255)
+}
