@@ -5,3 +5,4 @@ pub mod Faults
 pub mod Writes
 pub mod CallPlan
 pub mod Memory
+pub mod Real

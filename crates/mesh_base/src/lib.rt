@@ -26,3 +26,6 @@ pub use memory_sink::MemSink;
 pub use outside::{Intake, PIECE_LIMIT, Sink};
 pub use real::{RealIntake, RealSink};
 pub use transfer::write_all;
+
+#[cfg(test)]
+mod tests;
