@@ -1,1 +1,3 @@
 -- The definitions, in reading order.
+pub mod Containers
+pub mod ContainerBodies
