@@ -56,9 +56,13 @@ change_of entry is_gone = record {
   }
 
 -- the first pieces of bytes, so many, each of this size
-abbrev pub pieces : ℕ → ℕ → List ℕ → List (List ℕ)
+unfoldable pub pieces : ℕ → ℕ → List ℕ → List (List ℕ)
 pieces zero size bytes = []
 pieces (suc more) size bytes = take size bytes ∷ pieces more size (drop size bytes)
+
+-- the pieces of this size that bytes hold whole
+abbrev pub whole_pieces : ℕ → List ℕ → List (List ℕ)
+whole_pieces size bytes = pieces (length bytes / size) size bytes
 
 -- a client: address 6, wire number of the VLAN 2
 abbrev pub key_of_bytes : List ℕ → Key
@@ -83,14 +87,13 @@ told_vlans body = big_number 2 (drop 2 body)
 abbrev pub tt_size : List ℕ → ℕ
 tt_size body = 4 + 8 * told_vlans body
 
--- a body of a translation table that is long enough: flags 1, version 1, number of VLANs 2, VLANs, records of 12
+-- a body of a translation table that is long enough: flags 1, version 1, number of VLANs 2, VLANs, records
 abbrev pub tt_data : List ℕ → TtData
 tt_data body = record {
     flags = slice_index body 0;
     ttvn = slice_index body 1;
-    vlans = map vlan_of_bytes (pieces (told_vlans body) 8 (drop 4 body));
-    changes = let records = drop (tt_size body) body in
-      map change_of_bytes (pieces (length records / 12) 12 records);
+    vlans = map vlan_of_bytes (whole_pieces 8 (take (8 * told_vlans body) (drop 4 body)));
+    changes = map change_of_bytes (whole_pieces 12 (drop (tt_size body) body));
   }
 
 -- what the body of a translation table tells

@@ -1,1 +1,2 @@
 pub mod ContainersLemmas
+pub mod PiecesLemmas

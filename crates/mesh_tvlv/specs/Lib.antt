@@ -1,2 +1,3 @@
 -- The words that the contracts of this crate cite, in reading order.
 pub mod Walk
+pub mod Translation

@@ -7,16 +7,17 @@
 
 #![tactic(auto)]
 
-
+mod bodies;
 mod failure;
 pub mod layout;
 
-
+mod piece;
+mod translation;
 mod walk;
 
-
-
+pub use bodies::{read_gw, read_mcast, read_roam};
 pub use failure::TvlvErr;
 
+pub use translation::{TtView, read_tt};
 pub use walk::{Container, TvlvIter};
 
