@@ -3,7 +3,7 @@
 -- Bytes behind a body's fields are ignored, and so is a last record of a translation table that isn't whole.
 -- The main words are `tt_of_body`, `roaming_of_body`, `gateway_of_body` and `multicast_of_body`, which are none where
 -- a body is too short, and `tt_text` and its kin, which spell a body.
-use Rattle.std.specs.Prelude.{ℕ, zero, suc, ◌+◌, ◌*◌, ◌/◌, ◌==◌, nat_lt, if◌then◌else◌, Bool, List, [], ◌∷◌, ◌++◌, length, take, drop, map, flat_map, slice_index, bit_and, Option, Some, None}
+use Rattle.std.specs.Prelude.{ℕ, zero, suc, ◌+◌, ◌*◌, ◌/◌, ◌==◌, nat_lt, if◌then◌else◌, Bool, List, [], ◌∷◌, ◌++◌, length, take, drop, map, flat_map, slice_index, bit_and, bit_or, Option, Some, None}
 use Rattle.byteorder.specs.Endian.{big_bytes, big_number}
 use Rattle.mesh_base.specs.declared.address.Mac.{Mac}
 use Rattle.mesh_base.specs.declared.client.Vid.{Vid}
@@ -51,7 +51,7 @@ is_deletion change = bit_and change.flags del_flag == del_flag
 -- the record that adds a client, or takes it away
 abbrev pub change_of : Entry → Bool → TtChange
 change_of entry is_gone = record {
-    flags = client_flags entry.flags + (if is_gone then del_flag else 0);
+    flags = bit_or (client_flags entry.flags) (if is_gone then del_flag else 0);
     key = entry.key;
   }
 
