@@ -1,2 +1,4 @@
 pub mod ContainersLemmas
 pub mod PiecesLemmas
+pub mod SpellingLemmas
+pub mod FindingLemmas

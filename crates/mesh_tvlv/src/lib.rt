@@ -10,6 +10,7 @@
 mod bodies;
 mod failure;
 pub mod layout;
+pub mod laws;
 
 mod piece;
 mod translation;
