@@ -2,3 +2,4 @@ pub mod ContainersLemmas
 pub mod PiecesLemmas
 pub mod SpellingLemmas
 pub mod FindingLemmas
+pub mod TableLemmas
