@@ -5,7 +5,6 @@
 -- a body is too short, and `tt_text` and its kin, which spell a body.
 use Rattle.std.specs.Prelude.{ℕ, zero, suc, ◌+◌, ◌*◌, ◌/◌, ◌==◌, nat_lt, if◌then◌else◌, Bool, List, [], ◌∷◌, ◌++◌, length, take, drop, map, flat_map, slice_index, bit_and, bit_or, Option, Some, None}
 use Rattle.byteorder.specs.Endian.{big_bytes, big_number}
-use Rattle.mesh_base.specs.declared.address.Mac.{Mac}
 use Rattle.mesh_base.specs.declared.client.Vid.{Vid}
 use Rattle.mesh_base.specs.declared.client.Key.{Key}
 use Rattle.mesh_base.specs.declared.client.Entry.{Entry}
@@ -51,9 +50,9 @@ is_deletion change = bit_and change.flags del_flag == del_flag
 -- the record that adds a client, or takes it away
 abbrev pub change_of : Entry → Bool → TtChange
 change_of entry is_gone = record {
-    flags = bit_or (client_flags entry.flags) (if is_gone then del_flag else 0);
-    key = entry.key;
-  }
+  flags = bit_or (client_flags entry.flags) (if is_gone then del_flag else 0);
+  key = entry.key;
+}
 
 -- the first pieces of bytes, so many, each of this size
 unfoldable pub pieces : ℕ → ℕ → List ℕ → List (List ℕ)
@@ -67,9 +66,9 @@ whole_pieces size bytes = pieces (length bytes / size) size bytes
 -- a client: address 6, wire number of the VLAN 2
 abbrev pub key_of_bytes : List ℕ → Key
 key_of_bytes bytes = record {
-    mac = record { 0 = take 6 bytes };
-    vid = record { 0 = big_number 2 (drop 6 bytes) };
-  }
+  mac = record { 0 = take 6 bytes };
+  vid = record { 0 = big_number 2 (drop 6 bytes) };
+}
 
 -- a VLAN: checksum 4, wire number 2, reserved 2
 abbrev pub vlan_of_bytes : List ℕ → TtVlan
@@ -90,11 +89,11 @@ tt_size body = 4 + 8 * told_vlans body
 -- a body of a translation table that is long enough: flags 1, version 1, number of VLANs 2, VLANs, records
 abbrev pub tt_data : List ℕ → TtData
 tt_data body = record {
-    flags = slice_index body 0;
-    ttvn = slice_index body 1;
-    vlans = map vlan_of_bytes (whole_pieces 8 (take (8 * told_vlans body) (drop 4 body)));
-    changes = map change_of_bytes (whole_pieces 12 (drop (tt_size body) body));
-  }
+  flags = slice_index body 0;
+  ttvn = slice_index body 1;
+  vlans = map vlan_of_bytes (whole_pieces 8 (take (8 * told_vlans body) (drop 4 body)));
+  changes = map change_of_bytes (whole_pieces 12 (drop (tt_size body) body));
+}
 
 -- what the body of a translation table tells
 abbrev pub tt_of_body : List ℕ → Option TtData

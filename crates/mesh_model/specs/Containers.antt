@@ -2,7 +2,7 @@
 -- A container is its type, its version, the length of its body in two bytes, the higher first, and then the body.
 -- Containers follow one another without a gap. Behind the last one bytes may be left that begin no whole container.
 -- The main words are `AreContainers`, what containers bytes are, and `containers_of`, which computes them.
-use Rattle.std.specs.Prelude.{◌≡◌, ℕ, zero, suc, ◌+◌, ◌*◌, ◌^◌, ◌<◌, ◌≤◌, ◌≢◌, nat_lt, if◌then◌else◌, List, [], ◌∷◌, ◌++◌, length, take, drop, slice_index, flat_map, All, Option, Some, None, option_map, unwrap_or}
+use Rattle.std.specs.Prelude.{◌≡◌, ℕ, zero, suc, ◌+◌, ◌^◌, ◌<◌, ◌≢◌, nat_lt, if◌then◌else◌, List, [], ◌∷◌, ◌++◌, length, take, drop, slice_index, flat_map, All, Option, Some, None, option_map, unwrap_or}
 use Rattle.byteorder.specs.Endian.{big_bytes, big_number}
 
 -- a container as plain data
@@ -54,10 +54,10 @@ AreShort bytes = length bytes < header_size + told_length bytes
 -- the first container of bytes that begin a whole one
 abbrev pub front_container : List ℕ → Container
 front_container bytes = record {
-    kind = slice_index bytes 0;
-    version = slice_index bytes 1;
-    body = take (told_length bytes) (drop header_size bytes);
-  }
+  kind = slice_index bytes 0;
+  version = slice_index bytes 1;
+  body = take (told_length bytes) (drop header_size bytes);
+}
 
 -- the first container of bytes, or none where they are short
 abbrev pub first_container : List ℕ → Option Container

@@ -1,5 +1,5 @@
 -- How the containers of bytes begin.
-use Rattle.std.proofs.Common.{◌≡◌, ℕ, zero, suc, ◌+◌, ◌-◌, ◌≤◌, List, [], ◌∷◌, length, drop, refl, ap, arith, ◌∙◌, true, false, inl, inr}
+use Rattle.std.proofs.Common.{◌≡◌, ℕ, zero, suc, ◌≤◌, List, [], ◌∷◌, length, drop, refl, ap, arith, ◌∙◌, true, false, inl, inr}
 use Rattle.std.proofs.lemmas.List.{length-drop}
 use Rattle.std.specs.Prelude.{Bool, if◌then◌else◌, Option, Some, None, option_map, unwrap_or}
 use Rattle.mesh_tvlv.specs.Walk.{Walk, to_come, HasEnded}
@@ -24,7 +24,7 @@ enough (suc n) (suc m) bytes below other = same_way (first_container bytes)
     (λ c. c ∷ first_containers n (drop (container_size c) bytes))
     (λ c. c ∷ first_containers m (drop (container_size c) bytes))
     (λ c. ap (λ cs. c ∷ cs) (enough n m (drop (container_size c) bytes)
-      (omega (arith, length-drop (container_size c) bytes)) (omega (arith, length-drop (container_size c) bytes))))
+    (omega (arith, length-drop (container_size c) bytes)) (omega (arith, length-drop (container_size c) bytes))))
 
 -- bytes that begin a whole container are that container and those behind it
 some_first : (n : ℕ) (bytes : List ℕ) (c : Container) → length bytes ≤ suc n → first_container bytes ≡ Some c
@@ -55,7 +55,7 @@ unfolding containers_of first_containers
 containers_of-none [] is = refl
 containers_of-none (byte ∷ bytes) is =
     ap (λ (o : Option Container). unwrap_or (option_map
-      (λ d. d ∷ first_containers (length bytes) (drop (container_size d) (byte ∷ bytes))) o) []) is
+    (λ d. d ∷ first_containers (length bytes) (drop (container_size d) (byte ∷ bytes))) o) []) is
 
 -- a walk before no whole container has none to come
 pub to_come-none : (walk : Walk) → first_container walk.left ≡ None → to_come walk ≡ []

@@ -1,5 +1,5 @@
 -- The containers that are computed from bytes are those of the grammar.
-use Rattle.std.proofs.Common.{◌≡◌, ℕ, zero, suc, ◌+◌, ◌-◌, ◌*◌, ◌/◌, ◌%◌, ◌<◌, ◌≤◌, ◌^◌, List, [], ◌∷◌, ◌++◌, length, take, drop, refl, sym, ap, subst, ◌∙◌, arith, true, false, append_assoc}
+use Rattle.std.proofs.Common.{◌≡◌, ℕ, zero, suc, ◌+◌, ◌/◌, ◌%◌, ◌<◌, ◌≤◌, ◌^◌, List, [], ◌∷◌, ◌++◌, length, take, drop, refl, sym, ap, subst, ◌∙◌, arith, true, false, append_assoc}
 use Rattle.std.proofs.lemmas.Bool.{ltb-false}
 use Rattle.std.proofs.lemmas.List.{drop_at, drop-drop, length-drop, length-take-le, take-append-drop}
 use Rattle.std.proofs.lemmas.List.Elements.{All-cons, All-drop}
@@ -45,13 +45,13 @@ front_spelled (k ∷ v ∷ h ∷ l ∷ rest) small whole =
     let first : length (take told rest) / 256 % 256 ≡ h = omega (arith, n) in
     let second : length (take told rest) % 256 ≡ l = omega (arith, n) in
     let behind : drop (4 + length (take told rest)) (k ∷ v ∷ h ∷ l ∷ rest) ≡ drop told rest =
-      sym (drop-drop (length (take told rest)) 4 (k ∷ v ∷ h ∷ l ∷ rest)) ∙ ap (λ m. drop m rest) n in
+    sym (drop-drop (length (take told rest)) 4 (k ∷ v ∷ h ∷ l ∷ rest)) ∙ ap (λ m. drop m rest) n in
     let tail : take told rest ++ drop (4 + length (take told rest)) (k ∷ v ∷ h ∷ l ∷ rest) ≡ rest =
-      ap (λ more. take told rest ++ more) behind ∙ take-append-drop told rest in
+    ap (λ more. take told rest ++ more) behind ∙ take-append-drop told rest in
     record {
       text = sym (ap (λ more. k ∷ v ∷ length (take told rest) / 256 % 256 ∷ length (take told rest) % 256 ∷ more) tail
-        ∙ ap (λ b. k ∷ v ∷ b ∷ length (take told rest) % 256 ∷ rest) first
-        ∙ ap (λ b. k ∷ v ∷ h ∷ b ∷ rest) second);
+          ∙ ap (λ b. k ∷ v ∷ b ∷ length (take told rest) % 256 ∷ rest) first
+          ∙ ap (λ b. k ∷ v ∷ h ∷ b ∷ rest) second);
       fits = omega (arith, n, high, low);
     }
 
@@ -64,7 +64,7 @@ found_more bytes rest c is spelled behind =
     let P : List Container → Type 0 = λ cs. AreContainers bytes cs rest in
     subst P (sym (containers_of-some bytes c is)) (record {
       spelled = spelled.text ∙ ap (λ xs. container_text c ++ xs) behind.spelled
-        ∙ sym (append_assoc (container_text c) (containers_text (containers_of more)) rest);
+          ∙ sym (append_assoc (container_text c) (containers_text (containers_of more)) rest);
       each = All-cons FitsLength c (containers_of more) spelled.fits behind.each;
       cut = behind.cut;
     })
@@ -90,7 +90,7 @@ by_first n bytes below small again (Some c) is =
     let P : Container → Type 0 = λ d. IsSpelled bytes d in
     let spelled : IsSpelled bytes c = subst P parts.1 (front_spelled bytes small parts.0) in
     let behind = again (drop (container_size c) bytes) (omega (arith, length-drop (container_size c) bytes))
-      (All-drop (λ byte. byte < 2 ^ 8) (container_size c) bytes small) in
+    (All-drop (λ byte. byte < 2 ^ 8) (container_size c) bytes small) in
     (behind.0, found_more bytes behind.0 c is spelled behind.1)
 
 -- the computed containers of bytes, and some rest
@@ -106,6 +106,6 @@ pub found : (bytes : List ℕ) → AreBytes bytes → AreContainers bytes (conta
 found bytes small =
     let some = found_some (length bytes) bytes (omega arith) small in
     let rest : rest_of bytes ≡ some.0 = ap (drop (length (containers_text (containers_of bytes)))) some.1.spelled
-      ∙ drop_at (containers_text (containers_of bytes)) some.0 (length (containers_text (containers_of bytes))) refl in
+    ∙ drop_at (containers_text (containers_of bytes)) some.0 (length (containers_text (containers_of bytes))) refl in
     let P : List ℕ → Type 0 = λ xs. AreContainers bytes (containers_of bytes) xs in
     subst P (sym rest) some.1

@@ -1,17 +1,15 @@
 -- Spelled bodies are read back.
-use Rattle.std.proofs.Common.{◌≡◌, ℕ, zero, suc, ◌+◌, ◌*◌, ◌/◌, ◌<◌, ◌≤◌, ◌^◌, List, [], ◌∷◌, ◌++◌, length, take, drop, refl, sym, ap, ap₂, ◌∙◌, arith, true, false, length-append}
+use Rattle.std.proofs.Common.{◌≡◌, ℕ, ◌+◌, ◌*◌, ◌/◌, List, [], ◌∷◌, ◌++◌, length, take, drop, refl, sym, ap, ap₂, ◌∙◌, arith, true, false, length-append}
 use Rattle.std.proofs.lemmas.Bool.{le-ltb}
 use Rattle.std.proofs.lemmas.List.{take_at, drop_at, drop-drop}
 use Rattle.std.proofs.lemmas.Nat.{and_assoc, and_or_apart, and_or_self}
 use Rattle.std.specs.Int.Bits.{and_zero_r, or_zero_r}
-use Rattle.std.specs.Prelude.{Bool, cond, nat_lt, map, flat_map, bit_and, bit_or, ◌==◌, Option, Some, None, All}
+use Rattle.std.specs.Prelude.{Bool, cond, nat_lt, map, flat_map, bit_and, ◌==◌, Some, None, All}
 use Rattle.byteorder.specs.Endian.{big_bytes, big_number}
 use Rattle.byteorder.specs.Numbers.{big_number-reads_back}
-use Rattle.mesh_base.specs.declared.address.Mac.{Mac}
-use Rattle.mesh_base.specs.declared.client.Vid.{Vid}
 use Rattle.mesh_base.specs.declared.client.Key.{Key}
 use Rattle.mesh_base.specs.declared.client.Entry.{Entry}
-use Rattle.mesh_model.specs.ContainerBodies.{TtVlan, TtChange, TtData, Bandwidth, pieces, whole_pieces, vlan_of_bytes, vlan_text, key_of_bytes, key_text, change_of_bytes, change_text, told_vlans, tt_data, tt_of_body, tt_text, roaming_of_body, gateway_of_body, gateway_text, client_flags, change_of, entry_of, is_deletion}
+use Rattle.mesh_model.specs.ContainerBodies.{TtVlan, TtChange, TtData, Bandwidth, pieces, whole_pieces, vlan_of_bytes, vlan_text, key_of_bytes, key_text, change_of_bytes, change_text, told_vlans, tt_data, tt_of_body, tt_text, client_flags, change_of, entry_of, is_deletion}
 use Rattle.mesh_tvlv.specs.Laws.{FitsKey, FitsVlan, FitsTable, RecordIsReadBack, BodiesAreReadBack}
 use Rattle.mesh_tvlv.proofs.SpellingLemmas.{All-tail}
 
@@ -47,26 +45,26 @@ items_back size text read Fits codec (x ∷ xs) fits =
 -- a VLAN is read back
 vlan_back : IsCodec 8 vlan_text vlan_of_bytes FitsVlan
 vlan_back = record {
-    long = λ vlan fits. refl;
-    back = λ vlan fits. ap₂ (λ (sum n : ℕ). let v : TtVlan = record { sum = sum; vid = record { 0 = n } } in v)
+  long = λ vlan fits. refl;
+  back = λ vlan fits. ap₂ (λ (sum n : ℕ). let v : TtVlan = record { sum = sum; vid = record { 0 = n } } in v)
       (big_number-reads_back 4 vlan.sum (big_bytes 2 vlan.vid.0 ++ 0 ∷ 0 ∷ []) fits.sum)
       (big_number-reads_back 2 vlan.vid.0 (0 ∷ 0 ∷ []) fits.vid);
-  }
+}
 
 -- a client is read back
 key_back : (key : Key) → FitsKey key → key_of_bytes (key_text key) ≡ key
 key_back key fits = ap₂ (λ (bytes : List ℕ) (n : ℕ). let k : Key = record { mac = record { 0 = bytes }; vid = record { 0 = n } } in k)
     (take_at key.mac.0 (big_bytes 2 key.vid.0) 6 fits.address)
     (ap (big_number 2) (drop_at key.mac.0 (big_bytes 2 key.vid.0) 6 fits.address)
-      ∙ big_number-reads_back 2 key.vid.0 [] fits.vid)
+    ∙ big_number-reads_back 2 key.vid.0 [] fits.vid)
 
 -- a record is read back
 change_back : IsCodec 12 change_text change_of_bytes (λ change. FitsKey change.key)
 change_back = record {
-    long = λ change fits. omega (arith, length-append change.key.mac.0 (big_bytes 2 change.key.vid.0), fits.address);
-    back = λ change fits. ap (λ (key : Key). let c : TtChange = record { flags = change.flags; key = key } in c)
+  long = λ change fits. omega (arith, length-append change.key.mac.0 (big_bytes 2 change.key.vid.0), fits.address);
+  back = λ change fits. ap (λ (key : Key). let c : TtChange = record { flags = change.flags; key = key } in c)
       (key_back change.key fits);
-  }
+}
 
 -- the whole pieces of spelled items are read back
 whole_back : {X : Type 0} (size : ℕ) (text : X → List ℕ) (read : List ℕ → X) (Fits : X → Type 0)
@@ -83,38 +81,38 @@ table_back table fits =
     let changes : List ℕ = flat_map change_text table.changes in
     let FitsClient : TtChange → Type 0 = λ change. FitsKey change.key in
     let told : told_vlans body ≡ length table.vlans =
-      big_number-reads_back 2 (length table.vlans) (vlans ++ changes) fits.vlans in
+    big_number-reads_back 2 (length table.vlans) (vlans ++ changes) fits.vlans in
     let long = length-items 8 vlan_text vlan_of_bytes FitsVlan vlan_back table.vlans fits.each_vlan in
     let longer = length-items 12 change_text change_of_bytes FitsClient change_back table.changes fits.each_change in
     let whole : nat_lt (length body) (4 + 8 * told_vlans body) ≡ false =
-      le-ltb (length body) (4 + 8 * told_vlans body) (omega (arith, told, long, length-append vlans changes)) in
+    le-ltb (length body) (4 + 8 * told_vlans body) (omega (arith, told, long, length-append vlans changes)) in
     let first : take (8 * told_vlans body) (vlans ++ changes) ≡ vlans =
-      take_at vlans changes (8 * told_vlans body) (omega (arith, told, long)) in
+    take_at vlans changes (8 * told_vlans body) (omega (arith, told, long)) in
     let second : drop (4 + 8 * told_vlans body) body ≡ changes =
-      sym (drop-drop (8 * told_vlans body) 4 body) ∙ drop_at vlans changes (8 * told_vlans body) (omega (arith, told, long)) in
+    sym (drop-drop (8 * told_vlans body) 4 body) ∙ drop_at vlans changes (8 * told_vlans body) (omega (arith, told, long)) in
     let vlans_back : map vlan_of_bytes (whole_pieces 8 (take (8 * told_vlans body) (vlans ++ changes))) ≡ table.vlans =
-      ap (λ bytes. map vlan_of_bytes (whole_pieces 8 bytes)) first
-      ∙ whole_back 8 vlan_text vlan_of_bytes FitsVlan vlan_back table.vlans fits.each_vlan (omega (arith, long)) in
+    ap (λ bytes. map vlan_of_bytes (whole_pieces 8 bytes)) first
+    ∙ whole_back 8 vlan_text vlan_of_bytes FitsVlan vlan_back table.vlans fits.each_vlan (omega (arith, long)) in
     let changes_back : map change_of_bytes (whole_pieces 12 (drop (4 + 8 * told_vlans body) body)) ≡ table.changes =
-      ap (λ bytes. map change_of_bytes (whole_pieces 12 bytes)) second
-      ∙ whole_back 12 change_text change_of_bytes FitsClient change_back table.changes fits.each_change
-        (omega (arith, longer)) in
+    ap (λ bytes. map change_of_bytes (whole_pieces 12 bytes)) second
+    ∙ whole_back 12 change_text change_of_bytes FitsClient change_back table.changes fits.each_change
+    (omega (arith, longer)) in
     ap (λ (b : Bool). cond b None (Some (tt_data body))) whole
     ∙ ap₂ (λ (vs : List TtVlan) (cs : List TtChange). let t : TtData =
-        record { flags = table.flags; ttvn = table.ttvn; vlans = vs; changes = cs } in Some t) vlans_back changes_back
+    record { flags = table.flags; ttvn = table.ttvn; vlans = vs; changes = cs } in Some t) vlans_back changes_back
 
 -- the other spelled bodies are read back
 pub bodies_back : BodiesAreReadBack
 bodies_back = record {
-    roaming = λ key fits.
+  roaming = λ key fits.
       let whole : nat_lt (length (key_text key)) 8 ≡ false = le-ltb (length (key_text key)) 8
-        (omega (arith, length-append key.mac.0 (big_bytes 2 key.vid.0), fits.address)) in
+      (omega (arith, length-append key.mac.0 (big_bytes 2 key.vid.0), fits.address)) in
       ap (λ (b : Bool). cond b None (Some (key_of_bytes (key_text key)))) whole ∙ ap (λ k. Some k) (key_back key fits);
-    gateway = λ bandwidth down up. ap₂ (λ (d u : ℕ). let b : Bandwidth = record { download = d; upload = u } in Some b)
+  gateway = λ bandwidth down up. ap₂ (λ (d u : ℕ). let b : Bandwidth = record { download = d; upload = u } in Some b)
       (big_number-reads_back 4 bandwidth.download (big_bytes 4 bandwidth.upload) down)
       (big_number-reads_back 4 bandwidth.upload [] up);
-    multicast = λ flags. refl;
-  }
+  multicast = λ flags. refl;
+}
 
 -- a record for a client is read back
 pub record_back : RecordIsReadBack
@@ -123,9 +121,13 @@ record_back entry is_gone =
     let kept : bit_and (bit_and entry.flags 48) 48 ≡ bit_and entry.flags 48 = and_assoc 48 entry.flags 48 in
     let apart : bit_and (bit_and entry.flags 48) 1 ≡ 0 = and_assoc 1 entry.flags 48 ∙ and_zero_r entry.flags in
     elim is_gone as (λ gone. (entry_of (change_of entry gone) ≡ with_flags (client_flags entry.flags))
-      × (is_deletion (change_of entry gone) ≡ gone)) [
-    | true ↦ (ap with_flags (and_or_apart 48 (bit_and entry.flags 48) 1 refl ∙ kept),
-      ap (λ n. n == 1) (and_or_self 1 (bit_and entry.flags 48)))
-    | false ↦ (ap with_flags (ap (λ n. bit_and n 48) (or_zero_r (bit_and entry.flags 48)) ∙ kept),
-      ap (λ n. n == 1) (ap (λ n. bit_and n 1) (or_zero_r (bit_and entry.flags 48)) ∙ apart))
+    × (is_deletion (change_of entry gone) ≡ gone)) [
+      | true ↦ (
+        ap with_flags (and_or_apart 48 (bit_and entry.flags 48) 1 refl ∙ kept),
+        ap (λ n. n == 1) (and_or_self 1 (bit_and entry.flags 48)),
+      )
+      | false ↦ (
+        ap with_flags (ap (λ n. bit_and n 48) (or_zero_r (bit_and entry.flags 48)) ∙ kept),
+        ap (λ n. n == 1) (ap (λ n. bit_and n 1) (or_zero_r (bit_and entry.flags 48)) ∙ apart),
+      )
     ]

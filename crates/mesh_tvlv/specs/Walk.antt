@@ -40,6 +40,6 @@ stopped walk = record walk { stopped = true }
 -- a walk behind its next container
 abbrev pub behind : Walk → grammar.Container → Walk
 behind walk container = record walk {
-    left = drop (container_size container) walk.left;
-    place = walk.place + container_size container;
-  }
+  left = drop (container_size container) walk.left;
+  place = walk.place + container_size container;
+}

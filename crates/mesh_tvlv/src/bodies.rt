@@ -4,7 +4,8 @@ ghost use Rattle.mesh_tvlv.specs.Translation.{speeds};
 
 use crate::failure::TvlvErr;
 use crate::layout::{
-    GATEWAY, GATEWAY_SIZE, KEY_SIZE, KEY_VID_PLACE, MULTICAST, MULTICAST_SIZE, ROAMING, UPLOAD_PLACE,
+    GATEWAY, GATEWAY_SIZE, KEY_SIZE, KEY_VID_PLACE, MULTICAST, MULTICAST_SIZE, ROAMING,
+    UPLOAD_PLACE,
 };
 use byteorder::{BigEndian, ByteOrder};
 use mesh_base::{Key, Mac, Vid};

@@ -5,35 +5,29 @@ ghost use Rattle.mesh_tvlv.specs.Laws.{ContainersAreReadBack, ContainersAreFound
 /// Containers that were written one after the other are walked over as these containers, and nothing is left.
 pub fn containers_are_read_back()
     ensures { ContainersAreReadBack }
-{
-}
+{}
 
 /// The containers that are computed from bytes are those of the grammar.
 pub fn containers_are_found()
     ensures { ContainersAreFound }
-{
-}
+{}
 
 /// Bytes are no two lists of containers.
 pub fn containers_are_unique()
     ensures { ContainersAreUnique }
-{
-}
+{}
 
 /// What the writers wrote for a translation table is read back, field by field.
 pub fn table_is_read_back()
     ensures { TableIsReadBack }
-{
-}
+{}
 
 /// A record that was written for a client tells that client, and whether it is gone.
 pub fn record_is_read_back()
     ensures { RecordIsReadBack }
-{
-}
+{}
 
 /// The bodies of roaming, gateway and multicast containers are read back.
 pub fn bodies_are_read_back()
     ensures { BodiesAreReadBack }
-{
-}
+{}

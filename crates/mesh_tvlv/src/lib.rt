@@ -9,9 +9,8 @@
 
 mod bodies;
 mod failure;
-pub mod layout;
 pub mod laws;
-
+pub mod layout;
 mod piece;
 mod translation;
 mod walk;
@@ -19,8 +18,9 @@ mod writing;
 
 pub use bodies::{read_gw, read_mcast, read_roam};
 pub use failure::TvlvErr;
-
 pub use translation::{TtView, read_tt};
 pub use walk::{Container, TvlvIter};
 pub use writing::{write_change, write_container, write_tt_head, write_vlan};
 
+#[cfg(test)]
+mod tests;

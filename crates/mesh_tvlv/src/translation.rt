@@ -5,8 +5,8 @@ ghost use Rattle.mesh_tvlv.specs.Translation.{vid_and_sum, entry_and_deletion};
 use crate::bodies::key_in;
 use crate::failure::TvlvErr;
 use crate::layout::{
-    CHANGE_KEY_PLACE, CHANGE_SIZE, CLIENT_FLAGS, DEL, TT, TT_HEAD_SIZE, VLANS_PLACE, VLAN_SIZE,
-    VLAN_VID_PLACE,
+    CHANGE_KEY_PLACE, CHANGE_SIZE, CLIENT_FLAGS, DEL, TT, TT_HEAD_SIZE, VLAN_SIZE, VLAN_VID_PLACE,
+    VLANS_PLACE,
 };
 use crate::piece::piece;
 use byteorder::{BigEndian, ByteOrder};
@@ -29,10 +29,10 @@ impl<'a> Model for TtView<'a> {
     ghost Value = { TtData };
 
     ghost view = { λ v. record {
-        flags = v.flags;
-        ttvn = v.ttvn;
-        vlans = map vlan_of_bytes (whole_pieces 8 v.vlans.now);
-        changes = map change_of_bytes (whole_pieces 12 v.changes.now);
+      flags = v.flags;
+      ttvn = v.ttvn;
+      vlans = map vlan_of_bytes (whole_pieces 8 v.vlans.now);
+      changes = map change_of_bytes (whole_pieces 12 v.changes.now);
     } };
 }
 

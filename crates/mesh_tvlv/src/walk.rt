@@ -8,7 +8,7 @@ use byteorder::{BigEndian, ByteOrder};
 use std::marker::Model;
 
 /// A container: its type, the version of its type, and its body, which lies in the bytes that were walked over.
-#[derive(Clone, Copy, Debug)]
+#[derive(Clone, Copy, Debug, PartialEq, Eq)]
 pub struct Container<'a> {
     pub kind: u8,
     pub version: u8,

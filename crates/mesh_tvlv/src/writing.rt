@@ -4,7 +4,7 @@ ghost use Rattle.mesh_model.specs.ContainerBodies.{tt_head_text, key_text, vlan_
 
 use crate::layout::{
     CHANGE_KEY_PLACE, CHANGE_SIZE, CLIENT_FLAGS, DEL, HEADER_SIZE, KEY_SIZE, LENGTH_PLACE,
-    TT_HEAD_SIZE, VID_SIZE, VLANS_PLACE, VLAN_SIZE, VLAN_VID_PLACE,
+    TT_HEAD_SIZE, VID_SIZE, VLAN_SIZE, VLAN_VID_PLACE, VLANS_PLACE,
 };
 use byteorder::{BigEndian, ByteOrder};
 use mesh_base::{Entry, Key, NoMemory, Vid};

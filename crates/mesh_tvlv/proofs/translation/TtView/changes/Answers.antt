@@ -1,6 +1,5 @@
-use Rattle.std.proofs.Common.{◌≡◌, ◌/◌, length, ap, sym, ◌∙◌}
+use Rattle.std.proofs.Common.{◌/◌, length, sym, ◌∙◌}
 use Rattle.std.proofs.lemmas.List.{length-map}
-use Rattle.mesh_model.specs.ContainerBodies.{whole_pieces}
 use Rattle.mesh_tvlv.proofs.PiecesLemmas.{length_pieces}
 use Rattle.mesh_tvlv.proofs.translation.TtView.changes.Goals as goal
 
