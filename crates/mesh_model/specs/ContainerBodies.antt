@@ -1,8 +1,9 @@
 -- The bodies of the known containers, field by field, as batman-adv's packet header names them.
 -- Numbers have their higher byte first. Reserved bytes are written 0 and ignored when read.
--- Bytes behind a body's fields are ignored, and so is a last record of a translation table that isn't whole.
--- The main words are `tt_of_body`, `roaming_of_body`, `gateway_of_body` and `multicast_of_body`, which are none where
--- a body is too short, and `tt_text` and its kin, which spell a body.
+-- Bytes behind a body's fields are ignored, and so is a last record of a translation table that isn't
+-- whole.
+-- The main words are `tt_of_body`, `roaming_of_body`, `gateway_of_body` and `multicast_of_body`, which
+-- are none where a body is too short, and `tt_text` and its kin, which spell a body.
 use Rattle.std.specs.Prelude.{ℕ, zero, suc, ◌+◌, ◌*◌, ◌/◌, ◌==◌, nat_lt, if◌then◌else◌, Bool, List, [], ◌∷◌, ◌++◌, length, take, drop, map, flat_map, slice_index, bit_and, bit_or, Option, Some, None}
 use Rattle.byteorder.specs.Endian.{big_bytes, big_number}
 use Rattle.mesh_base.specs.declared.client.Vid.{Vid}
@@ -72,13 +73,16 @@ key_of_bytes bytes = record {
 
 -- a VLAN: checksum 4, wire number 2, reserved 2
 abbrev pub vlan_of_bytes : List ℕ → TtVlan
-vlan_of_bytes bytes = record { sum = big_number 4 bytes; vid = record { 0 = big_number 2 (drop 4 bytes) } }
+vlan_of_bytes bytes = record {
+    sum = big_number 4 bytes;
+    vid = record { 0 = big_number 2 (drop 4 bytes) };
+  }
 
 -- a record: flags 1, reserved 3, client 8
 abbrev pub change_of_bytes : List ℕ → TtChange
 change_of_bytes bytes = record { flags = slice_index bytes 0; key = key_of_bytes (drop 4 bytes) }
 
--- the number of VLANs that the body of a translation table tells; a byte that isn't there counts as 0
+-- the number of VLANs that a translation table tells; a byte that isn't there counts as 0
 abbrev pub told_vlans : List ℕ → ℕ
 told_vlans body = big_number 2 (drop 2 body)
 
@@ -86,7 +90,7 @@ told_vlans body = big_number 2 (drop 2 body)
 abbrev pub tt_size : List ℕ → ℕ
 tt_size body = 4 + 8 * told_vlans body
 
--- a body of a translation table that is long enough: flags 1, version 1, number of VLANs 2, VLANs, records
+-- a body that is long enough: flags 1, version 1, number of VLANs 2, VLANs, records
 abbrev pub tt_data : List ℕ → TtData
 tt_data body = record {
   flags = slice_index body 0;

@@ -1,7 +1,9 @@
 -- Containers, the type-version-length-value fields ("TVLV") of batman-adv: what they are in bytes.
--- A container is its type, its version, the length of its body in two bytes, the higher first, and then the body.
--- Containers follow one another without a gap. Behind the last one bytes may be left that begin no whole container.
--- The main words are `AreContainers`, what containers bytes are, and `containers_of`, which computes them.
+-- A container is its type, its version, the length of its body in two bytes, the higher first, and
+-- then the body. Containers follow one another without a gap. Behind the last one bytes may be left
+-- that begin no whole container.
+-- The main words are `AreContainers`, what containers bytes are, and `containers_of`, the same
+-- computed.
 use Rattle.std.specs.Prelude.{◌≡◌, ℕ, zero, suc, ◌+◌, ◌^◌, ◌<◌, ◌≢◌, nat_lt, if◌then◌else◌, List, [], ◌∷◌, ◌++◌, length, take, drop, slice_index, flat_map, All, Option, Some, None, option_map, unwrap_or}
 use Rattle.byteorder.specs.Endian.{big_bytes, big_number}
 
@@ -37,8 +39,9 @@ abbrev pub BeginsNone : List ℕ → Type 0
 BeginsNone bytes = (container : Container) (more : List ℕ) → FitsLength container
     → bytes ≢ container_text container ++ more
 
--- the bytes are these containers, one after the other, followed by a rest that begins no whole container
-pub record AreContainers (bytes : List ℕ) (containers : List Container) (rest : List ℕ) : Type 0 where
+-- the bytes are these containers, one after the other, and then a rest that begins no whole one
+pub record AreContainers (bytes : List ℕ) (containers : List Container) (rest : List ℕ)
+    : Type 0 where
   pub spelled : bytes ≡ containers_text containers ++ rest
   pub each : All FitsLength containers
   pub cut : BeginsNone rest
@@ -62,7 +65,8 @@ front_container bytes = record {
 -- the first container of bytes, or none where they are short
 abbrev pub first_container : List ℕ → Option Container
 first_container bytes =
-    if nat_lt (length bytes) (header_size + told_length bytes) then None else Some (front_container bytes)
+    if nat_lt (length bytes) (header_size + told_length bytes) then None
+    else Some (front_container bytes)
 
 -- the first containers of bytes, at most so many
 unfoldable pub first_containers : ℕ → List ℕ → List Container

@@ -1,4 +1,5 @@
--- The laws of containers and bodies: what is spelled is read back, and bytes are one list of containers only.
+-- The laws of containers and bodies: what is spelled is read back, and bytes are one list of
+-- containers only.
 use Rattle.std.specs.Prelude.{◌≡◌, ℕ, ◌^◌, ◌<◌, Bool, List, [], length, All, Some}
 use Rattle.mesh_base.specs.declared.client.Key.{Key}
 use Rattle.mesh_base.specs.declared.client.Entry.{Entry}
@@ -8,7 +9,8 @@ use Rattle.mesh_model.specs.ContainerBodies.{TtVlan, TtData, Bandwidth, tt_of_bo
 -- spelled containers are these containers again, and nothing is left
 abbrev pub ContainersAreReadBack : Type 0
 ContainersAreReadBack = (containers : List Container) → All FitsLength containers
-    → (containers_of (containers_text containers) ≡ containers) × (rest_of (containers_text containers) ≡ [])
+    → (containers_of (containers_text containers) ≡ containers)
+    × (rest_of (containers_text containers) ≡ [])
 
 -- bytes are the containers that are computed from them, and what is left
 abbrev pub ContainersAreFound : Type 0
@@ -17,7 +19,8 @@ ContainersAreFound = (bytes : List ℕ) → All (λ byte. byte < 2 ^ 8) bytes
 
 -- bytes are no two lists of containers
 abbrev pub ContainersAreUnique : Type 0
-ContainersAreUnique = (bytes : List ℕ) (containers others : List Container) (rest other_rest : List ℕ)
+ContainersAreUnique =
+    (bytes : List ℕ) (containers others : List Container) (rest other_rest : List ℕ)
     → AreContainers bytes containers rest → AreContainers bytes others other_rest
     → (containers ≡ others) × (rest ≡ other_rest)
 
@@ -41,7 +44,7 @@ pub record FitsTable (table : TtData) : Type 0 where
 abbrev pub TableIsReadBack : Type 0
 TableIsReadBack = (table : TtData) → FitsTable table → tt_of_body (tt_text table) ≡ Some table
 
--- a record that was written for a client tells that client, with the flags that it keeps, and whether it is gone
+-- a record for a client tells the client, with the flags that it keeps, and whether it is gone
 abbrev pub RecordIsReadBack : Type 0
 RecordIsReadBack = (entry : Entry) (is_gone : Bool)
     → (entry_of (change_of entry is_gone) ≡ record entry { flags = client_flags entry.flags })

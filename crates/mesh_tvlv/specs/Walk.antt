@@ -1,5 +1,6 @@
--- A walk over the containers of bytes, first to last. It ends at the end of the bytes, or with the first cut.
--- The main words are `Walk`, the state of a walk, and `to_come`, the containers that it will still give.
+-- A walk over the containers of bytes, first to last. It ends at the end of the bytes, or with the
+-- first cut. The main words are `Walk`, the state of a walk, and `to_come`, the containers that it
+-- will still give.
 use Rattle.std.specs.Prelude.{◌≡◌, ℕ, ◌+◌, ◌<◌, ◌⊎◌, Bool, true, false, IsTrue, if◌then◌else◌, List, [], length, drop}
 use Rattle.mesh_model.specs.Containers as grammar
 use Rattle.mesh_model.specs.Containers.{containers_of, container_size, AreShort}
@@ -7,9 +8,13 @@ use Rattle.mesh_tvlv.specs.declared.walk.Container.{Container}
 
 -- a container apart from where its body lies
 abbrev pub seen : Container → grammar.Container
-seen container = record { kind = container.kind; version = container.version; body = container.body.now }
+seen container = record {
+  kind = container.kind;
+  version = container.version;
+  body = container.body.now;
+}
 
--- the bytes that aren't read yet, their place counted from the first byte of all, and whether a cut ended the walk
+-- the bytes that aren't read yet, their place counted from the first of all, and whether a cut came
 pub record Walk : Type 0 where
   pub left : List ℕ
   pub place : ℕ

@@ -25,7 +25,8 @@ pub(crate) fn key_in(bytes: &[u8]) -> Key
 
 /// The client of a roaming advertisement. `BadLength` where the body has fewer than 8 bytes.
 pub fn read_roam(body: &[u8]) -> Result<Key, TvlvErr>
-    ensures reads { result ≡ ok_or (roaming_of_body body.now) (TvlvErr.BadLength ROAMING (length body.now)) }
+    ensures reads { result ≡ ok_or (roaming_of_body body.now)
+        (TvlvErr.BadLength ROAMING (length body.now)) }
     ensures short { IsErr result ↔ (length body.now < KEY_SIZE) }
 {
     if body.len() < KEY_SIZE {
@@ -37,7 +38,8 @@ pub fn read_roam(body: &[u8]) -> Result<Key, TvlvErr>
     Ok(key_in(body))
 }
 
-/// What a gateway offers: download and upload, each in 100 kbit/s. `BadLength` where the body has fewer than 8 bytes.
+/// What a gateway offers: download and upload, each in 100 kbit/s. `BadLength` where the body has
+/// fewer than 8 bytes.
 pub fn read_gw(body: &[u8]) -> Result<(u32, u32), TvlvErr>
     ensures reads { result ≡ ok_or (option_map speeds (gateway_of_body body.now))
         (TvlvErr.BadLength GATEWAY (length body.now)) }
@@ -56,7 +58,8 @@ pub fn read_gw(body: &[u8]) -> Result<(u32, u32), TvlvErr>
 
 /// The multicast flags of a node. `BadLength` where the body has fewer than 4 bytes.
 pub fn read_mcast(body: &[u8]) -> Result<u8, TvlvErr>
-    ensures reads { result ≡ ok_or (multicast_of_body body.now) (TvlvErr.BadLength MULTICAST (length body.now)) }
+    ensures reads { result ≡ ok_or (multicast_of_body body.now)
+        (TvlvErr.BadLength MULTICAST (length body.now)) }
     ensures short { IsErr result ↔ (length body.now < MULTICAST_SIZE) }
 {
     if body.len() < MULTICAST_SIZE {

@@ -2,7 +2,8 @@
 
 ghost use Rattle.mesh_tvlv.specs.Laws.{ContainersAreReadBack, ContainersAreFound, ContainersAreUnique, TableIsReadBack, RecordIsReadBack, BodiesAreReadBack};
 
-/// Containers that were written one after the other are walked over as these containers, and nothing is left.
+/// Containers that were written one after the other are read as these containers, and no bytes are
+/// left.
 pub fn containers_are_read_back()
     ensures { ContainersAreReadBack }
 {}

@@ -1,4 +1,4 @@
-//! The numbers of the layouts: types and versions of containers, their flags, and the sizes and places of fields.
+//! The numbers of the layouts: types and versions of containers, flags, sizes and places of fields.
 
 /// The type of a gateway's container, which tells its bandwidth (`BATADV_TVLV_GW`).
 pub const GATEWAY: u8 = 1;
@@ -54,8 +54,6 @@ pub const CHANGE_SIZE: usize = 12;
 /// The place of the client in a record.
 pub const CHANGE_KEY_PLACE: usize = 4;
 
-/// The bytes of a VLAN's wire number.
-pub const VID_SIZE: usize = 2;
 /// The bytes of a client: address 6, wire number of its VLAN 2.
 pub const KEY_SIZE: usize = 8;
 /// The place of the wire number in a client.

@@ -7,7 +7,7 @@ use crate::layout::{HEADER_SIZE, LENGTH_PLACE};
 use byteorder::{BigEndian, ByteOrder};
 use std::marker::Model;
 
-/// A container: its type, the version of its type, and its body, which lies in the bytes that were walked over.
+/// A container: its type, the version of its type, and its body where it lies.
 #[derive(Clone, Copy, Debug, PartialEq, Eq)]
 pub struct Container<'a> {
     pub kind: u8,
@@ -64,7 +64,8 @@ impl<'a> TvlvIter<'a> {
         }
     }
 
-    /// The next container. Where the bytes that are left begin no whole one, a cut is answered once, and the walk ends.
+    /// The next container. Where the bytes that are left begin no whole one, a cut is answered once,
+    /// and the walk ends.
     pub fn next(&mut self) -> Option<Result<Container<'a>, TvlvErr>>
         ensures gives { IfSome result (λ answer. IfOk answer (λ container.
             to_come self.old ≡ seen container ∷ to_come self.new)) }
@@ -73,9 +74,10 @@ impl<'a> TvlvIter<'a> {
         ensures none_left { MatchOption result (to_come self.old ≡ [])
             (λ answer. OnErr answer (to_come self.old ≡ [])) }
 
-        // A cut is told exactly where fewer bytes are left than a header or the length that it tells.
+        // A cut is told exactly before fewer bytes than a header, or than the length that it tells.
         ensures cut { (result ≡ Some (Err (TvlvErr.Cut self.old.place))) ↔ IsAtCut self.old }
-        ensures cause { IfSome result (λ answer. IfErr answer (λ fault. fault ≡ TvlvErr.Cut self.old.place)) }
+        ensures cause { IfSome result (λ answer. IfErr answer (λ fault.
+            fault ≡ TvlvErr.Cut self.old.place)) }
         ensures stops { IfSome result (λ answer. OnErr answer (self.new ≡ stopped self.old)) }
 
         // Nothing is answered exactly at the end and after a cut.

@@ -4,7 +4,7 @@ ghost use Rattle.mesh_model.specs.ContainerBodies.{tt_head_text, key_text, vlan_
 
 use crate::layout::{
     CHANGE_KEY_PLACE, CHANGE_SIZE, CLIENT_FLAGS, DEL, HEADER_SIZE, KEY_SIZE, LENGTH_PLACE,
-    TT_HEAD_SIZE, VID_SIZE, VLAN_SIZE, VLAN_VID_PLACE, VLANS_PLACE,
+    TT_HEAD_SIZE, VLAN_SIZE, VLAN_VID_PLACE, VLANS_PLACE,
 };
 use byteorder::{BigEndian, ByteOrder};
 use mesh_base::{Entry, Key, NoMemory, Vid};
@@ -33,7 +33,8 @@ pub fn write_container(
     Ok(())
 }
 
-/// Appends the head of a translation table: its flags, its version, the number of its VLANs in 2 bytes.
+/// Appends the head of a translation table: its flags, its version, the number of its VLANs in 2
+/// bytes.
 pub fn write_tt_head(out: &mut Vec<u8>, flags: u8, ttvn: u8, vlans: u16) -> Result<(), NoMemory>
     ensures ok { OnOk result (out.new.items ≡ out.old.items ++ tt_head_text flags ttvn vlans) }
     ensures err { OnErr result (out.new.items ≡ out.old.items) }
@@ -46,9 +47,10 @@ pub fn write_tt_head(out: &mut Vec<u8>, flags: u8, ttvn: u8, vlans: u16) -> Resu
     Ok(())
 }
 
-/// Appends a VLAN: the checksum of its clients in 4 bytes, its wire number in 2, two reserved bytes of 0.
+/// Appends a VLAN: the checksum of its clients in 4 bytes, its wire number in 2, two bytes of 0.
 pub fn write_vlan(out: &mut Vec<u8>, vid: Vid, sum: u32) -> Result<(), NoMemory>
-    ensures ok { OnOk result (out.new.items ≡ out.old.items ++ vlan_text (record { vid = vid; sum = sum })) }
+    ensures ok { OnOk result (out.new.items ≡ out.old.items
+        ++ vlan_text (record { vid = vid; sum = sum })) }
     ensures err { OnErr result (out.new.items ≡ out.old.items) }
 {
     let mut vlan = [0; VLAN_SIZE];
@@ -63,15 +65,15 @@ fn key_bytes(key: Key) -> [u8; KEY_SIZE]
     ensures { result ≡ key_text key }
 {
     let [a, b, c, d, e, f] = key.mac.0;
-    let mut vid = [0; VID_SIZE];
-    BigEndian::write_u16(&mut vid, key.vid.0);
-    [a, b, c, d, e, f, vid[0], vid[1]]
+    let [high, low] = key.vid.0.to_be_bytes();
+    [a, b, c, d, e, f, high, low]
 }
 
-/// Appends a record of 12 bytes that adds a client or, with `del`, takes it away. Of the client's flags WIFI and
-/// ISOLATED are written, ROAM is 0, and so are the three reserved bytes.
+/// Appends a record of 12 bytes that adds a client or, with `del`, takes it away. Of the client's flags
+/// WIFI and ISOLATED are written, ROAM is 0, and so are the three reserved bytes.
 pub fn write_change(out: &mut Vec<u8>, entry: &Entry, del: bool) -> Result<(), NoMemory>
-    ensures ok { OnOk result (out.new.items ≡ out.old.items ++ change_text (change_of entry.now del)) }
+    ensures ok { OnOk result (out.new.items ≡ out.old.items
+        ++ change_text (change_of entry.now del)) }
     ensures err { OnErr result (out.new.items ≡ out.old.items) }
 {
     let gone = if del { DEL } else { 0 };
