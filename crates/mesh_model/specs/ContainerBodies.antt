@@ -1,9 +1,8 @@
 -- The bodies of the known containers, field by field, as batman-adv's packet header names them.
 -- Numbers have their higher byte first. Reserved bytes are written 0 and ignored when read.
--- Bytes behind a body's fields are ignored, and so is a last record of a translation table that isn't
--- whole.
--- The main words are `tt_of_body`, `roaming_of_body`, `gateway_of_body` and `multicast_of_body`, which
--- are none where a body is too short, and `tt_text` and its kin, which spell a body.
+-- Bytes behind a body's fields are ignored, and so is a last record that isn't whole.
+-- The main words are `tt_of_body`, `roaming_of_body`, `gateway_of_body` and `multicast_of_body`,
+-- which are none where a body is too short, and `tt_text` and its kin, which spell a body.
 use Rattle.std.specs.Prelude.{ℕ, zero, suc, ◌+◌, ◌*◌, ◌/◌, ◌==◌, nat_lt, if◌then◌else◌, Bool, List, [], ◌∷◌, ◌++◌, length, take, drop, map, flat_map, slice_index, bit_and, bit_or, Option, Some, None}
 use Rattle.byteorder.specs.Endian.{big_bytes, big_number}
 use Rattle.mesh_base.specs.declared.client.Vid.{Vid}
@@ -74,9 +73,9 @@ key_of_bytes bytes = record {
 -- a VLAN: checksum 4, wire number 2, reserved 2
 abbrev pub vlan_of_bytes : List ℕ → TtVlan
 vlan_of_bytes bytes = record {
-    sum = big_number 4 bytes;
-    vid = record { 0 = big_number 2 (drop 4 bytes) };
-  }
+  sum = big_number 4 bytes;
+  vid = record { 0 = big_number 2 (drop 4 bytes) };
+}
 
 -- a record: flags 1, reserved 3, client 8
 abbrev pub change_of_bytes : List ℕ → TtChange

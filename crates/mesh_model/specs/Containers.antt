@@ -50,7 +50,7 @@ pub record AreContainers (bytes : List ℕ) (containers : List Container) (rest 
 abbrev pub told_length : List ℕ → ℕ
 told_length bytes = big_number 2 (drop 2 bytes)
 
--- bytes that are fewer than a header, or than the length that it tells
+-- bytes that are fewer than a header and the length that it tells
 abbrev pub AreShort : List ℕ → Type 0
 AreShort bytes = length bytes < header_size + told_length bytes
 
@@ -75,7 +75,7 @@ first_containers (suc more) bytes = unwrap_or (option_map
     (λ container. container ∷ first_containers more (drop (container_size container) bytes))
     (first_container bytes)) []
 
--- the containers of bytes, which are fewer than the bytes
+-- the containers of bytes, of which there are at most as many as bytes
 unfoldable pub containers_of : List ℕ → List Container
 containers_of bytes = first_containers (length bytes) bytes
 

@@ -32,7 +32,7 @@ to_come walk = if walk.stopped then [] else containers_of walk.left
 abbrev pub HasEnded : Walk → Type 0
 HasEnded walk = (walk.left ≡ []) ⊎ IsTrue walk.stopped
 
--- a walk before bytes that are fewer than a header, or than the length that it tells
+-- a walk before some bytes, but fewer than a header and the length that it tells
 pub record IsAtCut (walk : Walk) : Type 0 where
   pub goes_on : walk.stopped ≡ false
   pub some_left : 0 < length walk.left

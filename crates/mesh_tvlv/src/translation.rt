@@ -13,8 +13,8 @@ use byteorder::{BigEndian, ByteOrder};
 use mesh_base::{Entry, Vid};
 use std::marker::Model;
 
-/// A translation table where it lies in a body: its flags and version, its VLANs with their checksums,
-/// its records.
+/// A translation table where it lies in a body: its flags and version, its VLANs with their
+/// checksums, its records.
 #[derive(Debug, Drop)]
 pub struct TtView<'a> {
     flags: u8,
@@ -37,8 +37,8 @@ impl<'a> Model for TtView<'a> {
     } };
 }
 
-/// The translation table in a body. `BadLength` where the body has fewer bytes than 4 and 8 for each
-/// VLAN that it tells.
+/// The translation table in a body. `BadLength` where the body has fewer bytes than 4 and 8 for
+/// each VLAN that it tells.
 pub fn read_tt(body: &[u8]) -> Result<TtView<'_>, TvlvErr>
     ensures reads { result ≡ ok_or (tt_of_body body.now) (TvlvErr.BadLength TT (length body.now)) }
     ensures short { IsErr result ↔ (length body.now < tt_size body.now) }
@@ -122,8 +122,8 @@ impl<'a> TtView<'a> {
         Some(vlan_in(bytes))
     }
 
-    /// The client of the record at this place, with its flags WIFI and ISOLATED, and whether the record
-    /// takes it away; `None` exactly past the last.
+    /// The client of the record at this place, with its flags WIFI and ISOLATED, and whether the
+    /// record takes it away; `None` exactly past the last.
     pub fn change_at(&self, i: usize) -> Option<(Entry, bool)>
         ensures { result ≡ option_map entry_and_deletion (slice_get self.now.changes i) }
     {

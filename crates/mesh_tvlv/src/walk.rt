@@ -64,8 +64,8 @@ impl<'a> TvlvIter<'a> {
         }
     }
 
-    /// The next container. Where the bytes that are left begin no whole one, a cut is answered once,
-    /// and the walk ends.
+    /// The next container. Where the bytes that are left begin no whole one, a cut is answered
+    /// once, and the walk ends.
     pub fn next(&mut self) -> Option<Result<Container<'a>, TvlvErr>>
         ensures gives { IfSome result (λ answer. IfOk answer (λ container.
             to_come self.old ≡ seen container ∷ to_come self.new)) }
@@ -74,7 +74,7 @@ impl<'a> TvlvIter<'a> {
         ensures none_left { MatchOption result (to_come self.old ≡ [])
             (λ answer. OnErr answer (to_come self.old ≡ [])) }
 
-        // A cut is told exactly before fewer bytes than a header, or than the length that it tells.
+        // A cut is told exactly before some bytes, but fewer than a header and its told length.
         ensures cut { (result ≡ Some (Err (TvlvErr.Cut self.old.place))) ↔ IsAtCut self.old }
         ensures cause { IfSome result (λ answer. IfErr answer (λ fault.
             fault ≡ TvlvErr.Cut self.old.place)) }

@@ -69,8 +69,8 @@ fn key_bytes(key: Key) -> [u8; KEY_SIZE]
     [a, b, c, d, e, f, high, low]
 }
 
-/// Appends a record of 12 bytes that adds a client or, with `del`, takes it away. Of the client's flags
-/// WIFI and ISOLATED are written, ROAM is 0, and so are the three reserved bytes.
+/// Appends a record of 12 bytes that adds a client or, with `del`, takes it away. Of the client's
+/// flags WIFI and ISOLATED are written, ROAM is 0, and so are the three reserved bytes.
 pub fn write_change(out: &mut Vec<u8>, entry: &Entry, del: bool) -> Result<(), NoMemory>
     ensures ok { OnOk result (out.new.items ≡ out.old.items
         ++ change_text (change_of entry.now del)) }
