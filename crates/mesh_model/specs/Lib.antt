@@ -3,6 +3,8 @@ pub mod Lines
 pub mod Words
 pub mod Terms
 pub mod Commands
+pub mod Containers
+pub mod ContainerBodies
 pub mod Log
 pub mod Mentions
 pub mod Present
