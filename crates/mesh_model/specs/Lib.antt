@@ -1,1 +1,2 @@
 -- The definitions, in reading order.
+pub mod Packets

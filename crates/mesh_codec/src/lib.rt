@@ -1,0 +1,9 @@
+//! The packets of B.A.T.M.A.N. advanced, compat version 15, read from bytes and written to them.
+
+#![tactic(auto)]
+
+mod failure;
+mod field;
+
+pub use failure::CodecErr;
+pub use mesh_model::Head;
