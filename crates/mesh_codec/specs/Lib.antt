@@ -1,0 +1,4 @@
+-- The words of this crate's contracts: why bytes begin no packet, then what the steps of reading speak of.
+pub mod Causes
+pub mod Kinds
+pub mod Reading

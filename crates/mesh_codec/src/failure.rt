@@ -18,7 +18,7 @@ pub enum CodecErr {
     Kind { byte: u8 },
     /// The header tells more bytes of containers than are left.
     #[error("{told} bytes of containers are told, and {left} are left")]
-    Length { told: u16, left: usize },
+    Length { told: usize, left: usize },
     /// The containers are longer than a header can tell.
     #[error("{len} bytes of containers are more than 65535")]
     Long { len: usize },

@@ -4,6 +4,9 @@
 
 mod failure;
 mod field;
+mod header;
+mod kind;
+mod reading;
 
 pub use failure::CodecErr;
 pub use mesh_model::Head;
