@@ -1,1 +1,6 @@
 pub mod Places
+pub mod Rows
+pub mod Packets
+pub mod Same
+pub mod Written
+pub mod Refusals

@@ -1,4 +1,5 @@
 -- The words of this crate's contracts: why bytes begin no packet, then what the steps of reading speak of.
-pub mod Causes
+pub mod Decoding
+pub mod Laws
 pub mod Kinds
 pub mod Reading

@@ -6,7 +6,9 @@ mod failure;
 mod field;
 mod header;
 mod kind;
+pub mod laws;
 mod reading;
 
 pub use failure::CodecErr;
 pub use mesh_model::Head;
+pub use reading::decode;

@@ -1,12 +1,19 @@
--- Why bytes begin no packet: fewer than two bytes, a version byte that isn't 15, a type byte of no
--- kind, fewer bytes than the header, a told length that passes the end. Each cause is true of the
--- bytes and none that is named before it is. The main word is `HasCause`.
+-- What `decode` answers. Bytes begin no packet where there are fewer than two, the version byte isn't
+-- 15, no kind has the type byte, there are fewer than the header has, or the told length passes the
+-- end. Each cause is true of the bytes where none that is named before it is. The main word is
+-- `HasCause`.
 use Rattle.std.specs.Prelude.{◌≡◌, ◌≢◌, ◌⊎◌, ℕ, ◌<◌, List, length, Some, None, slice_get, option_and_then}
+use Rattle.std.specs.Borrow.{Bor}
 use Rattle.mesh_model.specs.declared.packet.Head.{Head}
 use Rattle.mesh_model.specs.Packets.{compat_version, header_size, header_of, row_of, BeginWith}
 use Rattle.mesh_model.specs.Packets.TailKind.{containers}
 use Rattle.mesh_codec.specs.declared.failure.CodecErr.{CodecErr}
 use Rattle.mesh_codec.specs.declared.failure.CodecErr.TheVariants.{Short, Version, Kind, Length, Long, Tail, Memory}
+
+-- what was answered is this head and tail, with so many bytes used
+abbrev pub IsSame : Head × Bor (List ℕ) × ℕ → Head → List ℕ → ℕ → Type 0
+IsSame packet head tail used =
+    (packet.0 ≡ head) × (packet.1.now ≡ tail) × (packet.2 ≡ used)
 
 -- the version byte is there, and is the right one
 abbrev pub HasVersion : List ℕ → Type 0
