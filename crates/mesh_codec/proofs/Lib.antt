@@ -4,3 +4,4 @@ pub mod Packets
 pub mod Same
 pub mod Written
 pub mod Refusals
+pub mod Puts

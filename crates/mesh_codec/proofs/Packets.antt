@@ -66,10 +66,13 @@ pub kind_begins : (bytes fields : List ℕ) (kind : Kind) (header : Header) → 
 kind_begins bytes fields kind header parts read =
     let row_kind = (row_read header).kind in
     let small : row_kind < 256 = rw read.kind_is (byte_fits kind) in
-    let kind_is : type_byte kind ≡ row_kind % 256 = omega (arith, read.kind_is, small) in
-    (compat_version ∷ fields, record {
-      front = type_byte kind ∷ [];
-      holds = ap (λ (b : ℕ). b ∷ []) kind_is;
-      fits = small;
-      parts = parts;
-    }, (fields, record { front = compat_version ∷ []; holds = refl; fits = omega arith; parts = refl }, read.fields_are))
+    let kind_is : type_byte kind ≡ row_kind % 256 = omega (arith, read.kind_is, small) in (
+      compat_version ∷ fields,
+      record {
+        front = type_byte kind ∷ [];
+        holds = ap (λ (b : ℕ). b ∷ []) kind_is;
+        fits = small;
+        parts = parts;
+      },
+      (fields, record { front = compat_version ∷ []; holds = refl; fits = omega arith; parts = refl }, read.fields_are),
+    )

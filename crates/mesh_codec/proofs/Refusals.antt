@@ -27,7 +27,7 @@ starts bytes head told after header =
     let kind_byte : kind % 256 ≡ kind = omega (arith, header.1.fits) in
     let version = header.2 in
     let parts : bytes ≡ kind ∷ 15 ∷ version.0 = header.1.parts ∙ ap (λ (front : List ℕ). front ++ header.0) (header.1.holds ∙ ap (λ (b : ℕ). b ∷ []) kind_byte)
-        ∙ ap (λ (l : List ℕ). kind ∷ l) (version.1.parts ∙ ap (λ (front : List ℕ). front ++ version.0) version.1.holds) in
+    ∙ ap (λ (l : List ℕ). kind ∷ l) (version.1.parts ∙ ap (λ (front : List ℕ). front ++ version.0) version.1.holds) in
     record {
       first = ap (λ (l : List ℕ). slice_get l 0) parts;
       second = ap (λ (l : List ℕ). slice_get l 1) parts;

@@ -20,13 +20,16 @@ written_holds (reserved size) = length-replicate size 0
 -- what fields are written as begins with them
 pub written_begin : (fields : List Field) (others : List ℕ) → AllByRecursion Fits fields → BeginWith (flat_map field_bytes fields ++ others) fields others
 written_begin [] others fits = refl
-written_begin (field ∷ fields) others fits =
-    (flat_map field_bytes fields ++ others, record {
-      front = field_bytes field;
-      holds = written_holds field;
-      fits = fits.0;
-      parts = append_assoc (field_bytes field) (flat_map field_bytes fields) others;
-    }, written_begin fields others fits.1)
+written_begin (field ∷ fields) others fits = (
+  flat_map field_bytes fields ++ others,
+  record {
+    front = field_bytes field;
+    holds = written_holds field;
+    fits = fits.0;
+    parts = append_assoc (field_bytes field) (flat_map field_bytes fields) others;
+  },
+  written_begin fields others fits.1,
+)
 
 -- a written packet before more bytes, of which its kind takes none
 read_before : (head : Head) (tail more : List ℕ) → HasSpelling head tail → IsTail (row_of head (length tail)).tail tail more

@@ -3,3 +3,4 @@ pub mod Decoding
 pub mod Laws
 pub mod Kinds
 pub mod Reading
+pub mod Writing

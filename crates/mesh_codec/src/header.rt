@@ -3,7 +3,7 @@
 ghost use Rattle.mesh_codec.specs.Kinds.{HoldsFields};
 ghost use Rattle.mesh_codec.specs.Reading.{HasRead};
 
-use crate::field::{address, after_reserved, fragment_place, number16, number32, number8};
+use crate::field::{address, after_reserved, fragment_place, number8, number16, number32};
 use crate::kind::Kind;
 use mesh_model::Head;
 
@@ -38,8 +38,19 @@ fn iv_ogm(fields: &[u8]) -> Header<'_>
     let rest = after_reserved(rest, 1);
     let (tq, rest) = number8(rest);
     let (told, rest) = number16(rest);
-    let head = Head::IvOgm { ttl, flags, seq, orig, prev, tq };
-    Header { head, extent: Extent::Told(told), rest }
+    let head = Head::IvOgm {
+        ttl,
+        flags,
+        seq,
+        orig,
+        prev,
+        tq,
+    };
+    Header {
+        head,
+        extent: Extent::Told(told),
+        rest,
+    }
 }
 
 fn bcast(fields: &[u8]) -> Header<'_>
@@ -51,7 +62,11 @@ fn bcast(fields: &[u8]) -> Header<'_>
     let (seq, rest) = number32(rest);
     let (orig, rest) = address(rest);
     let head = Head::Bcast { ttl, seq, orig };
-    Header { head, extent: Extent::Rest, rest }
+    Header {
+        head,
+        extent: Extent::Rest,
+        rest,
+    }
 }
 
 fn elp(fields: &[u8]) -> Header<'_>
@@ -61,8 +76,16 @@ fn elp(fields: &[u8]) -> Header<'_>
     let (orig, rest) = address(fields);
     let (seq, rest) = number32(rest);
     let (interval, rest) = number32(rest);
-    let head = Head::Elp { orig, seq, interval };
-    Header { head, extent: Extent::Nothing, rest }
+    let head = Head::Elp {
+        orig,
+        seq,
+        interval,
+    };
+    Header {
+        head,
+        extent: Extent::Nothing,
+        rest,
+    }
 }
 
 fn ogm2(fields: &[u8]) -> Header<'_>
@@ -75,8 +98,18 @@ fn ogm2(fields: &[u8]) -> Header<'_>
     let (orig, rest) = address(rest);
     let (told, rest) = number16(rest);
     let (throughput, rest) = number32(rest);
-    let head = Head::Ogm2 { ttl, flags, seq, orig, throughput };
-    Header { head, extent: Extent::Told(told), rest }
+    let head = Head::Ogm2 {
+        ttl,
+        flags,
+        seq,
+        orig,
+        throughput,
+    };
+    Header {
+        head,
+        extent: Extent::Told(told),
+        rest,
+    }
 }
 
 fn unicast(fields: &[u8]) -> Header<'_>
@@ -87,7 +120,11 @@ fn unicast(fields: &[u8]) -> Header<'_>
     let (ttvn, rest) = number8(rest);
     let (dst, rest) = address(rest);
     let head = Head::Unicast { ttl, ttvn, dst };
-    Header { head, extent: Extent::Rest, rest }
+    Header {
+        head,
+        extent: Extent::Rest,
+        rest,
+    }
 }
 
 fn frag(fields: &[u8]) -> Header<'_>
@@ -100,8 +137,20 @@ fn frag(fields: &[u8]) -> Header<'_>
     let (orig, rest) = address(rest);
     let (seq, rest) = number16(rest);
     let (total, rest) = number16(rest);
-    let head = Head::Frag { ttl, number, priority, dst, orig, seq, total };
-    Header { head, extent: Extent::Rest, rest }
+    let head = Head::Frag {
+        ttl,
+        number,
+        priority,
+        dst,
+        orig,
+        seq,
+        total,
+    };
+    Header {
+        head,
+        extent: Extent::Rest,
+        rest,
+    }
 }
 
 fn unicast4(fields: &[u8]) -> Header<'_>
@@ -114,8 +163,18 @@ fn unicast4(fields: &[u8]) -> Header<'_>
     let (src, rest) = address(rest);
     let (subtype, rest) = number8(rest);
     let rest = after_reserved(rest, 1);
-    let head = Head::Unicast4 { ttl, ttvn, dst, src, subtype };
-    Header { head, extent: Extent::Rest, rest }
+    let head = Head::Unicast4 {
+        ttl,
+        ttvn,
+        dst,
+        src,
+        subtype,
+    };
+    Header {
+        head,
+        extent: Extent::Rest,
+        rest,
+    }
 }
 
 fn icmp(fields: &[u8]) -> Header<'_>
@@ -129,8 +188,19 @@ fn icmp(fields: &[u8]) -> Header<'_>
     let (uid, rest) = number8(rest);
     let rest = after_reserved(rest, 1);
     let (seq, rest) = number16(rest);
-    let head = Head::Icmp { ttl, msg, dst, orig, uid, seq };
-    Header { head, extent: Extent::Nothing, rest }
+    let head = Head::Icmp {
+        ttl,
+        msg,
+        dst,
+        orig,
+        uid,
+        seq,
+    };
+    Header {
+        head,
+        extent: Extent::Nothing,
+        rest,
+    }
 }
 
 fn utvlv(fields: &[u8]) -> Header<'_>
@@ -144,7 +214,11 @@ fn utvlv(fields: &[u8]) -> Header<'_>
     let (told, rest) = number16(rest);
     let rest = after_reserved(rest, 2);
     let head = Head::Utvlv { ttl, dst, src };
-    Header { head, extent: Extent::Told(told), rest }
+    Header {
+        head,
+        extent: Extent::Told(told),
+        rest,
+    }
 }
 
 /// The header of a kind.

@@ -10,14 +10,25 @@ pub const VERSION: u8 = 15;
 /// The bytes of type and version.
 pub const PREFIX: usize = 2;
 
+/// The bytes of the longest header.
+pub const LONGEST_HEADER: usize = 24;
+
 pub const IV_OGM: u8 = 0x00;
+
 pub const BCAST: u8 = 0x01;
+
 pub const ELP: u8 = 0x03;
+
 pub const OGM2: u8 = 0x04;
+
 pub const UNICAST: u8 = 0x40;
+
 pub const FRAG: u8 = 0x41;
+
 pub const UNICAST4: u8 = 0x42;
+
 pub const ICMP: u8 = 0x43;
+
 pub const UTVLV: u8 = 0x44;
 
 /// A kind of packet.

@@ -7,7 +7,9 @@ mod field;
 mod header;
 mod kind;
 pub mod laws;
+mod put;
 mod reading;
+mod put_header;
 
 pub use failure::CodecErr;
 pub use mesh_model::Head;

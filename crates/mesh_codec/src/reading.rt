@@ -7,7 +7,7 @@ ghost use Rattle.mesh_codec.specs.Kinds.{HasKind, HasFields};
 ghost use Rattle.mesh_codec.specs.Reading.{HasReadHeader};
 
 use crate::failure::CodecErr;
-use crate::header::{header_of, Extent, Header};
+use crate::header::{Extent, Header, header_of};
 use crate::kind::{Kind, PREFIX, VERSION};
 use mesh_model::Head;
 
@@ -17,7 +17,10 @@ fn kind_of(bytes: &[u8]) -> Result<Kind, CodecErr>
     ensures cause { IfErr result (HasCause bytes.now) }
 {
     let [kind, version, ..] = bytes else {
-        return Err(CodecErr::Short { have: bytes.len(), need: PREFIX });
+        return Err(CodecErr::Short {
+            have: bytes.len(),
+            need: PREFIX,
+        });
     };
     if *version != VERSION {
         return Err(CodecErr::Version { byte: *version });
@@ -36,7 +39,10 @@ fn fields_of(kind: Kind, bytes: &[u8]) -> Result<&[u8], CodecErr>
 {
     let need = kind.header_size();
     if bytes.len() < need {
-        return Err(CodecErr::Short { have: bytes.len(), need });
+        return Err(CodecErr::Short {
+            have: bytes.len(),
+            need,
+        });
     }
     Ok(&bytes[PREFIX..])
 }

@@ -129,3 +129,15 @@ pub record IsPacket (bytes : List ℕ) (head : Head) (tail : List ℕ) (used : �
 pub record HasSpelling (head : Head) (tail : List ℕ) : Type 0 where
   pub fields : AllByRecursion Fits (header_of head (length tail))
   pub tail_is : IsTail (row_of head (length tail)).tail tail []
+
+-- a fragment's number and priority fit their bits
+abbrev pub HasSmallPlace : Head → Type 0
+HasSmallPlace (IvOgm ttl flags seq orig prev tq) = ⊤
+HasSmallPlace (Bcast ttl seq orig) = ⊤
+HasSmallPlace (Elp orig seq interval) = ⊤
+HasSmallPlace (Ogm2 ttl flags seq orig throughput) = ⊤
+HasSmallPlace (Unicast ttl ttvn dst) = ⊤
+HasSmallPlace (Frag ttl index priority dst orig seq total) = (index ≤ 15) × (priority ≤ 7)
+HasSmallPlace (Unicast4 ttl ttvn dst src subtype) = ⊤
+HasSmallPlace (Icmp ttl msg dst orig uid seq) = ⊤
+HasSmallPlace (Utvlv ttl dst src) = ⊤
