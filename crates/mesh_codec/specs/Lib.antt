@@ -1,5 +1,6 @@
 -- The words of this crate's contracts: why bytes begin no packet, then what the steps of reading speak of.
 pub mod Decoding
+pub mod Encoding
 pub mod Laws
 pub mod Kinds
 pub mod Reading

@@ -3,7 +3,7 @@ use Rattle.std.specs.Prelude.{◌≡◌, ◌≤◌, ◌+◌, ℕ, List, [], ◌�
 use Rattle.std.specs.Global.{Vec}
 use Rattle.std.specs.Vec.{vec_len, vec_capacity}
 use Rattle.mesh_model.specs.declared.packet.Head.{Head}
-use Rattle.mesh_model.specs.Packets.{Field, row_of, header_of, field_bytes}
+use Rattle.mesh_model.specs.Packets.{Field, Fits, row_of, field_bytes}
 use Rattle.mesh_model.specs.Packets.TailKind.{containers}
 use Rattle.mesh_codec.specs.declared.kind.Kind.{Kind}
 use Rattle.mesh_codec.specs.Kinds.{type_byte, header_bytes}
@@ -12,8 +12,9 @@ use Rattle.mesh_codec.specs.Kinds.{type_byte, header_bytes}
 abbrev pub HasRoom : Vec ℕ → ℕ → Type 0
 HasRoom list more = vec_len list + more ≤ vec_capacity list
 
--- the field was put at the end, and no room was given up
+-- a field that fits was put at the end, and no room was given up
 pub record Puts (old : Vec ℕ) (field : Field) (new : Vec ℕ) : Type 0 where
+  pub fits : Fits field
   pub items : new.items ≡ old.items ++ field_bytes field
   pub room : vec_capacity old ≤ vec_capacity new
 

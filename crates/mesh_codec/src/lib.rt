@@ -10,7 +10,9 @@ pub mod laws;
 mod put;
 mod reading;
 mod put_header;
+mod writing;
 
 pub use failure::CodecErr;
 pub use mesh_model::Head;
 pub use reading::decode;
+pub use writing::encode;

@@ -1,6 +1,6 @@
 //! The headers of the nine kinds, put at the end of a list that has room for them.
 
-ghost use Rattle.std.specs.Prelude.{◌≡◌, ◌+◌, ◌≤◌};
+ghost use Rattle.std.specs.Prelude.{◌≡◌, ℕ, ◌+◌, ◌≤◌};
 ghost use Rattle.std.specs.Vec.{vec_len};
 ghost use Rattle.mesh_model.specs.Packets.{header_of, HasSmallPlace};
 ghost use Rattle.mesh_codec.specs.Kinds.{header_bytes};
@@ -34,7 +34,7 @@ pub fn put_iv_ogm(out: &mut Vec<u8>, head: &Head, told: u16)
 pub fn put_bcast(out: &mut Vec<u8>, head: &Head)
     requires kind { IsOfKind Kind.Bcast head.now }
     requires room { HasRoom out.old (header_bytes Kind.Bcast) }
-    ensures fields { PutsFields out.old (header_of head.now 0) out.new }
+    ensures fields { (told : ℕ) → PutsFields out.old (header_of head.now told) out.new }
     ensures len { vec_len out.new ≡ vec_len out.old + header_bytes Kind.Bcast }
 {
     let Head::Bcast { ttl, seq, orig } = *head else {
@@ -51,7 +51,7 @@ pub fn put_bcast(out: &mut Vec<u8>, head: &Head)
 pub fn put_elp(out: &mut Vec<u8>, head: &Head)
     requires kind { IsOfKind Kind.Elp head.now }
     requires room { HasRoom out.old (header_bytes Kind.Elp) }
-    ensures fields { PutsFields out.old (header_of head.now 0) out.new }
+    ensures fields { (told : ℕ) → PutsFields out.old (header_of head.now told) out.new }
     ensures len { vec_len out.new ≡ vec_len out.old + header_bytes Kind.Elp }
 {
     let Head::Elp { orig, seq, interval } = *head else {
@@ -86,7 +86,7 @@ pub fn put_ogm2(out: &mut Vec<u8>, head: &Head, told: u16)
 pub fn put_unicast(out: &mut Vec<u8>, head: &Head)
     requires kind { IsOfKind Kind.Unicast head.now }
     requires room { HasRoom out.old (header_bytes Kind.Unicast) }
-    ensures fields { PutsFields out.old (header_of head.now 0) out.new }
+    ensures fields { (told : ℕ) → PutsFields out.old (header_of head.now told) out.new }
     ensures len { vec_len out.new ≡ vec_len out.old + header_bytes Kind.Unicast }
 {
     let Head::Unicast { ttl, ttvn, dst } = *head else {
@@ -103,7 +103,7 @@ pub fn put_frag(out: &mut Vec<u8>, head: &Head)
     requires kind { IsOfKind Kind.Frag head.now }
     requires place { HasSmallPlace head.now }
     requires room { HasRoom out.old (header_bytes Kind.Frag) }
-    ensures fields { PutsFields out.old (header_of head.now 0) out.new }
+    ensures fields { (told : ℕ) → PutsFields out.old (header_of head.now told) out.new }
     ensures len { vec_len out.new ≡ vec_len out.old + header_bytes Kind.Frag }
 {
     let Head::Frag { ttl, number, priority, dst, orig, seq, total } = *head else {
@@ -122,7 +122,7 @@ pub fn put_frag(out: &mut Vec<u8>, head: &Head)
 pub fn put_unicast4(out: &mut Vec<u8>, head: &Head)
     requires kind { IsOfKind Kind.Unicast4 head.now }
     requires room { HasRoom out.old (header_bytes Kind.Unicast4) }
-    ensures fields { PutsFields out.old (header_of head.now 0) out.new }
+    ensures fields { (told : ℕ) → PutsFields out.old (header_of head.now told) out.new }
     ensures len { vec_len out.new ≡ vec_len out.old + header_bytes Kind.Unicast4 }
 {
     let Head::Unicast4 { ttl, ttvn, dst, src, subtype } = *head else {
@@ -141,7 +141,7 @@ pub fn put_unicast4(out: &mut Vec<u8>, head: &Head)
 pub fn put_icmp(out: &mut Vec<u8>, head: &Head)
     requires kind { IsOfKind Kind.Icmp head.now }
     requires room { HasRoom out.old (header_bytes Kind.Icmp) }
-    ensures fields { PutsFields out.old (header_of head.now 0) out.new }
+    ensures fields { (told : ℕ) → PutsFields out.old (header_of head.now told) out.new }
     ensures len { vec_len out.new ≡ vec_len out.old + header_bytes Kind.Icmp }
 {
     let Head::Icmp { ttl, msg, dst, orig, uid, seq } = *head else {
