@@ -1,9 +1,8 @@
 -- A header that was read, with its tail, is a packet.
-use Rattle.std.proofs.Common.{◌≡◌, ℕ, ◌+◌, ◌-◌, ◌%◌, ◌<◌, ◌≤◌, List, [], ◌∷◌, ◌++◌, length, take, drop, refl, sym, ap, subst, ◌∙◌, arith}
-use Rattle.std.proofs.lemmas.List.{take-append-drop, length-take-le, length-drop, take_all, drop_all}
+use Rattle.std.proofs.Common.{◌≡◌, ℕ, ◌+◌, ◌-◌, ◌%◌, ◌<◌, ◌≤◌, List, [], ◌∷◌, length, take, drop, refl, sym, ap, subst, ◌∙◌, arith}
+use Rattle.std.proofs.lemmas.List.{take-append-drop, length-take-le, length-drop, drop_all}
 use Rattle.mesh_model.specs.declared.packet.Head.{Head}
-use Rattle.mesh_model.specs.Packets.{Row, TailKind, BeginWith, IsTail, IsPacket, row_of, header_of, byte, compat_version}
-use Rattle.mesh_model.specs.Packets.TailKind.{containers, all_the_rest, nothing}
+use Rattle.mesh_model.specs.Packets.{Row, BeginWith, IsTail, IsPacket, row_of, header_of, byte, compat_version}
 use Rattle.mesh_codec.specs.declared.header.Extent.{Extent}
 use Rattle.mesh_codec.specs.declared.header.Extent.TheVariants.{Told, Rest, Nothing}
 use Rattle.mesh_codec.specs.declared.header.Header.{Header}

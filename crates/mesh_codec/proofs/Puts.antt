@@ -8,7 +8,7 @@ use Rattle.mesh_model.specs.declared.packet.Head.{Head}
 use Rattle.mesh_model.specs.Packets.{Field, TailKind, Fits, IsTail, HasSpelling, row_of, header_of, field_bytes, spelling}
 use Rattle.mesh_model.specs.Packets.TailKind.{containers, all_the_rest, nothing}
 use Rattle.mesh_codec.specs.Encoding.{HasStrayTail}
-use Rattle.mesh_codec.specs.Writing.{Puts, PutsFields}
+use Rattle.mesh_codec.specs.Writing.{PutsFields}
 
 pub puts_items : (old : Vec ℕ) (fields : List Field) (new : Vec ℕ) → PutsFields old fields new → new.items ≡ old.items ++ flat_map field_bytes fields
 puts_items old [] new puts = ap (λ (v : Vec ℕ). v.items) puts ∙ sym (append-nil old.items)

@@ -1,15 +1,13 @@
 -- Where a packet begins the bytes no cause of a refusal applies, and no two causes apply.
-use Rattle.std.proofs.Common.{◌≡◌, ℕ, ◌+◌, ◌*◌, ◌%◌, ◌<◌, ◌≤◌, ◌⊎◌, inl, inr, List, [], ◌∷◌, ◌++◌, length, Option, Some, None, Result, Ok, Err, refl, sym, ap, subst, ◌∙◌, arith}
+use Rattle.std.proofs.Common.{◌≡◌, ℕ, ◌%◌, ◌≤◌, inl, inr, List, [], ◌∷◌, ◌++◌, length, Some, None, Result, Ok, Err, sym, ap, subst, ◌∙◌, arith}
 use Rattle.std.specs.Prelude.{slice_get, IfOk, IfErr, IsOkAnd, IsErrOf}
-use Rattle.std.specs.Option.{option_and_then}
 use Rattle.std.specs.Borrow.{Bor}
 use Rattle.std.proofs.lemmas.List.{length-append}
 use Rattle.mesh_model.specs.declared.packet.Head.{Head}
 use Rattle.mesh_model.specs.Packets.{BeginWith, IsPacket, row_of, header_of, header_size, compat_version}
-use Rattle.mesh_model.specs.Packets.TailKind.{containers}
 use Rattle.mesh_codec.specs.declared.failure.CodecErr.{CodecErr}
 use Rattle.mesh_codec.specs.declared.failure.CodecErr.TheVariants.{Short, Version, Kind, Length, Long, Tail, Memory}
-use Rattle.mesh_codec.specs.Decoding.{HasVersion, IsNeeded, IsShort, TellsTooMuch, HasCause, IsSame}
+use Rattle.mesh_codec.specs.Decoding.{IsShort, TellsTooMuch, HasCause, IsSame}
 use Rattle.mesh_codec.proofs.Rows.{width, begin_length, header_width}
 use Rattle.mesh_codec.proofs.Same.{same_header, one_packet}
 

@@ -1,10 +1,10 @@
 -- The rows of the table: their widths, and which of them tell a length.
-use Rattle.std.proofs.Common.{◌≡◌, ℕ, ◌+◌, ◌≤◌, List, [], ◌∷◌, ◌++◌, length, Some, refl, ap, arith}
+use Rattle.std.proofs.Common.{◌≡◌, ℕ, ◌+◌, List, [], ◌∷◌, length, Some, refl, ap, arith}
 use Rattle.std.proofs.lemmas.List.{length-append}
 use Rattle.byteorder.specs.Numbers.{length-bytes_high_first}
 use Rattle.mesh_model.specs.declared.packet.Head.{Head}
 use Rattle.mesh_model.specs.declared.packet.Head.TheVariants.{IvOgm, Bcast, Elp, Ogm2, Unicast, Frag, Unicast4, Icmp, Utvlv}
-use Rattle.mesh_model.specs.Packets.{Field, TailKind, Holds, Fits, BeginsWith, BeginWith, row_of, header_of, header_size}
+use Rattle.mesh_model.specs.Packets.{Field, Holds, Fits, BeginWith, row_of, header_of, header_size}
 use Rattle.mesh_model.specs.Packets.Field.{number, address, fragment, reserved}
 use Rattle.mesh_model.specs.Packets.TailKind.{containers}
 

@@ -1,13 +1,12 @@
 -- The same bytes hold the same fields, and so the same header and packet.
-use Rattle.std.proofs.Common.{◌≡◌, ℕ, ◌+◌, ◌*◌, ◌^◌, ◌<◌, ◌≤◌, List, [], ◌∷◌, ◌++◌, length, take, drop, map, refl, sym, ap, subst, ◌∙◌, arith}
+use Rattle.std.proofs.Common.{◌≡◌, ℕ, ◌+◌, ◌*◌, ◌^◌, ◌<◌, List, [], ◌∷◌, ◌++◌, length, take, drop, map, refl, sym, ap, subst, ◌∙◌, arith}
 use Rattle.std.proofs.lemmas.List.{take_at, drop_at, append-nil}
 use Rattle.std.specs.Int.{bytes_high_first}
 use Rattle.byteorder.specs.Numbers.{big_number-reads_back}
 use Rattle.byteorder.specs.Endian.{big_number}
-use Rattle.mesh_base.specs.declared.address.Mac.{Mac}
 use Rattle.mesh_model.specs.declared.packet.Head.{Head}
 use Rattle.mesh_model.specs.declared.packet.Head.TheVariants.{IvOgm, Bcast, Elp, Ogm2, Unicast, Frag, Unicast4, Icmp, Utvlv}
-use Rattle.mesh_model.specs.Packets.{Field, Row, TailKind, Holds, Fits, BeginsWith, BeginWith, IsTail, IsPacket, row_of, header_of, byte, compat_version}
+use Rattle.mesh_model.specs.Packets.{Field, TailKind, Holds, Fits, BeginsWith, BeginWith, IsTail, IsPacket, row_of, header_of, byte}
 use Rattle.mesh_model.specs.Packets.Field.{number, address, fragment, reserved}
 use Rattle.mesh_model.specs.Packets.TailKind.{containers, all_the_rest, nothing}
 use Rattle.mesh_codec.proofs.Rows.{size_of, held_length}

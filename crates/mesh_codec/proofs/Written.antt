@@ -1,9 +1,9 @@
 -- A written packet is read again.
-use Rattle.std.proofs.Common.{◌≡◌, ◌≢◌, ℕ, ◌+◌, ◌*◌, ◌<◌, List, [], ◌∷◌, ◌++◌, length, Some, refl, sym, ap, subst, ◌∙◌, append_assoc, arith}
+use Rattle.std.proofs.Common.{◌≡◌, ◌≢◌, ℕ, List, [], ◌∷◌, ◌++◌, length, Some, refl, sym, ap, subst, ◌∙◌, append_assoc, arith}
 use Rattle.std.specs.List.{flat_map, AllByRecursion}
 use Rattle.std.proofs.lemmas.List.{append-nil, length-append, length-replicate}
 use Rattle.mesh_model.specs.declared.packet.Head.{Head}
-use Rattle.mesh_model.specs.Packets.{Field, TailKind, Holds, Fits, BeginsWith, BeginWith, IsTail, IsPacket, HasSpelling, row_of, header_of, header_size, field_bytes, spelling}
+use Rattle.mesh_model.specs.Packets.{Field, TailKind, Holds, Fits, BeginWith, IsTail, IsPacket, HasSpelling, row_of, header_of, header_size, field_bytes, spelling}
 use Rattle.mesh_model.specs.Packets.Field.{number, address, fragment, reserved}
 use Rattle.mesh_model.specs.Packets.TailKind.{containers, all_the_rest, nothing}
 use Rattle.mesh_codec.proofs.Rows.{width, begin_length, header_width}

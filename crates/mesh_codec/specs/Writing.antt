@@ -1,12 +1,12 @@
 -- What the steps of writing a packet leave. No public clause cites this module.
-use Rattle.std.specs.Prelude.{◌≡◌, ◌≤◌, ◌+◌, ℕ, List, [], ◌∷◌, ◌++◌, length}
+use Rattle.std.specs.Prelude.{◌≡◌, ◌≤◌, ◌+◌, ℕ, List, [], ◌∷◌, ◌++◌}
 use Rattle.std.specs.Global.{Vec}
 use Rattle.std.specs.Vec.{vec_len, vec_capacity}
 use Rattle.mesh_model.specs.declared.packet.Head.{Head}
 use Rattle.mesh_model.specs.Packets.{Field, Fits, row_of, field_bytes}
 use Rattle.mesh_model.specs.Packets.TailKind.{containers}
 use Rattle.mesh_codec.specs.declared.kind.Kind.{Kind}
-use Rattle.mesh_codec.specs.Kinds.{type_byte, header_bytes}
+use Rattle.mesh_codec.specs.Kinds.{type_byte}
 
 -- the list has room for so many more bytes
 abbrev pub HasRoom : Vec ℕ → ℕ → Type 0

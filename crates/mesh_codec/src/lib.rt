@@ -8,11 +8,14 @@ mod header;
 mod kind;
 pub mod laws;
 mod put;
-mod reading;
 mod put_header;
+mod reading;
 mod writing;
 
 pub use failure::CodecErr;
 pub use mesh_model::Head;
 pub use reading::decode;
 pub use writing::encode;
+
+#[cfg(test)]
+mod tests;

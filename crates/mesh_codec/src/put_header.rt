@@ -6,8 +6,12 @@ ghost use Rattle.mesh_model.specs.Packets.{header_of, HasSmallPlace};
 ghost use Rattle.mesh_codec.specs.Kinds.{header_bytes};
 ghost use Rattle.mesh_codec.specs.Writing.{HasRoom, PutsFields, IsOfKind, CanTell};
 
-use crate::kind::{Kind, LONGEST_HEADER, BCAST, ELP, FRAG, ICMP, IV_OGM, OGM2, UNICAST, UNICAST4, UTVLV, VERSION};
-use crate::put::{put_address, put_fragment_place, put_number16, put_number32, put_number8, put_reserved};
+use crate::kind::{
+    BCAST, ELP, FRAG, ICMP, IV_OGM, Kind, LONGEST_HEADER, OGM2, UNICAST, UNICAST4, UTVLV, VERSION,
+};
+use crate::put::{
+    put_address, put_fragment_place, put_number8, put_number16, put_number32, put_reserved,
+};
 use mesh_model::Head;
 
 pub fn put_iv_ogm(out: &mut Vec<u8>, head: &Head, told: u16)
@@ -16,7 +20,15 @@ pub fn put_iv_ogm(out: &mut Vec<u8>, head: &Head, told: u16)
     ensures fields { PutsFields out.old (header_of head.now told) out.new }
     ensures len { vec_len out.new ≡ vec_len out.old + header_bytes Kind.IvOgm }
 {
-    let Head::IvOgm { ttl, flags, seq, orig, prev, tq } = *head else {
+    let Head::IvOgm {
+        ttl,
+        flags,
+        seq,
+        orig,
+        prev,
+        tq,
+    } = *head
+    else {
         unreachable!()
     };
     put_number8(out, IV_OGM);
@@ -54,7 +66,12 @@ pub fn put_elp(out: &mut Vec<u8>, head: &Head)
     ensures fields { (told : ℕ) → PutsFields out.old (header_of head.now told) out.new }
     ensures len { vec_len out.new ≡ vec_len out.old + header_bytes Kind.Elp }
 {
-    let Head::Elp { orig, seq, interval } = *head else {
+    let Head::Elp {
+        orig,
+        seq,
+        interval,
+    } = *head
+    else {
         unreachable!()
     };
     put_number8(out, ELP);
@@ -70,7 +87,14 @@ pub fn put_ogm2(out: &mut Vec<u8>, head: &Head, told: u16)
     ensures fields { PutsFields out.old (header_of head.now told) out.new }
     ensures len { vec_len out.new ≡ vec_len out.old + header_bytes Kind.Ogm2 }
 {
-    let Head::Ogm2 { ttl, flags, seq, orig, throughput } = *head else {
+    let Head::Ogm2 {
+        ttl,
+        flags,
+        seq,
+        orig,
+        throughput,
+    } = *head
+    else {
         unreachable!()
     };
     put_number8(out, OGM2);
@@ -106,7 +130,16 @@ pub fn put_frag(out: &mut Vec<u8>, head: &Head)
     ensures fields { (told : ℕ) → PutsFields out.old (header_of head.now told) out.new }
     ensures len { vec_len out.new ≡ vec_len out.old + header_bytes Kind.Frag }
 {
-    let Head::Frag { ttl, number, priority, dst, orig, seq, total } = *head else {
+    let Head::Frag {
+        ttl,
+        number,
+        priority,
+        dst,
+        orig,
+        seq,
+        total,
+    } = *head
+    else {
         unreachable!()
     };
     put_number8(out, FRAG);
@@ -125,7 +158,14 @@ pub fn put_unicast4(out: &mut Vec<u8>, head: &Head)
     ensures fields { (told : ℕ) → PutsFields out.old (header_of head.now told) out.new }
     ensures len { vec_len out.new ≡ vec_len out.old + header_bytes Kind.Unicast4 }
 {
-    let Head::Unicast4 { ttl, ttvn, dst, src, subtype } = *head else {
+    let Head::Unicast4 {
+        ttl,
+        ttvn,
+        dst,
+        src,
+        subtype,
+    } = *head
+    else {
         unreachable!()
     };
     put_number8(out, UNICAST4);
@@ -144,7 +184,15 @@ pub fn put_icmp(out: &mut Vec<u8>, head: &Head)
     ensures fields { (told : ℕ) → PutsFields out.old (header_of head.now told) out.new }
     ensures len { vec_len out.new ≡ vec_len out.old + header_bytes Kind.Icmp }
 {
-    let Head::Icmp { ttl, msg, dst, orig, uid, seq } = *head else {
+    let Head::Icmp {
+        ttl,
+        msg,
+        dst,
+        orig,
+        uid,
+        seq,
+    } = *head
+    else {
         unreachable!()
     };
     put_number8(out, ICMP);

@@ -46,24 +46,32 @@ row kind fields tail = record { kind = kind; fields = fields; tail = tail }
 -- the table of packets: the row of a head, where `told` is the length of the containers after it
 abbrev pub row_of : Head → ℕ → Row
 row_of (IvOgm ttl flags seq orig prev tq) told = row 0
-    (byte ttl ∷ byte flags ∷ number 4 seq ∷ address orig ∷ address prev ∷ reserved 1 ∷ byte tq ∷ number 2 told ∷ []) containers
-row_of (Bcast ttl seq orig) told = row 1 (byte ttl ∷ reserved 1 ∷ number 4 seq ∷ address orig ∷ []) all_the_rest
-row_of (Elp orig seq interval) told = row 3 (address orig ∷ number 4 seq ∷ number 4 interval ∷ []) nothing
+    (byte ttl ∷ byte flags ∷ number 4 seq ∷ address orig ∷ address prev ∷ reserved 1 ∷ byte tq
+    ∷ number 2 told ∷ []) containers
+row_of (Bcast ttl seq orig) told = row 1
+    (byte ttl ∷ reserved 1 ∷ number 4 seq ∷ address orig ∷ []) all_the_rest
+row_of (Elp orig seq interval) told = row 3
+    (address orig ∷ number 4 seq ∷ number 4 interval ∷ []) nothing
 row_of (Ogm2 ttl flags seq orig throughput) told = row 4
-    (byte ttl ∷ byte flags ∷ number 4 seq ∷ address orig ∷ number 2 told ∷ number 4 throughput ∷ []) containers
-row_of (Unicast ttl ttvn dst) told = row 64 (byte ttl ∷ byte ttvn ∷ address dst ∷ []) all_the_rest
+    (byte ttl ∷ byte flags ∷ number 4 seq ∷ address orig ∷ number 2 told ∷ number 4 throughput
+    ∷ []) containers
+row_of (Unicast ttl ttvn dst) told = row 64
+    (byte ttl ∷ byte ttvn ∷ address dst ∷ []) all_the_rest
 row_of (Frag ttl index priority dst orig seq total) told = row 65
-    (byte ttl ∷ fragment index priority ∷ address dst ∷ address orig ∷ number 2 seq ∷ number 2 total ∷ []) all_the_rest
+    (byte ttl ∷ fragment index priority ∷ address dst ∷ address orig ∷ number 2 seq
+    ∷ number 2 total ∷ []) all_the_rest
 row_of (Unicast4 ttl ttvn dst src subtype) told = row 66
     (byte ttl ∷ byte ttvn ∷ address dst ∷ address src ∷ byte subtype ∷ reserved 1 ∷ []) all_the_rest
 row_of (Icmp ttl msg dst orig uid seq) told = row 67
-    (byte ttl ∷ byte msg ∷ address dst ∷ address orig ∷ byte uid ∷ reserved 1 ∷ number 2 seq ∷ []) nothing
+    (byte ttl ∷ byte msg ∷ address dst ∷ address orig ∷ byte uid ∷ reserved 1 ∷ number 2 seq
+    ∷ []) nothing
 row_of (Utvlv ttl dst src) told = row 68
     (byte ttl ∷ reserved 1 ∷ address dst ∷ address src ∷ number 2 told ∷ reserved 2 ∷ []) containers
 
 -- the bytes of the header by type byte
 abbrev pub header_sizes : List (ℕ × ℕ)
-header_sizes = (0, 24) ∷ (1, 14) ∷ (3, 16) ∷ (4, 20) ∷ (64, 10) ∷ (65, 20) ∷ (66, 18) ∷ (67, 20) ∷ (68, 20) ∷ []
+header_sizes =
+    (0, 24) ∷ (1, 14) ∷ (3, 16) ∷ (4, 20) ∷ (64, 10) ∷ (65, 20) ∷ (66, 18) ∷ (67, 20) ∷ (68, 20) ∷ []
 
 -- how many bytes the header of a kind has; none where no kind has this type byte
 abbrev pub header_size : ℕ → Option ℕ

@@ -1,4 +1,4 @@
-use Rattle.std.proofs.Common.{◌≡◌, refl, arith, rules, length}
+use Rattle.std.proofs.Common.{◌≡◌, arith, rules, length}
 use Rattle.mesh_codec.proofs.Packets.{packet_begins, tail_length}
 use Rattle.mesh_codec.proofs.reading.packet_of.Goals as goal
 use Rattle.mesh_codec.proofs.reading.packet_of.Goals.{in-Told, in-Rest, in-Nothing}

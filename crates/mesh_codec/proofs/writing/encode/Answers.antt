@@ -1,4 +1,3 @@
-use Rattle.std.proofs.Common.{◌≡◌, ◌++◌, ◌∙◌, ap}
 use Rattle.mesh_codec.proofs.Puts.{put_spelling, put_has_spelling}
 use Rattle.mesh_codec.proofs.writing.encode.Goals as goal
 
