@@ -3,6 +3,7 @@ pub mod Lines
 pub mod Words
 pub mod Terms
 pub mod Commands
+pub mod Packets
 pub mod Containers
 pub mod ContainerBodies
 pub mod Log
