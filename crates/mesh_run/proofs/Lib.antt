@@ -2,3 +2,4 @@
 pub mod MacLemmas
 pub mod ProgressLemmas
 pub mod FaultLemmas
+pub mod SceneLemmas

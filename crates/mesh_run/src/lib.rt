@@ -4,6 +4,7 @@
 
 mod carrying;
 mod fault;
+mod node;
 mod reading;
 mod runner;
 mod scene;

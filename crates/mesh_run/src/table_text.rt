@@ -1,7 +1,7 @@
-ghost use Rattle.std.specs.Prelude.{◌≡◌, ◌/◌, ◌%◌, ◌++◌, ◌<◌, decimal, slice_index, OnOk, OnErr};
+ghost use Rattle.std.specs.Prelude.{◌≡◌, ◌/◌, ◌%◌, List, [], ◌++◌, ◌<◌, decimal, slice_index, OnOk, OnErr};
 ghost use Rattle.hex.specs.Hex.{lower_digits};
 ghost use Rattle.mesh_base.specs.Address.{mac_text, pairs_text};
-ghost use Rattle.mesh_model.specs.TableText.{age_text, flag_text, flags_text, local_header, local_line, vid_text};
+ghost use Rattle.mesh_model.specs.TableText.{age_text, flag_text, flags_text, local_header, local_line, table_text, vid_text};
 
 use mesh_base::{Mac, Millis, NoMemory, Vid};
 use mesh_model::LocalRow;
@@ -155,6 +155,25 @@ fn put_age(out: &mut Vec<u8>, age: Option<Millis>) -> Result<(), NoMemory>
     match age {
         Some(age) => put_number(out, age)?,
         None => out.extend_from_slice(b"-")?,
+    }
+    Ok(())
+}
+
+/// Appends the local table of a node, before any commit.
+pub fn put_local_table(
+    out: &mut Vec<u8>,
+    name: &[u8],
+    version: u8,
+    rows: &[LocalRow],
+) -> Result<(), NoMemory>
+    ensures ok {
+        OnOk result (out.new.items ≡ out.old.items ++ table_text (record {
+            name = name.now; version = version; sums = []; rows = rows.now }))
+    }
+{
+    put_local_header(out, name, version, rows.len())?;
+    for row in rows {
+        put_local_line(out, row)?;
     }
     Ok(())
 }
