@@ -3,3 +3,5 @@ pub mod MacLemmas
 pub mod ProgressLemmas
 pub mod FaultLemmas
 pub mod SceneLemmas
+pub mod PieceLemmas
+pub mod EndLemmas

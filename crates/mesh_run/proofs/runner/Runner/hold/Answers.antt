@@ -4,11 +4,12 @@ use Rattle.mesh_run.proofs.ProgressLemmas.{front-cut, halts-hold, Stands-more}
 use Rattle.mesh_run.proofs.runner.Runner.hold.Goals as goal
 
 pub returns-then-text-len-clause-failed : goal.returns-then-text-len-clause-failed
-returns-then-text-len-clause-failed c = λ base now read unbroken stands more.
+returns-then-text-len-clause-failed c = λ base now read unbroken stands.
     let runner = c.args.self.now in
     let counted = runner.line.ok.0 in
+    rw c.halted.ensures (λ more.
     halts-hold base now runner read c.args.text.now unbroken stands (omega (arith, counted, runner.short))
-    (omega (arith, counted, runner.short, c.if-text-len.true, c.len.ensures)) c.requires.within more
+    (omega (arith, counted, runner.short, c.if-text-len.true, c.len.ensures)) c.requires.within more)
 
 pub returns-then-is_err-clause-failed : goal.returns-then-is_err-clause-failed
 returns-then-is_err-clause-failed c = λ base now read unbroken stands more.
