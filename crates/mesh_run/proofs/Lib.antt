@@ -5,3 +5,4 @@ pub mod FaultLemmas
 pub mod SceneLemmas
 pub mod PieceLemmas
 pub mod EndLemmas
+pub mod ReadLemmas

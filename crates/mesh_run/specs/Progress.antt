@@ -47,10 +47,10 @@ CarryFails wanted before old new number Read = ⊥
 CarryFails wanted before old new number Write = CutOff wanted before old new
 CarryFails wanted before old new number Memory = Keeps old new
 
--- a fault of writing is blamed only where the sink's count rose
+-- a fault of writing is blamed only where the sink's count rose, and nothing was read
 abbrev pub BlamesWrite : ℕ → ℕ → Fault → Type 0
 BlamesWrite old new (Halted line stop) = Unit {0}
-BlamesWrite old new Read = Unit {0}
+BlamesWrite old new Read = ⊥
 BlamesWrite old new Write = Rose old new
 BlamesWrite old new Memory = Unit {0}
 

@@ -5,6 +5,7 @@
 mod carrying;
 mod fault;
 mod node;
+mod reader;
 mod reading;
 mod runner;
 mod scene;
