@@ -6,3 +6,4 @@ pub mod SceneLemmas
 pub mod PieceLemmas
 pub mod EndLemmas
 pub mod ReadLemmas
+pub mod InputLemmas

@@ -2,3 +2,4 @@
 pub mod Scene
 pub mod Progress
 pub mod Reading
+pub mod Outcome

@@ -4,6 +4,7 @@
 
 mod carrying;
 mod fault;
+mod input;
 mod node;
 mod reader;
 mod reading;
