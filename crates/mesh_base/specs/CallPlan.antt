@@ -1,5 +1,6 @@
--- How an input or an output in memory answers its calls: at most so many bytes are moved at a call, and the calls of some
--- numbers fail, where the first call has the number 1. The main words are `IsFailing` and `MakesCall`.
+-- How an input or an output in memory answers its calls: at most so many bytes are moved at a call,
+-- and the calls of some numbers fail, where the first call has the number 1. The main words are
+-- `IsFailing` and `MakesCall`.
 use Rattle.std.specs.Prelude.{◌≡◌, ℕ, List, Contains}
 use Rattle.mesh_base.specs.Faults.{one_more}
 use Rattle.mesh_base.specs.declared.call_plan.CallPlan.{CallPlan}

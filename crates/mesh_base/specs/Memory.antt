@@ -1,6 +1,7 @@
--- Inputs and outputs in memory: what they tell, what they were made with, and how many bytes their next call moves. The
--- main words are `given_count` and `taken_count`.
-use Rattle.std.specs.Prelude.{ℕ, ◌-◌, ◌≡◌, ◌<◌, min, List, length, drop, Option, Some}
+-- Inputs and outputs in memory: what they tell, what they were made with, and how many bytes their
+-- next call moves. The main words are `given_count` and `taken_count`.
+use Rattle.std.specs.Prelude.{ℕ, ◌-◌, ◌≡◌, ◌↔◌, Bool, IsTrue, ◌<◌, min, List, length, drop, Option, Some}
+use Rattle.mesh_base.specs.CallPlan.{IsFailing, MakesCall}
 use Rattle.mesh_base.specs.declared.call_plan.CallPlan.{CallPlan}
 use Rattle.mesh_base.specs.declared.memory_intake.MemIntake.{MemIntake}
 use Rattle.mesh_base.specs.declared.memory_sink.MemSink.{MemSink}
@@ -43,11 +44,23 @@ room_left sink = sink.room - length sink.bytes.items
 
 -- how many bytes an input gives into a buffer of this length
 abbrev pub given_count : MemIntake → ℕ → ℕ
-given_count intake asked = min intake.plan.piece (min (length intake.bytes.items - intake.given) asked)
+given_count intake asked =
+    min intake.plan.piece (min (length intake.bytes.items - intake.given) asked)
 
 -- how many bytes an output takes of this many
 abbrev pub taken_count : MemSink → ℕ → ℕ
 taken_count sink offered = min sink.plan.piece (min (room_left sink) offered)
+
+-- one more call of an input was made, which failed if it was one of those that fail; its bytes stay
+pub record CallsInput (failed : Bool) (old new : MemIntake) : Type 0 where
+  pub call : MakesCall old.plan new.plan
+  pub fails : IsTrue failed ↔ IsFailing new.plan
+  pub bytes_stay : known_bytes new ≡ known_bytes old
+
+-- one more call of an output was made, and its whole room stays
+pub record CallsOutput (old new : MemSink) : Type 0 where
+  pub call : MakesCall old.plan new.plan
+  pub room_stays : whole_room new ≡ whole_room old
 
 -- no room is left for any of these bytes
 abbrev pub IsFullFor : MemSink → List ℕ → Type 0

@@ -3,8 +3,8 @@ ghost use Rattle.std.specs.Prelude.{◌≡◌, ◌<◌, ◌↔◌, IfOk, IsTrue}
 use crate::failure::NoMemory;
 use std::alloc::Global;
 
-/// How an input or an output in memory answers: the most bytes that one call moves, the numbers (from 1) of the calls
-/// that fail, and how many calls were made.
+/// How an input or an output in memory answers: the most bytes that one call moves, the numbers
+/// (from 1) of the calls that fail, and how many calls were made.
 #[derive(Debug, Drop)]
 pub struct CallPlan {
     pub piece: usize,

@@ -1,7 +1,7 @@
 //! The values that every layer of batmesh speaks of, and its doors to the outside.
 //!
-//! `Mac`, `Vid`, `Key` and `Entry` name clients and nodes; `Bytes` holds bytes of its own; `Intake` and `Sink` are
-//! what the program reads from and writes to.
+//! `Mac`, `Vid`, `Key` and `Entry` name clients and nodes; `Bytes` holds bytes of its own; `Intake`
+//! and `Sink` are what the program reads from and writes to, in memory or for real.
 
 #![tactic(auto)]
 

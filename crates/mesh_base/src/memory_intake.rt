@@ -1,4 +1,4 @@
-ghost use Rattle.std.specs.Prelude.{◌≡◌, ℕ, ◌<◌, ◌≤◌, ◌↔◌, [], min, length, take, drop, List, Option, IfSome, IfOk, OnOk, OnErr, IfErr, IsErr};
+ghost use Rattle.std.specs.Prelude.{◌≡◌, ℕ, ◌<◌, ◌≤◌, ◌↔◌, [], min, length, take, drop, List, Option, IfSome, IfOk, OnOk, OnErr, IfErr, is_err};
 ghost use Rattle.std.specs.Option.{option_copied};
 ghost use Rattle.std.specs.Io.{ReadsAtMost};
 ghost use Rattle.std.specs.Io.KnownBytes.{Keeps, ReadConsumes};
@@ -10,7 +10,8 @@ use crate::fault_count::FaultCount;
 use crate::outside::{Intake, PIECE_LIMIT};
 use std::alloc::Global;
 
-/// An input in memory, which has the same bytes under each name. Before it is opened, nothing is left.
+/// An input in memory, which has the same bytes under each name. Before it is opened, nothing is
+/// left.
 #[derive(Debug, Drop)]
 pub struct MemIntake {
     bytes: Vec<u8>,
@@ -25,8 +26,8 @@ impl MemIntake {
     ghost use Rattle.mesh_base.specs.CallPlan.{IsFreshPlan};
     ghost use Rattle.mesh_base.specs.Memory.{intake_plan};
 
-    /// An input of these bytes, which gives at most `piece` of them at a read and fails at the calls of these numbers:
-    /// reads and opens are counted together, from 1.
+    /// An input of these bytes, which gives at most `piece` of them at a read and fails at the
+    /// calls of these numbers: reads and opens are counted together, from 1.
     pub fn new(
         alloc: Global,
         bytes: &[u8],
@@ -59,8 +60,7 @@ impl MemIntake {
 }
 
 impl Intake for MemIntake {
-    ghost use Rattle.mesh_base.specs.CallPlan.{IsFailing, MakesCall};
-    ghost use Rattle.mesh_base.specs.Memory.{known_bytes, known_left, intake_faults, intake_plan, given_count};
+    ghost use Rattle.mesh_base.specs.Memory.{known_bytes, known_left, intake_faults, given_count, CallsInput};
 
     ghost left = { known_left };
 
@@ -70,15 +70,14 @@ impl Intake for MemIntake {
 
     fn open(&mut self, _name: Option<&str>) -> Result<(), OpenErr>
         ensures opened { OnOk result (known_left self.new ≡ known_bytes self.old) }
-        ensures cause { IfErr result (HasOpenCause (intake_faults self.old) (intake_faults self.new)) }
+        ensures cause { IfErr result
+            (HasOpenCause (intake_faults self.old) (intake_faults self.new)) }
         ensures count { intake_faults self.old ≤ intake_faults self.new }
         ensures refused { OnErr result (Keeps (known_left self.old) (known_left self.new)) }
 
         // Exactly the planned calls fail.
-        ensures fails { IsErr result ↔ IsFailing (intake_plan self.new) }
         ensures failed { IfErr result (λ error. error ≡ OpenErr.Failed) }
-        ensures call { MakesCall (intake_plan self.old) (intake_plan self.new) }
-        ensures named { known_bytes self.new ≡ known_bytes self.old }
+        ensures call { CallsInput (is_err result) self.old self.new }
     {
         if self.plan.next_fails() {
             return Err(OpenErr::from(self.faults.raise()));
@@ -96,10 +95,8 @@ impl Intake for MemIntake {
         ensures count { intake_faults self.old ≤ intake_faults self.new }
 
         // Exactly the planned calls fail.
-        ensures fails { IsErr result ↔ IsFailing (intake_plan self.new) }
         ensures given { IfOk result (λ count. count ≡ given_count self.old (length buf.old)) }
-        ensures call { MakesCall (intake_plan self.old) (intake_plan self.new) }
-        ensures named { known_bytes self.new ≡ known_bytes self.old }
+        ensures call { CallsInput (is_err result) self.old self.new }
     {
         if self.plan.next_fails() {
             return Err(self.faults.raise());

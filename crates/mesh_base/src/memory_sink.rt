@@ -25,8 +25,9 @@ impl MemSink {
     ghost use Rattle.mesh_base.specs.CallPlan.{IsFreshPlan};
     ghost use Rattle.mesh_base.specs.Memory.{sink_plan, whole_room};
 
-    /// An output with `room` for bytes, which takes at most `piece` of them at a write and fails at the writes of these
-    /// numbers, from 1. A write of some bytes is a fault too where no room is left.
+    /// An output with `room` for bytes, which takes at most `piece` of them at a write and fails at
+    /// the writes of these numbers, from 1. A write of some bytes is a fault too where no room is
+    /// left.
     pub fn new(alloc: Global, room: usize, piece: usize, fails: &[u64]) -> Result<MemSink, NoMemory>
         requires { 0 < piece }
         ensures taken { IfOk result (λ sink. ⟦<MemSink as Sink>⟧.taken sink ≡ Some []) }
@@ -60,8 +61,8 @@ impl MemSink {
 }
 
 impl Sink for MemSink {
-    ghost use Rattle.mesh_base.specs.CallPlan.{IsFailing, MakesCall};
-    ghost use Rattle.mesh_base.specs.Memory.{known_taken, sink_faults, sink_plan, whole_room, taken_count, IsFullFor};
+    ghost use Rattle.mesh_base.specs.CallPlan.{IsFailing};
+    ghost use Rattle.mesh_base.specs.Memory.{known_taken, sink_faults, sink_plan, taken_count, CallsOutput, IsFullFor};
 
     ghost taken = { known_taken };
 
@@ -75,10 +76,10 @@ impl Sink for MemSink {
         ensures count { sink_faults self.old ≤ sink_faults self.new }
 
         // Exactly the planned calls fail, and those for which no room is left.
-        ensures fails { IsErr result ↔ (IsFailing (sink_plan self.new) ⊎ IsFullFor self.old buf.now) }
+        ensures fails { IsErr result ↔
+            (IsFailing (sink_plan self.new) ⊎ IsFullFor self.old buf.now) }
         ensures given { IfOk result (λ count. count ≡ taken_count self.old (length buf.now)) }
-        ensures call { MakesCall (sink_plan self.old) (sink_plan self.new) }
-        ensures room { whole_room self.new ≡ whole_room self.old }
+        ensures call { CallsOutput self.old self.new }
     {
         let room = self.room - self.bytes.len();
         if self.plan.next_fails() || (room == 0 && !buf.is_empty()) {

@@ -20,7 +20,8 @@ enum Source<I, F> {
     File(F),
 }
 
-/// The files and the standard input of a runtime. It tells no bytes. Before it is opened, nothing is left.
+/// The files and the standard input of a runtime. It tells no bytes. Before it is opened, nothing
+/// is left. A read that the system interrupted is a fault like any other.
 #[derive(Drop)]
 pub struct RealIntake<R: Files + Input> {
     runtime: R,
@@ -29,7 +30,7 @@ pub struct RealIntake<R: Files + Input> {
 }
 
 impl<R: Files + Input + Drop> RealIntake<R> {
-    /// No input opened yet.
+    /// No input opened yet. The runtime may be a reference to one.
     pub fn new(runtime: R) -> RealIntake<R>
         ensures faults { ⟦<RealIntake<R> as Intake>⟧.faults result ≡ 0 }
     {
@@ -76,7 +77,8 @@ impl<R: Files + Input + Drop> Intake for RealIntake<R> {
         ensures bound { ReadsAtMost result buf.new }
         ensures cause { OnErr result (Rose self.old.faults.0 self.new.faults.0) }
         ensures count { self.old.faults.0 ≤ self.new.faults.0 }
-        ensures passes { ReadConsumes (source_left R.Reader.remaining R.File.remaining self.old.source)
+        ensures passes { ReadConsumes
+            (source_left R.Reader.remaining R.File.remaining self.old.source)
             (source_left R.Reader.remaining R.File.remaining self.new.source) result buf.new }
     {
         let answer = match &mut self.source {
@@ -91,7 +93,8 @@ impl<R: Files + Input + Drop> Intake for RealIntake<R> {
     }
 }
 
-/// A writer, flushed in each write. It tells no bytes.
+/// A writer, flushed in each write. It tells no bytes. A flush that fails is a fault, and so is a
+/// write that took none of some bytes or that the system interrupted.
 #[derive(Drop)]
 pub struct RealSink<W> {
     writer: W,
@@ -122,8 +125,8 @@ impl<W: Write> Sink for RealSink<W> {
         ensures some { IfOk result (λ count. 0 < length buf.now → 0 < count) }
         ensures cause { OnErr result (Rose self.old.faults.0 self.new.faults.0) }
         ensures count { self.old.faults.0 ≤ self.new.faults.0 }
-        ensures passes { IfOk result (λ count.
-            Appends (W.contents self.old.writer) (W.contents self.new.writer) (take count buf.now)) }
+        ensures passes { IfOk result (λ count. Appends
+            (W.contents self.old.writer) (W.contents self.new.writer) (take count buf.now)) }
     {
         match self.writer.write(buf) {
             Ok(count) if (count > 0 || buf.is_empty()) && self.writer.flush().is_ok() => Ok(count),
