@@ -1,5 +1,5 @@
--- Laws of the packet grammar: bytes begin with one packet at most, no two packets have one spelling,
--- and what was written is read again.
+-- Laws of the packet grammar: bytes begin with one packet at most, no two packets have one
+-- spelling, and what was written is read again.
 use Rattle.std.specs.Prelude.{◌≡◌, ◌≢◌, ℕ, List, ◌++◌, length, Some}
 use Rattle.std.specs.List.{flat_map}
 use Rattle.mesh_model.specs.declared.packet.Head.{Head}

@@ -71,7 +71,8 @@ row_of (Utvlv ttl dst src) told = row 68
 -- the bytes of the header by type byte
 abbrev pub header_sizes : List (ℕ × ℕ)
 header_sizes =
-    (0, 24) ∷ (1, 14) ∷ (3, 16) ∷ (4, 20) ∷ (64, 10) ∷ (65, 20) ∷ (66, 18) ∷ (67, 20) ∷ (68, 20) ∷ []
+    (0, 24) ∷ (1, 14) ∷ (3, 16) ∷ (4, 20)
+    ∷ (64, 10) ∷ (65, 20) ∷ (66, 18) ∷ (67, 20) ∷ (68, 20) ∷ []
 
 -- how many bytes the header of a kind has; none where no kind has this type byte
 abbrev pub header_size : ℕ → Option ℕ
