@@ -3,7 +3,8 @@ use Rattle.std.proofs.Common.{◌≡◌, ◌≢◌, ℕ, List, [], ◌∷◌, �
 use Rattle.std.specs.List.{flat_map, AllByRecursion}
 use Rattle.std.proofs.lemmas.List.{append-nil, length-append, length-replicate}
 use Rattle.mesh_model.specs.declared.packet.Head.{Head}
-use Rattle.mesh_model.specs.Packets.{Field, TailKind, Holds, Fits, BeginWith, IsTail, IsPacket, HasSpelling, row_of, header_of, header_size, field_bytes, spelling}
+use Rattle.mesh_model.specs.declared.packet.Head.TheVariants.{IvOgm, Bcast, Elp, Ogm2, Unicast, Frag, Unicast4, Icmp, Utvlv}
+use Rattle.mesh_model.specs.Packets.{Field, TailKind, Holds, Fits, BeginWith, IsTail, IsPacket, HasSpelling, HasSmallPlace, row_of, header_of, header_size, field_bytes, spelling}
 use Rattle.mesh_model.specs.Packets.Field.{number, address, fragment, reserved}
 use Rattle.mesh_model.specs.Packets.TailKind.{containers, all_the_rest, nothing}
 use Rattle.mesh_codec.proofs.Rows.{width, begin_length, header_width}
@@ -74,3 +75,31 @@ table_size head tail has =
     let whole = begin_length (flat_map field_bytes fields ++ []) fields [] (written_begin fields [] has.fields) in
     let len : width fields ≡ length (flat_map field_bytes fields) = omega (arith, whole, length-append (flat_map field_bytes fields) []) in
     header_width head (length tail) ∙ ap (λ (n : ℕ). Some n) len
+
+-- the fields that begin bytes fit
+begin_fit : (bytes : List ℕ) (fields : List Field) (others : List ℕ) → BeginWith bytes fields others → AllByRecursion Fits fields
+begin_fit bytes [] others begins = tt
+begin_fit bytes (field ∷ fields) others begins = (begins.1.fits, begin_fit begins.0 fields others begins.2)
+
+-- a tail that was there is a whole one
+whole_tail : (kind : TailKind) (tail rest : List ℕ) → IsTail kind tail rest → IsTail kind tail []
+whole_tail containers tail rest is = tt
+whole_tail all_the_rest tail rest is = refl
+whole_tail nothing tail rest is = is
+
+-- where the fields fit a fragment's place is small
+small_place : (head : Head) (told : ℕ) → AllByRecursion Fits (header_of head told) → HasSmallPlace head
+small_place (IvOgm ttl flags seq orig prev tq) told fits = tt
+small_place (Bcast ttl seq orig) told fits = tt
+small_place (Elp orig seq interval) told fits = tt
+small_place (Ogm2 ttl flags seq orig throughput) told fits = tt
+small_place (Unicast ttl ttvn dst) told fits = tt
+small_place (Frag ttl index priority dst orig seq total) told fits = fits.1.1.1.0
+small_place (Unicast4 ttl ttvn dst src subtype) told fits = tt
+small_place (Icmp ttl msg dst orig uid seq) told fits = tt
+small_place (Utvlv ttl dst src) told fits = tt
+
+pub can_be_written : (bytes : List ℕ) (head : Head) (tail : List ℕ) (used : ℕ) → IsPacket bytes head tail used → HasSpelling head tail × HasSmallPlace head
+can_be_written bytes head tail used p =
+    let fits = begin_fit bytes (header_of head (length tail)) (tail ++ p.rest) p.header in
+    (record { fields = fits; tail_is = whole_tail (row_of head (length tail)).tail tail p.rest p.tail_is }, small_place head (length tail) fits)

@@ -1,7 +1,6 @@
--- What `decode` answers. Bytes begin no packet where there are fewer than two, the version byte isn't
--- 15, no kind has the type byte, there are fewer than the header has, or the told length passes the
--- end. Each cause is true of the bytes where none that is named before it is. The main word is
--- `HasCause`.
+-- What `decode` answers. Bytes begin no packet where there are fewer than two, the version byte is
+-- not 15, no kind has the type byte, there are fewer than the header has, or the told length passes
+-- the end: the first of these that is true of the bytes is the cause. The main word is `HasCause`.
 use Rattle.std.specs.Prelude.{◌≡◌, ◌≢◌, ◌⊎◌, ℕ, ◌<◌, List, length, Some, None, slice_get, option_and_then}
 use Rattle.std.specs.Borrow.{Bor}
 use Rattle.mesh_model.specs.declared.packet.Head.{Head}

@@ -1,5 +1,5 @@
--- What `encode` answers. A packet can't be written where its containers are longer than the header can
--- tell, or where a tail is given to a kind that has none. The main word is `HasObstacle`.
+-- What `encode` answers. A packet can't be written where its containers are longer than the header
+-- can tell, or where a tail is given to a kind that has none. The main word is `HasObstacle`.
 use Rattle.std.specs.Prelude.{◌≡◌, ℕ, ◌<◌, List, length, ⊤}
 use Rattle.mesh_model.specs.declared.packet.Head.{Head}
 use Rattle.mesh_model.specs.Packets.{row_of}

@@ -1,9 +1,9 @@
--- Laws of the packet grammar: bytes begin with one packet at most, no two packets have one spelling,
--- and what was written is read again.
+-- Laws of the packet grammar: bytes begin with one packet at most, no two packets have one
+-- spelling, what was written is read again, and what was read can be written.
 use Rattle.std.specs.Prelude.{◌≡◌, ◌≢◌, ℕ, List, ◌++◌, length, Some}
 use Rattle.std.specs.List.{flat_map}
 use Rattle.mesh_model.specs.declared.packet.Head.{Head}
-use Rattle.mesh_model.specs.Packets.{row_of, header_of, header_size, field_bytes, spelling, HasSpelling, IsPacket}
+use Rattle.mesh_model.specs.Packets.{row_of, header_of, header_size, field_bytes, spelling, HasSpelling, HasSmallPlace, IsPacket}
 use Rattle.mesh_model.specs.Packets.TailKind.{all_the_rest}
 
 -- the bytes begin with one packet at most
@@ -28,6 +28,11 @@ IsReadBeforeMore = (head : Head) (tail more : List ℕ)
 abbrev pub IsReadAlone : Type 0
 IsReadAlone = (head : Head) (tail : List ℕ)
     → HasSpelling head tail → IsPacket (spelling head tail) head tail (length (spelling head tail))
+
+-- a packet that was read can be written
+abbrev pub CanBeWritten : Type 0
+CanBeWritten = (bytes : List ℕ) (head : Head) (tail : List ℕ) (used : ℕ)
+    → IsPacket bytes head tail used → HasSpelling head tail × HasSmallPlace head
 
 -- the table of sizes gives the length of each header
 abbrev pub HasTableSize : Type 0

@@ -1,4 +1,4 @@
--- The words of this crate's contracts: why bytes begin no packet, then what the steps of reading speak of.
+-- The words of the public contracts and the laws, then those of the steps of reading and writing.
 pub mod Decoding
 pub mod Encoding
 pub mod Laws

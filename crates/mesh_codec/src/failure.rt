@@ -4,7 +4,8 @@ ghost use Rattle.mesh_codec.specs.declared.failure.CodecErr.TheVariants.{Memory}
 use std::alloc::{AllocError, AllocFailed};
 use thiserror::Error;
 
-/// Why bytes begin no packet, or why a packet can't be written: the first cause that applies, in this order.
+/// Why bytes begin no packet, or why a packet can't be written: the first cause that applies, in
+/// this order.
 #[derive(Clone, Copy, Debug, PartialEq, Eq, Error)]
 pub enum CodecErr {
     /// There are fewer bytes than type and version, or than the header of the kind, need.

@@ -1,4 +1,5 @@
-//! The fields of a header, taken from the front of bytes: each answers its value and the bytes after it.
+//! The fields of a header, taken from the front of bytes: each call answers the value of a field
+//! and the bytes after it.
 
 ghost use Rattle.std.specs.Prelude.{◌≡◌, ◌+◌, ◌≤◌, length};
 ghost use Rattle.mesh_model.specs.Packets.{BeginsWith};

@@ -1,6 +1,6 @@
 //! Laws of the packet grammar, each proved as the contract of a function that does nothing.
 
-ghost use Rattle.mesh_codec.specs.Laws.{HasOneReading, HasOneSpelling, IsReadBeforeMore, IsReadAlone, HasTableSize};
+ghost use Rattle.mesh_codec.specs.Laws.{HasOneReading, HasOneSpelling, IsReadBeforeMore, IsReadAlone, CanBeWritten, HasTableSize};
 
 /// Bytes begin with one packet at most.
 pub fn bytes_begin_with_one_packet()
@@ -20,6 +20,11 @@ pub fn a_written_packet_is_read_before_more()
 /// A written packet that stands alone is read again.
 pub fn a_written_packet_is_read_alone()
     ensures { IsReadAlone }
+{}
+
+/// A packet that was read can be written, also where it is a fragment.
+pub fn a_read_packet_can_be_written()
+    ensures { CanBeWritten }
 {}
 
 /// Each header is as long as the table of sizes says.

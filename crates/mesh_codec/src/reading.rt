@@ -78,15 +78,16 @@ fn first_packet(bytes: &[u8]) -> Result<(Head, &[u8], usize), CodecErr>
 
 /// The packet that begins the bytes: its head, its tail where it lies, and how many bytes it uses.
 ///
-/// A tail of containers is as long as the header tells, and bytes may follow it; a broadcast, a unicast packet and a
-/// fragment use all the bytes. Takes no memory, and answers neither `Long` nor `Tail` nor `Memory`.
+/// Containers are as long as the header tells, and a message of ELP or ICMP has no tail; bytes may
+/// follow these. The other kinds use all the bytes. Takes no memory: `Long`, `Tail` and `Memory`
+/// are no answers of this call.
 pub fn decode(bytes: &[u8]) -> Result<(Head, &[u8], usize), CodecErr>
     // What is answered is the packet that begins the bytes, and where one does it is answered.
     ensures ok { IfOk result (λ packet. IsPacket bytes.now packet.0 packet.1.now packet.2) }
     ensures only { (head : Head) (tail : List ℕ) (used : ℕ) → IsPacket bytes.now head tail used →
         IsOkAnd result (λ packet. IsSame packet head tail used) }
 
-    // A refusal is the first cause for which none begins them, and where a cause applies it is answered.
+    // A refusal is the first cause for which none does, and where a cause applies it is answered.
     ensures cause { IfErr result (HasCause bytes.now) }
     ensures refused { (error : CodecErr) → HasCause bytes.now error → IsErrOf result error }
 {

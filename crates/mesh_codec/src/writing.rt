@@ -42,10 +42,12 @@ pub fn encode(out: &mut Vec<u8>, head: &Head, tail: &[u8]) -> Result<(), CodecEr
     ensures ok { OnOk result (out.new.items ≡ out.old.items ++ spelling head.now tail.now) }
     ensures written { OnOk result (HasSpelling head.now tail.now) }
 
-    // A refusal has its cause, leaves all as before, and but for want of memory comes wherever the cause is.
+    // A refusal has its cause, comes wherever that applies (memory aside), and changes nothing.
     ensures cause { IfErr result (HasObstacle head.now tail.now) }
-    ensures long { IsTooLong head.now tail.now → IsErrOf result (CodecErr.Long (length tail.now)) }
-    ensures stray { HasStrayTail head.now tail.now → IsErrOf result (CodecErr.Tail (length tail.now)) }
+    ensures long { IsTooLong head.now tail.now →
+        IsErrOf result (CodecErr.Long (length tail.now)) }
+    ensures stray { HasStrayTail head.now tail.now →
+        IsErrOf result (CodecErr.Tail (length tail.now)) }
     ensures err { OnErr result (out.new.items ≡ out.old.items) }
 {
     check_tail(head, tail)?;

@@ -1,8 +1,7 @@
--- The packets of B.A.T.M.A.N. advanced, compat version 15, as bytes: a type byte, the version byte,
--- the fields of the kind, and a tail. Numbers stand with their highest byte first. Reserved places
--- are written as 0 and may hold anything when they are read; flags may have any value. The table of
--- the nine kinds is `row_of`; the main words are `spelling`, the bytes that a packet is written as,
--- and `IsPacket`, the packet that bytes begin with.
+-- The packets of B.A.T.M.A.N. advanced, compat version 15: a type byte, the version byte, fields of
+-- the kind (`row_of` is the table) and a tail. Numbers stand highest byte first. Reserved places
+-- are written as 0 and may hold anything when read; flags may have any value. The main words are
+-- `spelling`, the bytes that a packet is written as, and `IsPacket`, what bytes begin with.
 use Rattle.std.specs.Prelude.{◌≡◌, ℕ, ◌+◌, ◌*◌, ◌<◌, ◌≤◌, ◌^◌, ◌==◌, List, [], ◌∷◌, ◌++◌, length, replicate, slice_index, Option, ⊤}
 use Rattle.std.specs.List.{flat_map, AllByRecursion}
 use Rattle.std.specs.Map.{lookup}
@@ -55,8 +54,7 @@ row_of (Elp orig seq interval) told = row 3
 row_of (Ogm2 ttl flags seq orig throughput) told = row 4
     (byte ttl ∷ byte flags ∷ number 4 seq ∷ address orig ∷ number 2 told ∷ number 4 throughput
     ∷ []) containers
-row_of (Unicast ttl ttvn dst) told = row 64
-    (byte ttl ∷ byte ttvn ∷ address dst ∷ []) all_the_rest
+row_of (Unicast ttl ttvn dst) told = row 64 (byte ttl ∷ byte ttvn ∷ address dst ∷ []) all_the_rest
 row_of (Frag ttl index priority dst orig seq total) told = row 65
     (byte ttl ∷ fragment index priority ∷ address dst ∷ address orig ∷ number 2 seq
     ∷ number 2 total ∷ []) all_the_rest
@@ -71,7 +69,8 @@ row_of (Utvlv ttl dst src) told = row 68
 -- the bytes of the header by type byte
 abbrev pub header_sizes : List (ℕ × ℕ)
 header_sizes =
-    (0, 24) ∷ (1, 14) ∷ (3, 16) ∷ (4, 20) ∷ (64, 10) ∷ (65, 20) ∷ (66, 18) ∷ (67, 20) ∷ (68, 20) ∷ []
+    (0, 24) ∷ (1, 14) ∷ (3, 16) ∷ (4, 20)
+    ∷ (64, 10) ∷ (65, 20) ∷ (66, 18) ∷ (67, 20) ∷ (68, 20) ∷ []
 
 -- how many bytes the header of a kind has; none where no kind has this type byte
 abbrev pub header_size : ℕ → Option ℕ

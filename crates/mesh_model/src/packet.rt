@@ -1,13 +1,15 @@
 use mesh_base::Mac;
 
-/// The header of a packet: one variant for each kind, its fields in the order in which they stand after the type byte
-/// and the version byte.
+/// The header of a packet: one variant for each kind, its fields in the order in which they stand
+/// after the type byte and the version byte.
 ///
-/// The layouts are those of `batadv_packet.h` at compat version 15 (Linux, Open-Mesh). Numbers are big-endian. The
-/// length of the containers after a header isn't kept here, since it is the length of the packet's tail.
+/// The layouts are those of `batadv_packet.h` at compat version 15 (Linux, Open-Mesh). Numbers are
+/// big-endian. The length of the containers after a header isn't kept here: it is the length of the
+/// packet's tail.
 #[derive(Clone, Copy, Debug, PartialEq, Eq)]
 pub enum Head {
-    /// An originator message of algorithm IV (`batadv_ogm_packet`, type 0x00): 24 bytes, then containers.
+    /// An originator message of algorithm IV (`batadv_ogm_packet`, type 0x00): 24 bytes, then
+    /// containers.
     IvOgm {
         /// Time to live, 1 byte: how many hops are left.
         ttl: u8,
@@ -31,7 +33,7 @@ pub enum Head {
         /// The originator, 6 bytes.
         orig: Mac,
     },
-    /// A message of the echo location protocol (`batadv_elp_packet`, type 0x03): 16 bytes and no tail.
+    /// A message of the echo location protocol (`batadv_elp_packet`, type 0x03): 16 bytes, no tail.
     Elp {
         /// The originator, 6 bytes.
         orig: Mac,
@@ -40,7 +42,8 @@ pub enum Head {
         /// The time between two such messages, 4 bytes, in milliseconds.
         interval: u32,
     },
-    /// An originator message of algorithm V (`batadv_ogm2_packet`, type 0x04): 20 bytes, then containers.
+    /// An originator message of algorithm V (`batadv_ogm2_packet`, type 0x04): 20 bytes, then
+    /// containers.
     Ogm2 {
         /// Time to live, 1 byte: how many hops are left.
         ttl: u8,
@@ -50,7 +53,7 @@ pub enum Head {
         seq: u32,
         /// The originator, 6 bytes.
         orig: Mac,
-        /// The path's throughput, 4 bytes after the length of the containers, in units of 100 kbit/s.
+        /// The path's throughput, 4 bytes behind the length of the containers, in 100 kbit/s.
         throughput: u32,
     },
     /// A frame for one node (`batadv_unicast_packet`, type 0x40): 10 bytes, then the frame.
@@ -79,7 +82,8 @@ pub enum Head {
         /// The length of the packet that was cut, 2 bytes, in bytes.
         total: u16,
     },
-    /// A frame for one node with its sender (`batadv_unicast_4addr_packet`, type 0x42): 18 bytes, then the frame.
+    /// A frame for one node with its sender (`batadv_unicast_4addr_packet`, type 0x42): 18 bytes,
+    /// then the frame.
     Unicast4 {
         /// Time to live, 1 byte: how many hops are left.
         ttl: u8,
@@ -89,7 +93,8 @@ pub enum Head {
         dst: Mac,
         /// The sender, 6 bytes.
         src: Mac,
-        /// What the frame is, 1 byte before a reserved one: data 1, DHT get 2, DHT put 3, cache reply 4.
+        /// What the frame is, 1 byte before a reserved one: data 1, DHT get 2, DHT put 3, cache
+        /// reply 4.
         subtype: u8,
     },
     /// A message of ping or traceroute (`batadv_icmp_packet`, type 0x43): 20 bytes and no tail.
@@ -107,7 +112,8 @@ pub enum Head {
         /// The number of the echo request, 2 bytes.
         seq: u16,
     },
-    /// Containers for one node (`batadv_unicast_tvlv_packet`, type 0x44): 20 bytes, then containers.
+    /// Containers for one node (`batadv_unicast_tvlv_packet`, type 0x44): 20 bytes, then the
+    /// containers.
     Utvlv {
         /// Time to live, 1 byte before a reserved one: how many hops are left.
         ttl: u8,
