@@ -6,6 +6,7 @@ pub mod Commands
 pub mod Log
 pub mod Mentions
 pub mod Present
+pub mod PresentLaws
 pub mod TableText
 pub mod State
 pub mod PlainRun

@@ -6,6 +6,7 @@
 
 pub mod ending;
 pub mod line_form;
+pub mod present_laws;
 pub mod rows;
 pub mod table_row;
 
