@@ -1,24 +1,22 @@
 -- What the laws on present clients rest on.
-use Rattle.std.proofs.Common.{ap₂, IsSome, ◌++◌}
-use Rattle.std.proofs.lemmas.List.Folds.{find-append}
-use Rattle.std.proofs.lemmas.Bool.{false≢true}
-use Rattle.mesh_model.specs.PresentLaws.{HasTheRowOfEachKey, IsInKeyOrder, KeepsLastMembership, KeepsLastMention, KeepsRow}
-use Rattle.std.proofs.Common.{◌≡◌, ℕ, ◌-◌, Bool, true, false, cond, not, ◌&&◌, ◌||◌, List, [], ◌∷◌, map, find, IfSome, Option, Some, None, option_and_then, is_eq, nat_cmp, nat_lt, refl, sym, ap, ◌∙◌, subst, map-id, Less, Equal, Greater}
+use Rattle.std.proofs.Common.{ap₂, IsSome, ◌++◌, ◌≡◌, ℕ, ◌-◌, Bool, true, false, cond, not, ◌&&◌, ◌||◌, List, [], ◌∷◌, map, find, IfSome, Option, Some, None, option_and_then, is_eq, nat_cmp, nat_lt, refl, sym, ap, ◌∙◌, subst, map-id, Less, Equal, Greater}
 use Rattle.std.specs.Bool.{Decides}
-use Rattle.std.specs.Cmp.{IsTotalOrder}
 use Rattle.std.specs.Cmp.Lexicographic.{slice_cmp}
-use Rattle.std.specs.List.{AllByRecursion, list_any}
+use Rattle.std.specs.Cmp.{IsTotalOrder}
 use Rattle.std.specs.List.Sorted.{IsStrictlySortedBy}
+use Rattle.std.specs.List.{AllByRecursion, list_any}
 use Rattle.std.specs.Option.{option_or}
 use Rattle.std.specs.Ordering.{match_ordering, ordering_reverse}
-use Rattle.std.proofs.lemmas.Bool.{and_parts, true≢false}
+use Rattle.std.proofs.lemmas.Bool.{false≢true, and_parts, true≢false}
 use Rattle.std.proofs.lemmas.Cmp.{nat_cmp_total, nat_list_cmp_total, on_total, then_total, tied_itself}
+use Rattle.std.proofs.lemmas.List.Folds.{find-append}
 use Rattle.std.proofs.lemmas.Map.Lookups.{CmpEqualImpliesEq, exact_bytes, exact_unsigned, exact_pairs}
 use Rattle.std.proofs.lemmas.Map.Made.{find_same}
 use Rattle.mesh_base.specs.declared.client.Key.{Key}
-use Rattle.mesh_model.specs.declared.table_row.LocalRow.{LocalRow}
 use Rattle.mesh_model.specs.Mentions.{Mention, News, Sighted, Departed, Roamed, Joined, Left}
 use Rattle.mesh_model.specs.Present.{key_cmp, same_key, sighting_age, is_membership, last_mention, last_membership, row_after, row_by, present_row, insert_key, mentioned_keys, present_clients}
+use Rattle.mesh_model.specs.PresentLaws.{HasTheRowOfEachKey, IsInKeyOrder, KeepsLastMembership, KeepsLastMention, KeepsRow}
+use Rattle.mesh_model.specs.declared.table_row.LocalRow.{LocalRow}
 use Rattle.mesh_model.proofs.KeyLists.{found_passes, tied, item_at_filter, same_items, sorted_filter}
 
 -- ---- the order of keys
