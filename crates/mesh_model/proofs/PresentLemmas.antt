@@ -1,20 +1,22 @@
 -- What the laws on present clients rest on.
-use Rattle.std.proofs.Common.{◌≡◌, ℕ, ◌-◌, Bool, true, false, cond, not, ◌&&◌, ◌||◌, List, [], ◌∷◌, map, find, IfSome, Option, Some, None, option_and_then, is_eq, nat_cmp, nat_lt, refl, sym, ap, ◌∙◌, subst, map-id, Less, Equal, Greater}
+use Rattle.std.proofs.Common.{ap₂, IsSome, ◌++◌, ◌≡◌, ℕ, ◌-◌, Bool, true, false, cond, not, ◌&&◌, ◌||◌, List, [], ◌∷◌, map, find, IfSome, Option, Some, None, option_and_then, is_eq, nat_cmp, nat_lt, refl, sym, ap, ◌∙◌, subst, map-id, Less, Equal, Greater}
 use Rattle.std.specs.Bool.{Decides}
-use Rattle.std.specs.Cmp.{IsTotalOrder}
 use Rattle.std.specs.Cmp.Lexicographic.{slice_cmp}
-use Rattle.std.specs.List.{AllByRecursion, list_any}
+use Rattle.std.specs.Cmp.{IsTotalOrder}
 use Rattle.std.specs.List.Sorted.{IsStrictlySortedBy}
+use Rattle.std.specs.List.{AllByRecursion, list_any}
 use Rattle.std.specs.Option.{option_or}
 use Rattle.std.specs.Ordering.{match_ordering, ordering_reverse}
-use Rattle.std.proofs.lemmas.Bool.{and_parts, true≢false}
+use Rattle.std.proofs.lemmas.Bool.{false≢true, and_parts, true≢false}
 use Rattle.std.proofs.lemmas.Cmp.{nat_cmp_total, nat_list_cmp_total, on_total, then_total, tied_itself}
+use Rattle.std.proofs.lemmas.List.Folds.{find-append}
 use Rattle.std.proofs.lemmas.Map.Lookups.{CmpEqualImpliesEq, exact_bytes, exact_unsigned, exact_pairs}
 use Rattle.std.proofs.lemmas.Map.Made.{find_same}
 use Rattle.mesh_base.specs.declared.client.Key.{Key}
-use Rattle.mesh_model.specs.declared.table_row.LocalRow.{LocalRow}
 use Rattle.mesh_model.specs.Mentions.{Mention, News, Sighted, Departed, Roamed, Joined, Left}
 use Rattle.mesh_model.specs.Present.{key_cmp, same_key, sighting_age, is_membership, last_mention, last_membership, row_after, row_by, present_row, insert_key, mentioned_keys, present_clients}
+use Rattle.mesh_model.specs.PresentLaws.{HasTheRowOfEachKey, IsInKeyOrder, KeepsLastMembership, KeepsLastMention, KeepsRow}
+use Rattle.mesh_model.specs.declared.table_row.LocalRow.{LocalRow}
 use Rattle.mesh_model.proofs.KeyLists.{found_passes, tied, item_at_filter, same_items, sorted_filter}
 
 -- ---- the order of keys
@@ -128,15 +130,34 @@ row_where_mentioned now mentions q =
     ] refl
 
 -- ---- the list of them
-pub present_at : (now : ℕ) (mentions : List Mention) (q : Key) → find (λ row. same_key q row.entry.key) (present_clients now mentions) ≡ present_row now mentions q
+pub present_at : HasTheRowOfEachKey
 present_at now mentions q =
     item_at_filter key_cmp (λ (k : Key). k) (λ (row : LocalRow). row.entry.key) (present_row now mentions) (row_of_key now mentions) key_exact q (mentioned_keys mentions) (subst (IsStrictlySortedBy key_cmp) (sym (map-id _)) (sorted_mentioned mentions))
     ∙ ap (option_and_then (present_row now mentions)) (find_same same_decides q (mentioned_keys mentions) ∙ ap (λ b. cond b (Some q) None) (has_mentioned q mentions))
     ∙ row_where_mentioned now mentions q
 
-pub sorted_present : (now : ℕ) (mentions : List Mention) → IsStrictlySortedBy key_cmp (map (λ row. row.entry.key) (present_clients now mentions))
+pub sorted_present : IsInKeyOrder
 sorted_present now mentions = sorted_filter key_cmp (λ (k : Key). k) (λ (row : LocalRow). row.entry.key) (present_row now mentions) (row_of_key now mentions) (mentioned_keys mentions) (subst (IsStrictlySortedBy key_cmp) (sym (map-id _)) (sorted_mentioned mentions))
 
 -- rows in key order that give each key's row are the present clients
 pub present_from_rows : (now : ℕ) (mentions : List Mention) (rows : List LocalRow) → IsStrictlySortedBy key_cmp (map (λ row. row.entry.key) rows) → ((q : Key) → find (λ row. same_key q row.entry.key) rows ≡ present_row now mentions q) → rows ≡ present_clients now mentions
 present_from_rows now mentions rows sorted same = same_items key_cmp (λ (row : LocalRow). row.entry.key) key_total key_exact rows (present_clients now mentions) sorted (sorted_present now mentions) (λ q. same q ∙ sym (present_at now mentions q))
+
+-- ---- older mentions
+found_kept : (p : Mention → Bool) (newer older : List Mention) → IsSome (find p newer) → find p (newer ++ older) ≡ find p newer
+found_kept p newer older told = find-append p newer older ∙ kept (find p newer) told
+  where
+    kept : (o : Option Mention) → IsSome o → option_or o (find p older) ≡ o
+    kept None h = absurd (false≢true h)
+    kept (Some m) h = refl
+
+pub last_mention_kept : KeepsLastMention
+last_mention_kept newer older key told = found_kept (λ m. same_key key m.key && not (is_membership m.news)) newer older told
+
+pub last_membership_kept : KeepsLastMembership
+last_membership_kept newer older key told = found_kept (λ m. same_key key m.key && is_membership m.news) newer older told
+
+pub row_kept : KeepsRow
+row_kept now newer older key mentioned joined =
+    ap₂ (λ a b. option_or (option_and_then (row_by now) a) (option_and_then (row_by now) b))
+    (last_membership_kept newer older key joined) (last_mention_kept newer older key mentioned)

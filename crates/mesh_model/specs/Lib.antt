@@ -9,6 +9,7 @@ pub mod ContainerBodies
 pub mod Log
 pub mod Mentions
 pub mod Present
+pub mod PresentLaws
 pub mod TableText
 pub mod State
 pub mod PlainRun

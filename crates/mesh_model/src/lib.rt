@@ -1,12 +1,14 @@
 //! What a reader of batmesh believes: the plain data that definitions speak of and, in `specs/`, the definitions.
 //!
-//! Read `specs/` in the order of its `Lib.antt`. The laws of the definitions are the functions of `run_laws` and the like.
+//! Read `specs/` in the order of its `Lib.antt`. `rows` computes small scenarios from the definitions, `run_laws` and
+//! `present_laws` say what holds of them all.
 
 #![tactic(auto)]
 
 pub mod ending;
 pub mod line_form;
 pub mod packet;
+pub mod present_laws;
 pub mod rows;
 pub mod run_laws;
 pub mod table_row;

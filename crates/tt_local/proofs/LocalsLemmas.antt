@@ -1,5 +1,5 @@
 -- What a list of sightings by key says of the present clients, and how a new sighting changes it.
-use Rattle.std.proofs.Common.{◌≡◌, ◌↔◌, ◌≤◌, IsNone, length, slice_get, arith, ℕ, ◌-◌, true, false, cond, not, ◌&&◌, List, ◌∷◌, [], find, IfSome, Option, Some, None, option_and_then, refl, sym, ap, ◌∙◌}
+use Rattle.std.proofs.Common.{filter_map, ◌≡◌, ◌↔◌, ◌≤◌, IsNone, length, slice_get, arith, ℕ, ◌-◌, true, false, cond, not, ◌&&◌, List, ◌∷◌, [], find, IfSome, Option, Some, None, option_and_then, refl, sym, ap, ◌∙◌}
 use Rattle.std.specs.List.Sorted.{IsStrictlySortedBy}
 use Rattle.std.specs.Map.{keys_of, lookup}
 use Rattle.std.specs.Option.{option_or}
@@ -8,13 +8,17 @@ use Rattle.std.proofs.lemmas.Cmp.{eq_by_cmp_equiv}
 use Rattle.std.proofs.lemmas.Grind.{common_steps}
 use Rattle.std.proofs.lemmas.Option.{gets}
 use Rattle.mesh_base.specs.declared.client.Key.{Key}
-use Rattle.mesh_model.specs.declared.table_row.LocalRow.{LocalRow}
 use Rattle.mesh_model.specs.Mentions.{Mention, News, Sighted, Departed, Roamed, Joined, Left}
 use Rattle.mesh_model.specs.Present.{key_cmp, same_key, is_membership, last_mention, row_after, row_by, present_row, present_clients}
+use Rattle.mesh_model.specs.declared.table_row.LocalRow.{LocalRow}
 use Rattle.mesh_model.proofs.KeyLists.{found_passes, item_at, item_at_filter, sorted_filter}
 use Rattle.mesh_model.proofs.PresentLemmas.{key_total, key_exact, equal_from_same, row_of_news, present_from_rows}
+use Rattle.tt_local.specs.Locals.{sighting_by, sighting_in, sighting_row, StandsFor}
 use Rattle.tt_local.specs.declared.sighting.Sighting.{Sighting}
-use Rattle.tt_local.specs.Locals.{sighting_by, sighting_in, sighting_row, sighting_rows, StandsFor}
+
+-- the rows of the sightings that count
+abbrev pub sighting_rows : ℕ → List (Key × Sighting) → List LocalRow
+sighting_rows now entries = filter_map (λ e. sighting_row now e.0 e.1) entries
 
 row_of_sighted : (now : ℕ) (key k : Key) (moment : ℕ) (news : News) → key ≡ k → not (is_membership news) ≡ true → option_and_then (sighting_row now key) (sighting_by moment news) ≡ row_after k (now - moment) news
 row_of_sighted now key k moment (Sighted flags) same client = ap (λ z. row_after z (now - moment) (Sighted flags)) same

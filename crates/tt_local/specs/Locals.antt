@@ -1,6 +1,7 @@
--- How a list of sightings by key stands for a node's mentions: under each key it has what the key's last mention says,
--- a sighting or nothing, and the keys ascend. Groups aren't kept. The main word is `StandsFor`.
-use Rattle.std.specs.Prelude.{◌≡◌, ℕ, ◌-◌, List, filter_map, Option, Some, None, option_and_then}
+-- How a list of sightings by key stands for a node's mentions: under each key it has what the key's
+-- last mention says, a sighting or nothing, and the keys ascend. Groups aren't kept. The main word
+-- is `StandsFor`.
+use Rattle.std.specs.Prelude.{◌≡◌, ℕ, ◌-◌, List, Option, Some, None, option_and_then}
 use Rattle.std.specs.List.Sorted.{IsStrictlySortedBy}
 use Rattle.std.specs.Map.{keys_of, lookup}
 use Rattle.mesh_base.specs.declared.client.Key.{Key}
@@ -25,14 +26,11 @@ sighting_in mention = sighting_by mention.moment mention.news
 abbrev pub sighting_row : ℕ → Key → Sighting → Option LocalRow
 sighting_row now key sighting = row_after key (now - sighting.moment) (Sighted sighting.flags)
 
--- the rows of the sightings that count
-abbrev pub sighting_rows : ℕ → List (Key × Sighting) → List LocalRow
-sighting_rows now entries = filter_map (λ e. sighting_row now e.0 e.1) entries
-
 -- these sightings by key are those of a node with these mentions
 pub record StandsFor (entries : List (Key × Sighting)) (mentions : List Mention) : Type 0 where
   -- under each key is its last mention, where that is a sighting
-  pub kept : (key : Key) → lookup (same_key key) entries ≡ option_and_then sighting_in (last_mention key mentions)
+  pub kept : (key : Key) →
+      lookup (same_key key) entries ≡ option_and_then sighting_in (last_mention key mentions)
   -- the keys ascend
   pub ordered : IsStrictlySortedBy key_cmp (keys_of entries)
   -- no group was joined or left

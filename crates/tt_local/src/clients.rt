@@ -1,8 +1,7 @@
-ghost use Rattle.std.specs.Prelude.{◌≡◌, ◌≤◌, ◌↔◌, List, [], ◌∷◌, length, slice_get, option_and_then, option_map, IfOk, OnOk, OnErr, IsTrue, IsNone};
-ghost use Rattle.std.specs.Map.{lookup};
+ghost use Rattle.std.specs.Prelude.{◌≡◌, ◌≤◌, ◌↔◌, List, [], ◌∷◌, length, slice_get, option_map, IfOk, OnOk, OnErr, IsTrue, IsNone};
 ghost use Rattle.mesh_model.specs.Mentions.{Mention, Sighted};
-ghost use Rattle.mesh_model.specs.Present.{present_clients, present_row, same_key};
-ghost use Rattle.tt_local.specs.Locals.{sighting_rows, StandsFor};
+ghost use Rattle.mesh_model.specs.Present.{present_clients, present_row};
+ghost use Rattle.tt_local.specs.Locals.{StandsFor};
 
 use crate::failure::LocalErr;
 use crate::sighting::Sighting;
@@ -41,9 +40,10 @@ impl Locals {
     /// Notes a sighting of a client, and answers whether the client is newly present.
     pub fn see(&mut self, now: Millis, key: Key, flags: u8) -> Result<bool, LocalErr>
         ensures noted { (mentions : List Mention) → StandsFor self.old mentions →
-            OnOk result (StandsFor self.new (record { moment = now; key = key; news = Sighted flags } ∷ mentions)) }
-        ensures newly { IfOk result (λ newly. (mentions : List Mention) → StandsFor self.old mentions →
-            IsTrue newly ↔ IsNone (present_row now mentions key)) }
+            let mention : Mention = record { moment = now; key = key; news = Sighted flags } in
+            OnOk result (StandsFor self.new (mention ∷ mentions)) }
+        ensures newly { IfOk result (λ newly. (mentions : List Mention) →
+            StandsFor self.old mentions → IsTrue newly ↔ IsNone (present_row now mentions key)) }
         ensures err { OnErr result (self.new ≡ self.old) }
     {
         let newly = self.row(now, key).is_none();
@@ -54,7 +54,8 @@ impl Locals {
 
     // The row of a client, where it is present.
     fn row(&self, now: Millis, key: Key) -> Option<LocalRow>
-        ensures { (mentions : List Mention) → StandsFor self.now mentions → result ≡ present_row now mentions key }
+        ensures { (mentions : List Mention) → StandsFor self.now mentions →
+            result ≡ present_row now mentions key }
     {
         self.sightings.get(&key)?.row(now, key)
     }
