@@ -1,6 +1,6 @@
 -- Lemmas on the end of an input: its last line, and the byte past its limit.
-use Rattle.std.proofs.Common.{◌≡◌, ℕ, ◌+◌, ◌<◌, ◌≤◌, ◌==◌, ◌⊎◌, false, List, [], ◌∷◌, ◌++◌, length, Option, Some, None, Result, Ok, Err, refl, sym, ap, ◌∙◌, subst, append_assoc, append-nil, length-append, arith}
-use Rattle.std.specs.Io.KnownBytes.{Appends, Keeps}
+use Rattle.std.proofs.Common.{◌≡◌, ℕ, ◌+◌, ◌<◌, ◌≤◌, ◌==◌, ◌⊎◌, false, List, [], ◌∷◌, ◌++◌, length, Option, Ok, refl, sym, ap, ◌∙◌, subst, append_assoc, append-nil, length-append, arith}
+use Rattle.std.specs.Io.KnownBytes.{Appends}
 use Rattle.std.proofs.KnownBytes.{Appends-trans, Appends-kept}
 use Rattle.std.proofs.lemmas.Bool.Decides.{nat_tests}
 use Rattle.mesh_base.specs.Writes.{AppendsFront}
@@ -8,10 +8,9 @@ use Rattle.mesh_model.specs.declared.ending.LimitName.TheVariants.{Line, Input}
 use Rattle.mesh_model.specs.declared.ending.Stop.{Stop}
 use Rattle.mesh_model.specs.declared.ending.Stop.TheVariants.{Refused, Limit}
 use Rattle.mesh_model.specs.Commands.{command_of_line}
-use Rattle.mesh_model.specs.Lines.{newline, lines_of}
-use Rattle.mesh_model.specs.PlainRun.{Run, start, after_lines, after_outcome, after_reading, line_outcome, plain_run, output}
+use Rattle.mesh_model.specs.Lines.{newline}
+use Rattle.mesh_model.specs.PlainRun.{Run, start, after_lines, after_reading, plain_run, output}
 use Rattle.mesh_model.specs.Reached.{halting_place}
-use Rattle.mesh_model.specs.State.{State}
 use Rattle.mesh_model.proofs.CutLemmas.{IsCut-more, lines_of-cut_end, open_line}
 use Rattle.mesh_model.proofs.HaltLemmas.{after_line-going, cut-length, halts_after, halts_input, halts_long, line_outcome-last}
 use Rattle.mesh_model.proofs.RunLemmas.{after_lines-append}
@@ -20,7 +19,6 @@ use Rattle.mesh_run.specs.declared.fault.Fault.TheVariants.{Halted, Read, Write,
 use Rattle.mesh_run.specs.declared.runner.Runner.{Runner}
 use Rattle.mesh_run.specs.declared.scene.Scene.{Scene}
 use Rattle.mesh_run.specs.Progress.{Carried, CarryFails, FailsAtEnd, Finishes, HaltsFrom, Stands}
-use Rattle.mesh_run.specs.Scene.{SceneStands}
 use Rattle.mesh_run.proofs.FaultLemmas.{front-after}
 use Rattle.mesh_run.proofs.ProgressLemmas.{HaltsFrom-after, front-cut}
 
@@ -85,8 +83,9 @@ Finishes-last base old new runner scene read stands short some within carried =
     ∙ after_line-going run rest (Ok carried.after) stands.going outcome in
     let T : List ℕ → Type 0 = λ text. Appends base new text in
     record {
-    halt = ap (λ (r : Run). r.halt) run_is;
-    printed = subst T (sym (ap output run_is ∙ carried.text)) (Appends-trans base old new (output run) carried.printed stands.printed carried.taken) }
+      halt = ap (λ (r : Run). r.halt) run_is;
+      printed = subst T (sym (ap output run_is ∙ carried.text)) (Appends-trans base old new (output run) carried.printed stands.printed carried.taken);
+    }
 
 halting_place-last : (before : ℕ) (rest : List ℕ) (stop : Stop) → length rest ≤ 4096 → before + length rest ≤ 67108864 → before + length rest ≤ halting_place before rest stop
 halting_place-last before rest (Refused refusal) short within = omega arith

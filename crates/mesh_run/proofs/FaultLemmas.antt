@@ -1,6 +1,6 @@
 -- Lemmas on the faults that end a run.
-use Rattle.std.proofs.Common.{◌≡◌, ℕ, ◌+◌, ◌<◌, ◌≤◌, List, [], ◌∷◌, ◌++◌, length, take, Option, Some, None, Result, Ok, Err, refl, sym, ap, ◌∙◌, subst, append_assoc, length-append, arith}
-use Rattle.std.specs.Io.KnownBytes.{Appends, Keeps}
+use Rattle.std.proofs.Common.{◌≡◌, ℕ, ◌+◌, ◌<◌, ◌≤◌, List, [], ◌∷◌, ◌++◌, length, take, Option, sym, ap, ◌∙◌, subst, append_assoc, length-append, arith}
+use Rattle.std.specs.Io.KnownBytes.{Appends}
 use Rattle.std.proofs.KnownBytes.{Appends-trans, Appends-kept}
 use Rattle.std.proofs.Math.Seq.{take-append-add}
 use Rattle.std.proofs.lemmas.List.{take-append-le}
@@ -9,18 +9,16 @@ use Rattle.mesh_model.specs.declared.ending.LimitName.TheVariants.{Line, Input}
 use Rattle.mesh_model.specs.declared.ending.Stop.{Stop}
 use Rattle.mesh_model.specs.declared.ending.Stop.TheVariants.{Refused, Limit}
 use Rattle.mesh_model.specs.Commands.{command_of_line}
-use Rattle.mesh_model.specs.Cuts.{IsCut}
 use Rattle.mesh_model.specs.Lines.{newline, lines_of, without_carriage_return}
-use Rattle.mesh_model.specs.PlainRun.{Run, start, after_lines, after_outcome, after_reading, plain_run, output}
+use Rattle.mesh_model.specs.PlainRun.{start, after_lines, after_reading, plain_run, output}
 use Rattle.mesh_model.specs.Reached.{halting_place}
-use Rattle.mesh_model.specs.State.{State}
 use Rattle.mesh_model.proofs.CutLemmas.{IsCut-newline}
 use Rattle.mesh_model.proofs.HaltLemmas.{after_lines-newline, cut-length, halts_newline, line_outcome-newline, plain_run-cut}
 use Rattle.mesh_model.proofs.RunLemmas.{after_lines-grows}
 use Rattle.mesh_run.specs.declared.fault.Fault.{Fault}
 use Rattle.mesh_run.specs.declared.fault.Fault.TheVariants.{Halted, Read, Write, Memory}
 use Rattle.mesh_run.specs.declared.runner.Runner.{Runner}
-use Rattle.mesh_run.specs.Progress.{CarryFails, CutOff, Fails, HaltsFrom, Stands}
+use Rattle.mesh_run.specs.Progress.{CarryFails, Fails, HaltsFrom, Stands}
 use Rattle.mesh_run.proofs.ProgressLemmas.{HaltsFrom-after, front-cut}
 
 -- all of a first text and a front of a second are a front of both and more
@@ -32,9 +30,11 @@ front-after base old new first second more all printed front is =
     let cut : take (length first + n) all ≡ first ++ take n second =
     ap (take (length first + n)) (is ∙ append_assoc first second more) ∙ take-append-add first (second ++ more) n
     ∙ ap (λ xs. first ++ xs) (take-append-le n second more within) in
-    let Q : List ℕ → Type 0 = λ text. Appends base new text in
-    (length first + n, omega (arith, within, ap length is, length-append (first ++ second) more, length-append first second),
-    subst Q (sym cut) (Appends-trans base old new first (take n second) printed front.2))
+    let Q : List ℕ → Type 0 = λ text. Appends base new text in (
+      length first + n,
+      omega (arith, within, ap length is, length-append (first ++ second) more, length-append first second),
+      subst Q (sym cut) (Appends-trans base old new first (take n second) printed front.2),
+    )
 
 -- a halt at a line that its newline ended comes at that newline at least
 halting_place-newline : (before least : ℕ) (rest : List ℕ) (stop : Stop) → before + length rest + 1 ≡ least → length rest ≤ 4096 → least ≤ 67108864
@@ -47,7 +47,7 @@ halting_place-newline before least rest (Limit Input) is short within = omega (a
 pub Fails-newline : (base old new : Option (List ℕ)) (runner : Runner) (read : List ℕ) (fault : Fault) → (stands : Stands base old runner read)
     → length runner.line.items ≤ 4096 → runner.taken < 67108864
     → CarryFails (after_reading (after_lines start stands.lines).state (command_of_line (without_carriage_return runner.line.items)))
-      (after_lines start stands.lines).state old new (runner.lines + 1) fault
+    (after_lines start stands.lines).state old new (runner.lines + 1) fault
     → Fails base new (length read + 1) (read ++ newline ∷ []) fault
 Fails-newline base old new runner read (Halted line stop) stands short within h = λ more.
     let rest = runner.line.items in

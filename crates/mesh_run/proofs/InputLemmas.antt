@@ -1,10 +1,9 @@
 -- Lemmas on what a run leaves where its input is told.
-use Rattle.std.proofs.Common.{◌≡◌, ℕ, ◌+◌, ◌≤◌, ◌⊎◌, inl, inr, List, ◌++◌, length, Option, Some, None, IfSome, refl, sym, ap, subst, length-append, arith}
-use Rattle.std.specs.Io.KnownBytes.{Appends, Consumes, IsAtEnd}
+use Rattle.std.proofs.Common.{◌≡◌, ℕ, inr, List, length, Option, Some, None, IfSome, sym, ap, subst, length-append, arith}
 use Rattle.std.proofs.KnownBytes.{Consumes-whole}
 use Rattle.mesh_base.specs.Writes.{AppendsFront}
 use Rattle.mesh_model.specs.declared.ending.Stop.{Stop}
-use Rattle.mesh_model.specs.PlainRun.{Halt, plain_run, output}
+use Rattle.mesh_model.specs.PlainRun.{plain_run, output}
 use Rattle.mesh_run.specs.declared.fault.Fault.{Fault}
 use Rattle.mesh_run.specs.declared.fault.Fault.TheVariants.{Halted, Read, Write, Memory}
 use Rattle.mesh_run.specs.Outcome.{HaltsNear, PrintsFrontOf, RunFails}
@@ -26,8 +25,10 @@ halts-told base now (Some rest) input line stop h =
     let P : List ℕ → Type 0 = λ bytes. HaltsFrom base now h.least bytes line stop in
     let halts = subst P (sym h.took) h.halts in
     record {
-    halts = halts.halt; printed = halts.printed;
-    near = omega (arith, ap length h.took, length-append h.read rest, h.near, halts.late) }
+      halts = halts.halt;
+      printed = halts.printed;
+      near = omega (arith, ap length h.took, length-append h.read rest, h.near, halts.late);
+    }
 
 front-told : (base now left : Option (List ℕ)) (input : List ℕ) → PrintsFront (Some input) left base now → PrintsFrontOf base now input
 front-told base now None input h = absurd h.took

@@ -1,18 +1,18 @@
 -- Lemmas on how far a run has come.
-use Rattle.std.proofs.Common.{◌≡◌, ℕ, ◌+◌, ◌<◌, ◌≤◌, List, [], ◌∷◌, ◌++◌, length, take, Option, Some, None, IsSome, Result, Ok, Err, refl, sym, ap, ◌∙◌, subst, append_assoc, append-nil, length-append, arith}
-use Rattle.std.specs.Io.KnownBytes.{Appends, Keeps}
-use Rattle.std.proofs.KnownBytes.{Appends-trans, Appends-nil, Appends-kept}
+use Rattle.std.proofs.Common.{◌≡◌, ℕ, ◌+◌, ◌<◌, ◌≤◌, List, [], ◌∷◌, ◌++◌, length, take, Option, refl, sym, ap, ◌∙◌, subst, append_assoc, length-append, arith}
+use Rattle.std.specs.Io.KnownBytes.{Appends}
+use Rattle.std.proofs.KnownBytes.{Appends-trans}
 use Rattle.std.proofs.lemmas.List.{take_at}
 use Rattle.mesh_base.specs.Writes.{AppendsFront}
-use Rattle.mesh_model.specs.declared.ending.LimitName.TheVariants.{Line, Input}
+use Rattle.mesh_model.specs.declared.ending.LimitName.TheVariants.{Line}
 use Rattle.mesh_model.specs.declared.ending.Stop.{Stop}
-use Rattle.mesh_model.specs.declared.ending.Stop.TheVariants.{Refused, Limit}
+use Rattle.mesh_model.specs.declared.ending.Stop.TheVariants.{Limit}
 use Rattle.mesh_model.specs.Cuts.{IsUnbroken, IsCut}
 use Rattle.mesh_model.specs.Commands.{command_of_line}
 use Rattle.mesh_model.specs.Lines.{newline, lines_of, without_carriage_return}
 use Rattle.mesh_model.specs.State.{State}
-use Rattle.mesh_model.specs.PlainRun.{Run, Halt, start, after_lines, after_reading, plain_run, output}
-use Rattle.mesh_model.specs.Reached.{halting_byte, halting_place}
+use Rattle.mesh_model.specs.PlainRun.{Run, start, after_lines, after_reading, plain_run, output}
+use Rattle.mesh_model.specs.Reached.{halting_place}
 use Rattle.mesh_model.proofs.CutLemmas.{IsCut-more, IsCut-newline}
 use Rattle.mesh_model.proofs.HaltLemmas.{HaltsAfter, after_lines-newline, cut-length, halts_long, line_outcome-newline, plain_run-cut}
 use Rattle.mesh_model.proofs.RunLemmas.{after_lines-grows}
@@ -33,9 +33,10 @@ HaltsFrom-after base now least number input lines line stop after printed counte
     let Q : List ℕ → Type 0 = λ text. Appends base now text in
     let L : ℕ → Type 0 = λ place. least ≤ place in
     subst P counted (record {
-    halt = ap (λ (r : Run). r.halt) after.run_is;
-    printed = subst Q (sym (ap output after.run_is)) printed;
-    late = subst L (sym after.place) late })
+      halt = ap (λ (r : Run). r.halt) after.run_is;
+      printed = subst Q (sym (ap output after.run_is)) printed;
+      late = subst L (sym after.place) late;
+    })
 
 -- a front and more is a front of all
 front-appends : (base now : Option (List ℕ)) (first all more : List ℕ) → Appends base now first → all ≡ first ++ more → AppendsFront base now all
@@ -94,19 +95,20 @@ Stands-more base now old new read text unbroken stands line scene lines taken =
     let C : List ℕ → Type 0 = λ rest. IsCut (read ++ text) stands.lines rest in
     let S : Scene → Type 0 = λ s. SceneStands s (after_lines start stands.lines).state in
     record {
-    lines = stands.lines;
-    cut = subst C (sym line) (IsCut-more read stands.lines old.line.items text stands.cut unbroken);
-    going = stands.going;
-    scene = subst S (sym scene) stands.scene;
-    lines_are = stands.lines_are ∙ sym lines;
-    taken = length-append read text ∙ ap (λ n. n + length text) stands.taken ∙ sym taken;
-    printed = stands.printed }
+      lines = stands.lines;
+      cut = subst C (sym line) (IsCut-more read stands.lines old.line.items text stands.cut unbroken);
+      going = stands.going;
+      scene = subst S (sym scene) stands.scene;
+      lines_are = stands.lines_are ∙ sym lines;
+      taken = length-append read text ∙ ap (λ n. n + length text) stands.taken ∙ sym taken;
+      printed = stands.printed;
+    }
 
 -- a runner whose unfinished line was ended and carried out
 pub Stands-newline : (base old_taken new_taken : Option (List ℕ)) (old new : Runner) (read : List ℕ) → Stands base old_taken old read
     → length old.line.items ≤ 4096 → old.taken < 67108864
     → ((state : State) → SceneStands old.scene state →
-       Carried (after_reading state (command_of_line (without_carriage_return old.line.items))) state new.scene old_taken new_taken)
+    Carried (after_reading state (command_of_line (without_carriage_return old.line.items))) state new.scene old_taken new_taken)
     → new.line.items ≡ [] → new.lines ≡ old.lines + 1 → new.taken ≡ old.taken + 1 → Stands base new_taken new (read ++ newline ∷ [])
 Stands-newline base old_taken new_taken old new read stands short within each line lines taken =
     let rest = old.line.items in
@@ -119,10 +121,11 @@ Stands-newline base old_taken new_taken old new read stands short within each li
     let S : Run → Type 0 = λ r. SceneStands new.scene r.state in
     let T : List ℕ → Type 0 = λ text. Appends base new_taken text in
     record {
-    lines = stands.lines ++ (rest ++ newline ∷ []) ∷ [];
-    cut = subst C (sym line) (IsCut-newline read stands.lines rest stands.cut);
-    going = ap (λ (r : Run). r.halt) next;
-    scene = subst S (sym next) carried.stands;
-    lines_are = ap (λ (r : Run). r.lines) next ∙ ap (λ n. n + 1) stands.lines_are ∙ sym lines;
-    taken = length-append read (newline ∷ []) ∙ ap (λ n. n + 1) stands.taken ∙ sym taken;
-    printed = subst T (sym (ap output next ∙ carried.text)) (Appends-trans base old_taken new_taken (output run) carried.printed stands.printed carried.taken) }
+      lines = stands.lines ++ (rest ++ newline ∷ []) ∷ [];
+      cut = subst C (sym line) (IsCut-newline read stands.lines rest stands.cut);
+      going = ap (λ (r : Run). r.halt) next;
+      scene = subst S (sym next) carried.stands;
+      lines_are = ap (λ (r : Run). r.lines) next ∙ ap (λ n. n + 1) stands.lines_are ∙ sym lines;
+      taken = length-append read (newline ∷ []) ∙ ap (λ n. n + 1) stands.taken ∙ sym taken;
+      printed = subst T (sym (ap output next ∙ carried.text)) (Appends-trans base old_taken new_taken (output run) carried.printed stands.printed carried.taken);
+    }

@@ -1,10 +1,10 @@
 -- Lemmas on the reading of a whole input.
-use Rattle.std.proofs.Common.{◌≡◌, ℕ, ◌+◌, ◌<◌, ◌≤◌, ◌⊎◌, inl, inr, List, [], ◌∷◌, ◌++◌, length, take, Option, Some, None, IfSome, refl, sym, ap, ◌∙◌, subst, append_assoc, append-nil, length-append, arith}
+use Rattle.std.proofs.Common.{◌≡◌, ℕ, ◌+◌, ◌≤◌, List, [], ◌++◌, length, take, Option, Some, None, IfSome, sym, ap, subst, append-nil, length-append, arith}
 use Rattle.std.specs.Io.KnownBytes.{Appends, Consumes, IsAtEnd}
 use Rattle.std.proofs.KnownBytes.{Consumes-trans}
 use Rattle.mesh_base.specs.Faults.{Rose}
 use Rattle.mesh_base.specs.Writes.{AppendsFront}
-use Rattle.mesh_model.specs.PlainRun.{Run, start, after_lines, plain_run, output}
+use Rattle.mesh_model.specs.PlainRun.{start, after_lines, plain_run, output}
 use Rattle.mesh_model.proofs.CutLemmas.{complete_lines-cut}
 use Rattle.mesh_run.specs.declared.fault.Fault.{Fault}
 use Rattle.mesh_run.specs.declared.fault.Fault.TheVariants.{Halted, Read, Write, Memory}
@@ -34,9 +34,12 @@ for-end (Some rest) P end h = subst P (sym end) h
 pub ReadFails-piece : (first left base now : Option (List ℕ)) (read piece : List ℕ) (fault : Fault) → Consumes first left (read ++ piece) → length piece ≤ 4096
     → Fails base now (length read + 1) (read ++ piece) fault → ReadFails first left base now fault
 ReadFails-piece first left base now read piece (Halted line stop) took short h = record {
-    read = read ++ piece; took = took; least = length read + 1;
-    halts = for-rest left (λ rest. HaltsFrom base now (length read + 1) ((read ++ piece) ++ rest) line stop) h;
-    near = omega (arith, short, length-append read piece) }
+  read = read ++ piece;
+  took = took;
+  least = length read + 1;
+  halts = for-rest left (λ rest. HaltsFrom base now (length read + 1) ((read ++ piece) ++ rest) line stop) h;
+  near = omega (arith, short, length-append read piece);
+}
 ReadFails-piece first left base now read piece Read took short h = absurd h
 ReadFails-piece first left base now read piece Write took short h =
     record { read = read ++ piece; took = took; front = for-rest left (λ rest. AppendsFront base now (output (plain_run ((read ++ piece) ++ rest)))) h }
@@ -66,8 +69,10 @@ pub PrintsComplete-from : (first left base now : Option (List ℕ)) (runner : Ru
 PrintsComplete-from first left base now runner read took stands =
     let Q : List ℕ → Type 0 = λ text. Appends base now text in
     record {
-    read = read; took = took;
-    printed = subst Q (sym (ap (λ lines. output (after_lines start lines)) (complete_lines-cut read stands.lines runner.line.items stands.cut))) stands.printed }
+      read = read;
+      took = took;
+      printed = subst Q (sym (ap (λ lines. output (after_lines start lines)) (complete_lines-cut read stands.lines runner.line.items stands.cut))) stands.printed;
+    }
 
 -- a read of no bytes takes none
 pub Consumes-none : (first mid left : Option (List ℕ)) (read buf : List ℕ) (n : ℕ) → n ≡ 0 → Consumes first mid read → Consumes mid left (take n buf) → Consumes first left read

@@ -1,6 +1,6 @@
 -- Lemmas on the nodes of a scene and those of the state that it stands for.
-use Rattle.std.proofs.Common.{◌≡◌, ℕ, suc, ◌+◌, ◌<◌, ◌≤◌, Bool, true, false, not, if◌then◌else◌, List, [], ◌∷◌, ◌++◌, length, get_or, set, Option, Some, None, Result, Ok, Err, refl, sym, ap, ◌∙◌, subst, append-nil, arith}
-use Rattle.std.specs.Prelude.{bytes_eq, find, map, nat_lt, position}
+use Rattle.std.proofs.Common.{◌≡◌, ℕ, suc, ◌+◌, ◌<◌, ◌≤◌, Bool, true, false, if◌then◌else◌, List, [], ◌∷◌, ◌++◌, length, get_or, set, Some, None, Ok, Err, refl, sym, ap, ◌∙◌, subst, append-nil, arith}
+use Rattle.std.specs.Prelude.{bytes_eq, nat_lt, position}
 use Rattle.std.specs.List.{list_any, position_or_len}
 use Rattle.std.proofs.lemmas.Bool.{ltb-true, ltb-false}
 use Rattle.mesh_model.specs.declared.ending.Refusal.TheVariants.{NotBuilt, UnknownName}
@@ -9,7 +9,6 @@ use Rattle.mesh_model.specs.declared.line_form.Command.TheVariants.{Node, Frame,
 use Rattle.mesh_base.specs.declared.address.Mac.{Mac}
 use Rattle.mesh_base.specs.declared.client.Key.{Key}
 use Rattle.mesh_base.specs.declared.client.Vid.{Vid}
-use Rattle.mesh_model.specs.declared.table_row.LocalRow.{LocalRow}
 use Rattle.mesh_model.specs.Present.{present_clients}
 use Rattle.mesh_model.specs.TableText.{LocalTable, table_text}
 use Rattle.std.proofs.lemmas.List.Concat.{flat_map-append}
@@ -45,22 +44,24 @@ found_first : (name : List ℕ) (n : SceneNode) (ns : List SceneNode) (k : NodeL
 found_first name n ns k ks d first rest called =
     let named = called-named name n k first ∙ called in
     record {
-    known = rw named refl;
-    node = k;
-    named = rw named refl;
-    stands = first;
-    changed = λ new change stands. rw named (stands, rest) }
+      known = rw named refl;
+      node = k;
+      named = rw named refl;
+      stands = first;
+      changed = λ new change stands. rw named (stands, rest);
+    }
 
 found_later : (name : List ℕ) (n : SceneNode) (ns : List SceneNode) (k : NodeLog) (ks : List NodeLog) (d : SceneNode) (at : ℕ)
     → NodeStands n k → is_called name n ≡ false → Found name ns ks d at → Found name (n ∷ ns) (k ∷ ks) d (suc at)
 found_later name n ns k ks d at first called later =
     let named = called-named name n k first ∙ called in
     record {
-    known = rw named later.known;
-    node = later.node;
-    named = rw named later.named;
-    stands = later.stands;
-    changed = λ new change stands. rw named (first, later.changed new change stands) }
+      known = rw named later.known;
+      node = later.node;
+      named = rw named later.named;
+      stands = later.stands;
+      changed = λ new change stands. rw named (first, later.changed new change stands);
+    }
 
 place-called : (name : List ℕ) (n : SceneNode) (ns : List SceneNode) → is_called name n ≡ true → place name (n ∷ ns) ≡ 0
 place-called name n ns called = rw called refl
@@ -191,10 +192,11 @@ Carries-see state old new place i key dst text d seen stands is noted nodes cloc
     let stood = subst G stands.clock (noted there.node there.stands) in
     let N : List SceneNode → Type 0 = λ ns. NodesStand ns (change_named place (given_at state.clock given) state.nodes) in
     record {
-    after = after_input place given state;
-    carried = carried-frame_known state place key.mac dst key.vid text there.known;
-    stands = record { nodes = subst N (sym nodes) (there.changed seen (given_at state.clock given) stood); clock = clock ∙ stands.clock };
-    text = sym (append-nil (events_text state)) }
+      after = after_input place given state;
+      carried = carried-frame_known state place key.mac dst key.vid text there.known;
+      stands = record { nodes = subst N (sym nodes) (there.changed seen (given_at state.clock given) stood); clock = clock ∙ stands.clock };
+      text = sym (append-nil (events_text state));
+    }
 
 -- a node that notes a client
 pub NodeStands-see : (old new : SceneNode) (kept : NodeLog) (now : ℕ) (key : Key) (dst : Mac) (text : List ℕ) → NodeStands old kept
@@ -204,16 +206,17 @@ pub NodeStands-see : (old new : SceneNode) (kept : NodeLog) (now : ℕ) (key : K
 NodeStands-see old new kept now key dst text stands name mac noted =
     let S : List Mention → Type 0 = λ ms. StandsFor new.locals ms in
     record {
-    name = name ∙ stands.name;
-    mac = mac ∙ stands.mac;
-    locals = subst S (sym (mentions-frame now key.mac dst key.vid text kept.log stands.unmarked)) (noted (mentions kept.log) stands.locals);
-    unmarked = stands.unmarked }
+      name = name ∙ stands.name;
+      mac = mac ∙ stands.mac;
+      locals = subst S (sym (mentions-frame now key.mac dst key.vid text kept.log stands.unmarked)) (noted (mentions kept.log) stands.locals);
+      unmarked = stands.unmarked;
+    }
 
 -- a table that is shown
 pub Carries-show : (table : Table) (state : State) (scene : Scene) (name : List ℕ) (i : ℕ) (d : SceneNode) (printed : List ℕ)
     → SceneStands scene state → position (is_called name) scene.nodes.items ≡ Some i
     → ((ms : List Mention) → StandsFor (get_or scene.nodes.items i d).locals ms
-       → printed ≡ table_text (record { name = name; version = 0; sums = []; rows = present_clients scene.clock ms }))
+    → printed ≡ table_text (record { name = name; version = 0; sums = []; rows = present_clients scene.clock ms }))
     → Carries (carried_out state (Show name table)) state scene printed
 Carries-show Locals state scene name i d printed stands is prints =
     let there = found_at name scene.nodes.items state.nodes d i stands.nodes is in
@@ -224,8 +227,9 @@ Carries-show Locals state scene name i d printed stands is prints =
     prints (mentions log) there.stands.locals ∙ ap (λ now. table_text (table now log)) stands.clock
     ∙ ap (λ l. table_text (table state.clock l)) (sym logged) in
     record {
-    after = after_command state (Show name Locals);
-    carried = carried-show_known state name Locals there.known;
-    stands = record { nodes = stands.nodes; clock = stands.clock };
-    text = flat_map-append event_text state.events (LocalsShown (local_table name state) ∷ [])
-    ∙ ap (λ more. events_text state ++ more) (append-nil (table_text (local_table name state)) ∙ sym text) }
+      after = after_command state (Show name Locals);
+      carried = carried-show_known state name Locals there.known;
+      stands = record { nodes = stands.nodes; clock = stands.clock };
+      text = flat_map-append event_text state.events (LocalsShown (local_table name state) ∷ [])
+          ∙ ap (λ more. events_text state ++ more) (append-nil (table_text (local_table name state)) ∙ sym text);
+    }

@@ -1,7 +1,7 @@
 -- What a run of the program leaves, by its status: what out took since the call, and how far the intake was read. The
 -- main words are `FinishesAll`, `HaltsAt`, `PrintsTaken` and `PrintsFront`, each over the bytes of the input.
 use Rattle.std.specs.Prelude.{◌≡◌, ℕ, ◌+◌, ◌≤◌, ◌⊎◌, List, length, Option, Some, None, IfSome}
-use Rattle.std.specs.Io.KnownBytes.{Appends, Consumes, IsAtEnd, Keeps}
+use Rattle.std.specs.Io.KnownBytes.{Appends, Consumes, Keeps}
 use Rattle.mesh_base.specs.Writes.{AppendsFront}
 use Rattle.mesh_model.specs.declared.ending.LimitName.{LimitName}
 use Rattle.mesh_model.specs.declared.ending.Refusal.{Refusal}
@@ -13,7 +13,6 @@ use Rattle.mesh_model.specs.PlainRun.{Halt, start, after_lines, plain_run, outpu
 use Rattle.mesh_model.specs.Reached.{halting_byte}
 use Rattle.mesh_run.specs.declared.fault.Fault.{Fault}
 use Rattle.mesh_run.specs.declared.fault.Fault.TheVariants.{Halted, Read, Write, Memory}
-use Rattle.mesh_run.specs.Progress.{Finishes}
 
 -- the plain run halts there, out took what it prints, and the bytes taken end at most 4,095 bytes past the byte there
 pub record HaltsNear (old new left : Option (List ℕ)) (input : List ℕ) (halt : Halt) : Type 0 where

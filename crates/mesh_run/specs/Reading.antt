@@ -1,6 +1,6 @@
 -- What the reading of a whole input leaves: what was taken from the intake, and what out took since it held base. The
 -- main words are `ReadsAll` and `ReadFails`.
-use Rattle.std.specs.Prelude.{◌≡◌, ℕ, ◌+◌, ◌≤◌, List, ◌++◌, length, Option, IfSome, Result, IfErr}
+use Rattle.std.specs.Prelude.{ℕ, ◌+◌, ◌≤◌, List, ◌++◌, length, Option, IfSome, Result, IfErr}
 use Rattle.std.specs.Io.KnownBytes.{Appends, Consumes, IsAtEnd}
 use Rattle.mesh_base.specs.Faults.{Rose}
 use Rattle.mesh_base.specs.Writes.{AppendsFront}

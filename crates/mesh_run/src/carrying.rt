@@ -17,16 +17,12 @@ pub fn carry_line<K: Sink>(
     line: &[u8],
     number: u64,
 ) -> Result<(), Fault>
-    ensures ok {
-        (state : State) → SceneStands scene.old state →
-            OnOk result (Carried (after_reading state (command_of_line line.now)) state scene.new
-                (K.taken out.old) (K.taken out.new))
-    }
-    ensures failed {
-        (state : State) → SceneStands scene.old state →
-            IfErr result (CarryFails (after_reading state (command_of_line line.now)) state
-                (K.taken out.old) (K.taken out.new) number)
-    }
+    ensures ok { (state : State) → SceneStands scene.old state →
+        OnOk result (Carried (after_reading state (command_of_line line.now)) state scene.new
+        (K.taken out.old) (K.taken out.new)) }
+    ensures failed { (state : State) → SceneStands scene.old state →
+        IfErr result (CarryFails (after_reading state (command_of_line line.now)) state
+        (K.taken out.old) (K.taken out.new) number) }
     ensures faults { CountsWrites (K.faults out.old) (K.faults out.new) result }
 {
     match scene.carry_line(line, text) {

@@ -25,18 +25,16 @@ fn new_runner(alloc: Global) -> Runner
 }
 
 /// Opens standard input and carries it out.
-pub fn run_input<I: Intake, K: Sink>(alloc: Global, intake: &mut I, out: &mut K) -> Result<(), Fault>
-    ensures finished {
-        OnOk result (IfSome (I.named intake.old None) (Finishes (K.taken out.old) (K.taken out.new)))
-    }
+pub fn run_input<I: Intake, K: Sink>(
+    alloc: Global,
+    intake: &mut I,
+    out: &mut K,
+) -> Result<(), Fault>
+    ensures finished { OnOk result (IfSome (I.named intake.old None) (Finishes (K.taken out.old) (K.taken out.new))) }
     ensures at_end { OnOk result (IsAtEnd (I.left intake.new)) }
-    ensures failed {
-        IfErr result (λ fault. IfSome (I.named intake.old None)
-            (RunFails (K.taken out.old) (K.taken out.new) (I.left intake.old) (I.left intake.new) fault))
-    }
-    ensures faults {
-        CountsFaults (I.faults intake.old) (I.faults intake.new) (K.faults out.old) (K.faults out.new) result
-    }
+    ensures failed { IfErr result (λ fault. IfSome (I.named intake.old None)
+        (RunFails (K.taken out.old) (K.taken out.new) (I.left intake.old) (I.left intake.new) fault)) }
+    ensures faults { CountsFaults (I.faults intake.old) (I.faults intake.new) (K.faults out.old) (K.faults out.new) result }
 {
     match intake.open(None) {
         Ok(()) => {}

@@ -54,20 +54,14 @@ pub fn batmesh<I: Intake, K: Sink, E: Sink>(
     err: &mut E,
 ) -> u8
     // Where the input is told, out took the whole text of its plain run.
-    ensures finished {
-        result ≡ FINISHED → IfSome (I.named intake.old None) (Finishes (K.taken out.old) (K.taken out.new))
-    }
+    ensures finished { result ≡ FINISHED → IfSome (I.named intake.old None) (Finishes (K.taken out.old) (K.taken out.new)) }
     ensures at_end { result ≡ FINISHED → IsAtEnd (I.left intake.new) }
 
     // The plain run halts at a line, out took what it prints up to there, and reading stopped near it.
-    ensures refused {
-        result ≡ REFUSED →
-            IfSome (I.named intake.old None) (IsRefused (K.taken out.old) (K.taken out.new) (I.left intake.new))
-    }
-    ensures limited {
-        result ≡ LIMITED →
-            IfSome (I.named intake.old None) (IsLimited (K.taken out.old) (K.taken out.new) (I.left intake.new))
-    }
+    ensures refused { result ≡ REFUSED →
+        IfSome (I.named intake.old None) (IsRefused (K.taken out.old) (K.taken out.new) (I.left intake.new)) }
+    ensures limited { result ≡ LIMITED →
+        IfSome (I.named intake.old None) (IsLimited (K.taken out.old) (K.taken out.new) (I.left intake.new)) }
 
     // Any word is one too many, and then nothing is opened, read or written to out.
     ensures usage { (result ≡ USAGE) ↔ (0 < length words.now) }
@@ -75,27 +69,19 @@ pub fn batmesh<I: Intake, K: Sink, E: Sink>(
 
     // A fault is blamed only on a count that rose; the lines that had come were printed.
     ensures read_fault { result ≡ READ_FAULT → Rose (I.faults intake.old) (I.faults intake.new) }
-    ensures taken {
-        result ≡ READ_FAULT → IfSome (I.named intake.old None)
-            (PrintsTaken (K.taken out.old) (K.taken out.new) (I.left intake.old) (I.left intake.new))
-    }
+    ensures taken { result ≡ READ_FAULT → IfSome (I.named intake.old None)
+        (PrintsTaken (K.taken out.old) (K.taken out.new) (I.left intake.old) (I.left intake.new)) }
     ensures write_fault { result ≡ WRITE_FAULT → Rose (K.faults out.old) (K.faults out.new) }
-    ensures front {
-        (result ≡ WRITE_FAULT) ⊎ (result ≡ OUT_OF_MEMORY) →
-            IfSome (I.named intake.old None) (PrintsFrontOf (K.taken out.old) (K.taken out.new))
-    }
+    ensures front { (result ≡ WRITE_FAULT) ⊎ (result ≡ OUT_OF_MEMORY) →
+        IfSome (I.named intake.old None) (PrintsFrontOf (K.taken out.old) (K.taken out.new)) }
 
     // Faults and want of memory aside, the status is that of the plain run.
-    ensures complete {
-        words.now ≡ [] → IfSome (I.named intake.old None) (λ input.
-            IsStatusOr result (plain_status (plain_run input).halt))
-    }
+    ensures complete { words.now ≡ [] → IfSome (I.named intake.old None) (λ input.
+        IsStatusOr result (plain_status (plain_run input).halt)) }
 
     // A fault of err changes no status.
-    ensures told {
-        (Rose (E.faults err.old) (E.faults err.new) → ⊥) →
-            TellsStatus result (I.named intake.old None) (E.taken err.old) (E.taken err.new)
-    }
+    ensures told { (Rose (E.faults err.old) (E.faults err.new) → ⊥) →
+        TellsStatus result (I.named intake.old None) (E.taken err.old) (E.taken err.new) }
     ensures silent { result ≡ FINISHED → err.new ≡ err.old }
 {
     if !words.is_empty() {

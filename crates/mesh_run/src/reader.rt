@@ -12,17 +12,11 @@ pub fn read_all<I: Intake, K: Sink>(
     out: &mut K,
     runner: &mut Runner,
 ) -> Result<(), Fault>
-    ensures ok {
-        (base : Option (List ℕ)) → Stands base (K.taken out.old) runner.old [] →
-            OnOk result (ReadsAll (I.left intake.old) (I.left intake.new) base (K.taken out.new))
-    }
-    ensures failed {
-        (base : Option (List ℕ)) → Stands base (K.taken out.old) runner.old [] →
-            IfErr result (ReadFails (I.left intake.old) (I.left intake.new) base (K.taken out.new))
-    }
-    ensures faults {
-        CountsFaults (I.faults intake.old) (I.faults intake.new) (K.faults out.old) (K.faults out.new) result
-    }
+    ensures ok { (base : Option (List ℕ)) → Stands base (K.taken out.old) runner.old [] →
+        OnOk result (ReadsAll (I.left intake.old) (I.left intake.new) base (K.taken out.new)) }
+    ensures failed { (base : Option (List ℕ)) → Stands base (K.taken out.old) runner.old [] →
+        IfErr result (ReadFails (I.left intake.old) (I.left intake.new) base (K.taken out.new)) }
+    ensures faults { CountsFaults (I.faults intake.old) (I.faults intake.new) (K.faults out.old) (K.faults out.new) result }
 {
     let mut buffer = [0; PIECE_LIMIT];
     'pieces: loop {

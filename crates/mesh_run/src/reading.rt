@@ -21,14 +21,10 @@ impl Runner {
     /// Keeps more bytes of the unfinished line, none of them a newline.
     pub fn hold(&mut self, text: &[u8]) -> Result<(), Fault>
         requires within { self.old.taken + length text.now ≤ input_limit }
-        ensures ok {
-            (base now : Option (List ℕ)) (read : List ℕ) → IsUnbroken text.now →
-                Stands base now self.old read → OnOk result (Stands base now self.new (read ++ text.now))
-        }
-        ensures failed {
-            (base now : Option (List ℕ)) (read : List ℕ) → IsUnbroken text.now →
-                Stands base now self.old read → IfErr result (Fails base now (length read + 1) (read ++ text.now))
-        }
+        ensures ok { (base now : Option (List ℕ)) (read : List ℕ) → IsUnbroken text.now →
+            Stands base now self.old read → OnOk result (Stands base now self.new (read ++ text.now)) }
+        ensures failed { (base now : Option (List ℕ)) (read : List ℕ) → IsUnbroken text.now →
+            Stands base now self.old read → IfErr result (Fails base now (length read + 1) (read ++ text.now)) }
         ensures taken { OnOk result (self.new.taken ≡ self.old.taken + length text.now) }
         ensures blameless { (old new : ℕ) → IfErr result (BlamesWrite old new) }
     {
@@ -45,14 +41,10 @@ impl Runner {
     /// Carries out the unfinished line, whose newline came.
     pub fn end_line<K: Sink>(&mut self, out: &mut K) -> Result<(), Fault>
         requires within { self.old.taken < input_limit }
-        ensures ok {
-            (base : Option (List ℕ)) (read : List ℕ) → Stands base (K.taken out.old) self.old read →
-                OnOk result (Stands base (K.taken out.new) self.new (read ++ newline ∷ []))
-        }
-        ensures failed {
-            (base : Option (List ℕ)) (read : List ℕ) → Stands base (K.taken out.old) self.old read →
-                IfErr result (Fails base (K.taken out.new) (length read + 1) (read ++ newline ∷ []))
-        }
+        ensures ok { (base : Option (List ℕ)) (read : List ℕ) → Stands base (K.taken out.old) self.old read →
+            OnOk result (Stands base (K.taken out.new) self.new (read ++ newline ∷ [])) }
+        ensures failed { (base : Option (List ℕ)) (read : List ℕ) → Stands base (K.taken out.old) self.old read →
+            IfErr result (Fails base (K.taken out.new) (length read + 1) (read ++ newline ∷ [])) }
         ensures taken { OnOk result (self.new.taken ≡ self.old.taken + 1) }
         ensures faults { CountsWrites (K.faults out.old) (K.faults out.new) result }
     {
@@ -67,14 +59,10 @@ impl Runner {
     /// Carries out the lines that these bytes end, and keeps what they begin.
     pub fn take_lines<K: Sink>(&mut self, out: &mut K, bytes: &[u8]) -> Result<(), Fault>
         requires within { self.old.taken + length bytes.now ≤ input_limit }
-        ensures ok {
-            (base : Option (List ℕ)) (read : List ℕ) → Stands base (K.taken out.old) self.old read →
-                OnOk result (Stands base (K.taken out.new) self.new (read ++ bytes.now))
-        }
-        ensures failed {
-            (base : Option (List ℕ)) (read : List ℕ) → Stands base (K.taken out.old) self.old read →
-                IfErr result (Fails base (K.taken out.new) (length read + 1) (read ++ bytes.now))
-        }
+        ensures ok { (base : Option (List ℕ)) (read : List ℕ) → Stands base (K.taken out.old) self.old read →
+            OnOk result (Stands base (K.taken out.new) self.new (read ++ bytes.now)) }
+        ensures failed { (base : Option (List ℕ)) (read : List ℕ) → Stands base (K.taken out.old) self.old read →
+            IfErr result (Fails base (K.taken out.new) (length read + 1) (read ++ bytes.now)) }
         ensures taken { OnOk result (self.new.taken ≡ self.old.taken + length bytes.now) }
         ensures faults { CountsWrites (K.faults out.old) (K.faults out.new) result }
     {
@@ -90,16 +78,12 @@ impl Runner {
     /// Carries out the unfinished line with these bytes, none of them a newline, and then a newline.
     fn take_line<K: Sink>(&mut self, out: &mut K, text: &[u8]) -> Result<(), Fault>
         requires within { self.old.taken + length text.now < input_limit }
-        ensures ok {
-            (base : Option (List ℕ)) (read : List ℕ) → IsUnbroken text.now →
-                Stands base (K.taken out.old) self.old read →
-                OnOk result (Stands base (K.taken out.new) self.new (read ++ (text.now ++ newline ∷ [])))
-        }
-        ensures failed {
-            (base : Option (List ℕ)) (read : List ℕ) → IsUnbroken text.now →
-                Stands base (K.taken out.old) self.old read →
-                IfErr result (Fails base (K.taken out.new) (length read + 1) (read ++ (text.now ++ newline ∷ [])))
-        }
+        ensures ok { (base : Option (List ℕ)) (read : List ℕ) → IsUnbroken text.now →
+            Stands base (K.taken out.old) self.old read →
+            OnOk result (Stands base (K.taken out.new) self.new (read ++ (text.now ++ newline ∷ []))) }
+        ensures failed { (base : Option (List ℕ)) (read : List ℕ) → IsUnbroken text.now →
+            Stands base (K.taken out.old) self.old read →
+            IfErr result (Fails base (K.taken out.new) (length read + 1) (read ++ (text.now ++ newline ∷ []))) }
         ensures taken { OnOk result (self.new.taken ≡ self.old.taken + length text.now + 1) }
         ensures faults { CountsWrites (K.faults out.old) (K.faults out.new) result }
     {
@@ -110,14 +94,10 @@ impl Runner {
 
     /// Takes what one read gave; the byte past the input's limit halts the run.
     pub fn take_piece<K: Sink>(&mut self, out: &mut K, piece: &[u8]) -> Result<(), Fault>
-        ensures ok {
-            (base : Option (List ℕ)) (read : List ℕ) → Stands base (K.taken out.old) self.old read →
-                OnOk result (Stands base (K.taken out.new) self.new (read ++ piece.now))
-        }
-        ensures failed {
-            (base : Option (List ℕ)) (read : List ℕ) → Stands base (K.taken out.old) self.old read →
-                IfErr result (Fails base (K.taken out.new) (length read + 1) (read ++ piece.now))
-        }
+        ensures ok { (base : Option (List ℕ)) (read : List ℕ) → Stands base (K.taken out.old) self.old read →
+            OnOk result (Stands base (K.taken out.new) self.new (read ++ piece.now)) }
+        ensures failed { (base : Option (List ℕ)) (read : List ℕ) → Stands base (K.taken out.old) self.old read →
+            IfErr result (Fails base (K.taken out.new) (length read + 1) (read ++ piece.now)) }
         ensures taken { OnOk result (self.new.taken ≡ self.old.taken + length piece.now) }
         ensures faults { CountsWrites (K.faults out.old) (K.faults out.new) result }
     {
@@ -133,10 +113,8 @@ impl Runner {
     /// The fault of the byte past the input's limit.
     fn past_input(&self, byte: u8) -> Fault
         requires full { self.now.taken ≡ input_limit }
-        ensures failed {
-            (base now : Option (List ℕ)) (read : List ℕ) → Stands base now self.now read →
-                Fails base now (length read + 1) (read ++ byte ∷ []) result
-        }
+        ensures failed { (base now : Option (List ℕ)) (read : List ℕ) → Stands base now self.now read →
+            Fails base now (length read + 1) (read ++ byte ∷ []) result }
         ensures blameless { (old new : ℕ) → BlamesWrite old new result }
     {
         if byte == b'\n' {
@@ -160,14 +138,10 @@ impl Runner {
 
     /// Carries out a last line without a newline, at the end of the input.
     pub fn finish<K: Sink>(&mut self, out: &mut K) -> Result<(), Fault>
-        ensures ok {
-            (base : Option (List ℕ)) (read : List ℕ) → Stands base (K.taken out.old) self.old read →
-                OnOk result (Finishes base (K.taken out.new) read)
-        }
-        ensures failed {
-            (base : Option (List ℕ)) (read : List ℕ) → Stands base (K.taken out.old) self.old read →
-                IfErr result (FailsAtEnd base (K.taken out.new) read)
-        }
+        ensures ok { (base : Option (List ℕ)) (read : List ℕ) → Stands base (K.taken out.old) self.old read →
+            OnOk result (Finishes base (K.taken out.new) read) }
+        ensures failed { (base : Option (List ℕ)) (read : List ℕ) → Stands base (K.taken out.old) self.old read →
+            IfErr result (FailsAtEnd base (K.taken out.new) read) }
         ensures faults { CountsWrites (K.faults out.old) (K.faults out.new) result }
     {
         if self.line.is_empty() {

@@ -44,11 +44,13 @@ fn show_locals(
     name: &[u8],
     text: &mut Vec<u8>,
 ) -> Result<(), NoMemory>
-    ensures {
-        (mentions : List Mention) → StandsFor locals.now mentions →
-            OnOk result (text.new.items ≡ text.old.items ++ table_text (record {
-                name = name.now; version = 0; sums = []; rows = present_clients now mentions }))
-    }
+    ensures { (mentions : List Mention) → StandsFor locals.now mentions →
+        OnOk result (text.new.items ≡ text.old.items ++ table_text (record {
+          name = name.now;
+          version = 0;
+          sums = [];
+          rows = present_clients now mentions;
+        })) }
 {
     let rows = locals.rows(alloc, now)?;
     put_local_table(text, name, FIRST_VERSION, rows.as_slice())?;
@@ -69,14 +71,10 @@ impl Scene {
 
     /// Carries a line out and puts what it prints into `text`, in place of what is there.
     pub fn carry_line(&mut self, line: &[u8], text: &mut Vec<u8>) -> Result<(), LineFault>
-        ensures ok {
-            (state : State) → SceneStands self.old state →
-                OnOk result (Carries (after_reading state (command_of_line line.now)) state self.new text.new.items)
-        }
-        ensures refused {
-            (state : State) → SceneStands self.old state →
-                IfErr result (Refuses (after_reading state (command_of_line line.now)))
-        }
+        ensures ok { (state : State) → SceneStands self.old state →
+            OnOk result (Carries (after_reading state (command_of_line line.now)) state self.new text.new.items) }
+        ensures refused { (state : State) → SceneStands self.old state →
+            IfErr result (Refuses (after_reading state (command_of_line line.now))) }
     {
         text.clear();
         match read_line(self.alloc, line) {
@@ -93,13 +91,9 @@ impl Scene {
     /// Carries a command out and appends what it prints.
     fn carry_out(&mut self, command: Command, text: &mut Vec<u8>) -> Result<(), LineFault>
         requires { text.old.items ≡ [] }
-        ensures ok {
-            (state : State) → SceneStands self.old state →
-                OnOk result (Carries (carried_out state command) state self.new text.new.items)
-        }
-        ensures refused {
-            (state : State) → SceneStands self.old state → IfErr result (Refuses (carried_out state command))
-        }
+        ensures ok { (state : State) → SceneStands self.old state →
+            OnOk result (Carries (carried_out state command) state self.new text.new.items) }
+        ensures refused { (state : State) → SceneStands self.old state → IfErr result (Refuses (carried_out state command)) }
     {
         match command {
             Command::Nothing => {}
@@ -118,14 +112,10 @@ impl Scene {
 
     /// `node NAME MAC`: a run has one node.
     fn add_node(&mut self, name: Bytes, mac: Mac) -> Result<(), LineFault>
-        ensures ok {
-            (state : State) → SceneStands self.old state →
-                OnOk result (Carries (carried_out state (Command.Node name mac)) state self.new [])
-        }
-        ensures refused {
-            (state : State) → SceneStands self.old state →
-                IfErr result (Refuses (carried_out state (Command.Node name mac)))
-        }
+        ensures ok { (state : State) → SceneStands self.old state →
+            OnOk result (Carries (carried_out state (Command.Node name mac)) state self.new []) }
+        ensures refused { (state : State) → SceneStands self.old state →
+            IfErr result (Refuses (carried_out state (Command.Node name mac))) }
     {
         if !self.nodes.is_empty() {
             return Err(LineFault::Stopped(Stop::Refused(Refusal::NotBuilt)));
@@ -140,15 +130,11 @@ impl Scene {
 
     /// `frame PLACE SRC DST VID TEXT`, where no link leaves the node: a sighting of the source, and no more.
     fn see(&mut self, place: &[u8], source: Key) -> Result<(), LineFault>
-        ensures ok {
-            (state : State) (dst : Mac) (text : List ℕ) → SceneStands self.old state →
-                OnOk result (Carries (carried_out state (Command.Frame place.now source.mac dst source.vid text))
-                    state self.new [])
-        }
-        ensures refused {
-            (state : State) (dst : Mac) (text : List ℕ) → SceneStands self.old state →
-                IfErr result (Refuses (carried_out state (Command.Frame place.now source.mac dst source.vid text)))
-        }
+        ensures ok { (state : State) (dst : Mac) (text : List ℕ) → SceneStands self.old state →
+            OnOk result (Carries (carried_out state (Command.Frame place.now source.mac dst source.vid text))
+            state self.new []) }
+        ensures refused { (state : State) (dst : Mac) (text : List ℕ) → SceneStands self.old state →
+            IfErr result (Refuses (carried_out state (Command.Frame place.now source.mac dst source.vid text))) }
     {
         let Some(place) = place_of(self.nodes.as_slice(), place) else {
             return Err(LineFault::Stopped(Stop::Refused(Refusal::UnknownName)));
@@ -163,14 +149,10 @@ impl Scene {
     /// `show NODE T`
     fn show(&self, name: &[u8], table: Table, text: &mut Vec<u8>) -> Result<(), LineFault>
         requires { text.old.items ≡ [] }
-        ensures ok {
-            (state : State) → SceneStands self.now state →
-                OnOk result (Carries (carried_out state (Command.Show name.now table)) state self.now text.new.items)
-        }
-        ensures refused {
-            (state : State) → SceneStands self.now state →
-                IfErr result (Refuses (carried_out state (Command.Show name.now table)))
-        }
+        ensures ok { (state : State) → SceneStands self.now state →
+            OnOk result (Carries (carried_out state (Command.Show name.now table)) state self.now text.new.items) }
+        ensures refused { (state : State) → SceneStands self.now state →
+            IfErr result (Refuses (carried_out state (Command.Show name.now table))) }
     {
         let Some(place) = place_of(self.nodes.as_slice(), name) else {
             return Err(LineFault::Stopped(Stop::Refused(Refusal::UnknownName)));

@@ -11,6 +11,7 @@ const LINE_ROOM: usize = 64;
 
 /// The flags of an entry that are printed, each with its letter.
 const WIFI: u8 = 16;
+
 const ISOLATED: u8 = 32;
 
 /// Appends the first line of a local table.
@@ -21,9 +22,7 @@ pub fn put_local_header(
     version: u8,
     clients: usize,
 ) -> Result<(), NoMemory>
-    ensures ok {
-        OnOk result (out.new.items ≡ out.old.items ++ local_header name.now version clients)
-    }
+    ensures ok { OnOk result (out.new.items ≡ out.old.items ++ local_header name.now version clients) }
     ensures err { OnErr result (out.new.items ≡ out.old.items) }
 {
     let mut line = Vec::with_capacity(*out.allocator(), LINE_ROOM)?;
@@ -83,12 +82,23 @@ fn mac_digits(bytes: [u8; 6]) -> [u8; 17]
 {
     let [a, b, c, d, e, f] = bytes;
     [
-        high_digit(a), low_digit(a), b':',
-        high_digit(b), low_digit(b), b':',
-        high_digit(c), low_digit(c), b':',
-        high_digit(d), low_digit(d), b':',
-        high_digit(e), low_digit(e), b':',
-        high_digit(f), low_digit(f),
+        high_digit(a),
+        low_digit(a),
+        b':',
+        high_digit(b),
+        low_digit(b),
+        b':',
+        high_digit(c),
+        low_digit(c),
+        b':',
+        high_digit(d),
+        low_digit(d),
+        b':',
+        high_digit(e),
+        low_digit(e),
+        b':',
+        high_digit(f),
+        low_digit(f),
     ]
 }
 
@@ -166,10 +176,12 @@ pub fn put_local_table(
     version: u8,
     rows: &[LocalRow],
 ) -> Result<(), NoMemory>
-    ensures ok {
-        OnOk result (out.new.items ≡ out.old.items ++ table_text (record {
-            name = name.now; version = version; sums = []; rows = rows.now }))
-    }
+    ensures ok { OnOk result (out.new.items ≡ out.old.items ++ table_text (record {
+      name = name.now;
+      version = version;
+      sums = [];
+      rows = rows.now;
+    })) }
 {
     put_local_header(out, name, version, rows.len())?;
     for row in rows {

@@ -1,5 +1,4 @@
-use Rattle.std.proofs.Common.{◌++◌, take, length, length-take, arith, append-nil, subst, ◌≡◌, List, ℕ, rules}
-use Rattle.std.specs.Io.KnownBytes.{Consumes}
+use Rattle.std.proofs.Common.{◌++◌, take, arith, rules}
 use Rattle.std.proofs.KnownBytes.{Consumes-kept, Consumes-trans}
 use Rattle.std.proofs.lemmas.Result.{err_from_is_err_and}
 use Rattle.mesh_run.proofs.ReadLemmas.{Consumes-none, PrintsComplete-from, ReadFails-end, ReadFails-piece}
@@ -17,11 +16,12 @@ pieces-preserved g c =
     let loop = c.pieces.invariant in
     let piece = take c.in-Ok.count c.read.new.buf in
     record {
-    read = loop.read ++ piece;
-    took = Consumes-trans (g.I.Intake.left c.args.intake.now) (g.I.Intake.left c.pieces.intake) (g.I.Intake.left c.read.new.self) loop.read piece loop.took c.in-Ok.ensures.bytes.0;
-    stands = λ base stands. c.in_ok-take_piece.ensures.ok base loop.read (loop.stands base stands);
-    reads = omega (arith, loop.reads, c.in-Ok.ensures.count);
-    writes = omega (arith, loop.writes, c.in_ok-take_piece.ensures.faults.kept) }
+      read = loop.read ++ piece;
+      took = Consumes-trans (g.I.Intake.left c.args.intake.now) (g.I.Intake.left c.pieces.intake) (g.I.Intake.left c.read.new.self) loop.read piece loop.took c.in-Ok.ensures.bytes.0;
+      stands = λ base stands. c.in_ok-take_piece.ensures.ok base loop.read (loop.stands base stands);
+      reads = omega (arith, loop.reads, c.in-Ok.ensures.count);
+      writes = omega (arith, loop.writes, c.in_ok-take_piece.ensures.faults.kept);
+    }
 
 pub returns-in_err-take_piece-clause-failed : goal.returns-in_err-take_piece-clause-failed
 returns-in_err-take_piece-clause-failed g c = λ base stands.
@@ -52,7 +52,8 @@ returns-clause-ok g c = λ base stands.
     let first = g.I.Intake.left c.args.intake.now in
     let left = g.I.Intake.left c.read.new.self in
     record {
-    read = loop.read;
-    took = Consumes-none first (g.I.Intake.left c.pieces.intake) left loop.read c.read.new.buf c.in-Ok.count c.if-count-eq0.true loop.took c.in-Ok.ensures.bytes.0;
-    at_end = c.in-Ok.ensures.bytes.1 c.if-count-eq0.true (search rules);
-    finished = c.in_ok-finish.ensures.ok base loop.read (loop.stands base stands) }
+      read = loop.read;
+      took = Consumes-none first (g.I.Intake.left c.pieces.intake) left loop.read c.read.new.buf c.in-Ok.count c.if-count-eq0.true loop.took c.in-Ok.ensures.bytes.0;
+      at_end = c.in-Ok.ensures.bytes.1 c.if-count-eq0.true (search rules);
+      finished = c.in_ok-finish.ensures.ok base loop.read (loop.stands base stands);
+    }

@@ -1,4 +1,4 @@
-use Rattle.std.proofs.Common.{◌==◌, arith, inl, inr}
+use Rattle.std.proofs.Common.{arith, inl, inr}
 use Rattle.mesh_run.proofs.EndLemmas.{eqb-from_other, halts-past_input, halts-past_line}
 use Rattle.mesh_run.proofs.runner.Runner.past_input.Goals as goal
 

@@ -27,14 +27,15 @@ loop-end-preserved g c =
     let end = c.in-Some.end in
     let line = take end rest ++ newline ∷ [] in
     record {
-    done = loop.done ++ line;
-    split = piece-step c.args.bytes.now loop.done rest end loop.split c.in-Some.ensures;
-    stands = λ base read stands.
-    rw (append_assoc read loop.done line) at
-    (c.in_ok-take_line.ensures.ok base (read ++ loop.done) (unbroken-front rest end c.in-Some.ensures) (loop.stands base read stands));
-    taken = omega (arith, loop.taken, piece-length rest end c.in-Some.ensures.0.high, c.in_ok-take_line.ensures.taken);
-    within = loop.within;
-    faults = omega (arith, loop.faults, c.in_ok-take_line.ensures.faults.kept) }
+      done = loop.done ++ line;
+      split = piece-step c.args.bytes.now loop.done rest end loop.split c.in-Some.ensures;
+      stands = λ base read stands.
+          rw (append_assoc read loop.done line) at
+          (c.in_ok-take_line.ensures.ok base (read ++ loop.done) (unbroken-front rest end c.in-Some.ensures) (loop.stands base read stands));
+      taken = omega (arith, loop.taken, piece-length rest end c.in-Some.ensures.0.high, c.in_ok-take_line.ensures.taken);
+      within = loop.within;
+      faults = omega (arith, loop.faults, c.in_ok-take_line.ensures.faults.kept);
+    }
 
 pub returns-in_err-hold-clause-failed : goal.returns-in_err-hold-clause-failed
 returns-in_err-hold-clause-failed g c = λ base read stands.
@@ -51,8 +52,9 @@ pub returns-in_err-hold-clause-faults : goal.returns-in_err-hold-clause-faults
 returns-in_err-hold-clause-faults g c =
     let p = err_from_is_err_and c.from_residual-in_err-hold.result c.from_residual-in_err-hold.ensures.1 in
     record {
-    kept = c.loop-end.invariant.faults;
-    cause = rw (p.1, p.2) (c.in_err-hold.ensures.blameless (g.K.Sink.faults c.args.out.now) (g.K.Sink.faults c.loop-end.out)) }
+      kept = c.loop-end.invariant.faults;
+      cause = rw (p.1, p.2) (c.in_err-hold.ensures.blameless (g.K.Sink.faults c.args.out.now) (g.K.Sink.faults c.loop-end.out));
+    }
 
 pub returns-clause-ok : goal.returns-clause-ok
 returns-clause-ok g c = λ base read stands.

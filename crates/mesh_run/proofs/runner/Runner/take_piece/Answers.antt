@@ -1,4 +1,4 @@
-use Rattle.std.proofs.Common.{◌≡◌, [], ◌∷◌, ◌++◌, ◌+◌, ◌-◌, length, take, drop, get_or, arith, ap, append_assoc, append-nil, length-append, take-append-drop, sym, ◌∙◌}
+use Rattle.std.proofs.Common.{◌≡◌, [], ◌∷◌, ◌++◌, ◌+◌, ◌-◌, length, take, drop, get_or, arith, ap, append_assoc, length-append, take-append-drop, sym, ◌∙◌}
 use Rattle.std.proofs.lemmas.List.{drop_more}
 use Rattle.std.proofs.lemmas.Result.{err_from_is_err_and}
 use Rattle.mesh_run.proofs.ProgressLemmas.{Fails-later}
@@ -31,5 +31,6 @@ returns-clause-failed g c = λ base read stands.
 
 pub returns-clause-faults : goal.returns-clause-faults
 returns-clause-faults g c = record {
-    kept = c.in_ok-take_lines-2.ensures.faults.kept;
-    cause = c.past_input.ensures.blameless (g.K.Sink.faults c.args.out.now) (g.K.Sink.faults c.take_lines-2.new.out) }
+  kept = c.in_ok-take_lines-2.ensures.faults.kept;
+  cause = c.past_input.ensures.blameless (g.K.Sink.faults c.args.out.now) (g.K.Sink.faults c.take_lines-2.new.out);
+}
