@@ -2,11 +2,17 @@
 pub mod Lines
 pub mod Words
 pub mod Terms
+pub mod Fields
+pub mod Readings
+pub mod LinkOptions
+pub mod NetForms
+pub mod NodeForms
 pub mod Commands
 pub mod Log
 pub mod Mentions
 pub mod Present
 pub mod TableText
+pub mod NamesUsed
 pub mod State
 pub mod PlainRun
 pub mod Messages

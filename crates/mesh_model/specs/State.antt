@@ -1,6 +1,7 @@
--- The state of a plain run and what a command does to it. A node keeps its log alone; the clock stands at a moment in
--- milliseconds; the events are what the run prints, in order. A command is refused by the first rule that it breaks: a
--- second node isn't built, and a name that a line uses must be that of a node. The main word is `carried_out`.
+-- The state of a plain run and what a command does to it. A node keeps its log alone; the clock
+-- stands at a moment in milliseconds; the events are what the run prints, in order. A command is
+-- refused by the first rule that it breaks: it is built, and a name that a line uses must be that
+-- of a node. The main word is `carried_out`.
 use Rattle.std.specs.Prelude.{ℕ, Bool, true, not, List, [], ◌∷◌, ◌++◌, map, find, bytes_eq, Option, Some, None, Result, Ok, Err, if◌then◌else◌}
 use Rattle.std.specs.List.{list_any}
 use Rattle.std.specs.Option.{option_or, option_map_or}
@@ -16,7 +17,9 @@ use Rattle.mesh_model.specs.declared.line_form.Table.TheVariants.{Locals}
 use Rattle.mesh_model.specs.Log.{Given, Log}
 use Rattle.mesh_model.specs.Log.{Frame as GivenFrame}
 use Rattle.mesh_model.specs.Mentions.{mentions}
+use Rattle.mesh_model.specs.NamesUsed.{names_used}
 use Rattle.mesh_model.specs.Present.{present_clients}
+use Rattle.mesh_model.specs.Terms.{is_broadcast}
 use Rattle.mesh_model.specs.TableText.{LocalTable, table_text}
 
 -- a node: its name, its address and its log
@@ -51,23 +54,17 @@ node_named name nodes = find (is_named name) nodes
 abbrev pub log_of : List ℕ → List NodeLog → Log
 log_of name nodes = option_map_or (λ node. node.log) (node_named name nodes) []
 
--- the names that a command uses and doesn't itself give
-abbrev pub names_used : Command → List (List ℕ)
-names_used Nothing = []
-names_used (Node name mac) = []
-names_used (Frame place src dst vid text) = place ∷ []
-names_used (Show node table) = node ∷ []
-
 -- a refusal where a condition holds
 abbrev pub refusal_if : Bool → Refusal → Option Refusal
 refusal_if holds refusal = if holds then Some refusal else None
 
--- a run has one node: a second one isn't built
+-- what isn't built: a second node, a frame that isn't for all stations, another table than the local one, other forms
 abbrev pub not_built : State → Command → Option Refusal
 not_built state Nothing = None
 not_built state (Node name mac) = refusal_if (list_any (λ node. true) state.nodes) NotBuilt
-not_built state (Frame place src dst vid text) = None
-not_built state (Show node table) = None
+not_built state (Frame place src dst vid text) = refusal_if (not (is_broadcast dst)) NotBuilt
+not_built state (Show node Locals) = None
+not_built state other = Some NotBuilt
 
 -- each name that a command uses is that of a node
 abbrev pub unknown_name : State → Command → Option Refusal
@@ -99,9 +96,10 @@ local_table name state = record {
   rows = present_clients state.clock (mentions (log_of name state.nodes));
 }
 
--- the event of a table that is shown
-abbrev pub shown : List ℕ → Table → State → Event
-shown name Locals state = LocalsShown (local_table name state)
+-- the events of a table that is shown
+abbrev pub shown : List ℕ → Table → State → List Event
+shown name Locals state = LocalsShown (local_table name state) ∷ []
+shown name other state = []
 
 -- the state after a command that breaks no rule
 abbrev pub after_command : State → Command → State
@@ -109,7 +107,8 @@ after_command state Nothing = state
 after_command state (Node name mac) =
     record state { nodes = state.nodes ++ record { name = name; mac = mac; log = [] } ∷ [] }
 after_command state (Frame place src dst vid text) = after_input place (GivenFrame src dst vid text) state
-after_command state (Show node table) = record state { events = state.events ++ shown node table state ∷ [] }
+after_command state (Show node table) = record state { events = state.events ++ shown node table state }
+after_command state other = state
 
 -- the outcome of a rule's answer
 abbrev pub unless_refused : State → Option Refusal → Result State Stop

@@ -6,9 +6,11 @@
 
 pub mod ending;
 pub mod line_form;
+pub mod name_list;
 pub mod rows;
 pub mod table_row;
 
 pub use ending::{LimitName, Refusal, Stop};
-pub use line_form::{Command, Table};
+pub use line_form::{AlfredMode, Algorithm, Command, Policy, Table};
+pub use name_list::NameList;
 pub use table_row::LocalRow;
