@@ -17,26 +17,26 @@ use Rattle.mesh_model.specs.Words.{Word, words_of}
 
 -- the form that a command word begins
 abbrev pub read_form : List ℕ → List Word → Reading
-read_form word =
-    if bytes_eq word (codes "algo") then read_algo
-    else if bytes_eq word (codes "node") then read_node
-    else if bytes_eq word (codes "link") then read_link
-    else if bytes_eq word (codes "lan") then read_lan
-    else if bytes_eq word (codes "frame") then read_frame
-    else if bytes_eq word (codes "gone") then read_gone
-    else if bytes_eq word (codes "join") then read_join
-    else if bytes_eq word (codes "leave") then read_leave
-    else if bytes_eq word (codes "arp") then read_arp
-    else if bytes_eq word (codes "dhcp") then read_dhcp
-    else if bytes_eq word (codes "set") then read_set
-    else if bytes_eq word (codes "alfred") then read_alfred
-    else if bytes_eq word (codes "ping") then read_ping
-    else if bytes_eq word (codes "traceroute") then read_traceroute
-    else if bytes_eq word (codes "run") then read_run
-    else if bytes_eq word (codes "deliver") then read_deliver
-    else if bytes_eq word (codes "show") then read_show
-    else if bytes_eq word (codes "decode") then read_decode
-    else λ words. refused UnknownCommand
+read_form word words =
+    if bytes_eq word (codes "algo") then read_algo words
+    else if bytes_eq word (codes "node") then read_node words
+    else if bytes_eq word (codes "link") then read_link words
+    else if bytes_eq word (codes "lan") then read_lan words
+    else if bytes_eq word (codes "frame") then read_frame words
+    else if bytes_eq word (codes "gone") then read_gone words
+    else if bytes_eq word (codes "join") then read_join words
+    else if bytes_eq word (codes "leave") then read_leave words
+    else if bytes_eq word (codes "arp") then read_arp words
+    else if bytes_eq word (codes "dhcp") then read_dhcp words
+    else if bytes_eq word (codes "set") then read_set words
+    else if bytes_eq word (codes "alfred") then read_alfred words
+    else if bytes_eq word (codes "ping") then read_ping words
+    else if bytes_eq word (codes "traceroute") then read_traceroute words
+    else if bytes_eq word (codes "run") then read_run words
+    else if bytes_eq word (codes "deliver") then read_deliver words
+    else if bytes_eq word (codes "show") then read_show words
+    else if bytes_eq word (codes "decode") then read_decode words
+    else refused UnknownCommand
 
 -- whether a word begins a comment
 abbrev pub is_comment : List ℕ → Bool

@@ -70,10 +70,14 @@ with_option options word =
     (when_named (with_pattern options) (behind (codes "pattern=") word)
     (when_named (with_throughput options) (behind (codes "tp=") word) None))
 
--- the options with those of one more word
+-- the options with that of one more word, unless three are given
+abbrev pub with_one_more : LinkOptions → List ℕ → Result LinkOptions Refusal
+with_one_more options word =
+    if are_all_given options then Err ExtraWord else ok_or (with_option options word) BadNumber
+
+-- the options that were read, with one more; the first refusal stays
 abbrev pub one_more : Result LinkOptions Refusal → Word → Result LinkOptions Refusal
-one_more (Ok options) word =
-    if are_all_given options then Err ExtraWord else ok_or (with_option options word.word) BadNumber
+one_more (Ok options) word = with_one_more options word.word
 one_more (Err refusal) word = Err refusal
 
 -- the options that words give, one after another; the first that is refused refuses them all

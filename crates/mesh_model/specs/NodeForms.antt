@@ -53,19 +53,19 @@ read_late node = a_field (number_field 1 255) (λ lead. the_end (GwClient node (
 
 -- set NODE gw client best, stable, or late K
 abbrev pub read_policy : List ℕ → List ℕ → List Word → Reading
-read_policy node word =
-    if bytes_eq word (codes "best") then the_end (GwClient node Best)
-    else if bytes_eq word (codes "stable") then the_end (GwClient node Stable)
-    else if bytes_eq word (codes "late") then read_late node
-    else λ words. refused OutOfRange
+read_policy node word words =
+    if bytes_eq word (codes "best") then the_end (GwClient node Best) words
+    else if bytes_eq word (codes "stable") then the_end (GwClient node Stable) words
+    else if bytes_eq word (codes "late") then read_late node words
+    else refused OutOfRange
 
 -- set NODE gw off, server DOWN UP, or client with a policy
 abbrev pub read_gateway : List ℕ → List ℕ → List Word → Reading
-read_gateway node word =
-    if bytes_eq word (codes "off") then the_end (GwOff node)
-    else if bytes_eq word (codes "server") then read_server node
-    else if bytes_eq word (codes "client") then a_field word_field (read_policy node)
-    else λ words. refused OutOfRange
+read_gateway node word words =
+    if bytes_eq word (codes "off") then the_end (GwOff node) words
+    else if bytes_eq word (codes "server") then read_server node words
+    else if bytes_eq word (codes "client") then a_field word_field (read_policy node) words
+    else refused OutOfRange
 
 -- set NODE mcast N
 abbrev pub read_mcast : List ℕ → List Word → Reading
@@ -77,12 +77,12 @@ read_dat node = a_field switch_field (λ on. the_end (Dat node on))
 
 -- what is set at a node
 abbrev pub read_setting : List ℕ → List ℕ → List Word → Reading
-read_setting node word =
-    if bytes_eq word (codes "wifi") then read_wifi node
-    else if bytes_eq word (codes "gw") then a_field word_field (read_gateway node)
-    else if bytes_eq word (codes "mcast") then read_mcast node
-    else if bytes_eq word (codes "dat") then read_dat node
-    else λ words. refused OutOfRange
+read_setting node word words =
+    if bytes_eq word (codes "wifi") then read_wifi node words
+    else if bytes_eq word (codes "gw") then a_field word_field (read_gateway node) words
+    else if bytes_eq word (codes "mcast") then read_mcast node words
+    else if bytes_eq word (codes "dat") then read_dat node words
+    else refused OutOfRange
 
 -- set NODE ..
 abbrev pub read_set : List Word → Reading
@@ -112,11 +112,11 @@ read_get node = a_field (number_field least_fact_type 255) (λ type_no. the_end 
 
 -- what alfred does at a node
 abbrev pub read_alfred_form : List ℕ → List ℕ → List Word → Reading
-read_alfred_form node word =
-    if bytes_eq word (codes "mode") then read_mode node
-    else if bytes_eq word (codes "put") then read_put node
-    else if bytes_eq word (codes "get") then read_get node
-    else λ words. refused OutOfRange
+read_alfred_form node word words =
+    if bytes_eq word (codes "mode") then read_mode node words
+    else if bytes_eq word (codes "put") then read_put node words
+    else if bytes_eq word (codes "get") then read_get node words
+    else refused OutOfRange
 
 -- alfred NODE ..
 abbrev pub read_alfred : List Word → Reading

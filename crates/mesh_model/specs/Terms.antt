@@ -4,6 +4,7 @@
 -- as pairs of hex digits, at least one; the pattern of a link has 1 to 64 of the marks `.`, `x`,
 -- `2` and `h`.
 use Rattle.std.specs.Prelude.{ℕ, ◌+◌, ◌-◌, ◌*◌, ◌==◌, ◌&&◌, ◌||◌, nat_lt, nat_le, Bool, false, List, [], ◌∷◌, length, fold, codes, bytes_eq, Option, Some, None, option_and_then, if◌then◌else◌}
+use Rattle.std.specs.Int.{from_be_bytes, w32}
 use Rattle.std.specs.List.{list_all, slice_split}
 use Rattle.std.specs.Result.{result_ok}
 use Rattle.hex.specs.Hex.{decode_of}
@@ -69,8 +70,7 @@ octets_of (part ∷ parts) =
 
 -- four numbers as one of 32 bits, the first of them highest
 abbrev pub ip_of_octets : List ℕ → Option ℕ
-ip_of_octets (a ∷ b ∷ c ∷ d ∷ []) = Some (16777216 * a + 65536 * b + 256 * c + d)
-ip_of_octets numbers = None
+ip_of_octets numbers = if length numbers == 4 then Some (from_be_bytes w32 numbers) else None
 
 -- the IP address that a word spells
 abbrev pub ip_of : List ℕ → Option ℕ
@@ -91,4 +91,5 @@ pattern_limit = 64
 
 -- whether a word is a pattern
 abbrev pub is_pattern : List ℕ → Bool
-is_pattern word = list_all is_mark word && nat_lt 0 (length word) && nat_le (length word) pattern_limit
+is_pattern word =
+    nat_lt 0 (length word) && nat_le (length word) pattern_limit && list_all is_mark word
