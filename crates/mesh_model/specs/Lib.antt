@@ -2,6 +2,11 @@
 pub mod Lines
 pub mod Words
 pub mod Terms
+pub mod Fields
+pub mod Readings
+pub mod LinkOptions
+pub mod NetForms
+pub mod NodeForms
 pub mod Commands
 pub mod Packets
 pub mod Containers
@@ -11,6 +16,7 @@ pub mod Mentions
 pub mod Present
 pub mod PresentLaws
 pub mod TableText
+pub mod NamesUsed
 pub mod State
 pub mod PlainRun
 pub mod Reached

@@ -5,7 +5,7 @@ use Rattle.std.specs.Prelude.{ℕ, List, [], ◌∷◌, ◌++◌, codes, decimal
 use Rattle.mesh_model.specs.declared.ending.LimitName.{LimitName}
 use Rattle.mesh_model.specs.declared.ending.LimitName.TheVariants.{Line, Input}
 use Rattle.mesh_model.specs.declared.ending.Refusal.{Refusal}
-use Rattle.mesh_model.specs.declared.ending.Refusal.TheVariants.{NotBuilt, UnknownName}
+use Rattle.mesh_model.specs.declared.ending.Refusal.TheVariants.{BadUtf8, UnknownCommand, MissingWord, BadName, BadMac, BadNumber, OutOfRange, ExtraWord, NotBuilt, UnknownName, WrongKind, NameTaken, AddressTaken}
 use Rattle.mesh_model.specs.declared.ending.Stop.{Stop}
 use Rattle.mesh_model.specs.declared.ending.Stop.TheVariants.{Refused, Limit}
 use Rattle.mesh_model.specs.Lines.{newline}
@@ -13,8 +13,19 @@ use Rattle.mesh_model.specs.PlainRun.{Halt}
 
 -- the words of a refusal
 abbrev pub refusal_words : Refusal → List ℕ
+refusal_words BadUtf8 = codes "bad utf-8"
+refusal_words UnknownCommand = codes "unknown command"
+refusal_words MissingWord = codes "missing word"
+refusal_words BadName = codes "bad name"
+refusal_words BadMac = codes "bad mac"
+refusal_words BadNumber = codes "bad number"
+refusal_words OutOfRange = codes "out of range"
+refusal_words ExtraWord = codes "extra word"
 refusal_words NotBuilt = codes "not built"
 refusal_words UnknownName = codes "unknown name"
+refusal_words WrongKind = codes "wrong kind"
+refusal_words NameTaken = codes "name taken"
+refusal_words AddressTaken = codes "address taken"
 
 -- the name of a limit
 abbrev pub limit_words : LimitName → List ℕ

@@ -6,8 +6,9 @@ use Rattle.std.specs.Prelude.{ℕ, ◌+◌, ◌&&◌, nat_lt, nat_le, Bool, List
 use Rattle.mesh_model.specs.declared.ending.LimitName.TheVariants.{Line, Input}
 use Rattle.mesh_model.specs.declared.ending.Stop.{Stop}
 use Rattle.mesh_model.specs.declared.ending.Stop.TheVariants.{Limit}
-use Rattle.mesh_model.specs.Commands.{Reading, command_of_line}
+use Rattle.mesh_model.specs.Commands.{command_of_line}
 use Rattle.mesh_model.specs.Lines.{line_limit, input_limit, lines_of, before_newline, content}
+use Rattle.mesh_model.specs.Readings.{Reading}
 use Rattle.mesh_model.specs.State.{State, no_nodes, carried_out, events_text}
 
 -- where and why a run ended before the end of its input

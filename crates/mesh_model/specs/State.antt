@@ -1,12 +1,14 @@
 -- The state of a plain run and what a command does to it. A node keeps its log alone; the clock stands at a moment in
--- milliseconds; the events are what the run prints, in order. A command is refused by the first rule that it breaks: a
--- second node isn't built, and a name that a line uses must be that of a node. The main word is `carried_out`.
-use Rattle.std.specs.Prelude.{ℕ, Bool, true, not, List, [], ◌∷◌, ◌++◌, find, flat_map, bytes_eq, Option, Some, None, Result, Ok, Err, if◌then◌else◌}
+-- milliseconds; the events are what the run prints, in order. A command is refused by the first rule that it breaks: it
+-- is built, each name that it uses is that of a node, and a new node has a name and an address of its own. The main word
+-- is `carried_out`.
+use Rattle.std.specs.Prelude.{ℕ, ◌==◌, Bool, true, false, not, List, [], ◌∷◌, ◌++◌, find, flat_map, bytes_eq, Option, Some, None, Result, Ok, Err, if◌then◌else◌}
 use Rattle.std.specs.List.{list_any}
 use Rattle.std.specs.Option.{option_or, option_map_or}
+use Rattle.mesh_base.specs.Address.{is_broadcast}
 use Rattle.mesh_base.specs.declared.address.Mac.{Mac}
 use Rattle.mesh_model.specs.declared.ending.Refusal.{Refusal}
-use Rattle.mesh_model.specs.declared.ending.Refusal.TheVariants.{NotBuilt, UnknownName}
+use Rattle.mesh_model.specs.declared.ending.Refusal.TheVariants.{AddressTaken, NameTaken, NotBuilt, UnknownName}
 use Rattle.mesh_model.specs.declared.ending.Stop.{Stop}
 use Rattle.mesh_model.specs.declared.ending.Stop.TheVariants.{Refused}
 use Rattle.mesh_model.specs.declared.line_form.Command.{Command}
@@ -16,6 +18,7 @@ use Rattle.mesh_model.specs.declared.line_form.Table.TheVariants.{Locals}
 use Rattle.mesh_model.specs.Log.{Given, Log}
 use Rattle.mesh_model.specs.Log.{Frame as GivenFrame}
 use Rattle.mesh_model.specs.Mentions.{mentions}
+use Rattle.mesh_model.specs.NamesUsed.{names_used}
 use Rattle.mesh_model.specs.Present.{present_clients}
 use Rattle.mesh_model.specs.TableText.{LocalTable, table_text}
 
@@ -43,6 +46,10 @@ no_nodes = record { nodes = []; clock = 0; events = [] }
 abbrev pub is_named : List ℕ → NodeLog → Bool
 is_named name node = bytes_eq node.name name
 
+-- whether a node has this address
+abbrev pub has_address : Mac → NodeLog → Bool
+has_address mac node = bytes_eq node.mac.0 mac.0
+
 -- the node of this name
 abbrev pub node_named : List ℕ → List NodeLog → Option NodeLog
 node_named name nodes = find (is_named name) nodes
@@ -51,32 +58,42 @@ node_named name nodes = find (is_named name) nodes
 abbrev pub log_of : List ℕ → List NodeLog → Log
 log_of name nodes = option_map_or (λ node. node.log) (node_named name nodes) []
 
--- the names that a command uses and doesn't itself give
-abbrev pub names_used : Command → List (List ℕ)
-names_used Nothing = []
-names_used (Node name mac) = []
-names_used (Frame place src dst vid text) = place ∷ []
-names_used (Show node table) = node ∷ []
-
 -- a refusal where a condition holds
 abbrev pub refusal_if : Bool → Refusal → Option Refusal
 refusal_if holds refusal = if holds then Some refusal else None
 
--- a run has one node: a second one isn't built
-abbrev pub not_built : State → Command → Option Refusal
-not_built state Nothing = None
-not_built state (Node name mac) = refusal_if (list_any (λ node. true) state.nodes) NotBuilt
-not_built state (Frame place src dst vid text) = None
-not_built state (Show node table) = None
+-- whether a command is carried out by this version
+abbrev pub is_built : Command → Bool
+is_built Nothing = true
+is_built (Node name mac) = true
+is_built (Frame place src dst vid text) = is_broadcast dst
+is_built (Show node Locals) = true
+is_built other = false
+
+-- a command of a form that this version doesn't carry out
+abbrev pub not_built : Command → Option Refusal
+not_built command = refusal_if (not (is_built command)) NotBuilt
 
 -- each name that a command uses is that of a node
 abbrev pub unknown_name : State → Command → Option Refusal
 unknown_name state command =
     refusal_if (list_any (λ name. not (list_any (is_named name) state.nodes)) (names_used command)) UnknownName
 
+-- a new node's name isn't that of another
+abbrev pub name_taken : State → Command → Option Refusal
+name_taken state (Node name mac) = refusal_if (list_any (is_named name) state.nodes) NameTaken
+name_taken state other = None
+
+-- a new node's address isn't that of another
+abbrev pub address_taken : State → Command → Option Refusal
+address_taken state (Node name mac) = refusal_if (list_any (has_address mac) state.nodes) AddressTaken
+address_taken state other = None
+
 -- the first rule that a command breaks
 abbrev pub first_refused_rule : State → Command → Option Refusal
-first_refused_rule state command = option_or (not_built state command) (unknown_name state command)
+first_refused_rule state command =
+    option_or (not_built command) (option_or (unknown_name state command)
+    (option_or (name_taken state command) (address_taken state command)))
 
 -- the log with an input at a moment; a node without links puts nothing
 abbrev pub with_input : ℕ → Given → Log → Log
@@ -106,9 +123,10 @@ local_table name state = record {
   rows = present_clients state.clock (mentions (log_of name state.nodes));
 }
 
--- the event of a table that is shown
-abbrev pub shown : List ℕ → Table → State → Event
-shown name Locals state = LocalsShown (local_table name state)
+-- the events of a table that is shown
+abbrev pub shown : List ℕ → Table → State → List Event
+shown name Locals state = LocalsShown (local_table name state) ∷ []
+shown name other state = []
 
 -- the state after a command that breaks no rule
 abbrev pub after_command : State → Command → State
@@ -116,7 +134,8 @@ after_command state Nothing = state
 after_command state (Node name mac) =
     record state { nodes = state.nodes ++ record { name = name; mac = mac; log = [] } ∷ [] }
 after_command state (Frame place src dst vid text) = after_input place (GivenFrame src dst vid text) state
-after_command state (Show node table) = record state { events = state.events ++ shown node table state ∷ [] }
+after_command state (Show node table) = record state { events = state.events ++ shown node table state }
+after_command state other = state
 
 -- the outcome of a rule's answer
 abbrev pub unless_refused : State → Option Refusal → Result State Stop

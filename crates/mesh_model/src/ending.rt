@@ -1,10 +1,33 @@
 /// Why a line of a scenario is refused, each by the words that are printed.
 #[derive(Clone, Copy, Debug, PartialEq, Eq)]
 pub enum Refusal {
-    /// `not built`: a line that this version doesn't carry out, or that is badly written.
+    /// `bad utf-8`: a line isn't UTF-8.
+    BadUtf8,
+    /// `unknown command`: the first word of a line is no command word.
+    UnknownCommand,
+    /// `missing word`: a form wants a further word.
+    MissingWord,
+    /// `bad name`: a word isn't a name where one is wanted.
+    BadName,
+    /// `bad mac`: a word isn't a hardware address where one is wanted.
+    BadMac,
+    /// `bad number`: a word isn't the number, VLAN, IP address, hex bytes, pattern or option that is wanted.
+    BadNumber,
+    /// `out of range`: a number is outside its range, an address or a text is of the wrong kind or length, or a word isn't
+    /// one of those that are listed.
+    OutOfRange,
+    /// `extra word`: a word stands behind the last one of a form.
+    ExtraWord,
+    /// `not built`: a line that this version doesn't carry out.
     NotBuilt,
     /// `unknown name`: a name that no earlier line gave.
     UnknownName,
+    /// `wrong kind`: a LAN is named where a node is needed, or the other way round.
+    WrongKind,
+    /// `name taken`: an earlier line gave the name.
+    NameTaken,
+    /// `address taken`: an earlier line gave the address.
+    AddressTaken,
 }
 
 /// A quantity with a limit, by the name that is printed.

@@ -7,6 +7,7 @@
 
 pub mod ending;
 pub mod line_form;
+pub mod name_list;
 pub mod packet;
 pub mod present_laws;
 pub mod rows;
@@ -14,6 +15,7 @@ pub mod run_laws;
 pub mod table_row;
 
 pub use ending::{LimitName, Refusal, Stop};
-pub use line_form::{Command, Table};
+pub use line_form::{AlfredMode, Algorithm, Command, Policy, Table};
+pub use name_list::NameList;
 pub use packet::Head;
 pub use table_row::LocalRow;

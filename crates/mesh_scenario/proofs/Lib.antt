@@ -1,3 +1,7 @@
 -- The lemmas of this crate.
+pub mod GatewayLemmas
+pub mod IpLemmas
+pub mod OptionsLemmas
+pub mod RefusalLemmas
 pub mod TermsLemmas
 pub mod WordsLemmas

@@ -1,9 +1,16 @@
--- What a call says that takes the next word of a line as a term: whatever follows the term in its form, the reading goes
--- on behind the word, with the term's value, or it is refused there. No public clause cites this module.
-use Rattle.std.specs.Prelude.{◌≡◌, ℕ, ◌-◌, ◌^◌, min, Bool, not, List, Option, Ok}
-use Rattle.mesh_model.specs.Commands.{Reading, refused, a_term, a_text, the_end}
-use Rattle.mesh_model.specs.Words.{Word, is_separator}
+-- What a call says that takes the next word of a line as a field: whatever follows the field in its form, the reading
+-- goes on behind the word, with the field's value, or it is refused there. No public clause cites this module.
+use Rattle.std.specs.Prelude.{◌≡◌, ◌==◌, ℕ, Bool, not, List, Result, Ok}
+use Rattle.mesh_model.specs.declared.ending.Refusal.{Refusal}
 use Rattle.mesh_model.specs.declared.line_form.Command.{Command}
+use Rattle.mesh_model.specs.LinkOptions.{LinkOptions, the_options}
+use Rattle.mesh_model.specs.NetForms.{the_gateways}
+use Rattle.mesh_model.specs.Readings.{Reading, refused, a_field, a_text, a_text_up_to, the_end}
+use Rattle.mesh_model.specs.Terms.{dot}
+use Rattle.mesh_model.specs.Words.{Word, is_separator}
+use Rattle.mesh_scenario.specs.LineErr.{Refuses, refusal_of}
+use Rattle.mesh_scenario.specs.declared.line_err.LineErr.{LineErr}
+use Rattle.mesh_scenario.specs.declared.line_err.WordErr.{WordErr}
 use Rattle.mesh_scenario.specs.declared.words.Found.{Found}
 
 -- whether a byte belongs to a word
@@ -14,30 +21,61 @@ is_in_word byte = not (is_separator byte)
 abbrev pub seen : Found → Word
 seen found = record { word = found.word.now; text = found.text.now }
 
--- the next word spells this value, and the others are left
-abbrev pub GivesTerm : {A : Type 0} → (List ℕ → Option A) → List Word → A → List Word → Type 0
-GivesTerm {A} term old value new = (next : A → List Word → Reading) → a_term term next old ≡ next value new
+-- the next word has this value, and the others are left
+abbrev pub GivesField : {A : Type 0} → (List ℕ → Result A Refusal) → List Word → A → List Word → Type 0
+GivesField {A} field old value new = (next : A → List Word → Reading) → a_field field next old ≡ next value new
 
--- there is no next word, or it doesn't spell the term
-abbrev pub LacksTerm : {A : Type 0} → (List ℕ → Option A) → List Word → Type 0
-LacksTerm {A} term old = (next : A → List Word → Reading) → a_term term next old ≡ refused
+-- the next word is missing or refused
+abbrev pub FailsField : {A : Type 0} → (List ℕ → Result A Refusal) → List Word → WordErr → Type 0
+FailsField {A} field old fault =
+    (next : A → List Word → Reading) → a_field field next old ≡ refused (refusal_of fault)
 
--- the rest of the line is this text
-abbrev pub GivesText : List Word → List ℕ → Type 0
-GivesText old text = (command : List ℕ → Command) → a_text command old ≡ Ok (command text)
-
--- there is no text
-abbrev pub LacksText : List Word → Type 0
-LacksText old = (command : List ℕ → Command) → a_text command old ≡ refused
+-- the same where memory may be wanting
+abbrev pub RefusesField : {A : Type 0} → (List ℕ → Result A Refusal) → List Word → LineErr → Type 0
+RefusesField {A} field old error = (next : A → List Word → Reading) → Refuses (a_field field next old) error
 
 -- there are no more words
 abbrev pub IsAtEnd : List Word → Type 0
 IsAtEnd old = (command : Command) → the_end command old ≡ Ok command
 
 -- there are more words
-abbrev pub HasMore : List Word → Type 0
-HasMore old = (command : Command) → the_end command old ≡ refused
+abbrev pub HasMore : List Word → WordErr → Type 0
+HasMore old fault = (command : Command) → the_end command old ≡ refused (refusal_of fault)
 
--- a number as it is kept: the greatest of 64 bits stands for all that are greater
-abbrev pub capped : ℕ → ℕ
-capped number = min number (2 ^ 64 - 1)
+-- whether a byte stands between the numbers of an IP address
+abbrev pub is_dot : ℕ → Bool
+is_dot byte = byte == dot
+
+-- the rest of the line is this text
+abbrev pub GivesText : List Word → List ℕ → Type 0
+GivesText old text = (command : List ℕ → Command) → a_text command old ≡ Ok (command text)
+
+-- there is no text
+abbrev pub FailsText : List Word → WordErr → Type 0
+FailsText old fault = (command : List ℕ → Command) → a_text command old ≡ refused (refusal_of fault)
+
+-- the rest of the line is this text, which isn't too long
+abbrev pub GivesTextUpTo : ℕ → List Word → List ℕ → Type 0
+GivesTextUpTo most old text = (command : List ℕ → Command) → a_text_up_to most command old ≡ Ok (command text)
+
+-- there is no text, or it is too long
+abbrev pub FailsTextUpTo : ℕ → List Word → WordErr → Type 0
+FailsTextUpTo most old fault =
+    (command : List ℕ → Command) → a_text_up_to most command old ≡ refused (refusal_of fault)
+
+-- the other words are these options
+abbrev pub GivesOptions : List Word → LinkOptions → Type 0
+GivesOptions old options = (command : LinkOptions → Command) → the_options command old ≡ Ok (command options)
+
+-- the other words aren't options
+abbrev pub FailsOptions : List Word → WordErr → Type 0
+FailsOptions old fault =
+    (command : LinkOptions → Command) → the_options command old ≡ refused (refusal_of fault)
+
+-- the other words are the names of these gateways
+abbrev pub GivesGateways : List Word → List (List ℕ) → Type 0
+GivesGateways old names = (command : List (List ℕ) → Command) → the_gateways command old ≡ Ok (command names)
+
+-- the other words aren't gateways, or memory is wanting
+abbrev pub RefusesGateways : List Word → LineErr → Type 0
+RefusesGateways old error = (command : List (List ℕ) → Command) → Refuses (the_gateways command old) error

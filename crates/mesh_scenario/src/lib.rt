@@ -5,15 +5,20 @@
 
 #![tactic(auto)]
 
-mod forms;
+mod alfred_forms;
+mod client_forms;
+mod gateways;
+mod hex_bytes;
+mod ip;
 mod line;
 mod line_err;
+mod listed;
+mod net_forms;
+mod options;
+mod setting_forms;
 mod taking;
 mod terms;
 mod words;
 
 pub use line::read_line;
 pub use line_err::LineErr;
-
-#[cfg(test)]
-mod tests;

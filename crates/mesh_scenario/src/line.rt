@@ -1,11 +1,11 @@
 ghost use Rattle.std.specs.Prelude.{◌≡◌, Ok, IfOk, IfErr};
 ghost use Rattle.std.specs.Str.{is_utf8};
-ghost use Rattle.mesh_model.specs.Commands.{command_of_line, command_of_words, is_comment};
+ghost use Rattle.mesh_model.specs.Commands.{command_of_line, command_of_words, is_comment, read_form};
 ghost use Rattle.mesh_scenario.specs.LineErr.{Refuses};
 
-use crate::forms::read_form;
 use crate::line_err::LineErr;
 use crate::words::Words;
+use crate::{alfred_forms, client_forms, net_forms, setting_forms};
 use mesh_model::Command;
 use std::alloc::Global;
 
@@ -24,6 +24,52 @@ fn is_utf8(bytes: &[u8]) -> bool
     ensures { result ≡ is_utf8 bytes.now }
 {
     std::str::from_utf8(bytes).is_ok()
+}
+
+/// The form that a command word begins.
+fn read_form(alloc: Global, word: &[u8], words: &mut Words<'_>) -> Result<Command, LineErr>
+    ensures ok { IfOk result (λ command. read_form word.now words.old ≡ Ok command) }
+    ensures refused { IfErr result (Refuses (read_form word.now words.old)) }
+{
+    if word == b"algo".as_slice() {
+        net_forms::read_algo(alloc, words)
+    } else if word == b"node".as_slice() {
+        net_forms::read_node(alloc, words)
+    } else if word == b"link".as_slice() {
+        net_forms::read_link(alloc, words)
+    } else if word == b"lan".as_slice() {
+        net_forms::read_lan(alloc, words)
+    } else if word == b"frame".as_slice() {
+        client_forms::read_frame(alloc, words)
+    } else if word == b"gone".as_slice() {
+        client_forms::read_gone(alloc, words)
+    } else if word == b"join".as_slice() {
+        client_forms::read_join(alloc, words)
+    } else if word == b"leave".as_slice() {
+        client_forms::read_leave(alloc, words)
+    } else if word == b"arp".as_slice() {
+        client_forms::read_arp(alloc, words)
+    } else if word == b"dhcp".as_slice() {
+        client_forms::read_dhcp(alloc, words)
+    } else if word == b"set".as_slice() {
+        setting_forms::read_set(alloc, words)
+    } else if word == b"alfred".as_slice() {
+        alfred_forms::read_alfred(alloc, words)
+    } else if word == b"ping".as_slice() {
+        net_forms::read_ping(alloc, words)
+    } else if word == b"traceroute".as_slice() {
+        net_forms::read_traceroute(alloc, words)
+    } else if word == b"run".as_slice() {
+        net_forms::read_run(alloc, words)
+    } else if word == b"deliver".as_slice() {
+        net_forms::read_deliver(alloc, words)
+    } else if word == b"show".as_slice() {
+        net_forms::read_show(alloc, words)
+    } else if word == b"decode".as_slice() {
+        net_forms::read_decode(alloc, words)
+    } else {
+        Err(LineErr::UnknownCommand)
+    }
 }
 
 /// Reads a line's words. A line without words, and a comment, does nothing and takes no memory.
@@ -50,7 +96,7 @@ pub fn read_line(alloc: Global, line: &[u8]) -> Result<Command, LineErr>
         return Err(LineErr::TooLong);
     }
     if !is_utf8(line) {
-        return Err(LineErr::NotBuilt);
+        return Err(LineErr::BadUtf8);
     }
     read_words(alloc, &mut Words::of(line))
 }

@@ -1,8 +1,10 @@
 //! What a single word may say.
 
-ghost use Rattle.std.specs.Prelude.{◌≡◌, option_map};
-ghost use Rattle.mesh_model.specs.Terms.{is_letter, is_digit, is_name_character, is_name, number_of, vid_of, is_unicast, is_broadcast};
-ghost use Rattle.mesh_scenario.specs.Reads.{capped};
+ghost use Rattle.std.specs.Prelude.{◌≡◌, ◌<◌, ◌≤◌, ◌&&◌, not, option_map, option_and_then, IfSome};
+ghost use Rattle.mesh_model.specs.Terms.{is_letter, is_digit, is_name_character, is_name, number_of, vid_of, is_mark, is_pattern};
+ghost use Rattle.mesh_model.specs.LinkOptions.{number_within};
+ghost use Rattle.mesh_base.specs.Address.{is_broadcast, is_group, is_unicast};
+ghost use Rattle.mesh_model.specs.Fields.{kept_number, number_limit};
 
 use mesh_base::{Mac, Vid};
 
@@ -10,6 +12,8 @@ use mesh_base::{Mac, Vid};
 const NAME_LIMIT: usize = 16;
 /// The greatest number of a VLAN (IEEE 802.1Q).
 const VLAN_LIMIT: u64 = 4094;
+/// The most marks of a pattern.
+const PATTERN_LIMIT: usize = 64;
 
 /// Whether a character is an ASCII letter.
 fn is_letter(character: u8) -> bool
@@ -46,8 +50,8 @@ pub fn is_name(word: &[u8]) -> bool
 }
 
 /// The number that a word of decimal digits spells; `u64::MAX` stands for all that are greater.
-fn number(word: &[u8]) -> Option<u64>
-    ensures { result ≡ option_map capped (number_of word.now) }
+pub fn number(word: &[u8]) -> Option<u64>
+    ensures { result ≡ option_map kept_number (number_of word.now) }
 {
     if word.is_empty() || !word.iter().all(|digit| is_digit(*digit)) {
         return None;
@@ -75,16 +79,46 @@ pub fn vid(word: &[u8]) -> Option<Vid>
 }
 
 /// Whether an address is one station's.
-#[tactic(auto, using(crate::proofs::TermsLemmas::is_group_bytes_first))]
 pub fn is_unicast(mac: Mac) -> bool
     ensures { result ≡ is_unicast mac }
 {
     !mac.is_group() && !mac.is_zero()
 }
 
-/// Whether an address is that of all stations.
-pub fn is_broadcast(mac: Mac) -> bool
-    ensures { result ≡ is_broadcast mac }
+/// Whether an address is that of a group other than all stations.
+pub fn is_group(mac: Mac) -> bool
+    ensures { result ≡ (is_group mac && not (is_broadcast mac)) }
 {
-    mac.0.iter().all(|byte| *byte == 255)
+    mac.is_group() && !mac.is_broadcast()
+}
+
+/// Whether a character is a mark of a pattern.
+fn is_mark(character: u8) -> bool
+    ensures { result ≡ is_mark character }
+{
+    matches!(character, b'.' | b'x' | b'2' | b'h')
+}
+
+/// Whether a word is the pattern of a link.
+pub fn is_pattern(word: &[u8]) -> bool
+    ensures { result ≡ is_pattern word.now }
+{
+    if word.is_empty() || word.len() > PATTERN_LIMIT {
+        return false;
+    }
+    word.iter().all(|character| is_mark(*character))
+}
+
+/// The number in a range that a word spells.
+pub fn number_within(least: u64, most: u64, word: &[u8]) -> Option<u64>
+    requires { most < number_limit }
+    ensures value { result ≡ option_and_then (number_within least most) (number_of word.now) }
+    ensures within { IfSome result (λ number. number ≤ most) }
+{
+    let number = number(word)?;
+    if least <= number && number <= most {
+        Some(number)
+    } else {
+        None
+    }
 }

@@ -3,7 +3,7 @@ use Rattle.std.specs.Prelude.{Some, option_map}
 use Rattle.std.proofs.lemmas.Iterator.{YieldsList-from_slice}
 use Rattle.std.proofs.lemmas.Iterator.Search.{all_from_yields_List}
 use Rattle.mesh_model.specs.Terms.{is_digit, digits_value}
-use Rattle.mesh_scenario.specs.Reads.{capped}
+use Rattle.mesh_model.specs.Fields.{kept_number}
 use Rattle.mesh_scenario.proofs.TermsLemmas.{number_of-digits, digits_value-more}
 use Rattle.mesh_scenario.proofs.terms.number.Goals as goal
 
@@ -14,8 +14,8 @@ returns c =
     (λ x b q k. search (rules, tests)) in
     let is = number_of-digits word (sym c.is_empty.ensures ∙ c.if-is_empty.false) (sym all ∙ c.if-not-all.false) in
     ap (λ n. Some n) (c.loop-digit.invariant
-    ∙ ap (λ digits. capped (digits_value digits)) (take_all _ word (omega arith)))
-    ∙ sym (ap (option_map capped) is)
+    ∙ ap (λ digits. kept_number (digits_value digits)) (take_all _ word (omega arith)))
+    ∙ sym (ap (option_map kept_number) is)
 
 pub loop-digit-preserved : goal.loop-digit-preserved
 loop-digit-preserved c =

@@ -1,0 +1,119 @@
+//! The forms of lines that tell of clients.
+
+ghost use Rattle.std.specs.Prelude.{◌≡◌, Ok, IfOk, IfErr};
+ghost use Rattle.mesh_model.specs.NodeForms.{read_frame, read_gone, read_join, read_leave, read_arp, read_dhcp};
+ghost use Rattle.mesh_scenario.specs.LineErr.{Refuses};
+
+use crate::line_err::LineErr;
+use crate::words::Words;
+use mesh_base::{Bytes, Key};
+use mesh_model::Command;
+use std::alloc::Global;
+
+/// `frame PLACE SRC DST VID TEXT`
+pub fn read_frame(alloc: Global, words: &mut Words<'_>) -> Result<Command, LineErr>
+    ensures ok { IfOk result (λ command. read_frame words.old ≡ Ok command) }
+    ensures refused { IfErr result (Refuses (read_frame words.old)) }
+{
+    let place = words.name()?;
+    let src = words.unicast()?;
+    let dst = words.target()?;
+    let vid = words.vid()?;
+    let text = words.text()?;
+    let place = Bytes::from_slice(alloc, place)?;
+    let text = Bytes::from_slice(alloc, text)?;
+    Ok(Command::Frame {
+        place,
+        src,
+        dst,
+        vid,
+        text,
+    })
+}
+
+/// `gone PLACE MAC VID`
+pub fn read_gone(alloc: Global, words: &mut Words<'_>) -> Result<Command, LineErr>
+    ensures ok { IfOk result (λ command. read_gone words.old ≡ Ok command) }
+    ensures refused { IfErr result (Refuses (read_gone words.old)) }
+{
+    let place = words.name()?;
+    let mac = words.unicast()?;
+    let vid = words.vid()?;
+    words.end()?;
+    let place = Bytes::from_slice(alloc, place)?;
+    Ok(Command::Gone {
+        place,
+        key: Key { mac, vid },
+    })
+}
+
+/// `join NODE GROUP VID`
+pub fn read_join(alloc: Global, words: &mut Words<'_>) -> Result<Command, LineErr>
+    ensures ok { IfOk result (λ command. read_join words.old ≡ Ok command) }
+    ensures refused { IfErr result (Refuses (read_join words.old)) }
+{
+    let node = words.name()?;
+    let mac = words.group()?;
+    let vid = words.vid()?;
+    words.end()?;
+    let node = Bytes::from_slice(alloc, node)?;
+    Ok(Command::Join {
+        node,
+        key: Key { mac, vid },
+    })
+}
+
+/// `leave NODE GROUP VID`
+pub fn read_leave(alloc: Global, words: &mut Words<'_>) -> Result<Command, LineErr>
+    ensures ok { IfOk result (λ command. read_leave words.old ≡ Ok command) }
+    ensures refused { IfErr result (Refuses (read_leave words.old)) }
+{
+    let node = words.name()?;
+    let mac = words.group()?;
+    let vid = words.vid()?;
+    words.end()?;
+    let node = Bytes::from_slice(alloc, node)?;
+    Ok(Command::Leave {
+        node,
+        key: Key { mac, vid },
+    })
+}
+
+/// `arp NODE MAC IP1 IP2 VID`
+pub fn read_arp(alloc: Global, words: &mut Words<'_>) -> Result<Command, LineErr>
+    ensures ok { IfOk result (λ command. read_arp words.old ≡ Ok command) }
+    ensures refused { IfErr result (Refuses (read_arp words.old)) }
+{
+    let node = words.name()?;
+    let mac = words.unicast()?;
+    let own_ip = words.ip()?;
+    let asked_ip = words.ip()?;
+    let vid = words.vid()?;
+    words.end()?;
+    let node = Bytes::from_slice(alloc, node)?;
+    Ok(Command::Arp {
+        node,
+        mac,
+        own_ip,
+        asked_ip,
+        vid,
+    })
+}
+
+/// `dhcp NODE MAC VID TEXT`
+pub fn read_dhcp(alloc: Global, words: &mut Words<'_>) -> Result<Command, LineErr>
+    ensures ok { IfOk result (λ command. read_dhcp words.old ≡ Ok command) }
+    ensures refused { IfErr result (Refuses (read_dhcp words.old)) }
+{
+    let node = words.name()?;
+    let mac = words.unicast()?;
+    let vid = words.vid()?;
+    let text = words.text()?;
+    let node = Bytes::from_slice(alloc, node)?;
+    let text = Bytes::from_slice(alloc, text)?;
+    Ok(Command::Dhcp {
+        node,
+        key: Key { mac, vid },
+        text,
+    })
+}
