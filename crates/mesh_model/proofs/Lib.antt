@@ -1,5 +1,6 @@
 -- What the laws rest on.
 pub mod OnLiterals
+pub mod DecodeOnLiterals
 pub mod CutLemmas
 pub mod RunLemmas
 pub mod HaltLemmas

@@ -4,12 +4,17 @@ pub mod Words
 pub mod Terms
 pub mod Commands
 pub mod Packets
+pub mod FirstPacket
 pub mod Containers
 pub mod ContainerBodies
 pub mod Log
 pub mod Mentions
 pub mod Present
 pub mod TableText
+pub mod PacketLines
+pub mod ContainerLines
+pub mod DecodeText
+pub mod DecodeRows
 pub mod State
 pub mod PlainRun
 pub mod Reached

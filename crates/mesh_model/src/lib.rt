@@ -4,6 +4,7 @@
 
 #![tactic(auto)]
 
+pub mod decode_rows;
 pub mod ending;
 pub mod line_form;
 pub mod packet;
