@@ -6,3 +6,4 @@ pub mod RunLemmas
 pub mod HaltLemmas
 pub mod KeyLists
 pub mod PresentLemmas
+pub mod FirstPacketLemmas

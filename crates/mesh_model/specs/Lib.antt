@@ -15,6 +15,7 @@ pub mod PacketLines
 pub mod ContainerLines
 pub mod DecodeText
 pub mod DecodeRows
+pub mod PacketLaws
 pub mod State
 pub mod PlainRun
 pub mod Reached

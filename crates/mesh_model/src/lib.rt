@@ -8,6 +8,7 @@ pub mod decode_rows;
 pub mod ending;
 pub mod line_form;
 pub mod packet;
+pub mod packet_laws;
 pub mod rows;
 pub mod run_laws;
 pub mod table_row;
