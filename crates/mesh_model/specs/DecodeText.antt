@@ -5,6 +5,7 @@
 -- one that is too short for its type are a line `bad` with the cause, and nothing follows it. The
 -- place of a cut counts from the first container. The main word is `decode_text`.
 use Rattle.std.specs.Prelude.{ℕ, zero, suc, ◌==◌, ◌&&◌, ◌||◌, nat_le, Bool, List, [], ◌∷◌, ◌++◌, length, slice_index, codes, decimal, unwrap_or, Result, Ok, Err, if◌then◌else◌}
+use Rattle.mesh_model.specs.declared.packet.Head.{Head}
 use Rattle.mesh_model.specs.Packets.{TailKind, compat_version, header_size, row_of}
 use Rattle.mesh_model.specs.Packets.TailKind.{containers, all_the_rest, nothing}
 use Rattle.mesh_model.specs.FirstPacket.{Packet, NoPacket, first_packet}
@@ -46,29 +47,29 @@ tail_lines containers tail after = containers_lines (containers_of tail)
 tail_lines all_the_rest tail after = after
 tail_lines nothing tail after = after
 
--- the type byte of a packet
-abbrev pub type_byte : Packet → ℕ
-type_byte packet = (row_of packet.head 0).kind
+-- the type byte of a head
+abbrev pub type_byte : Head → ℕ
+type_byte head = (row_of head 0).kind
 
 -- whether bytes begin with this type byte and the version, and hold a whole header of the kind
 abbrev pub begin_header : ℕ → List ℕ → Bool
 begin_header kind bytes = (slice_index bytes 0 == kind) && (slice_index bytes 1 == compat_version)
     && nat_le (unwrap_or (header_size kind) 0) (length bytes)
 
--- whether a packet is an originator message that a further one follows
-abbrev pub is_followed : Packet → Bool
-is_followed packet = (type_byte packet == 0 || type_byte packet == 4)
-    && begin_header (type_byte packet) packet.rest
+-- whether a head is an originator message, and these bytes after its packet are a further one
+abbrev pub is_followed : Head → List ℕ → Bool
+is_followed head rest =
+    (type_byte head == 0 || type_byte head == 4) && begin_header (type_byte head) rest
 
--- what is printed after a packet and its containers, where `further` prints further packets
-abbrev pub after_packet : (List ℕ → List ℕ) → Packet → List ℕ
-after_packet further packet =
-    if is_followed packet then further packet.rest else rest_line packet.rest
+-- what is printed of the bytes after a packet with this head, where `further` prints further packets
+abbrev pub after_packet : (List ℕ → List ℕ) → Head → List ℕ → List ℕ
+after_packet further head rest = if is_followed head rest then further rest else rest_line rest
 
 -- what is printed of bytes that begin with this packet, or with none
 abbrev pub packet_lines : (List ℕ → List ℕ) → Result Packet NoPacket → List ℕ
 packet_lines further (Ok packet) = packet_line packet.head (length packet.tail)
-    ++ tail_lines (row_of packet.head 0).tail packet.tail (after_packet further packet)
+    ++ tail_lines (row_of packet.head 0).tail packet.tail
+        (after_packet further packet.head packet.rest)
 packet_lines further (Err cause) = refusal_line cause
 
 -- what is printed of bytes, of which at most so many packets are read
