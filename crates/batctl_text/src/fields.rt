@@ -1,12 +1,25 @@
 //! The parts of a line: numbers, addresses, VLANs, flags and checksums.
 
-ghost use Rattle.std.specs.Prelude.{◌≡◌, ◌/◌, ◌%◌, ◌++◌, ◌<◌, decimal, slice_index, OnOk};
+ghost use Rattle.std.specs.Prelude.{◌≡◌, ◌/◌, ◌%◌, ◌++◌, ◌<◌, decimal, slice_index, IfOk, OnOk};
 ghost use Rattle.hex.specs.Hex.{lower_digits};
 ghost use Rattle.mesh_base.specs.Address.{hex_of_byte, mac_text, pairs_text};
 ghost use Rattle.mesh_model.specs.PacketLines.{number_field, address_field, flags_field};
 ghost use Rattle.mesh_model.specs.TableText.{sum_text, vid_text};
 
 use mesh_base::{Mac, NoMemory, Vid};
+use std::alloc::Global;
+
+/// The room that each line fits in, but for one that names a node.
+pub const LINE_ROOM: usize = 128;
+
+/// A line that begins with this text.
+pub fn line_from(alloc: Global, start: &[u8]) -> Result<Vec<u8>, NoMemory>
+    ensures ok { IfOk result (λ line. line.items ≡ start.now) }
+{
+    let mut line = Vec::with_capacity(alloc, LINE_ROOM)?;
+    line.extend_from_slice(start)?;
+    Ok(line)
+}
 
 /// Appends a number in decimal.
 pub fn put_number(line: &mut Vec<u8>, number: u64) -> Result<(), NoMemory>

@@ -4,7 +4,9 @@
 
 #![tactic(auto)]
 
+mod bad_line;
 mod fields;
 mod local_table;
+mod packet_line;
 
 pub use local_table::{local_header, local_line};
