@@ -5,6 +5,7 @@
 #![tactic(auto)]
 
 mod bad_line;
+mod container_line;
 mod fields;
 mod local_table;
 mod packet_line;
