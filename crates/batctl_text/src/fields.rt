@@ -44,12 +44,23 @@ fn mac_digits(bytes: [u8; 6]) -> [u8; 17]
 {
     let [a, b, c, d, e, f] = bytes;
     [
-        high_digit(a), low_digit(a), b':',
-        high_digit(b), low_digit(b), b':',
-        high_digit(c), low_digit(c), b':',
-        high_digit(d), low_digit(d), b':',
-        high_digit(e), low_digit(e), b':',
-        high_digit(f), low_digit(f),
+        high_digit(a),
+        low_digit(a),
+        b':',
+        high_digit(b),
+        low_digit(b),
+        b':',
+        high_digit(c),
+        low_digit(c),
+        b':',
+        high_digit(d),
+        low_digit(d),
+        b':',
+        high_digit(e),
+        low_digit(e),
+        b':',
+        high_digit(f),
+        low_digit(f),
     ]
 }
 

@@ -6,8 +6,10 @@
 
 mod bad_line;
 mod container_line;
+mod decoding;
 mod fields;
 mod local_table;
 mod packet_line;
 
+pub use decoding::decode_text;
 pub use local_table::{local_header, local_line};

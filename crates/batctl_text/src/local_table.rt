@@ -12,6 +12,7 @@ const LINE_ROOM: usize = 64;
 
 /// The flags of an entry that are printed, each with its letter.
 const WIFI: u8 = 16;
+
 const ISOLATED: u8 = 32;
 
 /// Appends the first line of a local table: the node's name, the byte of its last commit, and how many clients follow.
@@ -22,9 +23,7 @@ pub fn local_header(
     version: u8,
     clients: usize,
 ) -> Result<(), NoMemory>
-    ensures ok {
-        OnOk result (out.new.items ≡ out.old.items ++ local_header name.now version clients)
-    }
+    ensures ok { OnOk result (out.new.items ≡ out.old.items ++ local_header name.now version clients) }
     ensures err { OnErr result (out.new.items ≡ out.old.items) }
 {
     let mut line = Vec::with_capacity(*out.allocator(), LINE_ROOM)?;

@@ -15,7 +15,15 @@ fn iv_ogm_line(alloc: Global, head: &Head, len: usize) -> Result<Vec<u8>, NoMemo
     requires kind { (row_of head.now 0).kind ≡ 0 }
     ensures ok { IfOk result (λ line. line.items ≡ packet_line head.now len) }
 {
-    let Head::IvOgm { ttl, flags, seq, orig, prev, tq } = *head else {
+    let Head::IvOgm {
+        ttl,
+        flags,
+        seq,
+        orig,
+        prev,
+        tq,
+    } = *head
+    else {
         unreachable!()
     };
     let mut line = line_from(alloc, b"packet iv_ogm")?;
@@ -54,7 +62,12 @@ fn elp_line(alloc: Global, head: &Head) -> Result<Vec<u8>, NoMemory>
     requires kind { (row_of head.now 0).kind ≡ 3 }
     ensures ok { IfOk result (λ line. line.items ≡ packet_line head.now 0) }
 {
-    let Head::Elp { orig, seq, interval } = *head else {
+    let Head::Elp {
+        orig,
+        seq,
+        interval,
+    } = *head
+    else {
         unreachable!()
     };
     let mut line = line_from(alloc, b"packet elp")?;
@@ -71,7 +84,14 @@ fn ogm2_line(alloc: Global, head: &Head, len: usize) -> Result<Vec<u8>, NoMemory
     requires kind { (row_of head.now 0).kind ≡ 4 }
     ensures ok { IfOk result (λ line. line.items ≡ packet_line head.now len) }
 {
-    let Head::Ogm2 { ttl, flags, seq, orig, throughput } = *head else {
+    let Head::Ogm2 {
+        ttl,
+        flags,
+        seq,
+        orig,
+        throughput,
+    } = *head
+    else {
         unreachable!()
     };
     let mut line = line_from(alloc, b"packet ogm2")?;
@@ -109,7 +129,16 @@ fn frag_line(alloc: Global, head: &Head, len: usize) -> Result<Vec<u8>, NoMemory
     requires kind { (row_of head.now 0).kind ≡ 65 }
     ensures ok { IfOk result (λ line. line.items ≡ packet_line head.now len) }
 {
-    let Head::Frag { ttl, number, priority, dst, orig, seq, total } = *head else {
+    let Head::Frag {
+        ttl,
+        number,
+        priority,
+        dst,
+        orig,
+        seq,
+        total,
+    } = *head
+    else {
         unreachable!()
     };
     let mut line = line_from(alloc, b"packet frag")?;
@@ -131,7 +160,14 @@ fn unicast4_line(alloc: Global, head: &Head, len: usize) -> Result<Vec<u8>, NoMe
     requires kind { (row_of head.now 0).kind ≡ 66 }
     ensures ok { IfOk result (λ line. line.items ≡ packet_line head.now len) }
 {
-    let Head::Unicast4 { ttl, ttvn, dst, src, subtype } = *head else {
+    let Head::Unicast4 {
+        ttl,
+        ttvn,
+        dst,
+        src,
+        subtype,
+    } = *head
+    else {
         unreachable!()
     };
     let mut line = line_from(alloc, b"packet unicast4")?;
@@ -151,7 +187,15 @@ fn icmp_line(alloc: Global, head: &Head) -> Result<Vec<u8>, NoMemory>
     requires kind { (row_of head.now 0).kind ≡ 67 }
     ensures ok { IfOk result (λ line. line.items ≡ packet_line head.now 0) }
 {
-    let Head::Icmp { ttl, msg, dst, orig, uid, seq } = *head else {
+    let Head::Icmp {
+        ttl,
+        msg,
+        dst,
+        orig,
+        uid,
+        seq,
+    } = *head
+    else {
         unreachable!()
     };
     let mut line = line_from(alloc, b"packet icmp")?;

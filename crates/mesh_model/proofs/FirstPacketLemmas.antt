@@ -82,7 +82,7 @@ fields_read place (field ∷ fields) bytes others begins =
     }
 
 -- the bytes are as many as those of the fields and the others
-begin_length : (bytes : List ℕ) (fields : List Field) (others : List ℕ) → BeginWith bytes fields others
+pub begin_length : (bytes : List ℕ) (fields : List Field) (others : List ℕ) → BeginWith bytes fields others
     → length bytes ≡ width fields + length others
 begin_length bytes [] others begins = omega (arith, ap length begins)
 begin_length bytes (field ∷ fields) others begins =
@@ -137,7 +137,7 @@ header_read (Icmp ttl msg dst orig uid seq) told bytes read = cc
 header_read (Utvlv ttl dst src) told bytes read = cc
 
 -- type and version stand first
-front_of_header : (bytes : List ℕ) (head : Head) (told : ℕ) (after : List ℕ) → BeginWith bytes (header_of head told) after
+pub front_of_header : (bytes : List ℕ) (head : Head) (told : ℕ) (after : List ℕ) → BeginWith bytes (header_of head told) after
     → (fields : List ℕ) × (bytes ≡ (row_of head told).kind ∷ compat_version ∷ fields)
 front_of_header bytes head told after begins =
     let kind = (row_of head told).kind in

@@ -7,3 +7,4 @@ pub mod HaltLemmas
 pub mod KeyLists
 pub mod PresentLemmas
 pub mod FirstPacketLemmas
+pub mod DecodeLemmas

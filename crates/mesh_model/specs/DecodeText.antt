@@ -69,7 +69,7 @@ after_packet further head rest = if is_followed head rest then further rest else
 abbrev pub packet_lines : (List ℕ → List ℕ) → Result Packet NoPacket → List ℕ
 packet_lines further (Ok packet) = packet_line packet.head (length packet.tail)
     ++ tail_lines (row_of packet.head 0).tail packet.tail
-        (after_packet further packet.head packet.rest)
+    (after_packet further packet.head packet.rest)
 packet_lines further (Err cause) = refusal_line cause
 
 -- what is printed of bytes, of which at most so many packets are read
