@@ -13,3 +13,6 @@ mod packet_line;
 
 pub use decoding::decode_text;
 pub use local_table::{local_header, local_line};
+
+#[cfg(test)]
+mod tests;
