@@ -28,17 +28,16 @@ fn put_containers(text: &mut Vec<u8>, tail: &[u8]) -> Result<bool, NoMemory>
 {
     let mut walk = TvlvIter::new(tail);
     while let Some(next) = walk.next() {
-        match next {
-            Ok(container) => {
-                if !put_container(text, &container)? {
-                    return Ok(false);
-                }
-            }
+        let whole = match next {
+            Ok(container) => put_container(text, &container)?,
             Err(TvlvErr::Cut { place }) => {
                 put_cut(text, place)?;
-                return Ok(false);
+                false
             }
             Err(TvlvErr::BadLength { .. }) => unreachable!(),
+        };
+        if !whole {
+            return Ok(false);
         }
     }
     Ok(true)
