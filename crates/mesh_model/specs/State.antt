@@ -12,7 +12,7 @@ use Rattle.mesh_model.specs.declared.ending.Refusal.TheVariants.{AddressTaken, N
 use Rattle.mesh_model.specs.declared.ending.Stop.{Stop}
 use Rattle.mesh_model.specs.declared.ending.Stop.TheVariants.{Refused}
 use Rattle.mesh_model.specs.declared.line_form.Command.{Command}
-use Rattle.mesh_model.specs.declared.line_form.Command.TheVariants.{Nothing, Node, Frame, Show}
+use Rattle.mesh_model.specs.declared.line_form.Command.TheVariants.{Nothing, Node, Frame, Show, Decode}
 use Rattle.mesh_model.specs.declared.line_form.Table.{Table}
 use Rattle.mesh_model.specs.declared.line_form.Table.TheVariants.{Locals}
 use Rattle.mesh_model.specs.Log.{Given, Log}
@@ -20,6 +20,7 @@ use Rattle.mesh_model.specs.Log.{Frame as GivenFrame}
 use Rattle.mesh_model.specs.Mentions.{mentions}
 use Rattle.mesh_model.specs.NamesUsed.{names_used}
 use Rattle.mesh_model.specs.Present.{present_clients}
+use Rattle.mesh_model.specs.DecodeText.{decode_text}
 use Rattle.mesh_model.specs.TableText.{LocalTable, table_text}
 
 -- a node: its name, its address and its log
@@ -31,6 +32,7 @@ pub record NodeLog : Type 0 where
 -- what a run prints
 pub data Event : Type 0 where
   LocalsShown : LocalTable → Event
+  Decoded : List ℕ → Event
 
 -- the nodes in the order of their lines, the clock, and the events so far
 pub record State : Type 0 where
@@ -68,6 +70,7 @@ is_built Nothing = true
 is_built (Node name mac) = true
 is_built (Frame place src dst vid text) = is_broadcast dst
 is_built (Show node Locals) = true
+is_built (Decode bytes) = true
 is_built other = false
 
 -- a command of a form that this version doesn't carry out
@@ -135,6 +138,7 @@ after_command state (Node name mac) =
     record state { nodes = state.nodes ++ record { name = name; mac = mac; log = [] } ∷ [] }
 after_command state (Frame place src dst vid text) = after_input place (GivenFrame src dst vid text) state
 after_command state (Show node table) = record state { events = state.events ++ shown node table state }
+after_command state (Decode bytes) = record state { events = state.events ++ Decoded bytes ∷ [] }
 after_command state other = state
 
 -- the outcome of a rule's answer
@@ -149,6 +153,7 @@ carried_out state command = unless_refused (after_command state command) (first_
 -- an event as it is printed
 abbrev pub event_text : Event → List ℕ
 event_text (LocalsShown table) = table_text table
+event_text (Decoded bytes) = decode_text bytes
 
 -- what the events of a state print
 abbrev pub events_text : State → List ℕ

@@ -275,10 +275,11 @@ Carries-node state old new name mac node stands free apart stood nodes clock =
     let kept : NodeLog = record { name = name; mac = mac; log = [] } in
     let N : List SceneNode → Type 0 = λ ns. NodesStand ns (state.nodes ++ kept ∷ []) in
     record {
-    after = after_command state (Node name mac);
-    carried = carried-node state name mac (sym (known name old.nodes.items state.nodes stands.nodes) ∙ free) (sym (addressed mac old.nodes.items state.nodes stands.nodes) ∙ apart);
-    stands = record { nodes = subst N (sym nodes) (NodesStand-append old.nodes.items state.nodes node kept stands.nodes stood); clock = clock ∙ stands.clock };
-    text = sym (append-nil (events_text state)) }
+      after = after_command state (Node name mac);
+      carried = carried-node state name mac (sym (known name old.nodes.items state.nodes stands.nodes) ∙ free) (sym (addressed mac old.nodes.items state.nodes stands.nodes) ∙ apart);
+      stands = record { nodes = subst N (sym nodes) (NodesStand-append old.nodes.items state.nodes node kept stands.nodes stood); clock = clock ∙ stands.clock };
+      text = sym (append-nil (events_text state));
+    }
 
 -- a line that isn't read gives no command to carry out
 pub Refuses-reading : (state : State) (reading : Reading) (fault : LineFault) → RefusesReading reading fault → Refuses (after_reading state reading) fault

@@ -1,8 +1,9 @@
-ghost use Rattle.std.specs.Prelude.{◌≡◌, ℕ, true, List, [], ◌++◌, vec_len, position, is_some, Ok, OnOk, IfErr};
+ghost use Rattle.std.specs.Prelude.{◌≡◌, ℕ, true, List, [], ◌++◌, vec_len, position, is_some, Ok, Err, OnOk, OnErr, IfErr};
 ghost use Rattle.std.specs.List.{list_any};
 ghost use Rattle.mesh_base.specs.Address.{is_broadcast};
 ghost use Rattle.mesh_base.specs.declared.address.Mac.{Mac};
 ghost use Rattle.mesh_model.specs.Commands.{command_of_line};
+ghost use Rattle.mesh_model.specs.DecodeText.{decode_text as decoded};
 ghost use Rattle.mesh_model.specs.Mentions.{Mention};
 ghost use Rattle.mesh_model.specs.PlainRun.{after_reading};
 ghost use Rattle.mesh_model.specs.Present.{present_clients};
@@ -14,8 +15,9 @@ ghost use Rattle.mesh_scenario.specs.LineErr.{Refuses as IsCause};
 ghost use Rattle.tt_local.specs.Locals.{StandsFor};
 
 use crate::fault::LineFault;
+use crate::local_table::put_local_table;
 use crate::node::SceneNode;
-use crate::table_text::put_local_table;
+use batctl_text::decode_text;
 use mesh_base::{Bytes, Key, Mac, Millis, NoMemory};
 use mesh_model::{Command, LimitName, Refusal, Stop, Table};
 use mesh_scenario::{LineErr, read_line};
@@ -79,6 +81,17 @@ fn show_locals(
     Ok(())
 }
 
+/// `decode HEX`
+fn decode(bytes: &[u8], text: &mut Vec<u8>) -> Result<(), LineFault>
+    ensures ok { OnOk result (text.new.items ≡ text.old.items ++ decoded bytes.now) }
+    ensures memory { OnErr result (result ≡ Err LineFault.Memory) }
+{
+    match decode_text(text, bytes) {
+        Ok(()) => Ok(()),
+        Err(NoMemory) => Err(LineFault::Memory),
+    }
+}
+
 impl Scene {
     /// No nodes, at moment 0.
     pub fn new(alloc: Global) -> Scene
@@ -134,13 +147,9 @@ impl Scene {
     /// Carries a command out and appends what it prints.
     fn carry_out(&mut self, command: Command, text: &mut Vec<u8>) -> Result<(), LineFault>
         requires { text.old.items ≡ [] }
-        ensures ok {
-            (state : State) → SceneStands self.old state →
-                OnOk result (Carries (carried_out state command) state self.new text.new.items)
-        }
-        ensures refused {
-            (state : State) → SceneStands self.old state → IfErr result (Refuses (carried_out state command))
-        }
+        ensures ok { (state : State) → SceneStands self.old state →
+            OnOk result (Carries (carried_out state command) state self.new text.new.items) }
+        ensures refused { (state : State) → SceneStands self.old state → IfErr result (Refuses (carried_out state command)) }
     {
         match command {
             Command::Nothing => {}
@@ -156,6 +165,7 @@ impl Scene {
                 node,
                 table: Table::Locals,
             } => self.show(node.as_slice(), text)?,
+            Command::Decode { bytes } => decode(bytes.as_slice(), text)?,
             _other => return Err(refused(Refusal::NotBuilt)),
         }
         Ok(())
@@ -163,14 +173,10 @@ impl Scene {
 
     /// `node NAME MAC`
     fn add_node(&mut self, name: Bytes, mac: Mac) -> Result<(), LineFault>
-        ensures ok {
-            (state : State) → SceneStands self.old state →
-                OnOk result (Carries (carried_out state (Command.Node name mac)) state self.new [])
-        }
-        ensures refused {
-            (state : State) → SceneStands self.old state →
-                IfErr result (Refuses (carried_out state (Command.Node name mac)))
-        }
+        ensures ok { (state : State) → SceneStands self.old state →
+            OnOk result (Carries (carried_out state (Command.Node name mac)) state self.new []) }
+        ensures refused { (state : State) → SceneStands self.old state →
+            IfErr result (Refuses (carried_out state (Command.Node name mac))) }
     {
         if self.is_name_taken(&name) {
             return Err(refused(Refusal::NameTaken));
@@ -187,15 +193,11 @@ impl Scene {
 
     /// `frame PLACE SRC DST VID TEXT`: a frame to all stations is built.
     fn take_frame(&mut self, place: &[u8], source: Key, dst: Mac) -> Result<(), LineFault>
-        ensures ok {
-            (state : State) (text : List ℕ) → SceneStands self.old state →
-                OnOk result (Carries (carried_out state (Command.Frame place.now source.mac dst source.vid text))
-                    state self.new [])
-        }
-        ensures refused {
-            (state : State) (text : List ℕ) → SceneStands self.old state →
-                IfErr result (Refuses (carried_out state (Command.Frame place.now source.mac dst source.vid text)))
-        }
+        ensures ok { (state : State) (text : List ℕ) → SceneStands self.old state →
+            OnOk result (Carries (carried_out state (Command.Frame place.now source.mac dst source.vid text))
+            state self.new []) }
+        ensures refused { (state : State) (text : List ℕ) → SceneStands self.old state →
+            IfErr result (Refuses (carried_out state (Command.Frame place.now source.mac dst source.vid text))) }
     {
         if !dst.is_broadcast() {
             return Err(refused(Refusal::NotBuilt));
@@ -206,15 +208,11 @@ impl Scene {
 
     /// A client frame to all stations at a node that no link leaves: a sighting of its source, and no more.
     fn see(&mut self, place: &[u8], source: Key) -> Result<(), LineFault>
-        ensures ok {
-            (state : State) (dst : Mac) (text : List ℕ) → is_broadcast dst ≡ true → SceneStands self.old state →
-                OnOk result (Carries (carried_out state (Command.Frame place.now source.mac dst source.vid text))
-                    state self.new [])
-        }
-        ensures refused {
-            (state : State) (dst : Mac) (text : List ℕ) → is_broadcast dst ≡ true → SceneStands self.old state →
-                IfErr result (Refuses (carried_out state (Command.Frame place.now source.mac dst source.vid text)))
-        }
+        ensures ok { (state : State) (dst : Mac) (text : List ℕ) → is_broadcast dst ≡ true → SceneStands self.old state →
+            OnOk result (Carries (carried_out state (Command.Frame place.now source.mac dst source.vid text))
+            state self.new []) }
+        ensures refused { (state : State) (dst : Mac) (text : List ℕ) → is_broadcast dst ≡ true → SceneStands self.old state →
+            IfErr result (Refuses (carried_out state (Command.Frame place.now source.mac dst source.vid text))) }
     {
         let Some(place) = self.place_of(place) else {
             return Err(refused(Refusal::UnknownName));
@@ -229,14 +227,10 @@ impl Scene {
     /// `show NODE tl`
     fn show(&self, name: &[u8], text: &mut Vec<u8>) -> Result<(), LineFault>
         requires { text.old.items ≡ [] }
-        ensures ok {
-            (state : State) → SceneStands self.now state →
-                OnOk result (Carries (carried_out state (Command.Show name.now Table.Locals)) state self.now text.new.items)
-        }
-        ensures refused {
-            (state : State) → SceneStands self.now state →
-                IfErr result (Refuses (carried_out state (Command.Show name.now Table.Locals)))
-        }
+        ensures ok { (state : State) → SceneStands self.now state →
+            OnOk result (Carries (carried_out state (Command.Show name.now Table.Locals)) state self.now text.new.items) }
+        ensures refused { (state : State) → SceneStands self.now state →
+            IfErr result (Refuses (carried_out state (Command.Show name.now Table.Locals))) }
     {
         let Some(place) = self.place_of(name) else {
             return Err(refused(Refusal::UnknownName));
