@@ -6,6 +6,7 @@ if [ ! -x "$program" ]; then
 fi
 work=$(mktemp -d "${TMPDIR:-/tmp}/batmesh_bench.XXXXXX")
 trap 'rm -rf "$work"' EXIT
+trap 'exit 130' HUP INT TERM
 
 # Runs the program over the file $1 as standard input, without its output. Writes the seconds that
 # it took and its peak memory in KB into the file `used`.
