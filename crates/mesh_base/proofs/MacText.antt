@@ -5,7 +5,7 @@ use Rattle.std.specs.List.{slice_split, onto_first}
 use Rattle.std.specs.Option.{option_map}
 use Rattle.std.specs.Result.{result_ok}
 use Rattle.std.proofs.lemmas.Bool.{eqb-true}
-use Rattle.std.proofs.lemmas.Slice.Eq.{text_from_reads}
+use Rattle.std.proofs.lemmas.Slice.Eq.{text_from_reads, HasBytesAt}
 use Rattle.hex.specs.Hex.{◌>>=◌, hex_digit_value, digit_or_error, decode_pairs}
 use Rattle.hex.specs.declared.error.FromHexError.{FromHexError}
 use Rattle.mesh_base.specs.Address.{colon, option_both, bytes_of_pairs, mac_of_bytes, mac_of_text}
@@ -192,60 +192,19 @@ abbrev pub digits : List ℕ → List ℕ
 digits t = get_or t 0 0 ∷ get_or t 1 0 ∷ get_or t 3 0 ∷ get_or t 4 0 ∷ get_or t 6 0 ∷ get_or t 7 0
     ∷ get_or t 9 0 ∷ get_or t 10 0 ∷ get_or t 12 0 ∷ get_or t 13 0 ∷ get_or t 15 0 ∷ get_or t 16 0 ∷ []
 
-abbrev with_colons : (a b c d e f g h i j k l : ℕ) → List ℕ
-with_colons a b c d e f g h i j k l =
-    a ∷ b ∷ 58 ∷ c ∷ d ∷ 58 ∷ e ∷ f ∷ 58 ∷ g ∷ h ∷ 58 ∷ i ∷ j ∷ 58 ∷ k ∷ l ∷ []
-
 -- a text that is spaced so spells what its digits decode to
 pub mac_of_text-spaced : (text : List ℕ) → HasColons text
     → option_map mac_from (result_ok (decode_pairs 0 (digits text))) ≡ mac_of_text text
 unfolding decode_pairs
 mac_of_text-spaced text spaced =
     let at = λ (k : ℕ). get_or text k 0 in
-    let same : text ≡ with_colons (at 0) (at 1) (at 3) (at 4) (at 6) (at 7) (at 9) (at 10) (at 12) (at 13) (at 15) (at 16) =
-    text_from_reads text _ spaced.long (
-      refl,
-      (
-        refl,
-        (
-          spaced.colon_2,
-          (
-            refl,
-            (
-              refl,
-              (
-                spaced.colon_5,
-                (
-                  refl,
-                  (
-                    refl,
-                    (
-                      spaced.colon_8,
-                      (
-                        refl,
-                        (
-                          refl,
-                          (
-                            spaced.colon_11,
-                            (
-                              refl,
-                              (
-                                refl,
-                                (spaced.colon_14, (refl, (refl, tt))),
-                              ),
-                            ),
-                          ),
-                        ),
-                      ),
-                    ),
-                  ),
-                ),
-              ),
-            ),
-          ),
-        ),
-      ),
-    ) in
+    let from_15 : HasBytesAt text 15 (at 15 ∷ at 16 ∷ []) = (refl, (refl, tt)) in
+    let from_12 : HasBytesAt text 12 (at 12 ∷ at 13 ∷ 58 ∷ at 15 ∷ at 16 ∷ []) = (refl, (refl, (spaced.colon_14, from_15))) in
+    let from_9 : HasBytesAt text 9 (at 9 ∷ at 10 ∷ 58 ∷ at 12 ∷ at 13 ∷ 58 ∷ at 15 ∷ at 16 ∷ []) = (refl, (refl, (spaced.colon_11, from_12))) in
+    let from_6 : HasBytesAt text 6 (at 6 ∷ at 7 ∷ 58 ∷ at 9 ∷ at 10 ∷ 58 ∷ at 12 ∷ at 13 ∷ 58 ∷ at 15 ∷ at 16 ∷ []) = (refl, (refl, (spaced.colon_8, from_9))) in
+    let from_3 : HasBytesAt text 3 (at 3 ∷ at 4 ∷ 58 ∷ at 6 ∷ at 7 ∷ 58 ∷ at 9 ∷ at 10 ∷ 58 ∷ at 12 ∷ at 13 ∷ 58 ∷ at 15 ∷ at 16 ∷ []) = (refl, (refl, (spaced.colon_5, from_6))) in
+    let same : text ≡ at 0 ∷ at 1 ∷ 58 ∷ at 3 ∷ at 4 ∷ 58 ∷ at 6 ∷ at 7 ∷ 58 ∷ at 9 ∷ at 10 ∷ 58 ∷ at 12 ∷ at 13 ∷ 58 ∷ at 15 ∷ at 16 ∷ [] =
+    text_from_reads text (at 0 ∷ at 1 ∷ 58 ∷ at 3 ∷ at 4 ∷ 58 ∷ at 6 ∷ at 7 ∷ 58 ∷ at 9 ∷ at 10 ∷ 58 ∷ at 12 ∷ at 13 ∷ 58 ∷ at 15 ∷ at 16 ∷ []) spaced.long (refl, (refl, (spaced.colon_2, from_3))) in
     ap (option_map mac_from) (decode_six (at 0) (at 1) (at 3) (at 4) (at 6) (at 7) (at 9) (at 10) (at 12) (at 13) (at 15) (at 16))
     ∙ six_pairs (pair (at 0) (at 1)) (pair (at 3) (at 4)) (pair (at 6) (at 7)) (pair (at 9) (at 10)) (pair (at 12) (at 13)) (pair (at 15) (at 16))
     ∙ ap (option_and_then mac_of_bytes) (sym (bytes_of_pairs-split text ∙ ap read_pairs same))

@@ -1,5 +1,6 @@
--- The text of a hardware address: six pairs of hex digits, of either case, joined by colons; and its printed text.
--- The main words are `mac_of_text` and `mac_text`. A unicast address is no group's and isn't zero.
+-- The text of a hardware address: six pairs of hex digits, of either case, joined by colons; and
+-- its printed text. The main words are `mac_of_text` and `mac_text`. A unicast address is no
+-- group's and isn't zero.
 use Rattle.std.specs.Prelude.{ℕ, Bool, ◌+◌, ◌*◌, ◌/◌, ◌%◌, ◌==◌, ◌&&◌, not, List, [], ◌∷◌, ◌++◌, length, slice_index, Option, Some, None, option_and_then, if◌then◌else◌}
 use Rattle.std.specs.List.{slice_split, list_all}
 use Rattle.hex.specs.Hex.{hex_digit_value, lower_digits}
@@ -19,13 +20,15 @@ option_both join None b = None
 abbrev pub byte_of_pair : List ℕ → Option ℕ
 byte_of_pair [] = None
 byte_of_pair (high ∷ []) = None
-byte_of_pair (high ∷ low ∷ []) = option_both (λ h l. 16 * h + l) (hex_digit_value high) (hex_digit_value low)
+byte_of_pair (high ∷ low ∷ []) =
+    option_both (λ h l. 16 * h + l) (hex_digit_value high) (hex_digit_value low)
 byte_of_pair (high ∷ low ∷ more ∷ rest) = None
 
 -- the bytes that pairs of hex digits stand for, or none where one of them is no such pair
 abbrev pub bytes_of_pairs : List (List ℕ) → Option (List ℕ)
 bytes_of_pairs [] = Some []
-bytes_of_pairs (pair ∷ pairs) = option_both (λ byte bytes. byte ∷ bytes) (byte_of_pair pair) (bytes_of_pairs pairs)
+bytes_of_pairs (pair ∷ pairs) =
+    option_both (λ byte bytes. byte ∷ bytes) (byte_of_pair pair) (bytes_of_pairs pairs)
 
 -- six bytes as an address
 abbrev pub mac_of_bytes : List ℕ → Option Mac
@@ -33,7 +36,8 @@ mac_of_bytes bytes = if length bytes == 6 then Some (record { 0 = bytes }) else 
 
 -- the address that a text spells
 abbrev pub mac_of_text : List ℕ → Option Mac
-mac_of_text text = option_and_then mac_of_bytes (bytes_of_pairs (slice_split (λ b. b == colon) text))
+mac_of_text text =
+    option_and_then mac_of_bytes (bytes_of_pairs (slice_split (λ b. b == colon) text))
 
 -- a byte as two hex digits in lower case
 abbrev pub hex_of_byte : ℕ → List ℕ

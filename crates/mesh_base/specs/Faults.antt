@@ -1,4 +1,5 @@
--- A count of faults: it only ever rises, and stays at its last value once it is there. The main word is `Rose`.
+-- A count of faults: it only ever rises, and stays at its last value once it is there. The main
+-- word is `Rose`.
 use Rattle.std.specs.Prelude.{◌≡◌, ℕ, ◌+◌, ◌-◌, ◌^◌, ◌<◌, min, ◌⊎◌}
 use Rattle.mesh_base.specs.declared.failure.OpenErr.{OpenErr}
 use Rattle.mesh_base.specs.declared.failure.OpenErr.TheVariants.{Failed, Memory}

@@ -1,5 +1,5 @@
--- The order of clients' keys: by the bytes of the address, the first byte first, and at one address by the wire number
--- of the VLAN. The main word is `key_order`.
+-- The order of clients' keys: by the bytes of the address, the first byte first, and at one address
+-- by the wire number of the VLAN. The main word is `key_order`.
 use Rattle.std.specs.Ordering.{nat_cmp, ordering_then}
 use Rattle.std.specs.Cmp.Lexicographic.{slice_cmp}
 use Rattle.std.specs.declared.cmp.Ordering.{Ordering}

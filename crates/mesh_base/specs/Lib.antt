@@ -3,3 +3,6 @@ pub mod Address
 pub mod KeyOrder
 pub mod Faults
 pub mod Writes
+pub mod CallPlan
+pub mod Memory
+pub mod Real

@@ -1,5 +1,5 @@
--- What a call that writes a list of bytes in pieces leaves where it fails: a front of the list was taken, and no other
--- byte. The main word is `AppendsFront`; a whole list is std's `Appends`.
+-- What a call that writes a list of bytes in pieces leaves where it fails: a front of the list was
+-- taken, and no other byte. The main word is `AppendsFront`; a whole list is std's `Appends`.
 use Rattle.std.specs.Prelude.{ℕ, ◌≤◌, List, length, take, Option}
 use Rattle.std.specs.Io.KnownBytes.{Appends}
 

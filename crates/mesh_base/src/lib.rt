@@ -1,14 +1,14 @@
 //! The values that every layer of batmesh speaks of, and its doors to the outside.
 //!
-//! `Mac`, `Vid`, `Key` and `Entry` name clients and nodes; `Bytes` holds bytes of its own; `Intake` and `Sink` are
-//! what the program reads from and writes to.
+//! `Mac`, `Vid`, `Key` and `Entry` name clients and nodes; `Bytes` holds bytes of its own; `Intake`
+//! and `Sink` are what the program reads from and writes to, in memory or for real.
 
 #![tactic(auto)]
 
 pub mod address;
 pub mod byte_list;
+mod call_plan;
 pub mod client;
-mod failing_calls;
 pub mod failure;
 mod fault_count;
 pub mod memory_intake;
@@ -26,3 +26,6 @@ pub use memory_sink::MemSink;
 pub use outside::{Intake, PIECE_LIMIT, Sink};
 pub use real::{RealIntake, RealSink};
 pub use transfer::write_all;
+
+#[cfg(test)]
+mod tests;

@@ -1,6 +1,9 @@
-ghost use Rattle.std.specs.Prelude.{◌≡◌, ◌<◌, ◌≤◌, [], length, Some, IfOk, vec_capacity};
+ghost use Rattle.std.specs.Prelude.{◌≡◌, ◌<◌, ◌≤◌, ◌↔◌, ◌⊎◌, [], length, IfOk, OnErr, IsErr, vec_capacity};
+ghost use Rattle.std.specs.Io.{WritesAtMost};
+ghost use Rattle.std.specs.Io.KnownBytes.{WriteAppends};
+ghost use Rattle.mesh_base.specs.Faults.{Rose};
 
-use crate::failing_calls::FailingCalls;
+use crate::call_plan::CallPlan;
 use crate::failure::{Failed, NoMemory};
 use crate::fault_count::FaultCount;
 use crate::outside::Sink;
@@ -11,30 +14,33 @@ use std::alloc::Global;
 pub struct MemSink {
     bytes: Vec<u8>,
     room: usize,
-    piece: usize,
-    failing: FailingCalls,
+    plan: CallPlan,
     faults: FaultCount,
     pub ghost within: { length bytes.items ≤ room },
     pub ghost made: { room ≤ vec_capacity bytes },
-    pub ghost takes: { 0 < piece },
-    pub ghost calm: { failing.numbers.items ≡ [] → length bytes.items < room → faults.0 ≡ 0 },
+    pub ghost calm: { plan.fails.items ≡ [] → length bytes.items < room → faults.0 ≡ 0 },
 }
 
 impl MemSink {
-    /// An output with `room` for bytes, which takes at most `piece` of them at a write and fails at the writes of these
-    /// numbers, from 1. A write of some bytes is a fault too where no room is left.
+    ghost use Rattle.mesh_base.specs.CallPlan.{IsFreshPlan};
+    ghost use Rattle.mesh_base.specs.Memory.{sink_plan, whole_room};
+
+    /// An output with `room` for bytes, which takes at most `piece` of them at a write and fails at
+    /// the writes of these numbers, from 1. A write of some bytes is a fault too where no room is
+    /// left.
     pub fn new(alloc: Global, room: usize, piece: usize, fails: &[u64]) -> Result<MemSink, NoMemory>
         requires { 0 < piece }
         ensures taken { IfOk result (λ sink. ⟦<MemSink as Sink>⟧.taken sink ≡ Some []) }
         ensures faults { IfOk result (λ sink. ⟦<MemSink as Sink>⟧.faults sink ≡ 0) }
+        ensures room { IfOk result (λ sink. whole_room sink ≡ room) }
+        ensures plan { IfOk result (λ sink. IsFreshPlan piece fails.now (sink_plan sink)) }
     {
         let bytes = Vec::with_capacity(alloc, room)?;
-        let failing = FailingCalls::new(alloc, fails)?;
+        let plan = CallPlan::new(alloc, piece, fails)?;
         Ok(MemSink {
             bytes,
             room,
-            piece,
-            failing,
+            plan,
             faults: FaultCount(0),
         })
     }
@@ -55,18 +61,31 @@ impl MemSink {
 }
 
 impl Sink for MemSink {
-    ghost use Rattle.std.specs.Prelude.{Some};
+    ghost use Rattle.mesh_base.specs.CallPlan.{IsFailing};
+    ghost use Rattle.mesh_base.specs.Memory.{known_taken, sink_faults, sink_plan, taken_count, CallsOutput, IsFullFor};
 
-    ghost taken = { λ sink. Some sink.bytes.items };
+    ghost taken = { known_taken };
 
-    ghost faults = { λ sink. sink.faults.0 };
+    ghost faults = { sink_faults };
 
-    fn write(&mut self, buf: &[u8]) -> Result<usize, Failed> {
+    fn write(&mut self, buf: &[u8]) -> Result<usize, Failed>
+        ensures bound { WritesAtMost result buf.now }
+        ensures bytes { WriteAppends (known_taken self.old) (known_taken self.new) result buf.now }
+        ensures some { IfOk result (λ n. 0 < length buf.now → 0 < n) }
+        ensures cause { OnErr result (Rose (sink_faults self.old) (sink_faults self.new)) }
+        ensures count { sink_faults self.old ≤ sink_faults self.new }
+
+        // Exactly the planned calls fail, and those for which no room is left.
+        ensures fails { IsErr result ↔
+            (IsFailing (sink_plan self.new) ⊎ IsFullFor self.old buf.now) }
+        ensures given { IfOk result (λ count. count ≡ taken_count self.old (length buf.now)) }
+        ensures call { CallsOutput self.old self.new }
+    {
         let room = self.room - self.bytes.len();
-        if self.failing.next_fails() || (room == 0 && !buf.is_empty()) {
+        if self.plan.next_fails() || (room == 0 && !buf.is_empty()) {
             return Err(self.faults.raise());
         }
-        let count = self.piece.min(room.min(buf.len()));
+        let count = self.plan.piece.min(room.min(buf.len()));
         self.bytes.extend_from_slice(&buf[..count]).unwrap();
         Ok(count)
     }

@@ -11,8 +11,8 @@ pub const PIECE_LIMIT: usize = 4096;
 
 /// What the program reads from.
 ///
-/// `left` are the bytes left to read, and `named` those that an open of a name would leave (None is standard input),
-/// each where they are told; `faults` counts the faults so far.
+/// `left` are the bytes left to read, and `named` those that an open of a name would leave (None is
+/// standard input), each where they are told; `faults` counts the faults so far.
 pub trait Intake {
     ghost left: { Self → Option (List ℕ) };
 
@@ -30,7 +30,8 @@ pub trait Intake {
         ensures count { faults self.old ≤ faults self.new }
         ensures refused { OnErr result (Keeps (left self.old) (left self.new)) };
 
-    /// Reads the next bytes into the front of `buf` and answers how many: 0 only at the end. The rest of `buf` is free.
+    /// Reads the next bytes into the front of `buf` and answers how many: 0 only at the end. The
+    /// rest of `buf` is free.
     fn read(&mut self, buf: &mut [u8]) -> Result<usize, Failed>
         requires some { 0 < length buf.old }
         requires piece { length buf.old ≤ PIECE_LIMIT }
@@ -44,7 +45,8 @@ pub trait Intake {
 
 /// What the program writes to.
 ///
-/// `taken` are the bytes that it took so far, where they are told; `faults` counts the faults so far.
+/// `taken` are the bytes that it took so far, where they are told; `faults` counts the faults so
+/// far.
 pub trait Sink {
     ghost taken: { Self → Option (List ℕ) };
 

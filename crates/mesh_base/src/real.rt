@@ -1,30 +1,36 @@
-ghost use Rattle.std.specs.Prelude.{◌≡◌};
+ghost use Rattle.std.specs.Prelude.{◌≡◌, ◌<◌, ◌≤◌, length, take, IfSome, OnOk, IfOk, OnErr, IfErr};
+ghost use Rattle.std.specs.Option.{option_copied};
+ghost use Rattle.std.specs.Io.{ReadsAtMost, WritesAtMost};
+ghost use Rattle.std.specs.Io.KnownBytes.{Appends, ReadConsumes};
+ghost use Rattle.mesh_base.specs.Faults.{Rose, HasOpenCause};
+ghost use Rattle.mesh_base.specs.Real.{source_left, IsOpenAt};
 
 use crate::failure::{Failed, OpenErr};
 use crate::fault_count::FaultCount;
-use crate::outside::{Intake, Sink};
+use crate::outside::{Intake, PIECE_LIMIT, Sink};
 use std::fs;
 use std::fs::Files;
 use std::io::{ErrorKind, Input, Read, Write};
 
 /// What is read from at present.
 #[derive(Drop)]
-enum Source<R: Files + Input> {
+enum Source<I, F> {
     Nothing,
-    Standard(R::Reader),
-    File(R::File),
+    Standard(I),
+    File(F),
 }
 
-/// The files and the standard input of a runtime. It tells no bytes. Before it is opened, nothing is left.
+/// The files and the standard input of a runtime. It tells no bytes. Before it is opened, nothing
+/// is left. A read that the system interrupted is a fault like any other.
 #[derive(Drop)]
 pub struct RealIntake<R: Files + Input> {
     runtime: R,
-    source: Source<R>,
+    source: Source<R::Reader, R::File>,
     faults: FaultCount,
 }
 
 impl<R: Files + Input + Drop> RealIntake<R> {
-    /// No input opened yet.
+    /// No input opened yet. The runtime may be a reference to one.
     pub fn new(runtime: R) -> RealIntake<R>
         ensures faults { ⟦<RealIntake<R> as Intake>⟧.faults result ≡ 0 }
     {
@@ -45,7 +51,12 @@ impl<R: Files + Input + Drop> Intake for RealIntake<R> {
 
     ghost faults = { λ intake. intake.faults.0 };
 
-    fn open(&mut self, name: Option<&str>) -> Result<(), OpenErr> {
+    fn open(&mut self, name: Option<&str>) -> Result<(), OpenErr>
+        ensures cause { IfErr result (HasOpenCause self.old.faults.0 self.new.faults.0) }
+        ensures count { self.old.faults.0 ≤ self.new.faults.0 }
+        ensures source { OnOk result (IsOpenAt (option_copied name.entry) self.new.source) }
+        ensures stays { OnErr result (self.new.source ≡ self.old.source) }
+    {
         let Some(name) = name else {
             self.source = Source::Standard(self.runtime.reader());
             return Ok(());
@@ -60,7 +71,16 @@ impl<R: Files + Input + Drop> Intake for RealIntake<R> {
         }
     }
 
-    fn read(&mut self, buf: &mut [u8]) -> Result<usize, Failed> {
+    fn read(&mut self, buf: &mut [u8]) -> Result<usize, Failed>
+        requires some { 0 < length buf.old }
+        requires piece { length buf.old ≤ PIECE_LIMIT }
+        ensures bound { ReadsAtMost result buf.new }
+        ensures cause { OnErr result (Rose self.old.faults.0 self.new.faults.0) }
+        ensures count { self.old.faults.0 ≤ self.new.faults.0 }
+        ensures passes { ReadConsumes
+            (source_left R.Reader.remaining R.File.remaining self.old.source)
+            (source_left R.Reader.remaining R.File.remaining self.new.source) result buf.new }
+    {
         let answer = match &mut self.source {
             Source::Nothing => Ok(0),
             Source::Standard(input) => input.read(buf),
@@ -73,7 +93,8 @@ impl<R: Files + Input + Drop> Intake for RealIntake<R> {
     }
 }
 
-/// A writer, flushed in each write. It tells no bytes.
+/// A writer, flushed in each write. It tells no bytes. A flush that fails is a fault, and so is a
+/// write that took none of some bytes or that the system interrupted.
 #[derive(Drop)]
 pub struct RealSink<W> {
     writer: W,
@@ -99,7 +120,14 @@ impl<W: Write> Sink for RealSink<W> {
 
     ghost faults = { λ sink. sink.faults.0 };
 
-    fn write(&mut self, buf: &[u8]) -> Result<usize, Failed> {
+    fn write(&mut self, buf: &[u8]) -> Result<usize, Failed>
+        ensures bound { WritesAtMost result buf.now }
+        ensures some { IfOk result (λ count. 0 < length buf.now → 0 < count) }
+        ensures cause { OnErr result (Rose self.old.faults.0 self.new.faults.0) }
+        ensures count { self.old.faults.0 ≤ self.new.faults.0 }
+        ensures passes { IfOk result (λ count. Appends
+            (W.contents self.old.writer) (W.contents self.new.writer) (take count buf.now)) }
+    {
         match self.writer.write(buf) {
             Ok(count) if (count > 0 || buf.is_empty()) && self.writer.flush().is_ok() => Ok(count),
             _ => Err(self.faults.raise()),

@@ -1,2 +1,7 @@
 -- What the laws rest on.
 pub mod OnLiterals
+pub mod CutLemmas
+pub mod RunLemmas
+pub mod HaltLemmas
+pub mod KeyLists
+pub mod PresentLemmas

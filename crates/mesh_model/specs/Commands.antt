@@ -51,7 +51,8 @@ is_comment (first ∷ rest) = first == 35
 -- the reading of a line's words
 abbrev pub command_of_words : List Word → Reading
 command_of_words [] = Ok Nothing
-command_of_words (first ∷ rest) = if is_comment first.word then Ok Nothing else read_form first.word rest
+command_of_words (first ∷ rest) =
+    if is_comment first.word then Ok Nothing else read_form first.word rest
 
 -- the reading of what a line says
 unfoldable pub command_of_line : List ℕ → Reading

@@ -2,14 +2,14 @@
 -- or at which a quantity would pass its limit ends the run there. The limit `line` is reached at the byte past 4,096
 -- before a line's newline, `input` at the byte past 67,108,864 of the input, whichever comes first; where one byte is
 -- both, it is `line`. The main words are `plain_run` and `output`.
-use Rattle.std.specs.Prelude.{ℕ, ◌+◌, ◌&&◌, nat_lt, nat_le, Bool, List, length, flat_map, fold, Option, Some, None, is_some, Result, Ok, Err, if◌then◌else◌}
+use Rattle.std.specs.Prelude.{ℕ, ◌+◌, ◌&&◌, nat_lt, nat_le, Bool, List, length, fold, Option, Some, None, is_some, Result, Ok, Err, if◌then◌else◌}
 use Rattle.mesh_model.specs.declared.ending.LimitName.TheVariants.{Line, Input}
 use Rattle.mesh_model.specs.declared.ending.Stop.{Stop}
 use Rattle.mesh_model.specs.declared.ending.Stop.TheVariants.{Limit}
 use Rattle.mesh_model.specs.Commands.{command_of_line}
 use Rattle.mesh_model.specs.Lines.{line_limit, input_limit, lines_of, before_newline, content}
 use Rattle.mesh_model.specs.Readings.{Reading}
-use Rattle.mesh_model.specs.State.{State, no_nodes, carried_out, event_text}
+use Rattle.mesh_model.specs.State.{State, no_nodes, carried_out, events_text}
 
 -- where and why a run ended before the end of its input
 pub record Halt : Type 0 where
@@ -68,4 +68,4 @@ plain_run input = after_lines start (lines_of input)
 
 -- what a run prints
 abbrev pub output : Run → List ℕ
-output run = flat_map event_text run.state.events
+output run = events_text run.state

@@ -2,7 +2,7 @@
 -- stands at a moment in milliseconds; the events are what the run prints, in order. A command is
 -- refused by the first rule that it breaks: it is built, and a name that a line uses must be that
 -- of a node. The main word is `carried_out`.
-use Rattle.std.specs.Prelude.{ℕ, Bool, true, not, List, [], ◌∷◌, ◌++◌, map, find, bytes_eq, Option, Some, None, Result, Ok, Err, if◌then◌else◌}
+use Rattle.std.specs.Prelude.{ℕ, Bool, true, not, List, [], ◌∷◌, ◌++◌, find, flat_map, bytes_eq, Option, Some, None, Result, Ok, Err, if◌then◌else◌}
 use Rattle.std.specs.List.{list_any}
 use Rattle.std.specs.Option.{option_or, option_map_or}
 use Rattle.mesh_base.specs.declared.address.Mac.{Mac}
@@ -58,7 +58,8 @@ log_of name nodes = option_map_or (λ node. node.log) (node_named name nodes) []
 abbrev pub refusal_if : Bool → Refusal → Option Refusal
 refusal_if holds refusal = if holds then Some refusal else None
 
--- what isn't built: a second node, a frame that isn't for all stations, another table than the local one, other forms
+-- what isn't built: a second node, a frame that isn't for all stations, a table other than the
+-- local one, and each other form
 abbrev pub not_built : State → Command → Option Refusal
 not_built state Nothing = None
 not_built state (Node name mac) = refusal_if (list_any (λ node. true) state.nodes) NotBuilt
@@ -79,13 +80,20 @@ first_refused_rule state command = option_or (not_built state command) (unknown_
 abbrev pub with_input : ℕ → Given → Log → Log
 with_input now given log = record { moment = now; given = given; acts = [] } ∷ log
 
--- a node that is given an input, where it has this name
-abbrev pub given_to : List ℕ → ℕ → Given → NodeLog → NodeLog
-given_to name now given node = if is_named name node then record node { log = with_input now given node.log } else node
+-- the nodes, of which the one of this name changes
+abbrev pub change_named : List ℕ → (NodeLog → NodeLog) → List NodeLog → List NodeLog
+change_named name change [] = []
+change_named name change (node ∷ rest) =
+    if is_named name node then change node ∷ rest else node ∷ change_named name change rest
+
+-- a node that is given an input at a moment
+abbrev pub given_at : ℕ → Given → NodeLog → NodeLog
+given_at now given node = record node { log = with_input now given node.log }
 
 -- the state after a node is given an input
 abbrev pub after_input : List ℕ → Given → State → State
-after_input name given state = record state { nodes = map (given_to name state.clock given) state.nodes }
+after_input name given state =
+    record state { nodes = change_named name (given_at state.clock given) state.nodes }
 
 -- the local table of a node, before any commit
 abbrev pub local_table : List ℕ → State → LocalTable
@@ -122,3 +130,7 @@ carried_out state command = unless_refused (after_command state command) (first_
 -- an event as it is printed
 abbrev pub event_text : Event → List ℕ
 event_text (LocalsShown table) = table_text table
+
+-- what the events of a state print
+abbrev pub events_text : State → List ℕ
+events_text state = flat_map event_text state.events

@@ -92,6 +92,8 @@ fn lines_that_make_the_net_are_refused_by_their_first_fault(rt: HostRuntime) {
 
 #[test]
 fn options_of_a_link_stand_in_any_order_and_once(rt: HostRuntime) {
+    let mut line = [b'.'; 82];
+    line[..17].copy_from_slice(b"link A B pattern=");
     see(
         &rt,
         rt.alloc(),
@@ -110,14 +112,8 @@ fn options_of_a_link_stand_in_any_order_and_once(rt: HostRuntime) {
             (b"link A B tp=0", Some(BadNumber)),
             (b"link A B pattern=", Some(BadNumber)),
             (b"link A B pattern=.X", Some(BadNumber)),
-            (
-                b"link A B pattern=................................................................",
-                None,
-            ),
-            (
-                b"link A B pattern=.................................................................",
-                Some(BadNumber),
-            ),
+            (&line[..81], None),
+            (&line, Some(BadNumber)),
             (b"link A B tp=1 tp=1", Some(BadNumber)),
             (b"link A B tp=1 delay=2 pattern=x", None),
             (b"link A B tp=1 delay=2 pattern=x tp=1", Some(ExtraWord)),
@@ -352,7 +348,7 @@ fn a_lan_has_its_gateways_in_order(rt: HostRuntime) -> Result<(), Fail> {
 }
 
 #[test]
-fn each_form_gives_its_command(rt: HostRuntime) -> Result<(), Fail> {
+fn lines_of_clients_give_their_keys(rt: HostRuntime) -> Result<(), Fail> {
     let alloc = rt.alloc();
     let group = Key {
         mac: Mac([1, 0, 0x5e, 0, 0, 1]),
@@ -362,121 +358,106 @@ fn each_form_gives_its_command(rt: HostRuntime) -> Result<(), Fail> {
         mac: CLIENT,
         vid: Vid::UNTAGGED,
     };
-    assert!(rt; matches!(read_line(alloc, b"algo v")?, Command::Algo(Algorithm::V)));
-    assert!(rt;
-        matches!(read_line(alloc, b"node A 02:00:00:00:00:0A")?, Command::Node { mac, .. } if mac == NODE)
-    );
-    assert!(rt;
-        matches!(read_line(alloc, b"gone A 02:00:00:00:01:07 -")?, Command::Gone { key, .. } if key == client)
-    );
-    assert!(rt;
-        matches!(read_line(alloc, b"join A 01:00:5e:00:00:01 7")?, Command::Join { key, .. } if key == group)
-    );
-    assert!(rt;
-        matches!(read_line(alloc, b"leave A 01:00:5e:00:00:01 7")?, Command::Leave { key, .. } if key == group)
-    );
-    assert!(rt;
-        matches!(
-            read_line(alloc, b"arp A 02:00:00:00:01:07 10.0.0.1 192.168.1.255 -")?,
-            Command::Arp {
-                own_ip: 0x0a00_0001,
-                asked_ip: 0xc0a8_01ff,
-                ..
-            }
-        )
-    );
-    assert!(rt;
-        matches!(read_line(alloc, b"dhcp A 02:00:00:00:01:07 - hi")?, Command::Dhcp { key, .. } if key == client)
-    );
-    assert!(rt;
-        matches!(
-            read_line(alloc, b"set A wifi off")?,
-            Command::Wifi { on: false, .. }
-        )
-    );
-    assert!(rt; matches!(read_line(alloc, b"set A gw off")?, Command::GwOff { .. }));
-    assert!(rt;
-        matches!(
-            read_line(alloc, b"set A gw server 0 4294967295")?,
-            Command::GwServer {
-                down: 0,
-                up: 4294967295,
-                ..
-            }
-        )
-    );
-    assert!(rt;
-        matches!(
-            read_line(alloc, b"set A gw client stable")?,
-            Command::GwClient {
-                policy: Policy::Stable,
-                ..
-            }
-        )
-    );
-    assert!(rt;
-        matches!(
-            read_line(alloc, b"set A gw client late 255")?,
-            Command::GwClient {
-                policy: Policy::Late(255),
-                ..
-            }
-        )
-    );
-    assert!(rt;
-        matches!(
-            read_line(alloc, b"set A mcast 7")?,
-            Command::Mcast { flags: 7, .. }
-        )
-    );
-    assert!(rt;
-        matches!(
-            read_line(alloc, b"set A dat on")?,
-            Command::Dat { on: true, .. }
-        )
-    );
-    assert!(rt;
-        matches!(
-            read_line(alloc, b"alfred A mode secondary")?,
-            Command::Alfred {
-                mode: AlfredMode::Secondary,
-                ..
-            }
-        )
-    );
-    assert!(rt;
-        matches!(
-            read_line(alloc, b"alfred A put 64 255 x")?,
-            Command::Put {
-                type_no: 64,
-                version: 255,
-                ..
-            }
-        )
-    );
-    assert!(rt;
-        matches!(
-            read_line(alloc, b"alfred A get 255")?,
-            Command::Get { type_no: 255, .. }
-        )
-    );
-    assert!(rt; matches!(read_line(alloc, b"ping A B")?, Command::Ping { .. }));
-    assert!(rt; matches!(read_line(alloc, b"traceroute A B")?, Command::Trace { .. }));
-    assert!(rt;
-        matches!(
-            read_line(alloc, b"run 0001000")?,
-            Command::Run { time: 1000 }
-        )
-    );
-    assert!(rt;
-        matches!(
-            read_line(alloc, b"deliver 18446744073709551616")?,
-            Command::Deliver { number: u64::MAX }
-        )
-    );
-    assert!(rt;
-        matches!(read_line(alloc, b"decode 00fF")?, Command::Decode { bytes } if bytes.as_slice() == [0, 0xff].as_slice())
-    );
+    assert!(rt; matches!(
+        read_line(alloc, b"gone A 02:00:00:00:01:07 -")?,
+        Command::Gone { key, .. } if key == client
+    ));
+    assert!(rt; matches!(
+        read_line(alloc, b"join A 01:00:5e:00:00:01 7")?,
+        Command::Join { key, .. } if key == group
+    ));
+    assert!(rt; matches!(
+        read_line(alloc, b"leave A 01:00:5e:00:00:01 7")?,
+        Command::Leave { key, .. } if key == group
+    ));
+    assert!(rt; matches!(
+        read_line(alloc, b"dhcp A 02:00:00:00:01:07 - hi")?,
+        Command::Dhcp { key, .. } if key == client
+    ));
+    assert!(rt; matches!(
+        read_line(alloc, b"arp A 02:00:00:00:01:07 10.0.0.1 192.168.1.255 -")?,
+        Command::Arp { own_ip: 0x0a00_0001, asked_ip: 0xc0a8_01ff, .. }
+    ));
+    Ok(())
+}
+
+#[test]
+fn settings_give_what_is_set(rt: HostRuntime) -> Result<(), Fail> {
+    let alloc = rt.alloc();
+    assert!(rt; matches!(
+        read_line(alloc, b"set A wifi off")?,
+        Command::Wifi { on: false, .. }
+    ));
+    assert!(rt; matches!(
+        read_line(alloc, b"set A gw off")?,
+        Command::GwOff { .. }
+    ));
+    assert!(rt; matches!(
+        read_line(alloc, b"set A gw server 0 4294967295")?,
+        Command::GwServer { down: 0, up: u32::MAX, .. }
+    ));
+    assert!(rt; matches!(
+        read_line(alloc, b"set A gw client stable")?,
+        Command::GwClient { policy: Policy::Stable, .. }
+    ));
+    assert!(rt; matches!(
+        read_line(alloc, b"set A gw client late 255")?,
+        Command::GwClient { policy: Policy::Late(255), .. }
+    ));
+    assert!(rt; matches!(
+        read_line(alloc, b"set A mcast 7")?,
+        Command::Mcast { flags: 7, .. }
+    ));
+    assert!(rt; matches!(
+        read_line(alloc, b"set A dat on")?,
+        Command::Dat { on: true, .. }
+    ));
+    assert!(rt; matches!(
+        read_line(alloc, b"alfred A mode secondary")?,
+        Command::Alfred { mode: AlfredMode::Secondary, .. }
+    ));
+    assert!(rt; matches!(
+        read_line(alloc, b"alfred A put 64 255 x")?,
+        Command::Put { type_no: 64, version: 255, .. }
+    ));
+    assert!(rt; matches!(
+        read_line(alloc, b"alfred A get 255")?,
+        Command::Get { type_no: 255, .. }
+    ));
+    Ok(())
+}
+
+#[test]
+fn lines_that_run_and_print_give_their_words(rt: HostRuntime) -> Result<(), Fail> {
+    let alloc = rt.alloc();
+    assert!(rt; matches!(
+        read_line(alloc, b"algo v")?,
+        Command::Algo(Algorithm::V)
+    ));
+    assert!(rt; matches!(
+        read_line(alloc, b"node A 02:00:00:00:00:0A")?,
+        Command::Node { mac, .. } if mac == NODE
+    ));
+    assert!(rt; matches!(
+        read_line(alloc, b"ping A B")?,
+        Command::Ping { .. }
+    ));
+    assert!(rt; matches!(
+        read_line(alloc, b"traceroute A B")?,
+        Command::Trace { .. }
+    ));
+    assert!(rt; matches!(
+        read_line(alloc, b"run 0001000")?,
+        Command::Run { time: 1000 }
+    ));
+    assert!(rt; matches!(
+        read_line(alloc, b"deliver 18446744073709551616")?,
+        Command::Deliver { number: u64::MAX }
+    ));
+    assert!(rt; matches!(
+        read_line(alloc, b"decode 00fF")?,
+        Command::Decode { bytes } if bytes.as_slice() == [0, 0xff].as_slice()
+    ));
     Ok(())
 }
 

@@ -1,0 +1,7 @@
+pub mod Places
+pub mod Rows
+pub mod Packets
+pub mod Same
+pub mod Written
+pub mod Refusals
+pub mod Puts

@@ -1,0 +1,27 @@
+-- What `encode` answers. A packet can't be written where its containers are longer than the header
+-- can tell, or where a tail is given to a kind that has none. The main word is `HasObstacle`.
+use Rattle.std.specs.Prelude.{◌≡◌, ℕ, ◌<◌, List, length, ⊤}
+use Rattle.mesh_model.specs.declared.packet.Head.{Head}
+use Rattle.mesh_model.specs.Packets.{row_of}
+use Rattle.mesh_model.specs.Packets.TailKind.{containers, nothing}
+use Rattle.mesh_codec.specs.declared.failure.CodecErr.{CodecErr}
+use Rattle.mesh_codec.specs.declared.failure.CodecErr.TheVariants.{Short, Version, Kind, Length, Long, Tail, Memory}
+
+-- the containers are longer than two bytes can tell
+abbrev pub IsTooLong : Head → List ℕ → Type 0
+IsTooLong head tail =
+    ((row_of head (length tail)).tail ≡ containers) × (65535 < length tail)
+
+-- there is a tail, and the kind has none
+abbrev pub HasStrayTail : Head → List ℕ → Type 0
+HasStrayTail head tail = ((row_of head (length tail)).tail ≡ nothing) × (0 < length tail)
+
+-- why a packet can't be written; want of memory may come at any
+abbrev pub HasObstacle : Head → List ℕ → CodecErr → Type 0
+HasObstacle head tail (Short have need) = ⊥
+HasObstacle head tail (Version version) = ⊥
+HasObstacle head tail (Kind kind) = ⊥
+HasObstacle head tail (Length told left) = ⊥
+HasObstacle head tail (Long len) = (len ≡ length tail) × IsTooLong head tail
+HasObstacle head tail (Tail len) = (len ≡ length tail) × HasStrayTail head tail
+HasObstacle head tail Memory = ⊤

@@ -1,0 +1,33 @@
+//! Laws of the packet grammar, each proved as the contract of a function that does nothing.
+
+ghost use Rattle.mesh_codec.specs.Laws.{HasOneReading, HasOneSpelling, IsReadBeforeMore, IsReadAlone, CanBeWritten, HasTableSize};
+
+/// Bytes begin with one packet at most.
+pub fn bytes_begin_with_one_packet()
+    ensures { HasOneReading }
+{}
+
+/// No two packets have one spelling.
+pub fn a_spelling_is_of_one_packet()
+    ensures { HasOneSpelling }
+{}
+
+/// A written packet whose tail isn't all the rest is read again, whatever follows it.
+pub fn a_written_packet_is_read_before_more()
+    ensures { IsReadBeforeMore }
+{}
+
+/// A written packet that stands alone is read again.
+pub fn a_written_packet_is_read_alone()
+    ensures { IsReadAlone }
+{}
+
+/// A packet that was read can be written, also where it is a fragment.
+pub fn a_read_packet_can_be_written()
+    ensures { CanBeWritten }
+{}
+
+/// Each header is as long as the table of sizes says.
+pub fn a_header_has_its_size()
+    ensures { HasTableSize }
+{}

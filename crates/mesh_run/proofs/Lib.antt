@@ -1,0 +1,9 @@
+-- What the proofs rest on.
+pub mod MacLemmas
+pub mod ProgressLemmas
+pub mod FaultLemmas
+pub mod SceneLemmas
+pub mod PieceLemmas
+pub mod EndLemmas
+pub mod ReadLemmas
+pub mod InputLemmas

@@ -1,0 +1,46 @@
+-- What a scene of nodes stands for: a state of the plain run, node by node. The main word is `SceneStands`.
+use Rattle.std.specs.Prelude.{◌≡◌, ℕ, List, [], ◌∷◌, ◌++◌, Result, Ok, Err, bytes_eq, Bool, false}
+use Rattle.mesh_model.specs.declared.ending.Stop.{Stop}
+use Rattle.mesh_model.specs.Mentions.{is_wifi_on, mentions}
+use Rattle.mesh_model.specs.State.{NodeLog, State, events_text}
+use Rattle.mesh_run.specs.declared.fault.LineFault.{LineFault}
+use Rattle.mesh_run.specs.declared.fault.LineFault.TheVariants.{Stopped, Memory}
+use Rattle.mesh_run.specs.declared.node.SceneNode.{SceneNode}
+use Rattle.mesh_run.specs.declared.scene.Scene.{Scene}
+use Rattle.tt_local.specs.Locals.{StandsFor}
+
+-- a node has the name and the address of one of the plain run, its clients are those of its log, and no setting marks
+-- its sightings
+pub record NodeStands (node : SceneNode) (kept : NodeLog) : Type 0 where
+  pub name : node.name ≡ kept.name
+  pub mac : node.mac ≡ kept.mac
+  pub locals : StandsFor node.locals (mentions kept.log)
+  pub unmarked : is_wifi_on kept.log ≡ false
+
+-- each node stands for the one at its place
+abbrev pub NodesStand : List SceneNode → List NodeLog → Type 0
+NodesStand [] [] = Unit {0}
+NodesStand [] (kept ∷ rest) = ⊥
+NodesStand (node ∷ nodes) [] = ⊥
+NodesStand (node ∷ nodes) (kept ∷ rest) = NodeStands node kept × NodesStand nodes rest
+
+-- the scene has the nodes and the clock of the state
+pub record SceneStands (scene : Scene) (state : State) : Type 0 where
+  pub nodes : NodesStand scene.nodes.items state.nodes
+  pub clock : scene.clock ≡ state.clock
+
+-- whether a node of the scene has this name
+abbrev pub is_called : List ℕ → SceneNode → Bool
+is_called name node = bytes_eq node.name name
+
+-- a line that is carried out: the state after it, for which the scene stands, and what it printed
+pub record Carries (wanted : Result State Stop) (before : State) (scene : Scene) (printed : List ℕ) : Type 0 where
+  pub after : State
+  pub carried : wanted ≡ Ok after
+  pub stands : SceneStands scene after
+  pub text : events_text after ≡ events_text before ++ printed
+
+-- the cause of a line's fault: want of memory is free
+abbrev pub Refuses : Result State Stop → LineFault → Type 0
+Refuses wanted (Stopped stop) = wanted ≡ Err stop
+Refuses wanted Memory = Unit {0}

@@ -1,0 +1,47 @@
+ghost use Rattle.std.specs.Prelude.{ℕ, List, [], Option, None, IfSome, OnOk, IfErr};
+ghost use Rattle.std.specs.Io.KnownBytes.{IsAtEnd};
+ghost use Rattle.mesh_run.specs.Outcome.{RunFails};
+ghost use Rattle.mesh_run.specs.Progress.{Finishes, Stands};
+ghost use Rattle.mesh_run.specs.Reading.{CountsFaults};
+
+use crate::fault::Fault;
+use crate::reader::read_all;
+use crate::runner::Runner;
+use crate::scene::Scene;
+use mesh_base::{Intake, OpenErr, Sink};
+use std::alloc::Global;
+
+/// A run before its first line.
+fn new_runner(alloc: Global) -> Runner
+    ensures { (base : Option (List ℕ)) → Stands base base result [] }
+{
+    Runner {
+        scene: Scene::new(alloc),
+        line: Vec::new(alloc),
+        text: Vec::new(alloc),
+        lines: 0,
+        taken: 0,
+    }
+}
+
+/// Opens standard input and carries it out.
+pub fn run_input<I: Intake, K: Sink>(
+    alloc: Global,
+    intake: &mut I,
+    out: &mut K,
+) -> Result<(), Fault>
+    ensures finished { OnOk result (IfSome (I.named intake.old None) (Finishes (K.taken out.old) (K.taken out.new))) }
+    ensures at_end { OnOk result (IsAtEnd (I.left intake.new)) }
+    ensures failed { IfErr result (λ fault. IfSome (I.named intake.old None)
+        (RunFails (K.taken out.old) (K.taken out.new) (I.left intake.old) (I.left intake.new) fault)) }
+    ensures faults { CountsFaults (I.faults intake.old) (I.faults intake.new) (K.faults out.old) (K.faults out.new) result }
+{
+    match intake.open(None) {
+        Ok(()) => {}
+        Err(OpenErr::Failed) => return Err(Fault::Read),
+        Err(OpenErr::Memory) => return Err(Fault::Memory),
+    }
+    let mut runner = new_runner(alloc);
+    read_all(intake, out, &mut runner)?;
+    Ok(())
+}

@@ -1,0 +1,19 @@
+//! The run of a scenario: from the bytes that come in to the text that goes out.
+
+#![tactic(auto)]
+
+mod carrying;
+mod fault;
+mod input;
+mod node;
+mod program;
+mod reader;
+mod reading;
+mod report;
+mod runner;
+mod scene;
+mod table_text;
+
+pub use program::{
+    FINISHED, LIMITED, OUT_OF_MEMORY, READ_FAULT, REFUSED, USAGE, WRITE_FAULT, batmesh,
+};

@@ -1,0 +1,99 @@
+ghost use Rattle.std.specs.Prelude.{◌≡◌, ◌<◌, ◌⊎◌, ◌↔◌, [], length, None, IfSome};
+ghost use Rattle.std.specs.Io.KnownBytes.{IsAtEnd};
+ghost use Rattle.mesh_base.specs.Faults.{Rose};
+ghost use Rattle.mesh_model.specs.PlainRun.{plain_run};
+ghost use Rattle.mesh_run.specs.Outcome.{IsLimited, IsRefused, IsStatusOr, PrintsFrontOf, PrintsTaken, TellsStatus, fault_status, plain_status};
+ghost use Rattle.mesh_run.specs.Progress.{Finishes};
+
+use crate::fault::Fault;
+use crate::input::run_input;
+use crate::report::tell_fault;
+use mesh_base::{Failed, Intake, Sink, write_all};
+use mesh_model::Stop;
+use std::alloc::Global;
+
+/// The input was read to its end, every line was accepted, and all was written.
+pub const FINISHED: u8 = 0;
+/// A line was refused.
+pub const REFUSED: u8 = 1;
+/// The words weren't taken.
+pub const USAGE: u8 = 2;
+/// The input failed.
+pub const READ_FAULT: u8 = 3;
+/// The output failed.
+pub const WRITE_FAULT: u8 = 4;
+/// Memory ran out.
+pub const OUT_OF_MEMORY: u8 = 5;
+/// A quantity would have passed its limit.
+pub const LIMITED: u8 = 6;
+
+/// The status of a fault.
+fn status_of(fault: Fault) -> u8
+    ensures { result ≡ fault_status fault }
+{
+    match fault {
+        Fault::Halted { line: _, stop } => match stop {
+            Stop::Refused(_refusal) => REFUSED,
+            Stop::Limit(_name) => LIMITED,
+        },
+        Fault::Read => READ_FAULT,
+        Fault::Write => WRITE_FAULT,
+        Fault::Memory => OUT_OF_MEMORY,
+    }
+}
+
+/// Carries out the scenario that the intake gives, and answers the status with which the program ends.
+///
+/// `words` are the command words after the program's name: none is taken. `out` takes what the scenario prints, `err`
+/// one line for each status other than `FINISHED`.
+pub fn batmesh<I: Intake, K: Sink, E: Sink>(
+    alloc: Global,
+    words: &[String],
+    intake: &mut I,
+    out: &mut K,
+    err: &mut E,
+) -> u8
+    // Where the input is told, out took the whole text of its plain run.
+    ensures finished { result ≡ FINISHED → IfSome (I.named intake.old None) (Finishes (K.taken out.old) (K.taken out.new)) }
+    ensures at_end { result ≡ FINISHED → IsAtEnd (I.left intake.new) }
+
+    // The plain run halts at a line, out took what it prints up to there, and reading stopped near it.
+    ensures refused { result ≡ REFUSED →
+        IfSome (I.named intake.old None) (IsRefused (K.taken out.old) (K.taken out.new) (I.left intake.new)) }
+    ensures limited { result ≡ LIMITED →
+        IfSome (I.named intake.old None) (IsLimited (K.taken out.old) (K.taken out.new) (I.left intake.new)) }
+
+    // Any word is one too many, and then nothing is opened, read or written to out.
+    ensures usage { (result ≡ USAGE) ↔ (0 < length words.now) }
+    ensures untouched { result ≡ USAGE → (intake.new ≡ intake.old) × (out.new ≡ out.old) }
+
+    // A fault is blamed only on a count that rose; the lines that had come were printed.
+    ensures read_fault { result ≡ READ_FAULT → Rose (I.faults intake.old) (I.faults intake.new) }
+    ensures taken { result ≡ READ_FAULT → IfSome (I.named intake.old None)
+        (PrintsTaken (K.taken out.old) (K.taken out.new) (I.left intake.old) (I.left intake.new)) }
+    ensures write_fault { result ≡ WRITE_FAULT → Rose (K.faults out.old) (K.faults out.new) }
+    ensures front { (result ≡ WRITE_FAULT) ⊎ (result ≡ OUT_OF_MEMORY) →
+        IfSome (I.named intake.old None) (PrintsFrontOf (K.taken out.old) (K.taken out.new)) }
+
+    // Faults and want of memory aside, the status is that of the plain run.
+    ensures complete { words.now ≡ [] → IfSome (I.named intake.old None) (λ input.
+        IsStatusOr result (plain_status (plain_run input).halt)) }
+
+    // A fault of err changes no status.
+    ensures told { (Rose (E.faults err.old) (E.faults err.new) → ⊥) →
+        TellsStatus result (I.named intake.old None) (E.taken err.old) (E.taken err.new) }
+    ensures silent { result ≡ FINISHED → err.new ≡ err.old }
+{
+    if !words.is_empty() {
+        return match write_all(err, b"batmesh: usage\n") {
+            Ok(()) | Err(Failed) => USAGE,
+        };
+    }
+    let fault = match run_input(alloc, intake, out) {
+        Ok(()) => return FINISHED,
+        Err(fault) => fault,
+    };
+    match tell_fault(err, fault) {
+        Ok(()) | Err(Failed) => status_of(fault),
+    }
+}

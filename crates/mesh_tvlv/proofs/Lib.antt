@@ -1,0 +1,5 @@
+pub mod ContainersLemmas
+pub mod PiecesLemmas
+pub mod SpellingLemmas
+pub mod FindingLemmas
+pub mod TableLemmas

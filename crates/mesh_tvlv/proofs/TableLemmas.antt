@@ -1,0 +1,133 @@
+-- Spelled bodies are read back.
+use Rattle.std.proofs.Common.{◌≡◌, ℕ, ◌+◌, ◌*◌, ◌/◌, List, [], ◌∷◌, ◌++◌, length, take, drop, refl, sym, ap, ap₂, ◌∙◌, arith, true, false, length-append}
+use Rattle.std.proofs.lemmas.Bool.{le-ltb}
+use Rattle.std.proofs.lemmas.List.{take_at, drop_at, drop-drop}
+use Rattle.std.proofs.lemmas.Nat.{and_assoc, and_or_apart, and_or_self}
+use Rattle.std.specs.Int.Bits.{and_zero_r, or_zero_r}
+use Rattle.std.specs.Prelude.{Bool, cond, nat_lt, map, flat_map, bit_and, ◌==◌, Some, None, All}
+use Rattle.byteorder.specs.Endian.{big_bytes, big_number}
+use Rattle.byteorder.specs.Numbers.{big_number-reads_back}
+use Rattle.mesh_base.specs.declared.client.Key.{Key}
+use Rattle.mesh_base.specs.declared.client.Entry.{Entry}
+use Rattle.mesh_model.specs.ContainerBodies.{TtVlan, TtChange, TtData, Bandwidth, pieces, whole_pieces, vlan_of_bytes, vlan_text, key_of_bytes, key_text, change_of_bytes, change_text, told_vlans, tt_data, tt_of_body, tt_text, client_flags, change_of, entry_of, is_deletion}
+use Rattle.mesh_tvlv.specs.Laws.{FitsKey, FitsVlan, FitsTable, RecordIsReadBack, BodiesAreReadBack}
+use Rattle.mesh_tvlv.proofs.SpellingLemmas.{All-tail}
+
+-- items that are spelled in so many bytes each, and read back from them
+record IsCodec {X : Type 0} (size : ℕ) (text : X → List ℕ) (read : List ℕ → X) (Fits : X → Type 0) : Type 0 where
+  long : (x : X) → Fits x → length (text x) ≡ size
+  back : (x : X) → Fits x → read (text x) ≡ x
+
+-- the bytes of items that are spelled in so many bytes each
+length-items : {X : Type 0} (size : ℕ) (text : X → List ℕ) (read : List ℕ → X) (Fits : X → Type 0)
+    → IsCodec size text read Fits → (xs : List X) → All Fits xs → length (flat_map text xs) ≡ size * length xs
+length-items size text read Fits codec [] fits = omega arith
+length-items size text read Fits codec (x ∷ xs) fits =
+    let rest = length-items size text read Fits codec xs (All-tail Fits x xs fits) in
+    let first = codec.long x (fits 0 x (omega arith)) in
+    let next : size * length (x ∷ xs) ≡ size + size * length xs = omega arith in
+    length-append (text x) (flat_map text xs) ∙ omega (arith, rest, first, next)
+
+-- the pieces of spelled items are read back
+items_back : {X : Type 0} (size : ℕ) (text : X → List ℕ) (read : List ℕ → X) (Fits : X → Type 0)
+    → IsCodec size text read Fits → (xs : List X) → All Fits xs
+    → map read (pieces (length xs) size (flat_map text xs)) ≡ xs
+unfolding pieces
+items_back size text read Fits codec [] fits = refl
+items_back size text read Fits codec (x ∷ xs) fits =
+    let rest : List ℕ = flat_map text xs in
+    let long = codec.long x (fits 0 x (omega arith)) in
+    ap (λ bytes. read bytes ∷ map read (pieces (length xs) size (drop size (text x ++ rest)))) (take_at (text x) rest size long)
+    ∙ ap (λ bytes. read (text x) ∷ map read (pieces (length xs) size bytes)) (drop_at (text x) rest size long)
+    ∙ ap (λ y. y ∷ map read (pieces (length xs) size rest)) (codec.back x (fits 0 x (omega arith)))
+    ∙ ap (λ ys. x ∷ ys) (items_back size text read Fits codec xs (All-tail Fits x xs fits))
+
+-- a VLAN is read back
+vlan_back : IsCodec 8 vlan_text vlan_of_bytes FitsVlan
+vlan_back = record {
+  long = λ vlan fits. refl;
+  back = λ vlan fits. ap₂ (λ (sum n : ℕ). let v : TtVlan = record { sum = sum; vid = record { 0 = n } } in v)
+      (big_number-reads_back 4 vlan.sum (big_bytes 2 vlan.vid.0 ++ 0 ∷ 0 ∷ []) fits.sum)
+      (big_number-reads_back 2 vlan.vid.0 (0 ∷ 0 ∷ []) fits.vid);
+}
+
+-- a client is read back
+key_back : (key : Key) → FitsKey key → key_of_bytes (key_text key) ≡ key
+key_back key fits = ap₂ (λ (bytes : List ℕ) (n : ℕ). let k : Key = record { mac = record { 0 = bytes }; vid = record { 0 = n } } in k)
+    (take_at key.mac.0 (big_bytes 2 key.vid.0) 6 fits.address)
+    (ap (big_number 2) (drop_at key.mac.0 (big_bytes 2 key.vid.0) 6 fits.address)
+    ∙ big_number-reads_back 2 key.vid.0 [] fits.vid)
+
+-- a record is read back
+change_back : IsCodec 12 change_text change_of_bytes (λ change. FitsKey change.key)
+change_back = record {
+  long = λ change fits. omega (arith, length-append change.key.mac.0 (big_bytes 2 change.key.vid.0), fits.address);
+  back = λ change fits. ap (λ (key : Key). let c : TtChange = record { flags = change.flags; key = key } in c)
+      (key_back change.key fits);
+}
+
+-- the whole pieces of spelled items are read back
+whole_back : {X : Type 0} (size : ℕ) (text : X → List ℕ) (read : List ℕ → X) (Fits : X → Type 0)
+    → IsCodec size text read Fits → (xs : List X) → All Fits xs → length (flat_map text xs) / size ≡ length xs
+    → map read (whole_pieces size (flat_map text xs)) ≡ xs
+whole_back size text read Fits codec xs fits count =
+    ap (λ k. map read (pieces k size (flat_map text xs))) count ∙ items_back size text read Fits codec xs fits
+
+-- a translation table is read back
+pub table_back : (table : TtData) → FitsTable table → tt_of_body (tt_text table) ≡ Some table
+table_back table fits =
+    let body : List ℕ = tt_text table in
+    let vlans : List ℕ = flat_map vlan_text table.vlans in
+    let changes : List ℕ = flat_map change_text table.changes in
+    let FitsClient : TtChange → Type 0 = λ change. FitsKey change.key in
+    let told : told_vlans body ≡ length table.vlans =
+    big_number-reads_back 2 (length table.vlans) (vlans ++ changes) fits.vlans in
+    let long = length-items 8 vlan_text vlan_of_bytes FitsVlan vlan_back table.vlans fits.each_vlan in
+    let longer = length-items 12 change_text change_of_bytes FitsClient change_back table.changes fits.each_change in
+    let whole : nat_lt (length body) (4 + 8 * told_vlans body) ≡ false =
+    le-ltb (length body) (4 + 8 * told_vlans body) (omega (arith, told, long, length-append vlans changes)) in
+    let first : take (8 * told_vlans body) (vlans ++ changes) ≡ vlans =
+    take_at vlans changes (8 * told_vlans body) (omega (arith, told, long)) in
+    let second : drop (4 + 8 * told_vlans body) body ≡ changes =
+    sym (drop-drop (8 * told_vlans body) 4 body) ∙ drop_at vlans changes (8 * told_vlans body) (omega (arith, told, long)) in
+    let vlans_back : map vlan_of_bytes (whole_pieces 8 (take (8 * told_vlans body) (vlans ++ changes))) ≡ table.vlans =
+    ap (λ bytes. map vlan_of_bytes (whole_pieces 8 bytes)) first
+    ∙ whole_back 8 vlan_text vlan_of_bytes FitsVlan vlan_back table.vlans fits.each_vlan (omega (arith, long)) in
+    let changes_back : map change_of_bytes (whole_pieces 12 (drop (4 + 8 * told_vlans body) body)) ≡ table.changes =
+    ap (λ bytes. map change_of_bytes (whole_pieces 12 bytes)) second
+    ∙ whole_back 12 change_text change_of_bytes FitsClient change_back table.changes fits.each_change
+    (omega (arith, longer)) in
+    ap (λ (b : Bool). cond b None (Some (tt_data body))) whole
+    ∙ ap₂ (λ (vs : List TtVlan) (cs : List TtChange). let t : TtData =
+    record { flags = table.flags; ttvn = table.ttvn; vlans = vs; changes = cs } in Some t) vlans_back changes_back
+
+-- the other spelled bodies are read back
+pub bodies_back : BodiesAreReadBack
+bodies_back = record {
+  roaming = λ key fits.
+      let whole : nat_lt (length (key_text key)) 8 ≡ false = le-ltb (length (key_text key)) 8
+      (omega (arith, length-append key.mac.0 (big_bytes 2 key.vid.0), fits.address)) in
+      ap (λ (b : Bool). cond b None (Some (key_of_bytes (key_text key)))) whole ∙ ap (λ k. Some k) (key_back key fits);
+  gateway = λ bandwidth down up. ap₂ (λ (d u : ℕ). let b : Bandwidth = record { download = d; upload = u } in Some b)
+      (big_number-reads_back 4 bandwidth.download (big_bytes 4 bandwidth.upload) down)
+      (big_number-reads_back 4 bandwidth.upload [] up);
+  multicast = λ flags. refl;
+}
+
+-- a record for a client is read back
+pub record_back : RecordIsReadBack
+record_back entry is_gone =
+    let with_flags : ℕ → Entry = λ flags. record entry { flags = flags } in
+    let kept : bit_and (bit_and entry.flags 48) 48 ≡ bit_and entry.flags 48 = and_assoc 48 entry.flags 48 in
+    let apart : bit_and (bit_and entry.flags 48) 1 ≡ 0 = and_assoc 1 entry.flags 48 ∙ and_zero_r entry.flags in
+    elim is_gone as (λ gone. (entry_of (change_of entry gone) ≡ with_flags (client_flags entry.flags))
+    × (is_deletion (change_of entry gone) ≡ gone)) [
+      | true ↦ (
+        ap with_flags (and_or_apart 48 (bit_and entry.flags 48) 1 refl ∙ kept),
+        ap (λ n. n == 1) (and_or_self 1 (bit_and entry.flags 48)),
+      )
+      | false ↦ (
+        ap with_flags (ap (λ n. bit_and n 48) (or_zero_r (bit_and entry.flags 48)) ∙ kept),
+        ap (λ n. n == 1) (ap (λ n. bit_and n 1) (or_zero_r (bit_and entry.flags 48)) ∙ apart),
+      )
+    ]

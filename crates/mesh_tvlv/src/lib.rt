@@ -1,0 +1,27 @@
+//! Containers, the type-version-length-value fields ("TVLV") that packets of batman-adv carry:
+//! walking over them, reading and writing their bodies.
+//!
+//! The layouts are those of batman-adv's public `batadv_packet.h`: `batadv_tvlv_hdr`,
+//! `batadv_tvlv_gateway_data`, `batadv_tvlv_tt_data` with `batadv_tvlv_tt_vlan_data` and
+//! `batadv_tvlv_tt_change`, `batadv_tvlv_roam_adv`. The body of a multicast container and the
+//! versions written are batmesh's own. All numbers are big-endian. Only the writers take memory.
+
+#![tactic(auto)]
+
+mod bodies;
+mod failure;
+pub mod laws;
+pub mod layout;
+mod piece;
+mod translation;
+mod walk;
+mod writing;
+
+pub use bodies::{read_gw, read_mcast, read_roam};
+pub use failure::TvlvErr;
+pub use translation::{TtView, read_tt};
+pub use walk::{Container, TvlvIter};
+pub use writing::{write_change, write_container, write_tt_head, write_vlan};
+
+#[cfg(test)]
+mod tests;

@@ -1,0 +1,2 @@
+-- What the methods of `Locals` rest on.
+pub mod LocalsLemmas
