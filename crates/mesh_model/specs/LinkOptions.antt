@@ -60,7 +60,7 @@ with_pattern options word = option_map (λ pattern. record options { pattern = S
 abbrev pub with_throughput : LinkOptions → List ℕ → Option LinkOptions
 with_throughput options word =
     option_map (λ throughput. record options { throughput = Some throughput })
-      (unless_given options.throughput (option_and_then (number_within 1 1000000) (number_of word)))
+    (unless_given options.throughput (option_and_then (number_within 1 1000000) (number_of word)))
 
 -- an option by what stands behind its name, where the word begins with that name
 abbrev pub when_named :
@@ -98,7 +98,7 @@ options_of words = options_beside no_options words
 abbrev pub link_with : List ℕ → List ℕ → LinkOptions → Command
 link_with from to options =
     Link from to (unwrap_or options.delay 1) (unwrap_or options.pattern (codes "."))
-      (unwrap_or options.throughput 10)
+    (unwrap_or options.throughput 10)
 
 -- a command with the options that were read
 abbrev pub after_options : (LinkOptions → Command) → Result LinkOptions Refusal → Reading

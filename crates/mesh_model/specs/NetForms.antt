@@ -33,7 +33,7 @@ abbrev pub the_gateways : (List (List ℕ) → Command) → List Word → Readin
 the_gateways command [] = refused MissingWord
 the_gateways command (first ∷ rest) =
     if not (list_all (λ word. is_name word.word) (take gateway_limit (first ∷ rest)))
-      then refused BadName
+    then refused BadName
     else if nat_lt gateway_limit (length (first ∷ rest)) then refused ExtraWord
     else Ok (command (map (λ word. word.word) (first ∷ rest)))
 

@@ -72,7 +72,7 @@ abbrev pub octets_of : List (List ℕ) → Option (List ℕ)
 octets_of [] = Some []
 octets_of (part ∷ parts) =
     option_both (λ number numbers. number ∷ numbers)
-      (option_and_then octet (number_of part)) (octets_of parts)
+    (option_and_then octet (number_of part)) (octets_of parts)
 
 -- four numbers as one of 32 bits, the first of them highest
 abbrev pub ip_of_octets : List ℕ → Option ℕ
