@@ -61,6 +61,10 @@ is_group mac = slice_index mac.0 0 % 2 == 1
 abbrev pub is_zero : Mac → Bool
 is_zero mac = list_all (λ byte. byte == 0) mac.0
 
+-- whether every byte of an address is 255: it is that of all stations
+abbrev pub is_broadcast : Mac → Bool
+is_broadcast mac = list_all (λ byte. byte == 255) mac.0
+
 -- whether an address is one station's
 abbrev pub is_unicast : Mac → Bool
 is_unicast mac = not (is_group mac) && not (is_zero mac)

@@ -1,5 +1,5 @@
 ghost use Rattle.std.specs.Prelude.{◌≡◌};
-ghost use Rattle.mesh_base.specs.Address.{mac_of_text, is_group, is_zero};
+ghost use Rattle.mesh_base.specs.Address.{mac_of_text, is_broadcast, is_group, is_zero};
 
 use hex::FromHex;
 
@@ -57,5 +57,12 @@ impl Mac {
         ensures { result ≡ is_zero self }
     {
         self.0.iter().all(|byte| *byte == 0)
+    }
+
+    /// Whether the address is that of all stations.
+    pub fn is_broadcast(self) -> bool
+        ensures { result ≡ is_broadcast self }
+    {
+        self.0.iter().all(|byte| *byte == 255)
     }
 }

@@ -9,13 +9,13 @@ use Rattle.mesh_model.specs.declared.ending.Stop.{Stop}
 use Rattle.mesh_model.specs.declared.ending.LimitName.TheVariants.{Line, Input}
 use Rattle.mesh_model.specs.declared.ending.Stop.TheVariants.{Limit}
 use Rattle.mesh_model.specs.declared.line_form.Command.{Command}
-use Rattle.mesh_model.specs.declared.line_form.Command.TheVariants.{Nothing, Node, Frame, Show}
+use Rattle.mesh_model.specs.declared.line_form.Command.TheVariants.{Decode, Show}
 use Rattle.mesh_model.specs.Cuts.{AreLines}
 use Rattle.mesh_model.specs.Commands.{command_of_line}
 use Rattle.mesh_model.specs.Readings.{Reading}
 use Rattle.mesh_model.specs.Lines.{content, lines_of}
 use Rattle.mesh_model.specs.PlainRun.{Run, start, after_line, after_lines, after_outcome, after_reading, line_outcome, passes_input, passes_line, plain_run, output}
-use Rattle.mesh_model.specs.State.{Event, State, first_refused_rule, after_command, unless_refused, carried_out, event_text}
+use Rattle.mesh_model.specs.State.{Decoded, Event, State, first_refused_rule, after_command, unless_refused, carried_out, event_text, shown}
 use Rattle.mesh_model.proofs.CutLemmas.{lines_of-lines_then}
 
 pub after_lines-append : (run : Run) (a b : List (List ℕ)) → after_lines run (a ++ b) ≡ after_lines (after_lines run a) b
@@ -37,10 +37,8 @@ unless_refused-Ok after state (Some refusal) h = cc
 
 -- the events after a command begin with those before it
 pub after_command-events : (state : State) (command : Command) → (more : List Event) × ((after_command state command).events ≡ state.events ++ more)
-after_command-events state Nothing = ([], sym (append-nil state.events))
-after_command-events state (Node name mac) = ([], sym (append-nil state.events))
-after_command-events state (Frame place src dst vid text) = ([], sym (append-nil state.events))
-after_command-events state (Show node table) = (_, refl)
+after_command-events state (Show node table) = (shown node table state, refl)
+after_command-events state (Decode bytes) = (Decoded bytes ∷ [], refl)
 after_command-events state other = ([], sym (append-nil state.events))
 
 pub carried_out-events : (state after : State) (command : Command) → carried_out state command ≡ Ok after → (more : List Event) × (after.events ≡ state.events ++ more)

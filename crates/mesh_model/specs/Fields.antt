@@ -4,7 +4,7 @@
 -- wanted, and a word that isn't one of those that are listed.
 use Rattle.std.specs.Prelude.{ℕ, ◌^◌, ◌-◌, ◌&&◌, nat_le, min, Bool, true, false, not, List, [], ◌∷◌, codes, bytes_eq, ok_or, option_map, Result, Ok, Err, if◌then◌else◌}
 use Rattle.std.specs.Map.{lookup}
-use Rattle.mesh_base.specs.Address.{mac_of_text, is_group, is_zero, is_unicast}
+use Rattle.mesh_base.specs.Address.{is_broadcast, mac_of_text, is_group, is_zero, is_unicast}
 use Rattle.mesh_base.specs.declared.address.Mac.{Mac}
 use Rattle.mesh_base.specs.declared.client.Vid.{Vid}
 use Rattle.mesh_model.specs.declared.ending.Refusal.{Refusal}
@@ -15,7 +15,7 @@ use Rattle.mesh_model.specs.declared.line_form.AlfredMode.{AlfredMode}
 use Rattle.mesh_model.specs.declared.line_form.AlfredMode.TheVariants.{Off, Primary, Secondary}
 use Rattle.mesh_model.specs.declared.line_form.Table.{Table}
 use Rattle.mesh_model.specs.declared.line_form.Table.TheVariants.{Originators, Neighbors, Locals, Globals, Claims, Gateways, Groups, Addresses, Facts}
-use Rattle.mesh_model.specs.Terms.{is_name, is_broadcast, number_of, vid_of, ip_of, bytes_of_hex}
+use Rattle.mesh_model.specs.Terms.{is_name, number_of, vid_of, ip_of, bytes_of_hex}
 
 -- what was read, where it passes a test
 abbrev pub passing : {A : Type 0} → (A → Bool) → Result A Refusal → Result A Refusal

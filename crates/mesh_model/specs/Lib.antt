@@ -9,6 +9,7 @@ pub mod NetForms
 pub mod NodeForms
 pub mod Commands
 pub mod Packets
+pub mod FirstPacket
 pub mod Containers
 pub mod ContainerBodies
 pub mod Log
@@ -17,6 +18,11 @@ pub mod Present
 pub mod PresentLaws
 pub mod TableText
 pub mod NamesUsed
+pub mod PacketLines
+pub mod ContainerLines
+pub mod DecodeText
+pub mod DecodeRows
+pub mod PacketLaws
 pub mod State
 pub mod PlainRun
 pub mod Reached

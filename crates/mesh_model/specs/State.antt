@@ -1,17 +1,18 @@
--- The state of a plain run and what a command does to it. A node keeps its log alone; the clock
--- stands at a moment in milliseconds; the events are what the run prints, in order. A command is
--- refused by the first rule that it breaks: it is built, and a name that a line uses must be that
--- of a node. The main word is `carried_out`.
-use Rattle.std.specs.Prelude.{ℕ, Bool, true, not, List, [], ◌∷◌, ◌++◌, find, flat_map, bytes_eq, Option, Some, None, Result, Ok, Err, if◌then◌else◌}
+-- The state of a plain run and what a command does to it. A node keeps its log alone; the clock stands at a moment in
+-- milliseconds; the events are what the run prints, in order. A command is refused by the first rule that it breaks: it
+-- is built, each name that it uses is that of a node, and a new node has a name and an address of its own. The main word
+-- is `carried_out`.
+use Rattle.std.specs.Prelude.{ℕ, ◌==◌, Bool, true, false, not, List, [], ◌∷◌, ◌++◌, find, flat_map, bytes_eq, Option, Some, None, Result, Ok, Err, if◌then◌else◌}
 use Rattle.std.specs.List.{list_any}
 use Rattle.std.specs.Option.{option_or, option_map_or}
+use Rattle.mesh_base.specs.Address.{is_broadcast}
 use Rattle.mesh_base.specs.declared.address.Mac.{Mac}
 use Rattle.mesh_model.specs.declared.ending.Refusal.{Refusal}
-use Rattle.mesh_model.specs.declared.ending.Refusal.TheVariants.{NotBuilt, UnknownName}
+use Rattle.mesh_model.specs.declared.ending.Refusal.TheVariants.{AddressTaken, NameTaken, NotBuilt, UnknownName}
 use Rattle.mesh_model.specs.declared.ending.Stop.{Stop}
 use Rattle.mesh_model.specs.declared.ending.Stop.TheVariants.{Refused}
 use Rattle.mesh_model.specs.declared.line_form.Command.{Command}
-use Rattle.mesh_model.specs.declared.line_form.Command.TheVariants.{Nothing, Node, Frame, Show}
+use Rattle.mesh_model.specs.declared.line_form.Command.TheVariants.{Nothing, Node, Frame, Show, Decode}
 use Rattle.mesh_model.specs.declared.line_form.Table.{Table}
 use Rattle.mesh_model.specs.declared.line_form.Table.TheVariants.{Locals}
 use Rattle.mesh_model.specs.Log.{Given, Log}
@@ -19,7 +20,7 @@ use Rattle.mesh_model.specs.Log.{Frame as GivenFrame}
 use Rattle.mesh_model.specs.Mentions.{mentions}
 use Rattle.mesh_model.specs.NamesUsed.{names_used}
 use Rattle.mesh_model.specs.Present.{present_clients}
-use Rattle.mesh_model.specs.Terms.{is_broadcast}
+use Rattle.mesh_model.specs.DecodeText.{decode_text}
 use Rattle.mesh_model.specs.TableText.{LocalTable, table_text}
 
 -- a node: its name, its address and its log
@@ -31,6 +32,7 @@ pub record NodeLog : Type 0 where
 -- what a run prints
 pub data Event : Type 0 where
   LocalsShown : LocalTable → Event
+  Decoded : List ℕ → Event
 
 -- the nodes in the order of their lines, the clock, and the events so far
 pub record State : Type 0 where
@@ -46,6 +48,10 @@ no_nodes = record { nodes = []; clock = 0; events = [] }
 abbrev pub is_named : List ℕ → NodeLog → Bool
 is_named name node = bytes_eq node.name name
 
+-- whether a node has this address
+abbrev pub has_address : Mac → NodeLog → Bool
+has_address mac node = bytes_eq node.mac.0 mac.0
+
 -- the node of this name
 abbrev pub node_named : List ℕ → List NodeLog → Option NodeLog
 node_named name nodes = find (is_named name) nodes
@@ -58,23 +64,39 @@ log_of name nodes = option_map_or (λ node. node.log) (node_named name nodes) []
 abbrev pub refusal_if : Bool → Refusal → Option Refusal
 refusal_if holds refusal = if holds then Some refusal else None
 
--- what isn't built: a second node, a frame that isn't for all stations, a table other than the
--- local one, and each other form
-abbrev pub not_built : State → Command → Option Refusal
-not_built state Nothing = None
-not_built state (Node name mac) = refusal_if (list_any (λ node. true) state.nodes) NotBuilt
-not_built state (Frame place src dst vid text) = refusal_if (not (is_broadcast dst)) NotBuilt
-not_built state (Show node Locals) = None
-not_built state other = Some NotBuilt
+-- whether a command is carried out by this version
+abbrev pub is_built : Command → Bool
+is_built Nothing = true
+is_built (Node name mac) = true
+is_built (Frame place src dst vid text) = is_broadcast dst
+is_built (Show node Locals) = true
+is_built (Decode bytes) = true
+is_built other = false
+
+-- a command of a form that this version doesn't carry out
+abbrev pub not_built : Command → Option Refusal
+not_built command = refusal_if (not (is_built command)) NotBuilt
 
 -- each name that a command uses is that of a node
 abbrev pub unknown_name : State → Command → Option Refusal
 unknown_name state command =
     refusal_if (list_any (λ name. not (list_any (is_named name) state.nodes)) (names_used command)) UnknownName
 
+-- a new node's name isn't that of another
+abbrev pub name_taken : State → Command → Option Refusal
+name_taken state (Node name mac) = refusal_if (list_any (is_named name) state.nodes) NameTaken
+name_taken state other = None
+
+-- a new node's address isn't that of another
+abbrev pub address_taken : State → Command → Option Refusal
+address_taken state (Node name mac) = refusal_if (list_any (has_address mac) state.nodes) AddressTaken
+address_taken state other = None
+
 -- the first rule that a command breaks
 abbrev pub first_refused_rule : State → Command → Option Refusal
-first_refused_rule state command = option_or (not_built state command) (unknown_name state command)
+first_refused_rule state command =
+    option_or (not_built command) (option_or (unknown_name state command)
+    (option_or (name_taken state command) (address_taken state command)))
 
 -- the log with an input at a moment; a node without links puts nothing
 abbrev pub with_input : ℕ → Given → Log → Log
@@ -116,6 +138,7 @@ after_command state (Node name mac) =
     record state { nodes = state.nodes ++ record { name = name; mac = mac; log = [] } ∷ [] }
 after_command state (Frame place src dst vid text) = after_input place (GivenFrame src dst vid text) state
 after_command state (Show node table) = record state { events = state.events ++ shown node table state }
+after_command state (Decode bytes) = record state { events = state.events ++ Decoded bytes ∷ [] }
 after_command state other = state
 
 -- the outcome of a rule's answer
@@ -130,6 +153,7 @@ carried_out state command = unless_refused (after_command state command) (first_
 -- an event as it is printed
 abbrev pub event_text : Event → List ℕ
 event_text (LocalsShown table) = table_text table
+event_text (Decoded bytes) = decode_text bytes
 
 -- what the events of a state print
 abbrev pub events_text : State → List ℕ

@@ -55,10 +55,6 @@ vid_of word =
     if bytes_eq word (codes "-") then Some (record { 0 = 0 })
     else option_and_then tagged (number_of word)
 
--- whether an address is that of all stations
-abbrev pub is_broadcast : Mac → Bool
-is_broadcast mac = list_all (λ b. b == 255) mac.0
-
 -- the character between two numbers of an IP address
 abbrev pub dot : ℕ
 dot = 46

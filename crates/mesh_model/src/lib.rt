@@ -5,11 +5,13 @@
 
 #![tactic(auto)]
 
+pub mod decode_rows;
 pub mod ending;
 pub mod line_form;
 pub mod name_list;
 pub mod packet;
 pub mod present_laws;
+pub mod packet_laws;
 pub mod rows;
 pub mod run_laws;
 pub mod table_row;

@@ -1,5 +1,4 @@
 -- What the proofs rest on.
-pub mod MacLemmas
 pub mod ProgressLemmas
 pub mod FaultLemmas
 pub mod SceneLemmas

@@ -1,6 +1,8 @@
 -- What a scene of nodes stands for: a state of the plain run, node by node. The main word is `SceneStands`.
 use Rattle.std.specs.Prelude.{◌≡◌, ℕ, List, [], ◌∷◌, ◌++◌, Result, Ok, Err, bytes_eq, Bool, false}
 use Rattle.mesh_model.specs.declared.ending.Stop.{Stop}
+use Rattle.mesh_base.specs.declared.address.Mac.{Mac}
+use Rattle.mesh_model.specs.Readings.{Reading}
 use Rattle.mesh_model.specs.Mentions.{is_wifi_on, mentions}
 use Rattle.mesh_model.specs.State.{NodeLog, State, events_text}
 use Rattle.mesh_run.specs.declared.fault.LineFault.{LineFault}
@@ -33,6 +35,10 @@ pub record SceneStands (scene : Scene) (state : State) : Type 0 where
 abbrev pub is_called : List ℕ → SceneNode → Bool
 is_called name node = bytes_eq node.name name
 
+-- whether a node of the scene has this address
+abbrev pub is_at : Mac → SceneNode → Bool
+is_at mac node = bytes_eq node.mac.0 mac.0
+
 -- a line that is carried out: the state after it, for which the scene stands, and what it printed
 pub record Carries (wanted : Result State Stop) (before : State) (scene : Scene) (printed : List ℕ) : Type 0 where
   pub after : State
@@ -44,3 +50,8 @@ pub record Carries (wanted : Result State Stop) (before : State) (scene : Scene)
 abbrev pub Refuses : Result State Stop → LineFault → Type 0
 Refuses wanted (Stopped stop) = wanted ≡ Err stop
 Refuses wanted Memory = Unit {0}
+
+-- the cause of the fault of a line that isn't read
+abbrev pub RefusesReading : Reading → LineFault → Type 0
+RefusesReading reading (Stopped stop) = reading ≡ Err stop
+RefusesReading reading Memory = Unit {0}

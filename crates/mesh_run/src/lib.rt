@@ -5,6 +5,7 @@
 mod carrying;
 mod fault;
 mod input;
+mod local_table;
 mod node;
 mod program;
 mod reader;
@@ -12,7 +13,6 @@ mod reading;
 mod report;
 mod runner;
 mod scene;
-mod table_text;
 
 pub use program::{
     FINISHED, LIMITED, OUT_OF_MEMORY, READ_FAULT, REFUSED, USAGE, WRITE_FAULT, batmesh,

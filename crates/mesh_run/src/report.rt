@@ -13,8 +13,19 @@ fn refusal_words(refusal: Refusal) -> &'static [u8]
     ensures { result.now ≡ refusal_words refusal }
 {
     match refusal {
+        Refusal::BadUtf8 => b"bad utf-8",
+        Refusal::UnknownCommand => b"unknown command",
+        Refusal::MissingWord => b"missing word",
+        Refusal::BadName => b"bad name",
+        Refusal::BadMac => b"bad mac",
+        Refusal::BadNumber => b"bad number",
+        Refusal::OutOfRange => b"out of range",
+        Refusal::ExtraWord => b"extra word",
         Refusal::NotBuilt => b"not built",
         Refusal::UnknownName => b"unknown name",
+        Refusal::WrongKind => b"wrong kind",
+        Refusal::NameTaken => b"name taken",
+        Refusal::AddressTaken => b"address taken",
     }
 }
 

@@ -1,17 +1,23 @@
-ghost use Rattle.std.specs.Prelude.{◌≡◌, ℕ, List, [], ◌++◌, vec_len, position, Ok, OnOk, IfErr};
+ghost use Rattle.std.specs.Prelude.{◌≡◌, ℕ, true, List, [], ◌++◌, vec_len, position, is_some, Ok, Err, OnOk, OnErr, IfErr};
+ghost use Rattle.std.specs.List.{list_any};
+ghost use Rattle.mesh_base.specs.Address.{is_broadcast};
 ghost use Rattle.mesh_base.specs.declared.address.Mac.{Mac};
 ghost use Rattle.mesh_model.specs.Commands.{command_of_line};
+ghost use Rattle.mesh_model.specs.DecodeText.{decode_text as decoded};
 ghost use Rattle.mesh_model.specs.Mentions.{Mention};
 ghost use Rattle.mesh_model.specs.PlainRun.{after_reading};
 ghost use Rattle.mesh_model.specs.Present.{present_clients};
+ghost use Rattle.mesh_model.specs.Readings.{Reading};
 ghost use Rattle.mesh_model.specs.State.{State, carried_out, no_nodes};
 ghost use Rattle.mesh_model.specs.TableText.{LocalTable, table_text};
-ghost use Rattle.mesh_run.specs.Scene.{Carries, Refuses, SceneStands, is_called};
+ghost use Rattle.mesh_run.specs.Scene.{Carries, Refuses, RefusesReading, SceneStands, is_at, is_called};
+ghost use Rattle.mesh_scenario.specs.LineErr.{Refuses as IsCause};
 ghost use Rattle.tt_local.specs.Locals.{StandsFor};
 
 use crate::fault::LineFault;
+use crate::local_table::put_local_table;
 use crate::node::SceneNode;
-use crate::table_text::put_local_table;
+use batctl_text::decode_text;
 use mesh_base::{Bytes, Key, Mac, Millis, NoMemory};
 use mesh_model::{Command, LimitName, Refusal, Stop, Table};
 use mesh_scenario::{LineErr, read_line};
@@ -29,11 +35,29 @@ pub struct Scene {
     pub clock: Millis,
 }
 
-/// The place of the first node of this name.
-fn place_of(nodes: &[SceneNode], name: &[u8]) -> Option<usize>
-    ensures { result ≡ position (is_called name.now) nodes.now }
+/// The fault of a line that is refused.
+fn refused(refusal: Refusal) -> LineFault
+    ensures { result ≡ LineFault.Stopped (Stop.Refused refusal) }
 {
-    nodes.iter().position(|node| node.name.as_slice() == name)
+    LineFault::Stopped(Stop::Refused(refusal))
+}
+
+/// The fault of a line that isn't read.
+fn line_fault(error: LineErr) -> LineFault
+    ensures { (reading : Reading) → IsCause reading error → RefusesReading reading result }
+{
+    match error {
+        LineErr::TooLong => LineFault::Stopped(Stop::Limit(LimitName::Line)),
+        LineErr::BadUtf8 => refused(Refusal::BadUtf8),
+        LineErr::UnknownCommand => refused(Refusal::UnknownCommand),
+        LineErr::MissingWord => refused(Refusal::MissingWord),
+        LineErr::BadName => refused(Refusal::BadName),
+        LineErr::BadMac => refused(Refusal::BadMac),
+        LineErr::BadNumber => refused(Refusal::BadNumber),
+        LineErr::OutOfRange => refused(Refusal::OutOfRange),
+        LineErr::ExtraWord => refused(Refusal::ExtraWord),
+        LineErr::Memory => LineFault::Memory,
+    }
 }
 
 /// Appends the local table of the node of this name, before any commit.
@@ -57,6 +81,17 @@ fn show_locals(
     Ok(())
 }
 
+/// `decode HEX`
+fn decode(bytes: &[u8], text: &mut Vec<u8>) -> Result<(), LineFault>
+    ensures ok { OnOk result (text.new.items ≡ text.old.items ++ decoded bytes.now) }
+    ensures memory { OnErr result (result ≡ Err LineFault.Memory) }
+{
+    match decode_text(text, bytes) {
+        Ok(()) => Ok(()),
+        Err(NoMemory) => Err(LineFault::Memory),
+    }
+}
+
 impl Scene {
     /// No nodes, at moment 0.
     pub fn new(alloc: Global) -> Scene
@@ -67,6 +102,29 @@ impl Scene {
             nodes: Vec::new(alloc),
             clock: 0,
         }
+    }
+
+    /// The place of the first node of this name.
+    fn place_of(&self, name: &[u8]) -> Option<usize>
+        ensures { result ≡ position (is_called name.now) self.now.nodes.items }
+    {
+        let nodes = self.nodes.as_slice();
+        nodes.iter().position(|node| node.name.as_slice() == name)
+    }
+
+    /// Whether a node has this name.
+    fn is_name_taken(&self, name: &Bytes) -> bool
+        ensures { result ≡ is_some (position (is_called name.now) self.now.nodes.items) }
+    {
+        self.place_of(name.as_slice()).is_some()
+    }
+
+    /// Whether a node has this address.
+    fn is_address_taken(&self, mac: Mac) -> bool
+        ensures { result ≡ list_any (is_at mac) self.now.nodes.items }
+    {
+        let nodes = self.nodes.as_slice();
+        nodes.iter().any(|node| node.mac == mac)
     }
 
     /// Carries a line out and puts what it prints into `text`, in place of what is there.
@@ -82,9 +140,7 @@ impl Scene {
                 self.carry_out(command, text)?;
                 Ok(())
             }
-            Err(LineErr::TooLong) => Err(LineFault::Stopped(Stop::Limit(LimitName::Line))),
-            Err(LineErr::NotBuilt) => Err(LineFault::Stopped(Stop::Refused(Refusal::NotBuilt))),
-            Err(LineErr::Memory) => Err(LineFault::Memory),
+            Err(error) => Err(line_fault(error)),
         }
     }
 
@@ -101,43 +157,65 @@ impl Scene {
             Command::Frame {
                 place,
                 src,
-                dst: _dst,
+                dst,
                 vid,
                 text: _text,
-            } => self.see(place.as_slice(), Key { mac: src, vid })?,
-            Command::Show { node, table } => self.show(node.as_slice(), table, text)?,
+            } => self.take_frame(place.as_slice(), Key { mac: src, vid }, dst)?,
+            Command::Show {
+                node,
+                table: Table::Locals,
+            } => self.show(node.as_slice(), text)?,
+            Command::Decode { bytes } => decode(bytes.as_slice(), text)?,
+            _other => return Err(refused(Refusal::NotBuilt)),
         }
         Ok(())
     }
 
-    /// `node NAME MAC`: a run has one node.
+    /// `node NAME MAC`
     fn add_node(&mut self, name: Bytes, mac: Mac) -> Result<(), LineFault>
         ensures ok { (state : State) → SceneStands self.old state →
             OnOk result (Carries (carried_out state (Command.Node name mac)) state self.new []) }
         ensures refused { (state : State) → SceneStands self.old state →
             IfErr result (Refuses (carried_out state (Command.Node name mac))) }
     {
-        if !self.nodes.is_empty() {
-            return Err(LineFault::Stopped(Stop::Refused(Refusal::NotBuilt)));
+        if self.is_name_taken(&name) {
+            return Err(refused(Refusal::NameTaken));
+        }
+        if self.is_address_taken(mac) {
+            return Err(refused(Refusal::AddressTaken));
         }
         let locals = Locals::new(self.alloc);
-        let node = SceneNode { name, mac, locals };
-        if self.nodes.push(node).is_err() {
-            return Err(LineFault::Memory);
+        match self.nodes.push(SceneNode { name, mac, locals }) {
+            Ok(()) => Ok(()),
+            Err(_unstored) => Err(LineFault::Memory),
         }
+    }
+
+    /// `frame PLACE SRC DST VID TEXT`: a frame to all stations is built.
+    fn take_frame(&mut self, place: &[u8], source: Key, dst: Mac) -> Result<(), LineFault>
+        ensures ok { (state : State) (text : List ℕ) → SceneStands self.old state →
+            OnOk result (Carries (carried_out state (Command.Frame place.now source.mac dst source.vid text))
+            state self.new []) }
+        ensures refused { (state : State) (text : List ℕ) → SceneStands self.old state →
+            IfErr result (Refuses (carried_out state (Command.Frame place.now source.mac dst source.vid text))) }
+    {
+        if !dst.is_broadcast() {
+            return Err(refused(Refusal::NotBuilt));
+        }
+        self.see(place, source)?;
         Ok(())
     }
 
-    /// `frame PLACE SRC DST VID TEXT`, where no link leaves the node: a sighting of the source, and no more.
+    /// A client frame to all stations at a node that no link leaves: a sighting of its source, and no more.
     fn see(&mut self, place: &[u8], source: Key) -> Result<(), LineFault>
-        ensures ok { (state : State) (dst : Mac) (text : List ℕ) → SceneStands self.old state →
+        ensures ok { (state : State) (dst : Mac) (text : List ℕ) → is_broadcast dst ≡ true → SceneStands self.old state →
             OnOk result (Carries (carried_out state (Command.Frame place.now source.mac dst source.vid text))
             state self.new []) }
-        ensures refused { (state : State) (dst : Mac) (text : List ℕ) → SceneStands self.old state →
+        ensures refused { (state : State) (dst : Mac) (text : List ℕ) → is_broadcast dst ≡ true → SceneStands self.old state →
             IfErr result (Refuses (carried_out state (Command.Frame place.now source.mac dst source.vid text))) }
     {
-        let Some(place) = place_of(self.nodes.as_slice(), place) else {
-            return Err(LineFault::Stopped(Stop::Refused(Refusal::UnknownName)));
+        let Some(place) = self.place_of(place) else {
+            return Err(refused(Refusal::UnknownName));
         };
         let node = &mut self.nodes[place];
         match node.locals.see(self.clock, source, 0) {
@@ -146,23 +224,21 @@ impl Scene {
         }
     }
 
-    /// `show NODE T`
-    fn show(&self, name: &[u8], table: Table, text: &mut Vec<u8>) -> Result<(), LineFault>
+    /// `show NODE tl`
+    fn show(&self, name: &[u8], text: &mut Vec<u8>) -> Result<(), LineFault>
         requires { text.old.items ≡ [] }
         ensures ok { (state : State) → SceneStands self.now state →
-            OnOk result (Carries (carried_out state (Command.Show name.now table)) state self.now text.new.items) }
+            OnOk result (Carries (carried_out state (Command.Show name.now Table.Locals)) state self.now text.new.items) }
         ensures refused { (state : State) → SceneStands self.now state →
-            IfErr result (Refuses (carried_out state (Command.Show name.now table))) }
+            IfErr result (Refuses (carried_out state (Command.Show name.now Table.Locals))) }
     {
-        let Some(place) = place_of(self.nodes.as_slice(), name) else {
-            return Err(LineFault::Stopped(Stop::Refused(Refusal::UnknownName)));
+        let Some(place) = self.place_of(name) else {
+            return Err(refused(Refusal::UnknownName));
         };
         let node = &self.nodes[place];
-        match table {
-            Table::Locals => match show_locals(self.alloc, &node.locals, self.clock, name, text) {
-                Ok(()) => Ok(()),
-                Err(NoMemory) => Err(LineFault::Memory),
-            },
+        match show_locals(self.alloc, &node.locals, self.clock, name, text) {
+            Ok(()) => Ok(()),
+            Err(NoMemory) => Err(LineFault::Memory),
         }
     }
 }

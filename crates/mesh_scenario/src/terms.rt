@@ -1,9 +1,9 @@
 //! What a single word may say.
 
 ghost use Rattle.std.specs.Prelude.{◌≡◌, ◌<◌, ◌≤◌, ◌&&◌, not, option_map, option_and_then, IfSome};
-ghost use Rattle.mesh_model.specs.Terms.{is_letter, is_digit, is_name_character, is_name, number_of, vid_of, is_broadcast, is_mark, is_pattern};
+ghost use Rattle.mesh_model.specs.Terms.{is_letter, is_digit, is_name_character, is_name, number_of, vid_of, is_mark, is_pattern};
 ghost use Rattle.mesh_model.specs.LinkOptions.{number_within};
-ghost use Rattle.mesh_base.specs.Address.{is_group, is_unicast};
+ghost use Rattle.mesh_base.specs.Address.{is_broadcast, is_group, is_unicast};
 ghost use Rattle.mesh_model.specs.Fields.{kept_number, number_limit};
 
 use mesh_base::{Mac, Vid};
@@ -89,14 +89,7 @@ pub fn is_unicast(mac: Mac) -> bool
 pub fn is_group(mac: Mac) -> bool
     ensures { result ≡ (is_group mac && not (is_broadcast mac)) }
 {
-    mac.is_group() && !is_broadcast(mac)
-}
-
-/// Whether an address is that of all stations.
-fn is_broadcast(mac: Mac) -> bool
-    ensures { result ≡ is_broadcast mac }
-{
-    mac.0.iter().all(|byte| *byte == 255)
+    mac.is_group() && !mac.is_broadcast()
 }
 
 /// Whether a character is a mark of a pattern.

@@ -1,10 +1,26 @@
-use Rattle.std.proofs.Common.{◌≢◌, sym, ◌∙◌, arith, vec_len}
-use Rattle.std.proofs.lemmas.Bool.{eqb-false}
-use Rattle.mesh_run.proofs.SceneLemmas.{carried-second}
+use Rattle.std.proofs.Common.{List, [], ◌∷◌, ap, refl, sym, ◌∙◌}
+use Rattle.mesh_run.specs.declared.node.SceneNode.{SceneNode}
+use Rattle.mesh_run.proofs.SceneLemmas.{Carries-node, addressed, carried-address_taken, carried-name_taken, known}
 use Rattle.mesh_run.proofs.scene.Scene.add_node.Goals as goal
 
-pub returns-then-not-is_empty-clause-refused : goal.returns-then-not-is_empty-clause-refused
-returns-then-not-is_empty-clause-refused c = λ state stands.
-    let nodes = c.args.self.now.nodes in
-    let some : vec_len nodes ≢ 0 = eqb-false (vec_len nodes) 0 (sym c.is_empty.ensures ∙ c.if-not-is_empty.true) in
-    carried-second state nodes.items c.args.name c.args.mac stands.nodes (omega (arith, nodes.ok.0, some))
+pub returns-then-is_name_taken-clause-refused : goal.returns-then-is_name_taken-clause-refused
+returns-then-is_name_taken-clause-refused c = λ state stands.
+    let nodes = c.args.self.now.nodes.items in
+    rw c.refused.ensures
+    (carried-name_taken state c.args.name c.args.mac
+    (sym (known c.args.name nodes state.nodes stands.nodes) ∙ sym c.is_name_taken.ensures ∙ c.if-is_name_taken.true))
+
+pub returns-then-is_address_taken-clause-refused : goal.returns-then-is_address_taken-clause-refused
+returns-then-is_address_taken-clause-refused c = λ state stands.
+    let nodes = c.args.self.now.nodes.items in
+    rw c.refused-then-is_address_taken.ensures
+    (carried-address_taken state c.args.name c.args.mac
+    (sym (known c.args.name nodes state.nodes stands.nodes) ∙ sym c.is_name_taken.ensures ∙ c.if-is_name_taken.false)
+    (sym (addressed c.args.mac nodes state.nodes stands.nodes) ∙ sym c.is_address_taken.ensures ∙ c.if-is_address_taken.true))
+
+pub returns-in-Ok-clause-ok : goal.returns-in-Ok-clause-ok
+returns-in-Ok-clause-ok c = λ state stands.
+    let node : SceneNode = record { name = c.args.name; mac = c.args.mac; locals = c.new-locals.result } in
+    Carries-node state c.args.self.now _ c.args.name c.args.mac node stands
+    (sym c.is_name_taken.ensures ∙ c.if-is_name_taken.false) (sym c.is_address_taken.ensures ∙ c.if-is_address_taken.false)
+    (record { name = refl; mac = refl; locals = c.new-locals.ensures; unmarked = refl }) c.in-Ok.ensures.items refl

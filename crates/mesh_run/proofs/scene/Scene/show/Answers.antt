@@ -1,23 +1,20 @@
-use Rattle.std.proofs.Common.{ap, sym, ◌∙◌, subst}
-use Rattle.std.specs.Prelude.{position}
+use Rattle.std.proofs.Common.{sym, ◌∙◌, subst}
 use Rattle.mesh_run.specs.declared.node.SceneNode.{SceneNode}
 use Rattle.tt_local.specs.Locals.{StandsFor}
-use Rattle.mesh_run.specs.Scene.{is_called}
 use Rattle.mesh_run.proofs.SceneLemmas.{Carries-show, carried-show_unknown, unknown_at}
 use Rattle.mesh_run.proofs.scene.Scene.show.Goals as goal
 
 pub returns-in_default-clause-refused : goal.returns-in_default-clause-refused
 returns-in_default-clause-refused c = λ state stands.
     let name = c.args.name.now in
-    let at = ap (position (is_called name)) (sym c.as_slice.ensures.value) ∙ sym c.place_of.ensures ∙ c.in_default.is in
-    carried-show_unknown state name c.args.table (unknown_at name c.args.self.now.nodes.items state.nodes stands.nodes at)
+    rw c.refused.ensures
+    (carried-show_unknown state name (unknown_at name c.args.self.now.nodes.items state.nodes stands.nodes (sym c.place_of.ensures ∙ c.in_default.is)))
 
 pub returns-in-Ok-clause-ok : goal.returns-in-Ok-clause-ok
 returns-in-Ok-clause-ok c = λ state stands.
     let name = c.args.name.now in
     let node = c.index-node.result.now in
-    let at = ap (position (is_called name)) (sym c.as_slice.ensures.value) ∙ sym c.place_of.ensures ∙ c.in-Some.is in
-    Carries-show c.args.table state c.args.self.now name c.in-Some.place node c.show_locals.new.text.items stands at
+    Carries-show state c.args.self.now name c.in-Some.place node c.show_locals.new.text.items stands (sym c.place_of.ensures ∙ c.in-Some.is)
     (λ ms held.
     let N : SceneNode → Type 0 = λ n. StandsFor n.locals ms in
     let printed = c.in-Ok.ensures ms (subst N (sym c.index-node.ensures) held) in

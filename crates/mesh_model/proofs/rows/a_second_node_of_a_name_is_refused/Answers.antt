@@ -1,6 +1,6 @@
 use Rattle.std.proofs.Common.{refl}
 use Rattle.mesh_model.proofs.OnLiterals.{model_on_literals}
-use Rattle.mesh_model.proofs.rows.a_second_node_is_not_built.Goals as goal
+use Rattle.mesh_model.proofs.rows.a_second_node_of_a_name_is_refused.Goals as goal
 
 pub returns : goal.returns
 unfolding model_on_literals

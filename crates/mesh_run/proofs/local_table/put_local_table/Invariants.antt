@@ -1,7 +1,7 @@
 use Rattle.std.proofs.Common.{◌≡◌, ◌++◌, length, take}
 use Rattle.std.specs.Prelude.{flat_map}
 use Rattle.mesh_model.specs.TableText.{local_header, local_line}
-use Rattle.mesh_run.proofs.table_text.put_local_table.Given as goal
+use Rattle.mesh_run.proofs.local_table.put_local_table.Given as goal
 
 abbrev pub invariant-loop-row : goal.invariant-loop-row
 invariant-loop-row l =

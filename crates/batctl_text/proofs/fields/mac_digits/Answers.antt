@@ -1,6 +1,6 @@
 use Rattle.std.proofs.Common.{sym, rules}
-use Rattle.mesh_run.proofs.MacLemmas.{pairs_text-six}
-use Rattle.mesh_run.proofs.table_text.mac_digits.Goals as goal
+use Rattle.batctl_text.proofs.MacLemmas.{pairs_text-six}
+use Rattle.batctl_text.proofs.fields.mac_digits.Goals as goal
 
 pub returns : goal.returns
 returns c =

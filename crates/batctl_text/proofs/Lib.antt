@@ -1,0 +1,5 @@
+pub mod MacLemmas
+pub mod LinesLemmas
+pub mod RefusalLemmas
+pub mod WalkLemmas
+pub mod PacketLemmas
