@@ -15,14 +15,10 @@ use Rattle.mesh_model.specs.NodeForms.{read_frame, read_gone, read_join, read_le
 use Rattle.mesh_model.specs.Readings.{Reading, refused}
 use Rattle.mesh_model.specs.Words.{Word, words_of}
 
--- the form that a command word begins
-abbrev pub read_form : List ℕ → List Word → Reading
-read_form word words =
-    if bytes_eq word (codes "algo") then read_algo words
-    else if bytes_eq word (codes "node") then read_node words
-    else if bytes_eq word (codes "link") then read_link words
-    else if bytes_eq word (codes "lan") then read_lan words
-    else if bytes_eq word (codes "frame") then read_frame words
+-- the form that a command word begins, of those that give a node something
+abbrev pub read_given_form : List ℕ → List Word → Reading
+read_given_form word words =
+    if bytes_eq word (codes "frame") then read_frame words
     else if bytes_eq word (codes "gone") then read_gone words
     else if bytes_eq word (codes "join") then read_join words
     else if bytes_eq word (codes "leave") then read_leave words
@@ -30,13 +26,22 @@ read_form word words =
     else if bytes_eq word (codes "dhcp") then read_dhcp words
     else if bytes_eq word (codes "set") then read_set words
     else if bytes_eq word (codes "alfred") then read_alfred words
+    else refused UnknownCommand
+
+-- the form that a command word begins
+abbrev pub read_form : List ℕ → List Word → Reading
+read_form word words =
+    if bytes_eq word (codes "algo") then read_algo words
+    else if bytes_eq word (codes "node") then read_node words
+    else if bytes_eq word (codes "link") then read_link words
+    else if bytes_eq word (codes "lan") then read_lan words
     else if bytes_eq word (codes "ping") then read_ping words
     else if bytes_eq word (codes "traceroute") then read_traceroute words
     else if bytes_eq word (codes "run") then read_run words
     else if bytes_eq word (codes "deliver") then read_deliver words
     else if bytes_eq word (codes "show") then read_show words
     else if bytes_eq word (codes "decode") then read_decode words
-    else refused UnknownCommand
+    else read_given_form word words
 
 -- whether a word begins a comment
 abbrev pub is_comment : List ℕ → Bool
@@ -46,7 +51,8 @@ is_comment (first ∷ rest) = first == 35
 -- the reading of a line's words
 abbrev pub command_of_words : List Word → Reading
 command_of_words [] = Ok Nothing
-command_of_words (first ∷ rest) = if is_comment first.word then Ok Nothing else read_form first.word rest
+command_of_words (first ∷ rest) =
+    if is_comment first.word then Ok Nothing else read_form first.word rest
 
 -- the reading of what a line says
 unfoldable pub command_of_line : List ℕ → Reading

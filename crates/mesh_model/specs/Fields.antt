@@ -60,7 +60,8 @@ hex_field word = ok_or (bytes_of_hex word) BadNumber
 
 -- a number in a range
 abbrev pub number_field : ℕ → ℕ → List ℕ → Result ℕ Refusal
-number_field least most word = passing (λ n. nat_le least n && nat_le n most) (ok_or (number_of word) BadNumber)
+number_field least most word =
+    passing (λ n. nat_le least n && nat_le n most) (ok_or (number_of word) BadNumber)
 
 -- the greatest number of 64 bits
 abbrev pub number_limit : ℕ
@@ -88,10 +89,12 @@ algorithm_field = listed_field ((codes "iv", Iv) ∷ (codes "v", V) ∷ [])
 
 -- a mode of alfred
 abbrev pub alfred_mode_field : List ℕ → Result AlfredMode Refusal
-alfred_mode_field = listed_field ((codes "primary", Primary) ∷ (codes "secondary", Secondary) ∷ (codes "off", Off) ∷ [])
+alfred_mode_field = listed_field (
+    (codes "primary", Primary) ∷ (codes "secondary", Secondary) ∷ (codes "off", Off) ∷ [])
 
 -- a table
 abbrev pub table_field : List ℕ → Result Table Refusal
 table_field = listed_field (
-    (codes "o", Originators) ∷ (codes "n", Neighbors) ∷ (codes "tl", Locals) ∷ (codes "tg", Globals) ∷ (codes "cl", Claims)
-    ∷ (codes "gw", Gateways) ∷ (codes "mc", Groups) ∷ (codes "dat", Addresses) ∷ (codes "alf", Facts) ∷ [])
+    (codes "o", Originators) ∷ (codes "n", Neighbors) ∷ (codes "tl", Locals)
+    ∷ (codes "tg", Globals) ∷ (codes "cl", Claims) ∷ (codes "gw", Gateways)
+    ∷ (codes "mc", Groups) ∷ (codes "dat", Addresses) ∷ (codes "alf", Facts) ∷ [])

@@ -24,15 +24,18 @@ no_options = record { delay = None; pattern = None; throughput = None }
 
 -- whether each option is given
 abbrev pub are_all_given : LinkOptions → Bool
-are_all_given options = is_some options.delay && is_some options.pattern && is_some options.throughput
+are_all_given options =
+    is_some options.delay && is_some options.pattern && is_some options.throughput
 
 -- what stands behind the name of an option
 abbrev pub behind : List ℕ → List ℕ → Option (List ℕ)
-behind name word = if bytes_eq (take (length name) word) name then Some (drop (length name) word) else None
+behind name word =
+    if bytes_eq (take (length name) word) name then Some (drop (length name) word) else None
 
 -- a number in a range
 abbrev pub number_within : ℕ → ℕ → ℕ → Option ℕ
-number_within least most number = if nat_le least number && nat_le number most then Some number else None
+number_within least most number =
+    if nat_le least number && nat_le number most then Some number else None
 
 -- a word as a pattern
 abbrev pub pattern_of : List ℕ → Option (List ℕ)
@@ -55,11 +58,13 @@ with_pattern options word = option_map (λ pattern. record options { pattern = S
 
 -- the options with a throughput
 abbrev pub with_throughput : LinkOptions → List ℕ → Option LinkOptions
-with_throughput options word = option_map (λ throughput. record options { throughput = Some throughput })
+with_throughput options word =
+    option_map (λ throughput. record options { throughput = Some throughput })
     (unless_given options.throughput (option_and_then (number_within 1 1000000) (number_of word)))
 
 -- an option by what stands behind its name, where the word begins with that name
-abbrev pub when_named : (List ℕ → Option LinkOptions) → Option (List ℕ) → Option LinkOptions → Option LinkOptions
+abbrev pub when_named :
+    (List ℕ → Option LinkOptions) → Option (List ℕ) → Option LinkOptions → Option LinkOptions
 when_named read (Some value) other = read value
 when_named read None other = other
 
@@ -80,14 +85,20 @@ abbrev pub one_more : Result LinkOptions Refusal → Word → Result LinkOptions
 one_more (Ok options) word = with_one_more options word.word
 one_more (Err refusal) word = Err refusal
 
--- the options that words give, one after another; the first that is refused refuses them all
+-- the options that words give beside others, one after another; the first that is refused refuses
+-- them all
+abbrev pub options_beside : LinkOptions → List Word → Result LinkOptions Refusal
+options_beside given words = fold one_more (Ok given) words
+
+-- the options that words give
 abbrev pub options_of : List Word → Result LinkOptions Refusal
-options_of words = fold one_more (Ok no_options) words
+options_of words = options_beside no_options words
 
 -- the link with these options
 abbrev pub link_with : List ℕ → List ℕ → LinkOptions → Command
 link_with from to options =
-    Link from to (unwrap_or options.delay 1) (unwrap_or options.pattern (codes ".")) (unwrap_or options.throughput 10)
+    Link from to (unwrap_or options.delay 1) (unwrap_or options.pattern (codes "."))
+    (unwrap_or options.throughput 10)
 
 -- a command with the options that were read
 abbrev pub after_options : (LinkOptions → Command) → Result LinkOptions Refusal → Reading

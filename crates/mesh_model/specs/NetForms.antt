@@ -32,7 +32,8 @@ gateway_limit = 16
 abbrev pub the_gateways : (List (List ℕ) → Command) → List Word → Reading
 the_gateways command [] = refused MissingWord
 the_gateways command (first ∷ rest) =
-    if not (list_all (λ word. is_name word.word) (take gateway_limit (first ∷ rest))) then refused BadName
+    if not (list_all (λ word. is_name word.word) (take gateway_limit (first ∷ rest)))
+    then refused BadName
     else if nat_lt gateway_limit (length (first ∷ rest)) then refused ExtraWord
     else Ok (command (map (λ word. word.word) (first ∷ rest)))
 
@@ -46,7 +47,8 @@ read_ping = a_field name_field (λ node. a_field name_field (λ target. the_end 
 
 -- traceroute NODE NODE
 abbrev pub read_traceroute : List Word → Reading
-read_traceroute = a_field name_field (λ node. a_field name_field (λ target. the_end (Trace node target)))
+read_traceroute =
+    a_field name_field (λ node. a_field name_field (λ target. the_end (Trace node target)))
 
 -- run MS
 abbrev pub read_run : List Word → Reading

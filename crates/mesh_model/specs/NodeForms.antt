@@ -13,8 +13,8 @@ use Rattle.mesh_model.specs.Words.{Word}
 -- frame PLACE SRC DST VID TEXT
 abbrev pub read_frame : List Word → Reading
 read_frame =
-    a_field name_field (λ place. a_field unicast_field (λ src. a_field target_field (λ dst. a_field vid_field (λ vid.
-    a_text (λ text. Frame place src dst vid text)))))
+    a_field name_field (λ place. a_field unicast_field (λ src. a_field target_field (λ dst.
+    a_field vid_field (λ vid. a_text (λ text. Frame place src dst vid text)))))
 
 -- gone PLACE MAC VID
 abbrev pub read_gone : List Word → Reading
@@ -31,12 +31,13 @@ read_leave = a_field name_field (λ node. a_key group_field (λ key. the_end (Le
 -- arp NODE MAC IP1 IP2 VID
 abbrev pub read_arp : List Word → Reading
 read_arp =
-    a_field name_field (λ node. a_field unicast_field (λ mac. a_field ip_field (λ own. a_field ip_field (λ asked.
-    a_field vid_field (λ vid. the_end (Arp node mac own asked vid))))))
+    a_field name_field (λ node. a_field unicast_field (λ mac. a_field ip_field (λ own.
+    a_field ip_field (λ asked. a_field vid_field (λ vid. the_end (Arp node mac own asked vid))))))
 
 -- dhcp NODE MAC VID TEXT
 abbrev pub read_dhcp : List Word → Reading
-read_dhcp = a_field name_field (λ node. a_key unicast_field (λ key. a_text (λ text. Dhcp node key text)))
+read_dhcp =
+    a_field name_field (λ node. a_key unicast_field (λ key. a_text (λ text. Dhcp node key text)))
 
 -- set NODE wifi on, or off
 abbrev pub read_wifi : List ℕ → List Word → Reading
@@ -45,7 +46,8 @@ read_wifi node = a_field switch_field (λ on. the_end (Wifi node on))
 -- set NODE gw server DOWN UP
 abbrev pub read_server : List ℕ → List Word → Reading
 read_server node =
-    a_field (number_field 0 4294967295) (λ down. a_field (number_field 0 4294967295) (λ up. the_end (GwServer node down up)))
+    a_field (number_field 0 4294967295) (λ down. a_field (number_field 0 4294967295) (λ up.
+    the_end (GwServer node down up)))
 
 -- set NODE gw client late K
 abbrev pub read_late : List ℕ → List Word → Reading

@@ -22,18 +22,21 @@ abbrev pub refused : Refusal → Reading
 refused refusal = Err (Refused refusal)
 
 -- what follows a field that was read
-abbrev pub after_field : {A : Type 0} → (A → List Word → Reading) → List Word → Result A Refusal → Reading
+abbrev pub after_field : {A : Type 0}
+    → (A → List Word → Reading) → List Word → Result A Refusal → Reading
 after_field next words (Ok value) = next value words
 after_field next words (Err refusal) = refused refusal
 
 -- the next word as a field, and what follows it
-abbrev pub a_field : {A : Type 0} → (List ℕ → Result A Refusal) → (A → List Word → Reading) → List Word → Reading
+abbrev pub a_field : {A : Type 0}
+    → (List ℕ → Result A Refusal) → (A → List Word → Reading) → List Word → Reading
 a_field field next [] = refused MissingWord
 a_field field next (first ∷ rest) = after_field next rest (field first.word)
 
 -- an address of this kind and a VLAN as a key, and what follows them
 abbrev pub a_key : (List ℕ → Result Mac Refusal) → (Key → List Word → Reading) → List Word → Reading
-a_key field next = a_field field (λ mac. a_field vid_field (λ vid. next (record { mac = mac; vid = vid })))
+a_key field next =
+    a_field field (λ mac. a_field vid_field (λ vid. next (record { mac = mac; vid = vid })))
 
 -- the rest of the line as a text
 abbrev pub a_text : (List ℕ → Command) → List Word → Reading

@@ -31,7 +31,8 @@ name_limit = 16
 -- whether a word is a name
 abbrev pub is_name : List ℕ → Bool
 is_name [] = false
-is_name (first ∷ rest) = is_letter first && list_all is_name_character rest && nat_le (length (first ∷ rest)) name_limit
+is_name (first ∷ rest) =
+    is_letter first && list_all is_name_character rest && nat_le (length (first ∷ rest)) name_limit
 
 -- the value of decimal digits
 abbrev pub digits_value : List ℕ → ℕ
@@ -40,15 +41,19 @@ digits_value digits = fold (λ value digit. 10 * value + (digit - 48)) 0 digits
 -- the number that a word spells
 abbrev pub number_of : List ℕ → Option ℕ
 number_of [] = None
-number_of (first ∷ rest) = if list_all is_digit (first ∷ rest) then Some (digits_value (first ∷ rest)) else None
+number_of (first ∷ rest) =
+    if list_all is_digit (first ∷ rest) then Some (digits_value (first ∷ rest)) else None
 
 -- the wire number of a tagged VLAN, from its number 1 to 4094
 abbrev pub tagged : ℕ → Option Vid
-tagged number = if nat_le 1 number && nat_le number 4094 then Some (record { 0 = 32768 + number }) else None
+tagged number =
+    if nat_le 1 number && nat_le number 4094 then Some (record { 0 = 32768 + number }) else None
 
 -- the VLAN that a word names
 abbrev pub vid_of : List ℕ → Option Vid
-vid_of word = if bytes_eq word (codes "-") then Some (record { 0 = 0 }) else option_and_then tagged (number_of word)
+vid_of word =
+    if bytes_eq word (codes "-") then Some (record { 0 = 0 })
+    else option_and_then tagged (number_of word)
 
 -- the character between two numbers of an IP address
 abbrev pub dot : ℕ
@@ -62,7 +67,8 @@ octet number = if nat_le number 255 then Some number else None
 abbrev pub octets_of : List (List ℕ) → Option (List ℕ)
 octets_of [] = Some []
 octets_of (part ∷ parts) =
-    option_both (λ number numbers. number ∷ numbers) (option_and_then octet (number_of part)) (octets_of parts)
+    option_both (λ number numbers. number ∷ numbers)
+    (option_and_then octet (number_of part)) (octets_of parts)
 
 -- four numbers as one of 32 bits, the first of them highest
 abbrev pub ip_of_octets : List ℕ → Option ℕ

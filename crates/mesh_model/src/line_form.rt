@@ -13,8 +13,8 @@ pub enum Command {
         name: Bytes,
         mac: Mac,
     },
-    /// `link A B`, with options: a directed link. Its delay is 1 to 10,000 ms, its pattern 1 to 64 of the marks `.`, `x`,
-    /// `2` and `h`, and its throughput 1 to 1,000,000 in units of 100 kbit/s.
+    /// `link A B`, with options: a directed link. Its delay is 1 to 10,000 ms, its pattern 1 to 64 of
+    /// the marks `.`, `x`, `2` and `h`, and its throughput 1 to 1,000,000 in units of 100 kbit/s.
     Link {
         from: Bytes,
         to: Bytes,
@@ -27,8 +27,8 @@ pub enum Command {
         name: Bytes,
         gateways: NameList,
     },
-    /// `frame PLACE SRC DST VID TEXT`: a client frame at a node or on a LAN. The source is unicast, the destination isn't
-    /// zero.
+    /// `frame PLACE SRC DST VID TEXT`: a client frame at a node or on a LAN. The source is unicast,
+    /// the destination isn't zero.
     Frame {
         place: Bytes,
         src: Mac,
@@ -36,7 +36,8 @@ pub enum Command {
         vid: Vid,
         text: Bytes,
     },
-    /// `gone PLACE MAC VID`: a client with this unicast address leaves a node, or each gateway of a LAN.
+    /// `gone PLACE MAC VID`: a client with this unicast address leaves a node, or each gateway of a
+    /// LAN.
     Gone {
         place: Bytes,
         key: Key,
@@ -51,7 +52,8 @@ pub enum Command {
         node: Bytes,
         key: Key,
     },
-    /// `arp NODE MAC IP1 IP2 VID`: a client with this unicast address and the IP address `own_ip` asks for `asked_ip`.
+    /// `arp NODE MAC IP1 IP2 VID`: a client with this unicast address and the IP address `own_ip`
+    /// asks for `asked_ip`.
     Arp {
         node: Bytes,
         mac: Mac,
@@ -74,7 +76,8 @@ pub enum Command {
     GwOff {
         node: Bytes,
     },
-    /// `set NODE gw server DOWN UP`: the node is a gateway, with its throughputs in units of 100 kbit/s.
+    /// `set NODE gw server DOWN UP`: the node is a gateway, with its throughputs in units of 100
+    /// kbit/s.
     GwServer {
         node: Bytes,
         down: u32,
@@ -126,7 +129,8 @@ pub enum Command {
     Run {
         time: Millis,
     },
-    /// `deliver N`: the link frame of this number is delivered again. `u64::MAX` stands for all numbers from there on.
+    /// `deliver N`: the link frame of this number is delivered again. `u64::MAX` stands for all
+    /// numbers from there on.
     Deliver {
         number: u64,
     },

@@ -1,4 +1,5 @@
--- The options of a `link` line, apart from where their texts lie. No public clause cites this module.
+-- The options of a `link` line, apart from where their texts lie. No public clause cites this
+-- module.
 use Rattle.std.specs.Prelude.{option_map}
 use Rattle.mesh_model.specs.LinkOptions.{LinkOptions}
 use Rattle.mesh_scenario.specs.declared.options.LinkOptions.{LinkOptions as Lent}

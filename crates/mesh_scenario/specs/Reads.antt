@@ -1,5 +1,6 @@
--- What a call says that takes the next word of a line as a field: whatever follows the field in its form, the reading
--- goes on behind the word, with the field's value, or it is refused there. No public clause cites this module.
+-- What a call says that takes the next word of a line as a field: whatever follows the field in its
+-- form, the reading goes on behind the word, with the field's value, or it is refused there. No
+-- public clause cites this module.
 use Rattle.std.specs.Prelude.{◌≡◌, ◌==◌, ℕ, Bool, not, List, Result, Ok}
 use Rattle.mesh_model.specs.declared.ending.Refusal.{Refusal}
 use Rattle.mesh_model.specs.declared.line_form.Command.{Command}
@@ -22,8 +23,10 @@ abbrev pub seen : Found → Word
 seen found = record { word = found.word.now; text = found.text.now }
 
 -- the next word has this value, and the others are left
-abbrev pub GivesField : {A : Type 0} → (List ℕ → Result A Refusal) → List Word → A → List Word → Type 0
-GivesField {A} field old value new = (next : A → List Word → Reading) → a_field field next old ≡ next value new
+abbrev pub GivesField : {A : Type 0}
+    → (List ℕ → Result A Refusal) → List Word → A → List Word → Type 0
+GivesField {A} field old value new =
+    (next : A → List Word → Reading) → a_field field next old ≡ next value new
 
 -- the next word is missing or refused
 abbrev pub FailsField : {A : Type 0} → (List ℕ → Result A Refusal) → List Word → WordErr → Type 0
@@ -32,7 +35,8 @@ FailsField {A} field old fault =
 
 -- the same where memory may be wanting
 abbrev pub RefusesField : {A : Type 0} → (List ℕ → Result A Refusal) → List Word → LineErr → Type 0
-RefusesField {A} field old error = (next : A → List Word → Reading) → Refuses (a_field field next old) error
+RefusesField {A} field old error =
+    (next : A → List Word → Reading) → Refuses (a_field field next old) error
 
 -- there are no more words
 abbrev pub IsAtEnd : List Word → Type 0
@@ -56,7 +60,8 @@ FailsText old fault = (command : List ℕ → Command) → a_text command old �
 
 -- the rest of the line is this text, which isn't too long
 abbrev pub GivesTextUpTo : ℕ → List Word → List ℕ → Type 0
-GivesTextUpTo most old text = (command : List ℕ → Command) → a_text_up_to most command old ≡ Ok (command text)
+GivesTextUpTo most old text =
+    (command : List ℕ → Command) → a_text_up_to most command old ≡ Ok (command text)
 
 -- there is no text, or it is too long
 abbrev pub FailsTextUpTo : ℕ → List Word → WordErr → Type 0
@@ -65,7 +70,8 @@ FailsTextUpTo most old fault =
 
 -- the other words are these options
 abbrev pub GivesOptions : List Word → LinkOptions → Type 0
-GivesOptions old options = (command : LinkOptions → Command) → the_options command old ≡ Ok (command options)
+GivesOptions old options =
+    (command : LinkOptions → Command) → the_options command old ≡ Ok (command options)
 
 -- the other words aren't options
 abbrev pub FailsOptions : List Word → WordErr → Type 0
@@ -74,8 +80,10 @@ FailsOptions old fault =
 
 -- the other words are the names of these gateways
 abbrev pub GivesGateways : List Word → List (List ℕ) → Type 0
-GivesGateways old names = (command : List (List ℕ) → Command) → the_gateways command old ≡ Ok (command names)
+GivesGateways old names =
+    (command : List (List ℕ) → Command) → the_gateways command old ≡ Ok (command names)
 
 -- the other words aren't gateways, or memory is wanting
 abbrev pub RefusesGateways : List Word → LineErr → Type 0
-RefusesGateways old error = (command : List (List ℕ) → Command) → Refuses (the_gateways command old) error
+RefusesGateways old error =
+    (command : List (List ℕ) → Command) → Refuses (the_gateways command old) error

@@ -67,7 +67,8 @@ fn read_alfred_form(
     word: &[u8],
     words: &mut Words<'_>,
 ) -> Result<Command, LineErr>
-    ensures ok { IfOk result (λ command. read_alfred_form node.now word.now words.old ≡ Ok command) }
+    ensures ok { IfOk result (λ command.
+        read_alfred_form node.now word.now words.old ≡ Ok command) }
     ensures refused { IfErr result (Refuses (read_alfred_form node.now word.now words.old)) }
 {
     if word == b"mode".as_slice() {

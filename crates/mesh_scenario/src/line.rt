@@ -1,6 +1,6 @@
 ghost use Rattle.std.specs.Prelude.{◌≡◌, Ok, IfOk, IfErr};
 ghost use Rattle.std.specs.Str.{is_utf8};
-ghost use Rattle.mesh_model.specs.Commands.{command_of_line, command_of_words, is_comment, read_form};
+ghost use Rattle.mesh_model.specs.Commands.{command_of_line, command_of_words, is_comment, read_form, read_given_form};
 ghost use Rattle.mesh_scenario.specs.LineErr.{Refuses};
 
 use crate::line_err::LineErr;
@@ -26,20 +26,12 @@ fn is_utf8(bytes: &[u8]) -> bool
     std::str::from_utf8(bytes).is_ok()
 }
 
-/// The form that a command word begins.
-fn read_form(alloc: Global, word: &[u8], words: &mut Words<'_>) -> Result<Command, LineErr>
-    ensures ok { IfOk result (λ command. read_form word.now words.old ≡ Ok command) }
-    ensures refused { IfErr result (Refuses (read_form word.now words.old)) }
+/// The form that a command word begins, of those that give a node something.
+fn read_given_form(alloc: Global, word: &[u8], words: &mut Words<'_>) -> Result<Command, LineErr>
+    ensures ok { IfOk result (λ command. read_given_form word.now words.old ≡ Ok command) }
+    ensures refused { IfErr result (Refuses (read_given_form word.now words.old)) }
 {
-    if word == b"algo".as_slice() {
-        net_forms::read_algo(alloc, words)
-    } else if word == b"node".as_slice() {
-        net_forms::read_node(alloc, words)
-    } else if word == b"link".as_slice() {
-        net_forms::read_link(alloc, words)
-    } else if word == b"lan".as_slice() {
-        net_forms::read_lan(alloc, words)
-    } else if word == b"frame".as_slice() {
+    if word == b"frame".as_slice() {
         client_forms::read_frame(alloc, words)
     } else if word == b"gone".as_slice() {
         client_forms::read_gone(alloc, words)
@@ -55,6 +47,24 @@ fn read_form(alloc: Global, word: &[u8], words: &mut Words<'_>) -> Result<Comman
         setting_forms::read_set(alloc, words)
     } else if word == b"alfred".as_slice() {
         alfred_forms::read_alfred(alloc, words)
+    } else {
+        Err(LineErr::UnknownCommand)
+    }
+}
+
+/// The form that a command word begins.
+fn read_form(alloc: Global, word: &[u8], words: &mut Words<'_>) -> Result<Command, LineErr>
+    ensures ok { IfOk result (λ command. read_form word.now words.old ≡ Ok command) }
+    ensures refused { IfErr result (Refuses (read_form word.now words.old)) }
+{
+    if word == b"algo".as_slice() {
+        net_forms::read_algo(alloc, words)
+    } else if word == b"node".as_slice() {
+        net_forms::read_node(alloc, words)
+    } else if word == b"link".as_slice() {
+        net_forms::read_link(alloc, words)
+    } else if word == b"lan".as_slice() {
+        net_forms::read_lan(alloc, words)
     } else if word == b"ping".as_slice() {
         net_forms::read_ping(alloc, words)
     } else if word == b"traceroute".as_slice() {
@@ -68,7 +78,7 @@ fn read_form(alloc: Global, word: &[u8], words: &mut Words<'_>) -> Result<Comman
     } else if word == b"decode".as_slice() {
         net_forms::read_decode(alloc, words)
     } else {
-        Err(LineErr::UnknownCommand)
+        read_given_form(alloc, word, words)
     }
 }
 

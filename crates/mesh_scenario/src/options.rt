@@ -1,8 +1,8 @@
 //! The options of a `link` line.
 
-ghost use Rattle.std.specs.Prelude.{◌≡◌, ◌<◌, Ok, Err, IfOk, IfErr, option_map, fold};
+ghost use Rattle.std.specs.Prelude.{◌≡◌, ◌<◌, Ok, Err, IfOk, IfErr, option_map};
 ghost use Rattle.mesh_model.specs.Fields.{number_limit};
-ghost use Rattle.mesh_model.specs.LinkOptions.{no_options, are_all_given, one_more, with_one_more, number_within, with_delay, with_pattern, with_throughput, with_option};
+ghost use Rattle.mesh_model.specs.LinkOptions.{no_options, are_all_given, options_beside, with_one_more, number_within, with_delay, with_pattern, with_throughput, with_option};
 ghost use Rattle.mesh_model.specs.Terms.{number_of};
 ghost use Rattle.mesh_scenario.specs.LineErr.{refusal_of};
 ghost use Rattle.mesh_scenario.specs.Options.{options_seen};
@@ -71,7 +71,8 @@ impl<'a> LinkOptions<'a> {
     }
 
     fn with_throughput(self, word: &'a [u8]) -> Option<LinkOptions<'a>>
-        ensures { option_map options_seen result ≡ with_throughput (options_seen self.entry) word.now }
+        ensures { option_map options_seen result
+            ≡ with_throughput (options_seen self.entry) word.now }
     {
         if self.throughput.is_some() {
             return None;
@@ -83,7 +84,8 @@ impl<'a> LinkOptions<'a> {
         })
     }
 
-    /// The options with the one that a word gives, or `None` where it is no option, is badly written, or is given already.
+    /// The options with the one that a word gives, or `None` where it is no option, is badly written
+    /// or is given already.
     fn with_option(self, word: &'a [u8]) -> Option<LinkOptions<'a>>
         ensures { option_map options_seen result ≡ with_option (options_seen self.entry) word.now }
     {
@@ -100,8 +102,10 @@ impl<'a> LinkOptions<'a> {
 
     /// The options with those of one more word.
     fn one_more(self, word: &'a [u8]) -> Result<LinkOptions<'a>, WordErr>
-        ensures ok { IfOk result (λ options. with_one_more (options_seen self.entry) word.now ≡ Ok (options_seen options)) }
-        ensures refused { IfErr result (λ fault. with_one_more (options_seen self.entry) word.now ≡ Err (refusal_of fault)) }
+        ensures ok { IfOk result (λ options.
+            with_one_more (options_seen self.entry) word.now ≡ Ok (options_seen options)) }
+        ensures refused { IfErr result (λ fault.
+            with_one_more (options_seen self.entry) word.now ≡ Err (refusal_of fault)) }
     {
         if self.are_all_given() {
             return Err(WordErr::ExtraWord);
@@ -113,8 +117,10 @@ impl<'a> LinkOptions<'a> {
 impl<'a> Words<'a> {
     /// Takes the other words as options beside those that are given.
     fn options_beside(&mut self, given: LinkOptions<'a>) -> Result<LinkOptions<'a>, WordErr>
-        ensures ok { IfOk result (λ options. fold one_more (Ok (options_seen given.entry)) self.old ≡ Ok (options_seen options)) }
-        ensures refused { IfErr result (λ fault. fold one_more (Ok (options_seen given.entry)) self.old ≡ Err (refusal_of fault)) }
+        ensures ok { IfOk result (λ options.
+            options_beside (options_seen given.entry) self.old ≡ Ok (options_seen options)) }
+        ensures refused { IfErr result (λ fault.
+            options_beside (options_seen given.entry) self.old ≡ Err (refusal_of fault)) }
     {
         match self.next() {
             None => Ok(given),

@@ -63,7 +63,8 @@ fn read_client(
     policy: Policy,
     words: &mut Words<'_>,
 ) -> Result<Command, LineErr>
-    ensures ok { IfOk result (λ command. the_end (GwClient node.now policy) words.old ≡ Ok command) }
+    ensures ok { IfOk result (λ command.
+        the_end (GwClient node.now policy) words.old ≡ Ok command) }
     ensures refused { IfErr result (Refuses (the_end (GwClient node.now policy) words.old)) }
 {
     words.end()?;

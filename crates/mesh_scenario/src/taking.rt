@@ -108,7 +108,8 @@ impl<'a> Words<'a> {
     /// Takes a number in a range.
     pub fn number(&mut self, least: u64, most: u64) -> Result<u64, WordErr>
         requires { most < number_limit }
-        ensures ok { IfOk result (λ number. GivesField (number_field least most) self.old number self.new) }
+        ensures ok { IfOk result (λ number.
+            GivesField (number_field least most) self.old number self.new) }
         ensures within { IfOk result (λ number. number ≤ most) }
         ensures refused { IfErr result (FailsField (number_field least most) self.old) }
     {
@@ -123,7 +124,8 @@ impl<'a> Words<'a> {
 
     /// Takes the number of a link frame; `u64::MAX` stands for all that are greater.
     pub fn frame_number(&mut self) -> Result<u64, WordErr>
-        ensures ok { IfOk result (λ number. GivesField frame_number_field self.old number self.new) }
+        ensures ok { IfOk result (λ number.
+            GivesField frame_number_field self.old number self.new) }
         ensures refused { IfErr result (FailsField frame_number_field self.old) }
     {
         let found = self.next().ok_or(WordErr::MissingWord)?;
@@ -141,7 +143,8 @@ impl<'a> Words<'a> {
 
     /// Takes the name of an algorithm.
     pub fn algorithm(&mut self) -> Result<Algorithm, WordErr>
-        ensures ok { IfOk result (λ algorithm. GivesField algorithm_field self.old algorithm self.new) }
+        ensures ok { IfOk result (λ algorithm.
+            GivesField algorithm_field self.old algorithm self.new) }
         ensures refused { IfErr result (FailsField algorithm_field self.old) }
     {
         let found = self.next().ok_or(WordErr::MissingWord)?;
