@@ -21,7 +21,13 @@ fn main(rt: HostRuntime) -> ExitCode {
     let mut out = RealSink::new(rt.stdout());
     let mut err = RealSink::new(rt.stderr());
     let status = match words(&rt) {
-        Ok(words) => batmesh(rt.alloc(), words.as_slice(), &mut intake, &mut out, &mut err),
+        Ok(words) => batmesh(
+            rt.alloc(),
+            words.as_slice(),
+            &mut intake,
+            &mut out,
+            &mut err,
+        ),
         Err(error) if error.kind() == ErrorKind::OutOfMemory => OUT_OF_MEMORY,
         Err(_) => {
             let unread = [String::new(rt.alloc())];

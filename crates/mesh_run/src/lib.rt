@@ -17,3 +17,6 @@ mod scene;
 pub use program::{
     FINISHED, LIMITED, OUT_OF_MEMORY, READ_FAULT, REFUSED, USAGE, WRITE_FAULT, batmesh,
 };
+
+#[cfg(test)]
+mod tests;
