@@ -2,7 +2,7 @@
 -- milliseconds; the events are what the run prints, in order. A command is refused by the first rule that it breaks: it
 -- is built, each name that it uses is that of a node, and a new node has a name and an address of its own. The main word
 -- is `carried_out`.
-use Rattle.std.specs.Prelude.{ℕ, ◌==◌, Bool, true, false, not, List, [], ◌∷◌, ◌++◌, find, flat_map, bytes_eq, Option, Some, None, Result, Ok, Err, if◌then◌else◌}
+use Rattle.std.specs.Prelude.{ℕ, Bool, true, false, not, List, [], ◌∷◌, ◌++◌, find, flat_map, bytes_eq, Option, Some, None, Result, Ok, Err, if◌then◌else◌}
 use Rattle.std.specs.List.{list_any}
 use Rattle.std.specs.Option.{option_or, option_map_or}
 use Rattle.mesh_base.specs.Address.{is_broadcast}

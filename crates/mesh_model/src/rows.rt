@@ -46,57 +46,43 @@ pub fn a_comment_of_4097_bytes_passes_the_limit()
 
 /// Each node has a log of its own, and its table is printed under its own name.
 pub fn nodes_have_tables_of_their_own()
-    ensures {
-        RunsToItsEnd
-            (lines (one_client ++ codes "node B 02:00:00:00:00:0b" ∷ codes "show B tl"
-                ∷ codes "frame B 02:00:00:00:01:02 ff:ff:ff:ff:ff:ff 7 x" ∷ codes "show B tl"
-                ∷ codes "show A tl" ∷ []))
-            (lines (codes "tl B version=0 clients=0"
-                ∷ codes "tl B version=0 clients=1"
-                ∷ codes "c 02:00:00:00:01:02 7 -- age=0" ∷ one_row))
-    }
-{
-}
+    ensures { RunsToItsEnd
+        (lines (one_client ++ codes "node B 02:00:00:00:00:0b" ∷ codes "show B tl"
+        ∷ codes "frame B 02:00:00:00:01:02 ff:ff:ff:ff:ff:ff 7 x" ∷ codes "show B tl"
+        ∷ codes "show A tl" ∷ []))
+        (lines (codes "tl B version=0 clients=0"
+        ∷ codes "tl B version=0 clients=1"
+        ∷ codes "c 02:00:00:00:01:02 7 -- age=0" ∷ one_row)) }
+{}
 
 /// A name stands for one node.
 pub fn a_second_node_of_a_name_is_refused()
-    ensures {
-        HaltsAt
-            (lines (codes "node A 02:00:00:00:00:0a" ∷ codes "node A 02:00:00:00:00:0a" ∷ []))
-            [] 2 (Refused NameTaken)
-    }
-{
-}
+    ensures { HaltsAt
+        (lines (codes "node A 02:00:00:00:00:0a" ∷ codes "node A 02:00:00:00:00:0a" ∷ []))
+        [] 2 (Refused NameTaken) }
+{}
 
 /// An address stands for one node.
 pub fn a_second_node_of_an_address_is_refused()
-    ensures {
-        HaltsAt
-            (lines (codes "node A 02:00:00:00:00:0a" ∷ codes "node B 02:00:00:00:00:0A" ∷ []))
-            [] 2 (Refused AddressTaken)
-    }
-{
-}
+    ensures { HaltsAt
+        (lines (codes "node A 02:00:00:00:00:0a" ∷ codes "node B 02:00:00:00:00:0A" ∷ []))
+        [] 2 (Refused AddressTaken) }
+{}
 
 /// A form that isn't built is refused before a name that isn't known.
 pub fn a_link_is_not_built()
     ensures { HaltsAt (lines (codes "link A B" ∷ [])) [] 1 (Refused NotBuilt) }
-{
-}
+{}
 
 /// The words of a line are looked at from left to right.
 pub fn a_bad_address_is_named()
-    ensures {
-        HaltsAt (lines (codes "frame A zz ff:ff:ff:ff:ff:ff - x" ∷ [])) [] 1 (Refused BadMac)
-    }
-{
-}
+    ensures { HaltsAt (lines (codes "frame A zz ff:ff:ff:ff:ff:ff - x" ∷ [])) [] 1 (Refused BadMac) }
+{}
 
 /// A form wants all its words.
 pub fn a_missing_word_is_named()
     ensures { HaltsAt (lines (codes "show A" ∷ [])) [] 1 (Refused MissingWord) }
-{
-}
+{}
 
 /// A carriage return before a newline is dropped, tabs and further spaces separate words, a client that is seen twice
 /// is one row, and rows stand in key order: untagged before tagged.
