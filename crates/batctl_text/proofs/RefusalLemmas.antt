@@ -1,15 +1,15 @@
 -- Bytes that begin no packet, for the cause that decoding them gave, are the same cause computed.
-use Rattle.std.proofs.Common.{◌≡◌, ℕ, ◌<◌, List, [], ◌∷◌, inl, inr, Option, Some, None, true, false, Err, refl, sym, ap, subst, ◌∙◌, arith, length}
+use Rattle.std.proofs.Common.{◌≡◌, ℕ, ◌<◌, List, [], ◌∷◌, inl, inr, Option, Some, None, true, false, Ok, Err, refl, sym, ap, subst, ◌∙◌, arith, length}
 use Rattle.std.specs.Prelude.{◌≢◌, ◌==◌, slice_get, option_and_then, nat_lt}
 use Rattle.std.proofs.lemmas.Bool.Decides.{nat_tests}
 use Rattle.mesh_model.specs.Packets.{compat_version, header_size}
-use Rattle.mesh_model.specs.FirstPacket.{NoPacket, first_packet, packet_of_kind}
+use Rattle.mesh_model.specs.FirstPacket.{NoPacket, Packet, first_packet, packet_of_kind}
 use Rattle.mesh_model.specs.FirstPacket.NoPacket.{Short, Version, Kind, Length}
 use Rattle.mesh_model.specs.DecodeText.{decode_text, refusal_line, packet_lines}
 use Rattle.mesh_model.proofs.FirstPacketLemmas.{first_packet-long}
 use Rattle.mesh_model.proofs.DecodeLemmas.{decode_text-first}
 use Rattle.mesh_codec.specs.declared.failure.CodecErr.{CodecErr}
-use Rattle.mesh_codec.specs.declared.failure.CodecErr.TheVariants.{Short as TooShort, Version as OtherVersion, Kind as NoKind, Length as TooLong}
+use Rattle.mesh_codec.specs.declared.failure.CodecErr.TheVariants.{Short as TooShort, Version as OtherVersion, Kind as NoKind, Length as TooLong, Long, Tail, Memory}
 use Rattle.mesh_codec.specs.Decoding.{IsShort, HasVersion, HasCause}
 
 eqb-from : (a b : ℕ) → a ≡ b → (a == b) ≡ true
@@ -93,3 +93,14 @@ length_text bytes cause told left is has =
     let tells = the_cause bytes cause (TooLong told left) is has in
     refused bytes (Length told left) (first_packet-long bytes tells.head told tells.after tells.header tells.tail_is (omega (arith, tells.left_is, tells.more))
     ∙ ap (λ (n : ℕ). Err (Length told n)) (sym tells.left_is))
+
+-- bytes for which there is a cause have one computed too
+pub no_packet : (bytes : List ℕ) (error : CodecErr) (packet : Packet) → HasCause bytes error → first_packet bytes ≡ Ok packet → ⊥
+no_packet bytes (TooShort have need) packet has is = let no_packet_there = first_packet-short bytes have need has in absurd (cc)
+no_packet bytes (OtherVersion version) packet has is = let no_packet_there = first_packet-version bytes version has.0 has.1 in absurd (cc)
+no_packet bytes (NoKind kind) packet has is = let no_packet_there = first_packet-kind bytes kind has.0 has.1 has.2 in absurd (cc)
+no_packet bytes (TooLong told left) packet has is =
+    let no_packet_there = first_packet-long bytes has.head told has.after has.header has.tail_is (omega (arith, has.left_is, has.more)) in absurd (cc)
+no_packet bytes (Long len) packet has is = has
+no_packet bytes (Tail len) packet has is = has
+no_packet bytes Memory packet has is = has

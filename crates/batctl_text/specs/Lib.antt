@@ -1,2 +1,3 @@
 -- What the contracts of this crate cite beside the definitions of printed text.
 pub mod Printed
+pub mod Laws

@@ -8,6 +8,7 @@ mod bad_line;
 mod container_line;
 mod decoding;
 mod fields;
+pub mod laws;
 mod local_table;
 mod packet_line;
 
