@@ -1,4 +1,4 @@
-use Rattle.std.proofs.Common.{List, [], ◌∷◌, ap, refl, sym, ◌∙◌}
+use Rattle.std.proofs.Common.{refl, sym, ◌∙◌}
 use Rattle.mesh_run.specs.declared.node.SceneNode.{SceneNode}
 use Rattle.mesh_run.proofs.SceneLemmas.{Carries-node, addressed, carried-address_taken, carried-name_taken, known}
 use Rattle.mesh_run.proofs.scene.Scene.add_node.Goals as goal
