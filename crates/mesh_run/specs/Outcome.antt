@@ -1,5 +1,7 @@
--- What a run of the program leaves, by its status: what out took since the call, and how far the intake was read. The
--- main words are `FinishesAll`, `HaltsAt`, `PrintsTaken` and `PrintsFront`, each over the bytes of the input.
+-- What a run of the program leaves, by its status: what out took since the call, and how far the
+-- intake was read. The main words are `IsRefused`, `IsLimited`, `PrintsTaken` and `PrintsFrontOf`,
+-- each over the bytes of the input, and `TellsStatus`. For a run that finishes it is `Finishes` of
+-- `Progress`.
 use Rattle.std.specs.Prelude.{◌≡◌, ℕ, ◌+◌, ◌≤◌, ◌⊎◌, List, length, Option, Some, None, IfSome}
 use Rattle.std.specs.Io.KnownBytes.{Appends, Consumes, Keeps}
 use Rattle.mesh_base.specs.Writes.{AppendsFront}
