@@ -45,12 +45,21 @@ impl Bytes {
         Ok(Bytes { bytes })
     }
 
+    /// The bytes of a vector, which are kept where they lie.
+    pub fn from_vec(bytes: Vec<u8>) -> Bytes
+        ensures value { result ≡ bytes.items }
+    {
+        Bytes { bytes }
+    }
+
+    /// The bytes, lent.
     pub fn as_slice(&self) -> &[u8]
         ensures value { result.now ≡ self.now }
     {
         self.bytes.as_slice()
     }
 
+    /// How many bytes there are.
     pub fn len(&self) -> usize
         ensures value { result ≡ length self.now }
     {

@@ -5,8 +5,8 @@ use hex::FromHexError;
 use mesh_base::{Bytes, NoMemory};
 use std::alloc::Global;
 
-/// The bytes that a word spells in hex digits of either case, an even number of them and at least 2,
-/// or `None` where it doesn't.
+/// The bytes that a word spells in hex digits of either case, an even number of them and at least
+/// 2, or `None` where it doesn't.
 pub fn hex_bytes(alloc: Global, word: &[u8]) -> Result<Option<Bytes>, NoMemory>
     ensures { IfOk result (λ bytes. bytes ≡ bytes_of_hex word.now) }
 {
@@ -14,7 +14,7 @@ pub fn hex_bytes(alloc: Global, word: &[u8]) -> Result<Option<Bytes>, NoMemory>
         return Ok(None);
     }
     match hex::decode(alloc, word) {
-        Ok(bytes) => Ok(Some(Bytes::from_slice(alloc, bytes.as_slice())?)),
+        Ok(bytes) => Ok(Some(Bytes::from_vec(bytes))),
         Err(FromHexError::OutOfMemory) => Err(NoMemory),
         Err(_) => Ok(None),
     }
