@@ -7,7 +7,8 @@ use Rattle.mesh_model.specs.declared.packet.Head.TheVariants.{IvOgm, Bcast, Elp,
 use Rattle.mesh_model.specs.Packets.{IsPacket, row_of, header_of, header_size, compat_version}
 use Rattle.mesh_model.specs.PacketLines.{packet_line}
 use Rattle.mesh_model.specs.DecodeText.{decode_text, packet_lines, tail_lines, after_packet, is_followed, rest_line, type_byte}
-use Rattle.mesh_model.proofs.FirstPacketLemmas.{width, begin_length, first_packet-found, front_of_header, header_width}
+use Rattle.mesh_model.proofs.FirstPacketLemmas.{first_packet-found, front_of_header}
+use Rattle.mesh_model.proofs.HeaderLemmas.{width, begin_length, header_width}
 use Rattle.mesh_model.proofs.DecodeLemmas.{decode_text-first}
 use Rattle.batctl_text.specs.Printed.{IsTailPrinted, IsHeader, HasPrinted}
 

@@ -3,7 +3,7 @@ use Rattle.std.proofs.Common.{◌≡◌, ℕ, ◌+◌, ◌<◌, inl, inr, List, 
 use Rattle.std.proofs.lemmas.List.{drop-drop}
 use Rattle.mesh_model.specs.Containers.{Container, container_size, container_text, containers_text, containers_of, rest_of}
 use Rattle.mesh_model.specs.Packets.TailKind.{containers}
-use Rattle.mesh_model.specs.ContainerLines.{container_lines, containers_lines, short_line, lines_before}
+use Rattle.mesh_model.specs.ContainerLines.{container_lines, containers_lines, bad_length_line, lines_before}
 use Rattle.mesh_model.specs.DecodeText.{cut_line, unless_cut, tail_lines}
 use Rattle.mesh_tvlv.specs.Walk.{Walk, to_come, behind, walk_over, HasEnded}
 use Rattle.mesh_tvlv.proofs.ContainersLemmas.{to_come-ended}
@@ -48,7 +48,7 @@ to_print-lines walk next tail lines after container come is =
 
 -- what is to be printed before a container that is too short
 to_print-short : (walk next : Walk) (tail after : List ℕ) (container : Container) → to_come walk ≡ container ∷ to_come next
-    → container_lines container ≡ None → to_print walk tail after ≡ short_line container
+    → container_lines container ≡ None → to_print walk tail after ≡ bad_length_line container
 to_print-short walk next tail after container come is =
     ap (λ (cs : List Container). containers_lines cs (behind_containers tail after)) come
     ∙ ap (λ (o : Option (List ℕ)). lines_before container o (to_print next tail after)) is
@@ -81,7 +81,7 @@ stands-more old tail text new lines walk next container at come moved is printed
 -- the same, where a container was printed whole
 pub stands-whole : (old tail text new : List ℕ) (walk next : Walk) (container : Container) (lines : Option (List ℕ)) → StandsAt old tail text walk
     → to_come walk ≡ container ∷ to_come next → next ≡ behind walk container → container_lines container ≡ lines
-    → IsPrinted text new lines (short_line container) true → StandsAt old tail new next
+    → IsPrinted text new lines (bad_length_line container) true → StandsAt old tail new next
 stands-whole old tail text new walk next container None at come moved is printed = absurd (let e = printed.0 in cc)
 stands-whole old tail text new walk next container (Some lines) at come moved is printed =
     stands-more old tail text new lines walk next container at come moved is printed.1
@@ -89,7 +89,7 @@ stands-whole old tail text new walk next container (Some lines) at come moved is
 -- a container that is too short ends the text
 pub ends-short : (old tail text new : List ℕ) (walk next : Walk) (container : Container) (lines : Option (List ℕ)) → StandsAt old tail text walk
     → to_come walk ≡ container ∷ to_come next → container_lines container ≡ lines
-    → IsPrinted text new lines (short_line container) false → (after : List ℕ) → new ≡ old ++ tail_lines containers tail after
+    → IsPrinted text new lines (bad_length_line container) false → (after : List ℕ) → new ≡ old ++ tail_lines containers tail after
 ends-short old tail text new walk next container (Some lines) at come is printed after = absurd (let e = printed.0 in cc)
 ends-short old tail text new walk next container None at come is printed after =
     printed.1 ∙ ap (λ rest. text ++ rest) (sym (to_print-short walk next tail after container come is)) ∙ at.printed after

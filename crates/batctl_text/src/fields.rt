@@ -1,24 +1,20 @@
 //! The parts of a line: numbers, addresses, VLANs, flags and checksums.
 
-ghost use Rattle.std.specs.Prelude.{◌≡◌, ◌/◌, ◌%◌, ◌++◌, ◌<◌, decimal, slice_index, IfOk, OnOk};
+ghost use Rattle.std.specs.Prelude.{◌≡◌, ◌/◌, ◌%◌, ◌++◌, ◌<◌, decimal, slice_index, OnOk};
 ghost use Rattle.hex.specs.Hex.{lower_digits};
 ghost use Rattle.mesh_base.specs.Address.{hex_of_byte, mac_text, pairs_text};
-ghost use Rattle.mesh_model.specs.PacketLines.{number_field, address_field, flags_field};
+ghost use Rattle.mesh_model.specs.PacketLines.{named_number, named_address, named_flags};
 ghost use Rattle.mesh_model.specs.TableText.{sum_text, vid_text};
 
 use mesh_base::{Mac, NoMemory, Vid};
-use std::alloc::Global;
 
-/// The room that each line fits in, but for one that names a node.
-pub const LINE_ROOM: usize = 128;
-
-/// A line that begins with this text.
-pub fn line_from(alloc: Global, start: &[u8]) -> Result<Vec<u8>, NoMemory>
-    ensures ok { IfOk result (λ line. line.items ≡ start.now) }
+/// Begins a line with this text, in place of the line before.
+pub fn start_line(line: &mut Vec<u8>, start: &[u8]) -> Result<(), NoMemory>
+    ensures ok { OnOk result (line.new.items ≡ start.now) }
 {
-    let mut line = Vec::with_capacity(alloc, LINE_ROOM)?;
+    line.clear();
     line.extend_from_slice(start)?;
-    Ok(line)
+    Ok(())
 }
 
 /// Appends a number in decimal.
@@ -116,24 +112,24 @@ pub fn put_sum(line: &mut Vec<u8>, sum: u32) -> Result<(), NoMemory>
 }
 
 /// Appends a number behind its name.
-pub fn put_number_field(line: &mut Vec<u8>, name: &[u8], value: u64) -> Result<(), NoMemory>
-    ensures ok { OnOk result (line.new.items ≡ line.old.items ++ number_field name.now value) }
+pub fn put_named_number(line: &mut Vec<u8>, name: &[u8], value: u64) -> Result<(), NoMemory>
+    ensures ok { OnOk result (line.new.items ≡ line.old.items ++ named_number name.now value) }
 {
     line.extend_from_slice(name)?;
     put_number(line, value)
 }
 
 /// Appends an address behind its name.
-pub fn put_address_field(line: &mut Vec<u8>, name: &[u8], mac: Mac) -> Result<(), NoMemory>
-    ensures ok { OnOk result (line.new.items ≡ line.old.items ++ address_field name.now mac) }
+pub fn put_named_address(line: &mut Vec<u8>, name: &[u8], mac: Mac) -> Result<(), NoMemory>
+    ensures ok { OnOk result (line.new.items ≡ line.old.items ++ named_address name.now mac) }
 {
     line.extend_from_slice(name)?;
     put_mac(line, mac)
 }
 
 /// Appends flags, two hex digits, behind their name.
-pub fn put_flags_field(line: &mut Vec<u8>, flags: u8) -> Result<(), NoMemory>
-    ensures ok { OnOk result (line.new.items ≡ line.old.items ++ flags_field flags) }
+pub fn put_named_flags(line: &mut Vec<u8>, flags: u8) -> Result<(), NoMemory>
+    ensures ok { OnOk result (line.new.items ≡ line.old.items ++ named_flags flags) }
 {
     line.extend_from_slice(b" flags=")?;
     put_hex_byte(line, flags)

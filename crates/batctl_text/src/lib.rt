@@ -5,12 +5,14 @@
 #![tactic(auto)]
 
 mod bad_line;
+mod container;
 mod container_line;
 mod decoding;
 mod fields;
 pub mod laws;
 mod local_table;
 mod packet_line;
+mod page;
 
 pub use decoding::decode_text;
 pub use local_table::{local_header, local_line};

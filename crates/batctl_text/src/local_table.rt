@@ -15,7 +15,8 @@ const WIFI: u8 = 16;
 
 const ISOLATED: u8 = 32;
 
-/// Appends the first line of a local table: the node's name, the byte of its last commit, and how many clients follow.
+/// Appends the first line of a local table: the node's name, the byte of its last commit, and how
+/// many clients follow.
 #[tactic(auto, unfolding(mesh_model::specs::TableText::local_header))]
 pub fn local_header(
     out: &mut Vec<u8>,
@@ -23,7 +24,8 @@ pub fn local_header(
     version: u8,
     clients: usize,
 ) -> Result<(), NoMemory>
-    ensures ok { OnOk result (out.new.items ≡ out.old.items ++ local_header name.now version clients) }
+    ensures ok { OnOk result (out.new.items
+        ≡ out.old.items ++ local_header name.now version clients) }
     ensures err { OnErr result (out.new.items ≡ out.old.items) }
 {
     let mut line = Vec::with_capacity(*out.allocator(), LINE_ROOM)?;

@@ -7,7 +7,8 @@ use std::test::*;
 const ROWS: [(&str, &str); 20] = [
     (
         "000f32000000000102000000000a02000000000a00ff0000",
-        "packet iv_ogm ttl=50 flags=00 seq=1 orig=02:00:00:00:00:0a prev=02:00:00:00:00:0a tq=255 tvlv=0\n",
+        "packet iv_ogm ttl=50 flags=00 seq=1 orig=02:00:00:00:00:0a prev=02:00:00:00:00:0a tq=255 \
+        tvlv=0\n",
     ),
     (
         "000f32000000000102000000000a02000000000a00ff00",
@@ -25,7 +26,8 @@ const ROWS: [(&str, &str); 20] = [
     ("050f", "bad kind 5\n"),
     (
         "000f32000000000102000000000a02000000000a00ff000c020100000401000401000000",
-        "packet iv_ogm ttl=50 flags=00 seq=1 orig=02:00:00:00:00:0a prev=02:00:00:00:00:0a tq=255 tvlv=12\n\
+        "packet iv_ogm ttl=50 flags=00 seq=1 orig=02:00:00:00:00:0a prev=02:00:00:00:00:0a tq=255 \
+        tvlv=12\n\
         tvlv 2 version=1 len=0\n\
         tvlv 4 version=1 len=4 flags=01 ttvn=0 vlans=0 changes=0\n",
     ),
@@ -48,7 +50,8 @@ const ROWS: [(&str, &str); 20] = [
     ),
     (
         "410f322a02000000000b02000000000a00030578ff",
-        "packet frag ttl=50 no=2 prio=5 dst=02:00:00:00:00:0b orig=02:00:00:00:00:0a seq=3 total=1400 data=1\n",
+        "packet frag ttl=50 no=2 prio=5 dst=02:00:00:00:00:0b orig=02:00:00:00:00:0a seq=3 \
+        total=1400 data=1\n",
     ),
     (
         "420f320002000000000b02000000000a0200aabb",
@@ -62,8 +65,10 @@ const ROWS: [(&str, &str); 20] = [
     (
         "000f32000000000102000000000a02000000000a00ff0000\
         000f31050102030402000000000b02000000000a00fe0000000f",
-        "packet iv_ogm ttl=50 flags=00 seq=1 orig=02:00:00:00:00:0a prev=02:00:00:00:00:0a tq=255 tvlv=0\n\
-        packet iv_ogm ttl=49 flags=05 seq=16909060 orig=02:00:00:00:00:0b prev=02:00:00:00:00:0a tq=254 tvlv=0\n\
+        "packet iv_ogm ttl=50 flags=00 seq=1 orig=02:00:00:00:00:0a prev=02:00:00:00:00:0a tq=255 \
+        tvlv=0\n\
+        packet iv_ogm ttl=49 flags=05 seq=16909060 orig=02:00:00:00:00:0b prev=02:00:00:00:00:0a \
+        tq=254 tvlv=0\n\
         rest 2\n",
     ),
     // A further originator message that tells more containers than are left.
@@ -72,7 +77,8 @@ const ROWS: [(&str, &str); 20] = [
         "packet ogm2 ttl=50 flags=00 seq=1 orig=02:00:00:00:00:0a tvlv=0 tp=100\n\
         bad length told=4 left=3\n",
     ),
-    // A gateway, a type that isn't known, a client that roamed, multicast flags, a table of another version.
+    // A gateway, a type that isn't known, a client that roamed, multicast flags, a table of another
+    // version.
     (
         "440f320002000000000b02000000000a002a0000\
         01010008000000640000010003010002abcd\
@@ -84,10 +90,12 @@ const ROWS: [(&str, &str); 20] = [
         tvlv 6 version=2 len=4 flags=03\n\
         tvlv 4 version=2 len=0\n",
     ),
-    // A translation table: VLANs untagged, tagged 0 and raw; a record with all its flags; a piece of another record.
+    // A translation table: VLANs untagged, tagged 0 and raw; a record with all its flags; a piece
+    // of another record.
     (
         "440f320002000000000b02000000000a002f0000\
-        0401002b14070003010203040000000000000000800000000000002a0005ffff230000000200000001018007aabbcc",
+        0401002b14070003010203040000000000000000800000000000002a0005ffff230000000200000001018007a\
+        abbcc",
         "packet utvlv ttl=50 dst=02:00:00:00:00:0b src=02:00:00:00:00:0a tvlv=47\n\
         tvlv 4 version=1 len=43 flags=14 ttvn=7 vlans=3 changes=1\n\
         vlan - sum=01020304\nvlan 0 sum=00000000\nvlan raw:5 sum=0000002a\n\
@@ -96,13 +104,15 @@ const ROWS: [(&str, &str); 20] = [
     // A container that is cut behind a whole one.
     (
         "000f32000000000102000000000a02000000000a00ff000702010000020100ffff",
-        "packet iv_ogm ttl=50 flags=00 seq=1 orig=02:00:00:00:00:0a prev=02:00:00:00:00:0a tq=255 tvlv=7\n\
+        "packet iv_ogm ttl=50 flags=00 seq=1 orig=02:00:00:00:00:0a prev=02:00:00:00:00:0a tq=255 \
+        tvlv=7\n\
         tvlv 2 version=1 len=0\nbad cut place=4\n",
     ),
     // A gateway's container of seven bytes, before a whole container and further bytes.
     (
         "000f32000000000102000000000a02000000000a00ff000f010100070000000000000002010000ffff",
-        "packet iv_ogm ttl=50 flags=00 seq=1 orig=02:00:00:00:00:0a prev=02:00:00:00:00:0a tq=255 tvlv=15\n\
+        "packet iv_ogm ttl=50 flags=00 seq=1 orig=02:00:00:00:00:0a prev=02:00:00:00:00:0a tq=255 \
+        tvlv=15\n\
         bad badlength kind=1 len=7\n",
     ),
 ];

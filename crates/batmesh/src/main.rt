@@ -1,5 +1,5 @@
-//! The program: carries out the scenario on standard input and prints on standard output. Its status is that of
-//! `mesh_run::batmesh`.
+//! The program: carries out the scenario on standard input and prints on standard output. Its
+//! status is that of `mesh_run::batmesh`.
 
 #![tactic(auto)]
 

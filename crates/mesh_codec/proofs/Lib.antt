@@ -1,5 +1,4 @@
 pub mod Places
-pub mod Rows
 pub mod Packets
 pub mod Same
 pub mod Written

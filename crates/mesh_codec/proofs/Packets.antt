@@ -8,9 +8,9 @@ use Rattle.mesh_codec.specs.declared.header.Extent.TheVariants.{Told, Rest, Noth
 use Rattle.mesh_codec.specs.declared.header.Header.{Header}
 use Rattle.mesh_codec.specs.declared.kind.Kind.{Kind}
 use Rattle.mesh_codec.specs.declared.kind.Kind.TheVariants.{IvOgm, Bcast, Elp, Ogm2, Unicast, Frag, Unicast4, Icmp, Utvlv}
-use Rattle.mesh_codec.specs.Kinds.{type_byte}
+use Rattle.mesh_codec.specs.Kinds.{kind_byte}
 use Rattle.mesh_codec.specs.Reading.{told_by, tail_kind, row_read, HasRead}
-use Rattle.mesh_codec.proofs.Rows.{untold, begin_length}
+use Rattle.mesh_model.proofs.HeaderLemmas.{untold, begin_length}
 
 -- the length that an extent gives a tail before so many bytes
 abbrev pub tail_length : Extent → ℕ → ℕ
@@ -48,7 +48,7 @@ packet_begins bytes head extent after len len_is tail_is header fits =
     }
 
 -- a type byte is a byte
-byte_fits : (kind : Kind) → type_byte kind < 256
+byte_fits : (kind : Kind) → kind_byte kind < 256
 byte_fits IvOgm = omega arith
 byte_fits Bcast = omega arith
 byte_fits Elp = omega arith
@@ -60,15 +60,15 @@ byte_fits Icmp = omega arith
 byte_fits Utvlv = omega arith
 
 -- type and version before the fields that were read are the whole header
-pub kind_begins : (bytes fields : List ℕ) (kind : Kind) (header : Header) → bytes ≡ type_byte kind ∷ compat_version ∷ fields → HasRead kind fields header
+pub kind_begins : (bytes fields : List ℕ) (kind : Kind) (header : Header) → bytes ≡ kind_byte kind ∷ compat_version ∷ fields → HasRead kind fields header
     → BeginWith bytes (header_of header.head (told_by header.extent)) header.rest.now
 kind_begins bytes fields kind header parts read =
     let row_kind = (row_read header).kind in
     let small : row_kind < 256 = rw read.kind_is (byte_fits kind) in
-    let kind_is : type_byte kind ≡ row_kind % 256 = omega (arith, read.kind_is, small) in (
+    let kind_is : kind_byte kind ≡ row_kind % 256 = omega (arith, read.kind_is, small) in (
       compat_version ∷ fields,
       record {
-        front = type_byte kind ∷ [];
+        front = kind_byte kind ∷ [];
         holds = ap (λ (b : ℕ). b ∷ []) kind_is;
         fits = small;
         parts = parts;

@@ -8,7 +8,7 @@ use Rattle.mesh_model.specs.Packets.{BeginWith, IsPacket, row_of, header_of, hea
 use Rattle.mesh_codec.specs.declared.failure.CodecErr.{CodecErr}
 use Rattle.mesh_codec.specs.declared.failure.CodecErr.TheVariants.{Short, Version, Kind, Length, Long, Tail, Memory}
 use Rattle.mesh_codec.specs.Decoding.{IsShort, TellsTooMuch, HasCause, IsSame}
-use Rattle.mesh_codec.proofs.Rows.{width, begin_length, header_width}
+use Rattle.mesh_model.proofs.HeaderLemmas.{width, begin_length, header_width}
 use Rattle.mesh_codec.proofs.Same.{same_header, one_packet}
 
 -- the first two bytes of a header, and how long the bytes are

@@ -9,7 +9,7 @@ use Rattle.mesh_model.specs.declared.packet.Head.TheVariants.{IvOgm, Bcast, Elp,
 use Rattle.mesh_model.specs.Packets.{Field, TailKind, Holds, Fits, BeginsWith, BeginWith, IsTail, IsPacket, row_of, header_of, byte}
 use Rattle.mesh_model.specs.Packets.Field.{number, address, fragment, reserved}
 use Rattle.mesh_model.specs.Packets.TailKind.{containers, all_the_rest, nothing}
-use Rattle.mesh_codec.proofs.Rows.{size_of, held_length}
+use Rattle.mesh_model.proofs.HeaderLemmas.{size_of, held_length, same_tail_kind}
 
 -- a field without its value
 abbrev pub blank : Field → Field
@@ -106,18 +106,6 @@ same_head (Unicast4 a b c d e) (Unicast4 u v w x y) m n kind fields = cc
 same_head (Icmp a b c d e f) (Icmp u v w x y z) m n kind fields = cc
 same_head (Utvlv a b c) (Utvlv u v w) m n kind fields = cc
 same_head h k m n kind fields = absurd (omega (arith, kind))
-
--- a row's kind of tail doesn't depend on the length
-same_tail_kind : (h : Head) (m n : ℕ) → (row_of h m).tail ≡ (row_of h n).tail
-same_tail_kind (IvOgm a b c d e f) m n = refl
-same_tail_kind (Bcast a b c) m n = refl
-same_tail_kind (Elp a b c) m n = refl
-same_tail_kind (Ogm2 a b c d e) m n = refl
-same_tail_kind (Unicast a b c) m n = refl
-same_tail_kind (Frag a b c d e f g) m n = refl
-same_tail_kind (Unicast4 a b c d e) m n = refl
-same_tail_kind (Icmp a b c d e f) m n = refl
-same_tail_kind (Utvlv a b c) m n = refl
 
 -- a row of containers tells their length
 same_told : (h : Head) (m n : ℕ) → (row_of h m).tail ≡ containers → (row_of h m).fields ≡ (row_of h n).fields → m ≡ n

@@ -7,7 +7,7 @@ use Rattle.mesh_model.specs.declared.packet.Head.TheVariants.{IvOgm, Bcast, Elp,
 use Rattle.mesh_model.specs.Packets.{Field, TailKind, Holds, Fits, BeginWith, IsTail, IsPacket, HasSpelling, HasSmallPlace, row_of, header_of, header_size, field_bytes, spelling}
 use Rattle.mesh_model.specs.Packets.Field.{number, address, fragment, reserved}
 use Rattle.mesh_model.specs.Packets.TailKind.{containers, all_the_rest, nothing}
-use Rattle.mesh_codec.proofs.Rows.{width, begin_length, header_width}
+use Rattle.mesh_model.proofs.HeaderLemmas.{width, begin_length, header_width}
 use Rattle.mesh_codec.proofs.Same.{one_packet}
 
 -- what a field is written as holds it

@@ -6,7 +6,7 @@ use Rattle.mesh_codec.specs.declared.kind.Kind.{Kind}
 use Rattle.mesh_codec.specs.declared.header.Extent.{Extent}
 use Rattle.mesh_codec.specs.declared.header.Extent.TheVariants.{Told, Rest, Nothing}
 use Rattle.mesh_codec.specs.declared.header.Header.{Header}
-use Rattle.mesh_codec.specs.Kinds.{type_byte}
+use Rattle.mesh_codec.specs.Kinds.{kind_byte}
 
 -- the length of the containers that an extent tells; 0 where it tells none
 abbrev pub told_by : Extent → ℕ
@@ -26,7 +26,7 @@ row_read header = row_of header.head (told_by header.extent)
 
 -- a header of this kind was read from the bytes after type and version
 pub record HasRead (kind : Kind) (fields : List ℕ) (header : Header) : Type 0 where
-  pub kind_is : (row_read header).kind ≡ type_byte kind
+  pub kind_is : (row_read header).kind ≡ kind_byte kind
   pub tail_is : (row_read header).tail ≡ tail_kind header.extent
   pub fields_are : BeginWith fields (row_read header).fields header.rest.now
 

@@ -6,7 +6,7 @@ use Rattle.mesh_model.specs.declared.packet.Head.{Head}
 use Rattle.mesh_model.specs.Packets.{Field, Fits, row_of, field_bytes}
 use Rattle.mesh_model.specs.Packets.TailKind.{containers}
 use Rattle.mesh_codec.specs.declared.kind.Kind.{Kind}
-use Rattle.mesh_codec.specs.Kinds.{type_byte}
+use Rattle.mesh_codec.specs.Kinds.{kind_byte}
 
 -- the list has room for so many more bytes
 abbrev pub HasRoom : Vec ℕ → ℕ → Type 0
@@ -26,7 +26,7 @@ PutsFields old (field ∷ fields) new =
 
 -- the head is of this kind
 abbrev pub IsOfKind : Kind → Head → Type 0
-IsOfKind kind head = (row_of head 0).kind ≡ type_byte kind
+IsOfKind kind head = (row_of head 0).kind ≡ kind_byte kind
 
 -- a head whose header tells a length can tell this one
 abbrev pub CanTell : Head → ℕ → Type 0

@@ -2,7 +2,7 @@
 
 ghost use Rattle.std.specs.Prelude.{◌≡◌, None, IfSome, IfNone};
 ghost use Rattle.mesh_model.specs.Packets.{header_size};
-ghost use Rattle.mesh_codec.specs.Kinds.{type_byte, header_bytes};
+ghost use Rattle.mesh_codec.specs.Kinds.{kind_byte, header_bytes};
 
 /// The version byte, the second of each packet.
 pub const VERSION: u8 = 15;
@@ -48,7 +48,7 @@ pub enum Kind {
 impl Kind {
     /// The kind with this type byte.
     pub fn of_byte(byte: u8) -> Option<Kind>
-        ensures some { IfSome result (λ kind. type_byte kind ≡ byte) }
+        ensures some { IfSome result (λ kind. kind_byte kind ≡ byte) }
         ensures none { IfNone result (header_size byte ≡ None) }
     {
         match byte {

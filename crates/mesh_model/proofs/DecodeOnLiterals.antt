@@ -9,11 +9,11 @@ use Rattle.mesh_model.specs.ContainerBodies.{pieces}
 use Rattle.mesh_model.specs.TableText.{sum_text, vid_text, vlan_line}
 use Rattle.mesh_model.specs.FirstPacket.{first_packet}
 use Rattle.mesh_model.specs.PacketLines.{packet_line}
-use Rattle.mesh_model.specs.ContainerLines.{plain_line, gateway_line, roaming_line, multicast_line, table_start, change_line, short_line}
+use Rattle.mesh_model.specs.ContainerLines.{plain_line, gateway_line, roaming_line, multicast_line, table_start, change_line, bad_length_line}
 use Rattle.mesh_model.specs.DecodeText.{refusal_line, cut_line, rest_line, text_within, decode_text}
 
 unfoldable pub decode_on_literals : ⊤
 unfolding encode digits decode_pairs encode_with first_containers containers_of pieces sum_text vid_text vlan_line
-    first_packet packet_line plain_line gateway_line roaming_line multicast_line table_start change_line short_line
+    first_packet packet_line plain_line gateway_line roaming_line multicast_line table_start change_line bad_length_line
     refusal_line cut_line rest_line text_within decode_text
 decode_on_literals = tt

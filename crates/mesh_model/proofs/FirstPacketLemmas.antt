@@ -1,10 +1,10 @@
 -- The packet that bytes begin with is the one that is computed: its fields stand at their places.
-use Rattle.std.proofs.Common.{◌≡◌, ℕ, ◌+◌, ◌/◌, ◌%◌, ◌<◌, ◌≤◌, List, [], ◌∷◌, ◌++◌, length, take, drop, Option, Some, true, false, Ok, Err, refl, sym, ap, subst, ◌∙◌, arith, length-append}
+use Rattle.std.proofs.Common.{◌≡◌, ℕ, ◌+◌, ◌/◌, ◌%◌, ◌<◌, ◌≤◌, List, [], ◌∷◌, ◌++◌, length, take, drop, Option, true, false, Ok, Err, refl, sym, ap, subst, ◌∙◌, arith, length-append}
 use Rattle.std.specs.Prelude.{⊤, nat_lt}
 use Rattle.std.proofs.lemmas.List.{take_at, drop_at, drop-drop}
 use Rattle.std.proofs.lemmas.Bool.Decides.{nat_tests}
 use Rattle.byteorder.specs.Endian.{big_number}
-use Rattle.byteorder.specs.Numbers.{big_number-reads_back, length-bytes_high_first}
+use Rattle.byteorder.specs.Numbers.{big_number-reads_back}
 use Rattle.mesh_model.specs.declared.packet.Head.{Head}
 use Rattle.mesh_model.specs.declared.packet.Head.TheVariants.{IvOgm, Bcast, Elp, Ogm2, Unicast, Frag, Unicast4, Icmp, Utvlv}
 use Rattle.mesh_model.specs.Packets.{Field, TailKind, Holds, Fits, BeginsWith, BeginWith, IsTail, IsPacket, row_of, header_of, header_size, compat_version}
@@ -12,20 +12,9 @@ use Rattle.mesh_model.specs.Packets.Field.{number, address, fragment, reserved}
 use Rattle.mesh_model.specs.Packets.TailKind.{containers, all_the_rest, nothing}
 use Rattle.mesh_model.specs.FirstPacket.{header, header_in, tail_length, packet_cut, packet_of_header, packet_of_kind, first_packet}
 use Rattle.mesh_model.specs.FirstPacket.NoPacket.{Length}
+use Rattle.mesh_model.proofs.HeaderLemmas.{size_of, width, held_length, begin_length, header_width, same_tail_kind}
 
 -- ---- fields at their places
-
--- the bytes of a field
-abbrev pub size_of : Field → ℕ
-size_of (number size value) = size
-size_of (address mac) = 6
-size_of (fragment index priority) = 1
-size_of (reserved size) = size
-
--- the bytes of several fields
-abbrev pub width : List Field → ℕ
-width [] = 0
-width (field ∷ fields) = size_of field + width fields
 
 -- what is read at the front of bytes is the field
 abbrev pub ReadsAs : Field → List ℕ → Type 0
@@ -38,13 +27,6 @@ ReadsAs (reserved size) bytes = ⊤
 abbrev pub ReadFrom : ℕ → List Field → List ℕ → Type 0
 ReadFrom place [] bytes = ⊤
 ReadFrom place (field ∷ fields) bytes = ReadsAs field (drop place bytes) × ReadFrom (place + size_of field) fields bytes
-
--- what holds a field has its size
-held_length : (front : List ℕ) (field : Field) → Holds front field → Fits field → length front ≡ size_of field
-held_length front (number size value) holds fits = rw holds (length-bytes_high_first size value)
-held_length front (address mac) holds fits = rw holds fits.0
-held_length front (fragment index priority) holds fits = ap length holds.2
-held_length front (reserved size) holds fits = holds
 
 -- what holds a field reads as it, whatever follows
 held_reads : (front next : List ℕ) (field : Field) → Holds front field → Fits field → ReadsAs field (front ++ next)
@@ -81,47 +63,13 @@ fields_read place (field ∷ fields) bytes others begins =
       others_are = more.others_are ∙ ap (λ (n : ℕ). drop n bytes) (omega arith);
     }
 
--- the bytes are as many as those of the fields and the others
-pub begin_length : (bytes : List ℕ) (fields : List Field) (others : List ℕ) → BeginWith bytes fields others
-    → length bytes ≡ width fields + length others
-begin_length bytes [] others begins = omega (arith, ap length begins)
-begin_length bytes (field ∷ fields) others begins =
-    let first = begins.1 in
-    let front = held_length first.front field first.holds first.fits in
-    let more = begin_length begins.0 fields others begins.2 in
-    omega (arith, front, more, ap length first.parts, length-append first.front begins.0)
-
 -- ---- headers
-
--- the header of each kind has the size that the table of sizes gives
-pub header_width : (head : Head) (told : ℕ) → header_size (row_of head told).kind ≡ Some (width (header_of head told))
-header_width (IvOgm ttl flags seq orig prev tq) told = refl
-header_width (Bcast ttl seq orig) told = refl
-header_width (Elp orig seq interval) told = refl
-header_width (Ogm2 ttl flags seq orig throughput) told = refl
-header_width (Unicast ttl ttvn dst) told = refl
-header_width (Frag ttl index priority dst orig seq total) told = refl
-header_width (Unicast4 ttl ttvn dst src subtype) told = refl
-header_width (Icmp ttl msg dst orig uid seq) told = refl
-header_width (Utvlv ttl dst src) told = refl
 
 -- the length that a header with a tail of this kind tells
 abbrev pub telling : TailKind → ℕ → ℕ
 telling containers told = told
 telling all_the_rest told = 0
 telling nothing told = 0
-
--- a row's kind of tail doesn't depend on the length
-pub same_tail_kind : (head : Head) (m n : ℕ) → (row_of head m).tail ≡ (row_of head n).tail
-same_tail_kind (IvOgm a b c d e f) m n = refl
-same_tail_kind (Bcast a b c) m n = refl
-same_tail_kind (Elp a b c) m n = refl
-same_tail_kind (Ogm2 a b c d e) m n = refl
-same_tail_kind (Unicast a b c) m n = refl
-same_tail_kind (Frag a b c d e f g) m n = refl
-same_tail_kind (Unicast4 a b c d e) m n = refl
-same_tail_kind (Icmp a b c d e f) m n = refl
-same_tail_kind (Utvlv a b c) m n = refl
 
 -- a header whose fields are read at their places is the one that is computed
 header_read : (head : Head) (told : ℕ) (bytes : List ℕ) → ReadFrom 0 (header_of head told) bytes

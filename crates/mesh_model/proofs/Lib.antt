@@ -4,7 +4,9 @@ pub mod DecodeOnLiterals
 pub mod CutLemmas
 pub mod RunLemmas
 pub mod HaltLemmas
+pub mod UnfinishedLemmas
 pub mod KeyLists
 pub mod PresentLemmas
+pub mod HeaderLemmas
 pub mod FirstPacketLemmas
 pub mod DecodeLemmas

@@ -12,25 +12,26 @@ use Rattle.std.proofs.lemmas.Cmp.{nat_cmp_total, nat_list_cmp_total, on_total, t
 use Rattle.std.proofs.lemmas.List.Folds.{find-append}
 use Rattle.std.proofs.lemmas.Map.Lookups.{CmpEqualImpliesEq, exact_bytes, exact_unsigned, exact_pairs}
 use Rattle.std.proofs.lemmas.Map.Made.{find_same}
+use Rattle.mesh_base.specs.KeyOrder.{key_order}
 use Rattle.mesh_base.specs.declared.client.Key.{Key}
 use Rattle.mesh_model.specs.Mentions.{Mention, News, Sighted, Departed, Roamed, Joined, Left}
-use Rattle.mesh_model.specs.Present.{key_cmp, same_key, sighting_age, is_membership, last_mention, last_membership, row_after, row_by, present_row, insert_key, mentioned_keys, present_clients}
+use Rattle.mesh_model.specs.Present.{same_key, sighting_age, is_membership, last_mention, last_membership, row_after, row_by, present_row, insert_key, mentioned_keys, present_clients}
 use Rattle.mesh_model.specs.PresentLaws.{HasTheRowOfEachKey, IsInKeyOrder, KeepsLastMembership, KeepsLastMention, KeepsRow}
 use Rattle.mesh_model.specs.declared.table_row.LocalRow.{LocalRow}
 use Rattle.mesh_model.proofs.KeyLists.{found_passes, tied, item_at_filter, same_items, sorted_filter}
 
 -- ---- the order of keys
-pub key_total : IsTotalOrder key_cmp
+pub key_total : IsTotalOrder key_order
 key_total = then_total (on_total (λ (k : Key). k.mac.0) nat_list_cmp_total) (on_total (λ (k : Key). k.vid.0) nat_cmp_total)
 
-pub key_exact : CmpEqualImpliesEq key_cmp
+pub key_exact : CmpEqualImpliesEq key_order
 key_exact a b e =
     let parts = exact_pairs (slice_cmp nat_cmp) nat_cmp exact_bytes exact_unsigned (a.mac.0, a.vid.0) (b.mac.0, b.vid.0) e in
     λ i. record { mac = record { 0 = (parts i).0 }; vid = record { 0 = (parts i).1 } }
 
 -- two keys that are one are equal
 pub equal_from_same : (a b : Key) → same_key a b ≡ true → a ≡ b
-equal_from_same a b t = tied key_cmp key_exact a b _ refl t
+equal_from_same a b t = tied key_order key_exact a b _ refl t
 
 pub same_itself : (a : Key) → same_key a a ≡ true
 same_itself a = ap is_eq (tied_itself key_total a)
@@ -39,30 +40,30 @@ same_decides : (a b : Key) → Decides (same_key a b) (a ≡ b)
 same_decides a b = (equal_from_same a b, λ e. subst (λ k. same_key a k ≡ true) e (same_itself a))
 
 -- ---- the mentioned keys
-above_insert : (low k : Key) (ks : List Key) → key_cmp low k ≡ Less → AllByRecursion (λ y. key_cmp low y ≡ Less) ks → AllByRecursion (λ y. key_cmp low y ≡ Less) (insert_key k ks)
+above_insert : (low k : Key) (ks : List Key) → key_order low k ≡ Less → AllByRecursion (λ y. key_order low y ≡ Less) ks → AllByRecursion (λ y. key_order low y ≡ Less) (insert_key k ks)
 above_insert low k [] below above = (below, tt)
 above_insert low k (first ∷ rest) below above =
-    elim (key_cmp k first) as (λ r. AllByRecursion (λ y. key_cmp low y ≡ Less) (match_ordering r (k ∷ first ∷ rest) (first ∷ rest) (first ∷ insert_key k rest))) [
+    elim (key_order k first) as (λ r. AllByRecursion (λ y. key_order low y ≡ Less) (match_ordering r (k ∷ first ∷ rest) (first ∷ rest) (first ∷ insert_key k rest))) [
       | Less ↦ (below, above)
       | Equal ↦ above
       | Greater ↦ (above.0, above_insert low k rest below above.1)
     ]
 
-above_first : (k first : Key) (rest : List Key) → key_cmp k first ≡ Less → AllByRecursion (λ y. key_cmp first y ≡ Less) rest → AllByRecursion (λ y. key_cmp k y ≡ Less) rest
+above_first : (k first : Key) (rest : List Key) → key_order k first ≡ Less → AllByRecursion (λ y. key_order first y ≡ Less) rest → AllByRecursion (λ y. key_order k y ≡ Less) rest
 above_first k first [] below above = tt
 above_first k first (y ∷ rest) below above = (key_total.trans k first y below above.0, above_first k first rest below above.1)
 
-sorted_insert : (k : Key) (ks : List Key) → IsStrictlySortedBy key_cmp ks → IsStrictlySortedBy key_cmp (insert_key k ks)
+sorted_insert : (k : Key) (ks : List Key) → IsStrictlySortedBy key_order ks → IsStrictlySortedBy key_order (insert_key k ks)
 unfolding IsStrictlySortedBy
 sorted_insert k [] sorted = (tt, tt)
 sorted_insert k (first ∷ rest) sorted =
-    elim (key_cmp k first) as (λ r. key_cmp k first ≡ r → IsStrictlySortedBy key_cmp (match_ordering r (k ∷ first ∷ rest) (first ∷ rest) (first ∷ insert_key k rest))) [
+    elim (key_order k first) as (λ r. key_order k first ≡ r → IsStrictlySortedBy key_order (match_ordering r (k ∷ first ∷ rest) (first ∷ rest) (first ∷ insert_key k rest))) [
       | Less ↦ λ p. ((p, above_first k first rest p sorted.0), sorted)
       | Equal ↦ λ p. sorted
       | Greater ↦ λ p. (above_insert first k rest (key_total.antisymm first k ∙ ap ordering_reverse p) sorted.0, sorted_insert k rest sorted.1)
     ] refl
 
-pub sorted_mentioned : (mentions : List Mention) → IsStrictlySortedBy key_cmp (mentioned_keys mentions)
+pub sorted_mentioned : (mentions : List Mention) → IsStrictlySortedBy key_order (mentioned_keys mentions)
 unfolding IsStrictlySortedBy
 sorted_mentioned [] = tt
 sorted_mentioned (m ∷ older) = sorted_insert m.key (mentioned_keys older) (sorted_mentioned older)
@@ -79,7 +80,7 @@ swapped false b c = refl
 has_inserted : (q k : Key) (ks : List Key) → list_any (same_key q) (insert_key k ks) ≡ (same_key q k || list_any (same_key q) ks)
 has_inserted q k [] = refl
 has_inserted q k (first ∷ rest) =
-    elim (key_cmp k first) as (λ r. key_cmp k first ≡ r → list_any (same_key q) (match_ordering r (k ∷ first ∷ rest) (first ∷ rest) (first ∷ insert_key k rest)) ≡ (same_key q k || list_any (same_key q) (first ∷ rest))) [
+    elim (key_order k first) as (λ r. key_order k first ≡ r → list_any (same_key q) (match_ordering r (k ∷ first ∷ rest) (first ∷ rest) (first ∷ insert_key k rest)) ≡ (same_key q k || list_any (same_key q) (first ∷ rest))) [
       | Less ↦ λ p. refl
       | Equal ↦ λ p. twice (same_key q first) (list_any (same_key q) rest) ∙ ap (λ z. same_key q z || list_any (same_key q) (first ∷ rest)) (sym (key_exact k first p))
       | Greater ↦ λ p. ap (λ b. same_key q first || b) (has_inserted q k rest) ∙ swapped (same_key q first) (same_key q k) (list_any (same_key q) rest)
@@ -132,16 +133,16 @@ row_where_mentioned now mentions q =
 -- ---- the list of them
 pub present_at : HasTheRowOfEachKey
 present_at now mentions q =
-    item_at_filter key_cmp (λ (k : Key). k) (λ (row : LocalRow). row.entry.key) (present_row now mentions) (row_of_key now mentions) key_exact q (mentioned_keys mentions) (subst (IsStrictlySortedBy key_cmp) (sym (map-id _)) (sorted_mentioned mentions))
+    item_at_filter key_order (λ (k : Key). k) (λ (row : LocalRow). row.entry.key) (present_row now mentions) (row_of_key now mentions) key_exact q (mentioned_keys mentions) (subst (IsStrictlySortedBy key_order) (sym (map-id _)) (sorted_mentioned mentions))
     ∙ ap (option_and_then (present_row now mentions)) (find_same same_decides q (mentioned_keys mentions) ∙ ap (λ b. cond b (Some q) None) (has_mentioned q mentions))
     ∙ row_where_mentioned now mentions q
 
 pub sorted_present : IsInKeyOrder
-sorted_present now mentions = sorted_filter key_cmp (λ (k : Key). k) (λ (row : LocalRow). row.entry.key) (present_row now mentions) (row_of_key now mentions) (mentioned_keys mentions) (subst (IsStrictlySortedBy key_cmp) (sym (map-id _)) (sorted_mentioned mentions))
+sorted_present now mentions = sorted_filter key_order (λ (k : Key). k) (λ (row : LocalRow). row.entry.key) (present_row now mentions) (row_of_key now mentions) (mentioned_keys mentions) (subst (IsStrictlySortedBy key_order) (sym (map-id _)) (sorted_mentioned mentions))
 
 -- rows in key order that give each key's row are the present clients
-pub present_from_rows : (now : ℕ) (mentions : List Mention) (rows : List LocalRow) → IsStrictlySortedBy key_cmp (map (λ row. row.entry.key) rows) → ((q : Key) → find (λ row. same_key q row.entry.key) rows ≡ present_row now mentions q) → rows ≡ present_clients now mentions
-present_from_rows now mentions rows sorted same = same_items key_cmp (λ (row : LocalRow). row.entry.key) key_total key_exact rows (present_clients now mentions) sorted (sorted_present now mentions) (λ q. same q ∙ sym (present_at now mentions q))
+pub present_from_rows : (now : ℕ) (mentions : List Mention) (rows : List LocalRow) → IsStrictlySortedBy key_order (map (λ row. row.entry.key) rows) → ((q : Key) → find (λ row. same_key q row.entry.key) rows ≡ present_row now mentions q) → rows ≡ present_clients now mentions
+present_from_rows now mentions rows sorted same = same_items key_order (λ (row : LocalRow). row.entry.key) key_total key_exact rows (present_clients now mentions) sorted (sorted_present now mentions) (λ q. same q ∙ sym (present_at now mentions q))
 
 -- ---- older mentions
 found_kept : (p : Mention → Bool) (newer older : List Mention) → IsSome (find p newer) → find p (newer ++ older) ≡ find p newer

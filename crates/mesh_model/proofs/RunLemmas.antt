@@ -15,7 +15,9 @@ use Rattle.mesh_model.specs.Commands.{command_of_line}
 use Rattle.mesh_model.specs.Readings.{Reading}
 use Rattle.mesh_model.specs.Lines.{content, lines_of}
 use Rattle.mesh_model.specs.PlainRun.{Run, start, after_line, after_lines, after_outcome, after_reading, line_outcome, passes_input, passes_line, plain_run, output}
-use Rattle.mesh_model.specs.State.{Decoded, Event, State, first_refused_rule, after_command, unless_refused, carried_out, event_text, shown}
+use Rattle.mesh_model.specs.CarriedOut.{after_command, unless_refused, carried_out, shown}
+use Rattle.mesh_model.specs.Rules.{first_refused_rule}
+use Rattle.mesh_model.specs.State.{Decoded, Event, State, event_text}
 use Rattle.mesh_model.proofs.CutLemmas.{lines_of-lines_then}
 
 pub after_lines-append : (run : Run) (a b : List (List ℕ)) → after_lines run (a ++ b) ≡ after_lines (after_lines run a) b

@@ -10,7 +10,7 @@ use Rattle.mesh_base.specs.declared.client.Key.{Key}
 use Rattle.mesh_base.specs.declared.client.Entry.{Entry}
 
 -- a VLAN of a translation table, and the checksum of its clients
-pub record TtVlan : Type 0 where
+pub record VlanSum : Type 0 where
   pub vid : Vid
   pub sum : ℕ
 
@@ -23,7 +23,7 @@ pub record TtChange : Type 0 where
 pub record TtData : Type 0 where
   pub flags : ℕ
   pub ttvn : ℕ
-  pub vlans : List TtVlan
+  pub vlans : List VlanSum
   pub changes : List TtChange
 
 -- what a gateway offers, each in 100 kbit/s
@@ -40,8 +40,8 @@ abbrev pub client_flags : ℕ → ℕ
 client_flags flags = bit_and flags 48
 
 -- the client of a record, with the flags that it keeps
-abbrev pub entry_of : TtChange → Entry
-entry_of change = record { key = change.key; flags = client_flags change.flags }
+abbrev pub entry_of_change : TtChange → Entry
+entry_of_change change = record { key = change.key; flags = client_flags change.flags }
 
 -- whether a record takes its client away
 abbrev pub is_deletion : TtChange → Bool
@@ -71,7 +71,7 @@ key_of_bytes bytes = record {
 }
 
 -- a VLAN: checksum 4, wire number 2, reserved 2
-abbrev pub vlan_of_bytes : List ℕ → TtVlan
+abbrev pub vlan_of_bytes : List ℕ → VlanSum
 vlan_of_bytes bytes = record {
   sum = big_number 4 bytes;
   vid = record { 0 = big_number 2 (drop 4 bytes) };
@@ -124,7 +124,7 @@ abbrev pub tt_head_text : ℕ → ℕ → ℕ → List ℕ
 tt_head_text flags ttvn vlans = flags ∷ ttvn ∷ big_bytes 2 vlans
 
 -- how a VLAN is spelled
-abbrev pub vlan_text : TtVlan → List ℕ
+abbrev pub vlan_text : VlanSum → List ℕ
 vlan_text vlan = big_bytes 4 vlan.sum ++ big_bytes 2 vlan.vid.0 ++ 0 ∷ 0 ∷ []
 
 -- how a record is spelled

@@ -1,22 +1,22 @@
 -- The lines of containers. Each has one that begins `tvlv TYPE version=V len=L`; where type and
 -- version are known the fields of the body follow in it. Below that of a translation table stand a
--- line for each VLAN and one for each record, whose flags are printed as they stand. A container that
--- is too short for its type is printed as the line `bad badlength` alone. The main word is
+-- line for each VLAN and one for each record, whose flags are printed as they stand. A container
+-- that is too short for its type is printed as the line `bad badlength` alone. The main word is
 -- `containers_lines`.
 use Rattle.std.specs.Prelude.{ℕ, ◌==◌, ◌&&◌, Bool, List, [], ◌∷◌, ◌++◌, length, flat_map, codes, decimal, Option, Some, None, option_map, if◌then◌else◌}
 use Rattle.mesh_base.specs.Address.{hex_of_byte}
 use Rattle.mesh_base.specs.declared.client.Key.{Key}
 use Rattle.mesh_model.specs.Containers.{Container}
-use Rattle.mesh_model.specs.ContainerBodies.{TtVlan, TtChange, TtData, Bandwidth, tt_of_body, roaming_of_body, gateway_of_body, multicast_of_body}
+use Rattle.mesh_model.specs.ContainerBodies.{TtChange, TtData, Bandwidth, tt_of_body, roaming_of_body, gateway_of_body, multicast_of_body}
 use Rattle.mesh_model.specs.Lines.{newline}
-use Rattle.mesh_model.specs.PacketLines.{number_field, address_field, flags_field}
+use Rattle.mesh_model.specs.PacketLines.{named_number, named_address, named_flags}
 use Rattle.mesh_model.specs.TableText.{vid_text, vlan_line}
 
 -- type, version and length of a container
 abbrev pub container_start : Container → List ℕ
 container_start container =
-    codes "tvlv " ++ decimal container.kind ++ number_field (codes " version=") container.version
-    ++ number_field (codes " len=") (length container.body)
+    codes "tvlv " ++ decimal container.kind ++ named_number (codes " version=") container.version
+    ++ named_number (codes " len=") (length container.body)
 
 -- the line of a container whose body has no fields that are known
 unfoldable pub plain_line : Container → List ℕ
@@ -25,40 +25,36 @@ plain_line container = container_start container ++ newline ∷ []
 -- the line of a gateway's container
 unfoldable pub gateway_line : Container → Bandwidth → List ℕ
 gateway_line container bandwidth =
-    container_start container ++ number_field (codes " down=") bandwidth.download
-    ++ number_field (codes " up=") bandwidth.upload ++ newline ∷ []
+    container_start container ++ named_number (codes " down=") bandwidth.download
+    ++ named_number (codes " up=") bandwidth.upload ++ newline ∷ []
 
 -- the line of a roaming advertisement
 unfoldable pub roaming_line : Container → Key → List ℕ
 roaming_line container client =
-    container_start container ++ address_field (codes " mac=") client.mac ++ codes " vid="
+    container_start container ++ named_address (codes " mac=") client.mac ++ codes " vid="
     ++ vid_text client.vid ++ newline ∷ []
 
 -- the line of multicast flags
 unfoldable pub multicast_line : Container → ℕ → List ℕ
-multicast_line container flags = container_start container ++ flags_field flags ++ newline ∷ []
+multicast_line container flags = container_start container ++ named_flags flags ++ newline ∷ []
 
 -- the first line of a translation table
 unfoldable pub table_start : Container → TtData → List ℕ
 table_start container table =
-    container_start container ++ flags_field table.flags ++ number_field (codes " ttvn=") table.ttvn
-    ++ number_field (codes " vlans=") (length table.vlans)
-    ++ number_field (codes " changes=") (length table.changes) ++ newline ∷ []
-
--- the line of a VLAN of a translation table
-abbrev pub table_vlan_line : TtVlan → List ℕ
-table_vlan_line vlan = vlan_line (record { vid = vlan.vid; sum = vlan.sum })
+    container_start container ++ named_flags table.flags ++ named_number (codes " ttvn=") table.ttvn
+    ++ named_number (codes " vlans=") (length table.vlans)
+    ++ named_number (codes " changes=") (length table.changes) ++ newline ∷ []
 
 -- the line of a record of a translation table
 unfoldable pub change_line : TtChange → List ℕ
 change_line change =
-    codes "change " ++ hex_of_byte change.flags ++ address_field (codes " ") change.key.mac
+    codes "change " ++ hex_of_byte change.flags ++ named_address (codes " ") change.key.mac
     ++ codes " " ++ vid_text change.key.vid ++ newline ∷ []
 
 -- the lines of a translation table
 abbrev pub table_lines : Container → TtData → List ℕ
 table_lines container table =
-    table_start container table ++ flat_map table_vlan_line table.vlans
+    table_start container table ++ flat_map vlan_line table.vlans
     ++ flat_map change_line table.changes
 
 -- whether a container is of this type and version
@@ -79,15 +75,15 @@ container_lines container =
     else Some (plain_line container)
 
 -- the line of a container that is too short for its type
-unfoldable pub short_line : Container → List ℕ
-short_line container =
-    codes "bad badlength" ++ number_field (codes " kind=") container.kind
-    ++ number_field (codes " len=") (length container.body) ++ newline ∷ []
+unfoldable pub bad_length_line : Container → List ℕ
+bad_length_line container =
+    codes "bad badlength" ++ named_number (codes " kind=") container.kind
+    ++ named_number (codes " len=") (length container.body) ++ newline ∷ []
 
 -- the lines of a container and what is printed after it; nothing is after one that is too short
 abbrev pub lines_before : Container → Option (List ℕ) → List ℕ → List ℕ
 lines_before container (Some lines) after = lines ++ after
-lines_before container None after = short_line container
+lines_before container None after = bad_length_line container
 
 -- the lines of containers and what is printed after them
 abbrev pub containers_lines : List Container → List ℕ → List ℕ

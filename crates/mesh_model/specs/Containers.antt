@@ -14,12 +14,12 @@ pub record Container : Type 0 where
   pub body : List ℕ
 
 -- the bytes before a container's body
-abbrev pub header_size : ℕ
-header_size = 4
+abbrev pub container_header : ℕ
+container_header = 4
 
 -- the bytes of a container, header and body
 abbrev pub container_size : Container → ℕ
-container_size container = header_size + length container.body
+container_size container = container_header + length container.body
 
 -- a container whose length is told by two bytes
 abbrev pub FitsLength : Container → Type 0
@@ -52,20 +52,20 @@ told_length bytes = big_number 2 (drop 2 bytes)
 
 -- bytes that are fewer than a header and the length that it tells
 abbrev pub AreShort : List ℕ → Type 0
-AreShort bytes = length bytes < header_size + told_length bytes
+AreShort bytes = length bytes < container_header + told_length bytes
 
 -- the first container of bytes that begin a whole one
 abbrev pub front_container : List ℕ → Container
 front_container bytes = record {
   kind = slice_index bytes 0;
   version = slice_index bytes 1;
-  body = take (told_length bytes) (drop header_size bytes);
+  body = take (told_length bytes) (drop container_header bytes);
 }
 
 -- the first container of bytes, or none where they are short
 abbrev pub first_container : List ℕ → Option Container
 first_container bytes =
-    if nat_lt (length bytes) (header_size + told_length bytes) then None
+    if nat_lt (length bytes) (container_header + told_length bytes) then None
     else Some (front_container bytes)
 
 -- the first containers of bytes, at most so many

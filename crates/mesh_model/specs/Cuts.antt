@@ -1,4 +1,5 @@
--- How far an input was read: bytes are whole lines, and then what has come of the next one. The main word is `IsCut`.
+-- How far an input was read: bytes are whole lines, and then what has come of the next one. The
+-- main word is `IsCut`.
 use Rattle.std.specs.Prelude.{◌≡◌, ℕ, ◌==◌, false, List, [], ◌∷◌, ◌++◌}
 use Rattle.std.specs.List.{concat}
 use Rattle.mesh_model.specs.Lines.{newline}

@@ -1,5 +1,5 @@
--- The text of `decode`, over any bytes. A packet has a line, and its containers have theirs. After an
--- originator message, further ones may follow in the same bytes: the next packet follows while
+-- The text of `decode`, over any bytes. A packet has a line, and its containers have theirs. After
+-- an originator message, further ones may follow in the same bytes: the next packet follows while
 -- they begin with the same type byte and the version, and hold a whole header. Other bytes after a
 -- packet are the line `rest` with their number. What begins no packet, a container that is cut, and
 -- one that is too short for its type are a line `bad` with the cause, and nothing follows it. The
@@ -12,30 +12,31 @@ use Rattle.mesh_model.specs.FirstPacket.{Packet, NoPacket, first_packet}
 use Rattle.mesh_model.specs.FirstPacket.NoPacket.{Short, Version, Kind, Length}
 use Rattle.mesh_model.specs.Containers.{containers_text, containers_of, rest_of}
 use Rattle.mesh_model.specs.Lines.{newline}
-use Rattle.mesh_model.specs.PacketLines.{number_field, packet_line}
+use Rattle.mesh_model.specs.PacketLines.{named_number, packet_line}
 use Rattle.mesh_model.specs.ContainerLines.{containers_lines}
 
 -- the line of bytes that begin no packet
 unfoldable pub refusal_line : NoPacket → List ℕ
 refusal_line (Short have need) =
-    codes "bad short" ++ number_field (codes " have=") have ++ number_field (codes " need=") need
+    codes "bad short" ++ named_number (codes " have=") have ++ named_number (codes " need=") need
     ++ newline ∷ []
 refusal_line (Version version) = codes "bad version " ++ decimal version ++ newline ∷ []
 refusal_line (Kind kind) = codes "bad kind " ++ decimal kind ++ newline ∷ []
 refusal_line (Length told left) =
-    codes "bad length" ++ number_field (codes " told=") told ++ number_field (codes " left=") left
+    codes "bad length" ++ named_number (codes " told=") told ++ named_number (codes " left=") left
     ++ newline ∷ []
 
 -- the line of a container that is cut at this place
 unfoldable pub cut_line : ℕ → List ℕ
-cut_line place = codes "bad cut" ++ number_field (codes " place=") place ++ newline ∷ []
+cut_line place = codes "bad cut" ++ named_number (codes " place=") place ++ newline ∷ []
 
 -- the line of bytes after a packet, where there are some
 unfoldable pub rest_line : List ℕ → List ℕ
 rest_line [] = []
 rest_line (byte ∷ bytes) = codes "rest " ++ decimal (length (byte ∷ bytes)) ++ newline ∷ []
 
--- what is printed behind containers: a cut where bytes are left that begin no whole one, else `after`
+-- what is printed behind containers: a cut where bytes are left that begin no whole one, else
+-- `after`
 abbrev pub unless_cut : List ℕ → ℕ → List ℕ → List ℕ
 unless_cut [] place after = after
 unless_cut (byte ∷ bytes) place after = cut_line place
@@ -61,7 +62,8 @@ abbrev pub is_followed : Head → List ℕ → Bool
 is_followed head rest =
     (type_byte head == 0 || type_byte head == 4) && begin_header (type_byte head) rest
 
--- what is printed of the bytes after a packet with this head, where `further` prints further packets
+-- what is printed of the bytes after a packet with this head, where `further` prints further
+-- packets
 abbrev pub after_packet : (List ℕ → List ℕ) → Head → List ℕ → List ℕ
 after_packet further head rest = if is_followed head rest then further rest else rest_line rest
 

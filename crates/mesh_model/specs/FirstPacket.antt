@@ -1,7 +1,7 @@
--- The packet that bytes begin with, computed field by field; or the first cause for which they begin
--- none: fewer bytes than type and version, or than the header of the kind, need; a version other than
--- 15; a type byte of no kind; more bytes of containers told than are left after the header. The main
--- word is `first_packet`. It agrees with `IsPacket` of the grammar.
+-- The packet that bytes begin with, computed field by field; or the first cause for which they
+-- begin none: fewer bytes than type and version, or than the header of the kind, need; a version
+-- other than 15; a type byte of no kind; more bytes of containers told than are left after the
+-- header. The main word is `first_packet`. It agrees with `IsPacket` of the grammar.
 use Rattle.std.specs.Prelude.{ℕ, ◌/◌, ◌%◌, ◌==◌, nat_lt, if◌then◌else◌, List, [], ◌∷◌, length, take, drop, Option, Some, None, Result, Ok, Err}
 use Rattle.byteorder.specs.Endian.{big_number}
 use Rattle.mesh_base.specs.declared.address.Mac.{Mac}
@@ -10,7 +10,8 @@ use Rattle.mesh_model.specs.declared.packet.Head.TheVariants.{IvOgm, Bcast, Elp,
 use Rattle.mesh_model.specs.Packets.{TailKind, compat_version, header_size, row_of}
 use Rattle.mesh_model.specs.Packets.TailKind.{containers, all_the_rest, nothing}
 
--- a header that was read, and the length of containers that it tells, which is 0 where it tells none
+-- a header that was read, and the length of containers that it tells, which is 0 where it tells
+-- none
 pub record Header : Type 0 where
   pub head : Head
   pub told : ℕ
@@ -21,8 +22,8 @@ pub record Packet : Type 0 where
   pub tail : List ℕ
   pub rest : List ℕ
 
--- why bytes begin no packet: how many there are, where so many are needed; another version; the type
--- byte of no kind; the length of containers that is told, where so many bytes are left
+-- why bytes begin no packet: how many there are, where so many are needed; another version; the
+-- type byte of no kind; the length of containers that is told, where so many bytes are left
 pub data NoPacket : Type 0 where
   Short : ℕ → ℕ → NoPacket
   Version : ℕ → NoPacket

@@ -17,13 +17,15 @@ pub mod Mentions
 pub mod Present
 pub mod PresentLaws
 pub mod TableText
-pub mod NamesUsed
 pub mod PacketLines
 pub mod ContainerLines
 pub mod DecodeText
 pub mod DecodeRows
 pub mod PacketLaws
 pub mod State
+pub mod NamesUsed
+pub mod Rules
+pub mod CarriedOut
 pub mod PlainRun
 pub mod Reached
 pub mod Messages

@@ -1,5 +1,6 @@
--- The lines of an input. A line ends at its newline; a last line without a newline is a line too. What a line says
--- is what stands before its newline, less one carriage return right before it. The main word is `lines_of`.
+-- The lines of an input. A line ends at its newline; a last line without a newline is a line too.
+-- What a line says is what stands before its newline, less one carriage return right before it. The
+-- main word is `lines_of`.
 use Rattle.std.specs.Prelude.{ℕ, ◌-◌, ◌==◌, Bool, false, List, [], ◌∷◌, length, take, drop, filter, bytes_eq, if◌then◌else◌}
 use Rattle.std.specs.List.{onto_first}
 
@@ -44,7 +45,8 @@ ends_in_return bytes = bytes_eq (drop (length bytes - 1) bytes) (carriage_return
 
 -- the bytes less a carriage return at their end
 abbrev pub without_carriage_return : List ℕ → List ℕ
-without_carriage_return bytes = if ends_in_return bytes then take (length bytes - 1) bytes else bytes
+without_carriage_return bytes =
+    if ends_in_return bytes then take (length bytes - 1) bytes else bytes
 
 -- what a line says
 abbrev pub content : List ℕ → List ℕ

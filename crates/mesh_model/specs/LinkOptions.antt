@@ -28,8 +28,8 @@ are_all_given options =
     is_some options.delay && is_some options.pattern && is_some options.throughput
 
 -- what stands behind the name of an option
-abbrev pub behind : List ℕ → List ℕ → Option (List ℕ)
-behind name word =
+abbrev pub value_behind : List ℕ → List ℕ → Option (List ℕ)
+value_behind name word =
     if bytes_eq (take (length name) word) name then Some (drop (length name) word) else None
 
 -- a number in a range
@@ -71,9 +71,9 @@ when_named read None other = other
 -- the options with the one that a word gives
 abbrev pub with_option : LinkOptions → List ℕ → Option LinkOptions
 with_option options word =
-    when_named (with_delay options) (behind (codes "delay=") word)
-    (when_named (with_pattern options) (behind (codes "pattern=") word)
-    (when_named (with_throughput options) (behind (codes "tp=") word) None))
+    when_named (with_delay options) (value_behind (codes "delay=") word)
+    (when_named (with_pattern options) (value_behind (codes "pattern=") word)
+    (when_named (with_throughput options) (value_behind (codes "tp=") word) None))
 
 -- the options with that of one more word, unless three are given
 abbrev pub with_one_more : LinkOptions → List ℕ → Result LinkOptions Refusal
@@ -81,14 +81,14 @@ with_one_more options word =
     if are_all_given options then Err ExtraWord else ok_or (with_option options word) BadNumber
 
 -- the options that were read, with one more; the first refusal stays
-abbrev pub one_more : Result LinkOptions Refusal → Word → Result LinkOptions Refusal
-one_more (Ok options) word = with_one_more options word.word
-one_more (Err refusal) word = Err refusal
+abbrev pub after_one_more : Result LinkOptions Refusal → Word → Result LinkOptions Refusal
+after_one_more (Ok options) word = with_one_more options word.word
+after_one_more (Err refusal) word = Err refusal
 
 -- the options that words give beside others, one after another; the first that is refused refuses
 -- them all
 abbrev pub options_beside : LinkOptions → List Word → Result LinkOptions Refusal
-options_beside given words = fold one_more (Ok given) words
+options_beside given words = fold after_one_more (Ok given) words
 
 -- the options that words give
 abbrev pub options_of : List Word → Result LinkOptions Refusal

@@ -1,5 +1,5 @@
--- A node's log: all that it was given, each with its moment and with the acts that it then put, newest first. It is
--- all that a node of the plain run keeps. The main word is `Log`.
+-- A node's log: all that it was given, each with its moment and with the acts that it then put,
+-- newest first. It is all that a node of the plain run keeps. The main word is `Log`.
 use Rattle.std.specs.Prelude.{ℕ, Bool, List, Option}
 use Rattle.mesh_base.specs.declared.address.Mac.{Mac}
 use Rattle.mesh_base.specs.declared.client.Key.{Key}

@@ -1,7 +1,7 @@
--- The mentions of clients in a node's log, newest first: sightings with their flags, departures, roaming advertisements
--- taken, and the joining and leaving of groups. A client frame, an ARP question and a call for a gateway are sightings
--- of their source. A sighting's flags are WIFI where the last `set wifi` before it was on, else 0. The main word is
--- `mentions`.
+-- The mentions of clients in a node's log, newest first: sightings with their flags, departures,
+-- roaming advertisements taken, and the joining and leaving of groups. A client frame, an ARP
+-- question and a call for a gateway are sightings of their source. A sighting's flags are WIFI
+-- where the last `set wifi` before it was on, else 0. The main word is `mentions`.
 use Rattle.std.specs.Prelude.{ℕ, Bool, false, List, [], ◌∷◌, ◌++◌, if◌then◌else◌}
 use Rattle.mesh_base.specs.declared.address.Mac.{Mac}
 use Rattle.mesh_base.specs.declared.client.Key.{Key}

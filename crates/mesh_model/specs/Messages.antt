@@ -1,6 +1,7 @@
--- What is written to the error output for each status other than 0, a line each: `batmesh: line N: REASON`,
--- `batmesh: line N: limit NAME`, `batmesh: usage`, `batmesh: read fault`, `batmesh: write fault` and
--- `batmesh: out of memory`. The main word is `halt_text`.
+-- What is written to the error output for each status other than 0, a line each:
+-- `batmesh: line N: REASON`, `batmesh: line N: limit NAME`, `batmesh: usage`,
+-- `batmesh: read fault`, `batmesh: write fault` and `batmesh: out of memory`. The main word is
+-- `halt_text`.
 use Rattle.std.specs.Prelude.{ℕ, List, [], ◌∷◌, ◌++◌, codes, decimal}
 use Rattle.mesh_model.specs.declared.ending.LimitName.{LimitName}
 use Rattle.mesh_model.specs.declared.ending.LimitName.TheVariants.{Line, Input}
@@ -39,7 +40,9 @@ stop_words (Limit name) = codes "limit " ++ limit_words name
 
 -- the text for a run that halted
 unfoldable pub halt_text : Halt → List ℕ
-halt_text halt = codes "batmesh: line " ++ decimal halt.line ++ codes ": " ++ stop_words halt.stop ++ newline ∷ []
+halt_text halt =
+    codes "batmesh: line " ++ decimal halt.line ++ codes ": " ++ stop_words halt.stop
+    ++ newline ∷ []
 
 -- the text for words that aren't taken
 abbrev pub usage_text : List ℕ

@@ -1,7 +1,7 @@
 -- The forms of lines that make the net, let time pass, and print: `algo`, `node`, `link`, `lan`,
 -- `ping`, `traceroute`, `run`, `deliver`, `show` and `decode`, each by the words behind its
--- command word.
-use Rattle.std.specs.Prelude.{ℕ, nat_lt, not, List, [], ◌∷◌, length, map, take, Ok, if◌then◌else◌}
+-- command word. The main word is `net_forms`.
+use Rattle.std.specs.Prelude.{ℕ, nat_lt, not, List, [], ◌∷◌, length, map, take, codes, Ok, if◌then◌else◌}
 use Rattle.std.specs.List.{list_all}
 use Rattle.mesh_model.specs.declared.ending.Refusal.TheVariants.{MissingWord, BadName, ExtraWord}
 use Rattle.mesh_model.specs.declared.line_form.Command.{Command}
@@ -50,9 +50,13 @@ abbrev pub read_traceroute : List Word → Reading
 read_traceroute =
     a_field name_field (λ node. a_field name_field (λ target. the_end (Trace node target)))
 
+-- the most milliseconds that a line lets pass
+abbrev pub time_limit : ℕ
+time_limit = 1099511627776
+
 -- run MS
 abbrev pub read_run : List Word → Reading
-read_run = a_field (number_field 1 1099511627776) (λ time. the_end (Run time))
+read_run = a_field (number_field 1 time_limit) (λ time. the_end (Run time))
 
 -- deliver N
 abbrev pub read_deliver : List Word → Reading
@@ -65,3 +69,11 @@ read_show = a_field name_field (λ node. a_field table_field (λ table. the_end 
 -- decode HEX
 abbrev pub read_decode : List Word → Reading
 read_decode = a_field hex_field (λ bytes. the_end (Decode bytes))
+
+-- the forms that make the net, let time pass, and print, by their command words
+abbrev pub net_forms : List (List ℕ × (List Word → Reading))
+net_forms =
+    (codes "algo", read_algo) ∷ (codes "node", read_node) ∷ (codes "link", read_link)
+    ∷ (codes "lan", read_lan) ∷ (codes "ping", read_ping) ∷ (codes "traceroute", read_traceroute)
+    ∷ (codes "run", read_run) ∷ (codes "deliver", read_deliver) ∷ (codes "show", read_show)
+    ∷ (codes "decode", read_decode) ∷ []

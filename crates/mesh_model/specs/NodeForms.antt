@@ -1,13 +1,13 @@
 -- The forms of lines that give a node, or a LAN, something: `frame`, `gone`, `join`, `leave`,
 -- `arp`, `dhcp`, `set` and `alfred`, each by the words behind its command word. What is set, and
 -- what alfred does, is named by a word of its own, which is refused by `out of range` where it
--- isn't one of those below.
-use Rattle.std.specs.Prelude.{ℕ, List, codes, bytes_eq, if◌then◌else◌}
+-- isn't one of those below. The main word is `node_forms`.
+use Rattle.std.specs.Prelude.{ℕ, List, [], ◌∷◌, codes}
 use Rattle.mesh_model.specs.declared.ending.Refusal.TheVariants.{OutOfRange}
 use Rattle.mesh_model.specs.declared.line_form.Command.TheVariants.{Frame, Gone, Join, Leave, Arp, Dhcp, Wifi, GwOff, GwServer, GwClient, Mcast, Dat, Alfred, Put, Get}
 use Rattle.mesh_model.specs.declared.line_form.Policy.TheVariants.{Best, Stable, Late}
 use Rattle.mesh_model.specs.Fields.{word_field, name_field, unicast_field, target_field, group_field, vid_field, ip_field, number_field, switch_field, alfred_mode_field}
-use Rattle.mesh_model.specs.Readings.{Reading, refused, a_field, a_key, a_text, a_text_up_to, the_end}
+use Rattle.mesh_model.specs.Readings.{Reading, a_field, a_key, a_text, a_text_up_to, listed_form, the_end}
 use Rattle.mesh_model.specs.Words.{Word}
 
 -- frame PLACE SRC DST VID TEXT
@@ -55,19 +55,15 @@ read_late node = a_field (number_field 1 255) (λ lead. the_end (GwClient node (
 
 -- set NODE gw client best, stable, or late K
 abbrev pub read_policy : List ℕ → List ℕ → List Word → Reading
-read_policy node word words =
-    if bytes_eq word (codes "best") then the_end (GwClient node Best) words
-    else if bytes_eq word (codes "stable") then the_end (GwClient node Stable) words
-    else if bytes_eq word (codes "late") then read_late node words
-    else refused OutOfRange
+read_policy node = listed_form (
+    (codes "best", the_end (GwClient node Best)) ∷ (codes "stable", the_end (GwClient node Stable))
+    ∷ (codes "late", read_late node) ∷ []) OutOfRange
 
 -- set NODE gw off, server DOWN UP, or client with a policy
 abbrev pub read_gateway : List ℕ → List ℕ → List Word → Reading
-read_gateway node word words =
-    if bytes_eq word (codes "off") then the_end (GwOff node) words
-    else if bytes_eq word (codes "server") then read_server node words
-    else if bytes_eq word (codes "client") then a_field word_field (read_policy node) words
-    else refused OutOfRange
+read_gateway node = listed_form (
+    (codes "off", the_end (GwOff node)) ∷ (codes "server", read_server node)
+    ∷ (codes "client", a_field word_field (read_policy node)) ∷ []) OutOfRange
 
 -- set NODE mcast N
 abbrev pub read_mcast : List ℕ → List Word → Reading
@@ -79,12 +75,9 @@ read_dat node = a_field switch_field (λ on. the_end (Dat node on))
 
 -- what is set at a node
 abbrev pub read_setting : List ℕ → List ℕ → List Word → Reading
-read_setting node word words =
-    if bytes_eq word (codes "wifi") then read_wifi node words
-    else if bytes_eq word (codes "gw") then a_field word_field (read_gateway node) words
-    else if bytes_eq word (codes "mcast") then read_mcast node words
-    else if bytes_eq word (codes "dat") then read_dat node words
-    else refused OutOfRange
+read_setting node = listed_form (
+    (codes "wifi", read_wifi node) ∷ (codes "gw", a_field word_field (read_gateway node))
+    ∷ (codes "mcast", read_mcast node) ∷ (codes "dat", read_dat node) ∷ []) OutOfRange
 
 -- set NODE ..
 abbrev pub read_set : List Word → Reading
@@ -114,12 +107,17 @@ read_get node = a_field (number_field least_fact_type 255) (λ type_no. the_end 
 
 -- what alfred does at a node
 abbrev pub read_alfred_form : List ℕ → List ℕ → List Word → Reading
-read_alfred_form node word words =
-    if bytes_eq word (codes "mode") then read_mode node words
-    else if bytes_eq word (codes "put") then read_put node words
-    else if bytes_eq word (codes "get") then read_get node words
-    else refused OutOfRange
+read_alfred_form node = listed_form (
+    (codes "mode", read_mode node) ∷ (codes "put", read_put node) ∷ (codes "get", read_get node)
+    ∷ []) OutOfRange
 
 -- alfred NODE ..
 abbrev pub read_alfred : List Word → Reading
 read_alfred = a_field name_field (λ node. a_field word_field (read_alfred_form node))
+
+-- the forms that give a node, or a LAN, something, by their command words
+abbrev pub node_forms : List (List ℕ × (List Word → Reading))
+node_forms =
+    (codes "frame", read_frame) ∷ (codes "gone", read_gone) ∷ (codes "join", read_join)
+    ∷ (codes "leave", read_leave) ∷ (codes "arp", read_arp) ∷ (codes "dhcp", read_dhcp)
+    ∷ (codes "set", read_set) ∷ (codes "alfred", read_alfred) ∷ []

@@ -1,5 +1,5 @@
--- The packet that is computed from bytes is the packet of the grammar, and the text of bytes goes on
--- behind it.
+-- The packet that is computed from bytes is the packet of the grammar, and the text of bytes goes
+-- on behind it.
 use Rattle.std.specs.Prelude.{◌≡◌, ℕ, List, drop, Ok}
 use Rattle.mesh_model.specs.declared.packet.Head.{Head}
 use Rattle.mesh_model.specs.Packets.{IsPacket}

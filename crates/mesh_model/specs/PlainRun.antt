@@ -1,15 +1,17 @@
--- The plain run of an input: its lines are carried out one after another, each as a whole, and the first that is refused
--- or at which a quantity would pass its limit ends the run there. The limit `line` is reached at the byte past 4,096
--- before a line's newline, `input` at the byte past 67,108,864 of the input, whichever comes first; where one byte is
--- both, it is `line`. The main words are `plain_run` and `output`.
+-- The plain run of an input: its lines are carried out one after another, each as a whole, and the
+-- first that is refused or at which a quantity would pass its limit ends the run there. The limit
+-- `line` is reached at the byte past 4,096 before a line's newline, `input` at the byte past
+-- 67,108,864 of the input, whichever comes first; where one byte is both, it is `line`. The main
+-- words are `plain_run` and `output`.
 use Rattle.std.specs.Prelude.{ℕ, ◌+◌, ◌&&◌, nat_lt, nat_le, Bool, List, length, fold, Option, Some, None, is_some, Result, Ok, Err, if◌then◌else◌}
 use Rattle.mesh_model.specs.declared.ending.LimitName.TheVariants.{Line, Input}
 use Rattle.mesh_model.specs.declared.ending.Stop.{Stop}
 use Rattle.mesh_model.specs.declared.ending.Stop.TheVariants.{Limit}
+use Rattle.mesh_model.specs.CarriedOut.{carried_out}
 use Rattle.mesh_model.specs.Commands.{command_of_line}
 use Rattle.mesh_model.specs.Lines.{line_limit, input_limit, lines_of, before_newline, content}
 use Rattle.mesh_model.specs.Readings.{Reading}
-use Rattle.mesh_model.specs.State.{State, no_nodes, carried_out, events_text}
+use Rattle.mesh_model.specs.State.{State, no_nodes, events_text}
 
 -- where and why a run ended before the end of its input
 pub record Halt : Type 0 where
@@ -27,9 +29,11 @@ pub record Run : Type 0 where
 abbrev pub start : Run
 start = record { state = no_nodes; lines = 0; bytes = 0; halt = None }
 
--- whether a line's byte past 4,096 stands within the input's limit or right past it, after so many bytes
+-- whether a line's byte past 4,096 stands within the input's limit or right past it, after so many
+-- bytes
 abbrev pub passes_line : ℕ → List ℕ → Bool
-passes_line before line = nat_lt line_limit (length (before_newline line)) && nat_le (before + line_limit) input_limit
+passes_line before line =
+    nat_lt line_limit (length (before_newline line)) && nat_le (before + line_limit) input_limit
 
 -- whether a line passes the limit of the input, after so many bytes
 abbrev pub passes_input : ℕ → List ℕ → Bool
@@ -51,7 +55,8 @@ line_outcome state before line =
 abbrev pub after_outcome : Run → List ℕ → Result State Stop → Run
 after_outcome run line (Ok state) =
     record { state = state; lines = run.lines + 1; bytes = run.bytes + length line; halt = None }
-after_outcome run line (Err stop) = record run { halt = Some (record { line = run.lines + 1; stop = stop }) }
+after_outcome run line (Err stop) =
+    record run { halt = Some (record { line = run.lines + 1; stop = stop }) }
 
 -- the run after one more line; a run that halted stays as it is
 abbrev pub after_line : Run → List ℕ → Run

@@ -1,11 +1,11 @@
--- The clients that are present at a node at a moment. A key is present where its last mention is a sighting less than
--- 600,000 ms old, with the flags of that sighting; a joined group is present, with flags 0 and without an age, from its
--- joining to its leaving, whatever else is said of it. The main word is `present_clients`.
+-- The clients that are present at a node at a moment. A key is present where its last mention is a
+-- sighting less than 600,000 ms old, with the flags of that sighting; a joined group is present,
+-- with flags 0 and without an age, from its joining to its leaving, whatever else is said of it.
+-- The main word is `present_clients`.
 use Rattle.std.specs.Prelude.{ℕ, ◌-◌, ◌&&◌, nat_lt, Bool, true, false, not, List, [], ◌∷◌, find, filter_map, Option, Some, None, option_and_then, if◌then◌else◌}
-use Rattle.std.specs.Cmp.Lexicographic.{slice_cmp}
 use Rattle.std.specs.Option.{option_or}
-use Rattle.std.specs.Ordering.{is_eq, match_ordering, nat_cmp, ordering_then}
-use Rattle.std.specs.declared.cmp.Ordering.{Ordering}
+use Rattle.std.specs.Ordering.{is_eq, match_ordering}
+use Rattle.mesh_base.specs.KeyOrder.{key_order}
 use Rattle.mesh_base.specs.declared.client.Entry.{Entry}
 use Rattle.mesh_base.specs.declared.client.Key.{Key}
 use Rattle.mesh_model.specs.declared.table_row.LocalRow.{LocalRow}
@@ -15,13 +15,9 @@ use Rattle.mesh_model.specs.Mentions.{Mention, News, Sighted, Departed, Roamed, 
 abbrev pub sighting_age : ℕ
 sighting_age = 600000
 
--- the order of keys: by the bytes of the address, then by the wire number of the VLAN
-abbrev pub key_cmp : Key → Key → Ordering
-key_cmp a b = ordering_then (slice_cmp nat_cmp a.mac.0 b.mac.0) (nat_cmp a.vid.0 b.vid.0)
-
 -- whether two keys are one
 abbrev pub same_key : Key → Key → Bool
-same_key a b = is_eq (key_cmp a b)
+same_key a b = is_eq (key_order a b)
 
 -- whether news are of a group's joining or leaving
 abbrev pub is_membership : News → Bool
@@ -43,10 +39,12 @@ last_membership key mentions = find (λ m. same_key key m.key && is_membership m
 abbrev pub entry_of : Key → ℕ → Entry
 entry_of key flags = record { key = key; flags = flags }
 
--- the row of a key of which this was said so many milliseconds ago: a sighting that still counts, or a joining
+-- the row of a key of which this was said so many milliseconds ago: a sighting that still counts,
+-- or a joining
 abbrev pub row_after : Key → ℕ → News → Option LocalRow
 row_after key age (Sighted flags) =
-    if nat_lt age sighting_age then Some (record { entry = entry_of key flags; age = Some age }) else None
+    if nat_lt age sighting_age then Some (record { entry = entry_of key flags; age = Some age })
+    else None
 row_after key age Departed = None
 row_after key age Roamed = None
 row_after key age Joined = Some (record { entry = entry_of key 0; age = None })
@@ -66,7 +64,8 @@ present_row now mentions key = option_or
 abbrev pub insert_key : Key → List Key → List Key
 insert_key key [] = key ∷ []
 insert_key key (first ∷ rest) =
-    match_ordering (key_cmp key first) (key ∷ first ∷ rest) (first ∷ rest) (first ∷ insert_key key rest)
+    match_ordering (key_order key first) (key ∷ first ∷ rest) (first ∷ rest)
+    (first ∷ insert_key key rest)
 
 -- the keys that are mentioned, in key order and each once
 abbrev pub mentioned_keys : List Mention → List Key

@@ -3,10 +3,11 @@
 -- newer ones tell of the key.
 use Rattle.std.specs.Prelude.{◌≡◌, ℕ, List, ◌++◌, map, find, Option, IsSome}
 use Rattle.std.specs.List.Sorted.{IsStrictlySortedBy}
+use Rattle.mesh_base.specs.KeyOrder.{key_order}
 use Rattle.mesh_base.specs.declared.client.Key.{Key}
 use Rattle.mesh_model.specs.declared.table_row.LocalRow.{LocalRow}
 use Rattle.mesh_model.specs.Mentions.{Mention}
-use Rattle.mesh_model.specs.Present.{key_cmp, same_key, last_mention, last_membership, present_row, present_clients}
+use Rattle.mesh_model.specs.Present.{same_key, last_mention, last_membership, present_row, present_clients}
 
 -- the row of a key in a list
 abbrev pub row_in : List LocalRow → Key → Option LocalRow
@@ -38,4 +39,4 @@ KeepsRow = (now : ℕ) → (newer older : List Mention) → (key : Key) →
 -- the present clients stand in key order, each key once
 abbrev pub IsInKeyOrder : Type 0
 IsInKeyOrder = (now : ℕ) → (mentions : List Mention) →
-    IsStrictlySortedBy key_cmp (map (λ row. row.entry.key) (present_clients now mentions))
+    IsStrictlySortedBy key_order (map (λ row. row.entry.key) (present_clients now mentions))

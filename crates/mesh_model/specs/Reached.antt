@@ -1,5 +1,6 @@
--- How far an input must have come for its run to halt: for a refused line the line's last byte, for the limit `line`
--- the byte past 4,096 of the line, for `input` the byte past 67,108,864 of the input. The main word is `halting_byte`.
+-- How far an input must have come for its run to halt: for a refused line the line's last byte, for
+-- the limit `line` the byte past 4,096 of the line, for `input` the byte past 67,108,864 of the
+-- input. The main word is `halting_byte`.
 use Rattle.std.specs.Prelude.{ℕ, ◌+◌, ◌-◌, List, [], length, slice_index_or}
 use Rattle.mesh_model.specs.declared.ending.LimitName.TheVariants.{Line, Input}
 use Rattle.mesh_model.specs.declared.ending.Stop.{Stop}
@@ -19,4 +20,5 @@ numbered_line input number = slice_index_or (lines_of input) (number - 1) []
 
 -- how many bytes of an input end at the one at which its run halts
 abbrev pub halting_byte : List ℕ → Halt → ℕ
-halting_byte input halt = halting_place (plain_run input).bytes (numbered_line input halt.line) halt.stop
+halting_byte input halt =
+    halting_place (plain_run input).bytes (numbered_line input halt.line) halt.stop

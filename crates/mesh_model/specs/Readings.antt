@@ -1,8 +1,10 @@
 -- The reading of a line's words from left to right. A form is a chain of fields, each the next
--- word, and ends with the last word or in a text, which is the rest of the line. The first word
--- that is missing or refused refuses the line; a word too many is looked at last. The main word is
--- `Reading`.
-use Rattle.std.specs.Prelude.{ℕ, nat_le, List, [], ◌∷◌, length, Result, Ok, Err, if◌then◌else◌}
+-- word, and ends with the last word or in a text, which is the rest of the line. A word may also
+-- choose the form of those behind it. The first word that is missing or refused refuses the line; a
+-- word too many is looked at last. The main word is `Reading`.
+use Rattle.std.specs.Prelude.{ℕ, nat_le, List, [], ◌∷◌, length, bytes_eq, Result, Ok, Err, if◌then◌else◌}
+use Rattle.std.specs.Map.{lookup}
+use Rattle.std.specs.Option.{option_map_or}
 use Rattle.mesh_base.specs.declared.address.Mac.{Mac}
 use Rattle.mesh_base.specs.declared.client.Key.{Key}
 use Rattle.mesh_model.specs.declared.ending.Refusal.{Refusal}
@@ -48,6 +50,12 @@ abbrev pub a_text_up_to : ℕ → (List ℕ → Command) → List Word → Readi
 a_text_up_to most command [] = refused MissingWord
 a_text_up_to most command (first ∷ rest) =
     if nat_le (length first.text) most then Ok (command first.text) else refused OutOfRange
+
+-- the form that a word begins, of those that are listed; any other word is refused
+abbrev pub listed_form : List (List ℕ × (List Word → Reading)) → Refusal → List ℕ → List Word
+    → Reading
+listed_form forms refusal word words =
+    option_map_or (λ read. read words) (lookup (bytes_eq word) forms) (refused refusal)
 
 -- no more words
 abbrev pub the_end : Command → List Word → Reading

@@ -10,7 +10,8 @@ lines texts = flat_map (λ text. text ++ newline ∷ []) texts
 
 -- the scenario runs to its end and prints this
 abbrev pub RunsToItsEnd : List ℕ → List ℕ → Type 0
-RunsToItsEnd scenario printed = ((plain_run scenario).halt ≡ None) × (output (plain_run scenario) ≡ printed)
+RunsToItsEnd scenario printed =
+    ((plain_run scenario).halt ≡ None) × (output (plain_run scenario) ≡ printed)
 
 -- the scenario prints this and halts at a line
 abbrev pub HaltsAt : List ℕ → List ℕ → ℕ → Stop → Type 0

@@ -1,12 +1,13 @@
--- What holds of every plain run: its lines may be carried out one after another, its output only grows, and it stays as
--- it is once it halted.
+-- What holds of every plain run: its lines may be carried out one after another, its output only
+-- grows, and it stays as it is once it halted.
 use Rattle.std.specs.Prelude.{◌≡◌, ℕ, List, ◌++◌, IsSome}
 use Rattle.std.specs.List.{concat}
 use Rattle.mesh_model.specs.Cuts.{AreLines}
 use Rattle.mesh_model.specs.Lines.{lines_of}
 use Rattle.mesh_model.specs.PlainRun.{Run, start, after_line, after_lines, plain_run, output}
 
--- the run of whole lines and of what follows them is the run of the lines, and then that of what follows
+-- the run of whole lines and of what follows them is the run of the lines, and then that of what
+-- follows
 abbrev pub LinesOneAfterAnother : Type 0
 LinesOneAfterAnother = (lines : List (List ℕ)) (rest : List ℕ) → AreLines lines →
     plain_run (concat lines ++ rest) ≡ after_lines (after_lines start lines) (lines_of rest)

@@ -1,18 +1,15 @@
--- The printed tables. Each line ends with a newline; rows stand in key order, ages are in milliseconds. The local table
--- of a node (`show NODE tl`) is `tl NODE version=B clients=C`, a line `vlan VID sum=S` for each VLAN of the last commit,
--- and a line `c MAC VID FF age=AGE` for each present client. The main word is `table_text`.
+-- The printed tables. Each line ends with a newline; rows stand in key order, ages are in
+-- milliseconds. The local table of a node (`show NODE tl`) is `tl NODE version=B clients=C`, a line
+-- `vlan VID sum=S` for each VLAN of the last commit, and a line `c MAC VID FF age=AGE` for each
+-- present client. The main word is `table_text`.
 use Rattle.std.specs.Prelude.{ℕ, ◌-◌, ◌/◌, ◌%◌, ◌==◌, nat_le, List, [], ◌∷◌, ◌++◌, length, flat_map, codes, decimal, Option, Some, None, if◌then◌else◌}
 use Rattle.byteorder.specs.Endian.{big_bytes}
 use Rattle.hex.specs.Hex.{encode_lower}
 use Rattle.mesh_base.specs.Address.{mac_text}
 use Rattle.mesh_base.specs.declared.client.Vid.{Vid}
 use Rattle.mesh_model.specs.declared.table_row.LocalRow.{LocalRow}
+use Rattle.mesh_model.specs.ContainerBodies.{VlanSum}
 use Rattle.mesh_model.specs.Lines.{newline}
-
--- a VLAN and the checksum of its entries
-pub record VlanSum : Type 0 where
-  pub vid : Vid
-  pub sum : ℕ
 
 -- a node's local table: its name, the byte and the sums of its last commit, and its present clients
 pub record LocalTable : Type 0 where
@@ -21,7 +18,8 @@ pub record LocalTable : Type 0 where
   pub sums : List VlanSum
   pub rows : List LocalRow
 
--- a VLAN as it is printed: `-` for untagged, the number of a tagged one, else `raw:` and the wire number
+-- a VLAN as it is printed: `-` for untagged, the number of a tagged one, else `raw:` and the wire
+-- number
 unfoldable pub vid_text : Vid → List ℕ
 vid_text vid =
     if vid.0 == 0 then codes "-"
@@ -47,7 +45,8 @@ sum_text sum = encode_lower (big_bytes 4 sum)
 
 -- the line of a VLAN of the last commit
 unfoldable pub vlan_line : VlanSum → List ℕ
-vlan_line vlan = codes "vlan " ++ vid_text vlan.vid ++ codes " sum=" ++ sum_text vlan.sum ++ newline ∷ []
+vlan_line vlan =
+    codes "vlan " ++ vid_text vlan.vid ++ codes " sum=" ++ sum_text vlan.sum ++ newline ∷ []
 
 -- the line of a present client
 unfoldable pub local_line : LocalRow → List ℕ
@@ -58,7 +57,8 @@ local_line row =
 -- the first line of a local table
 unfoldable pub local_header : List ℕ → ℕ → ℕ → List ℕ
 local_header name version clients =
-    codes "tl " ++ name ++ codes " version=" ++ decimal version ++ codes " clients=" ++ decimal clients ++ newline ∷ []
+    codes "tl " ++ name ++ codes " version=" ++ decimal version
+    ++ codes " clients=" ++ decimal clients ++ newline ∷ []
 
 -- a local table as it is printed
 abbrev pub table_text : LocalTable → List ℕ

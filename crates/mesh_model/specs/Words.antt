@@ -1,5 +1,6 @@
--- The words of a line: the longest parts without spaces and tabs. Each word comes with the rest of the line from its
--- first byte on, since a form may end in a text that is the rest of its line. The main word is `words_of`.
+-- The words of a line: the longest parts without spaces and tabs. Each word comes with the rest of
+-- the line from its first byte on, since a form may end in a text that is the rest of its line. The
+-- main word is `words_of`.
 use Rattle.std.specs.Prelude.{ℕ, ◌==◌, ◌||◌, Bool, true, false, not, List, [], ◌∷◌, map, take_while, if◌then◌else◌}
 
 -- a word and the rest of its line

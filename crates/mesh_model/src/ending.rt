@@ -11,8 +11,8 @@ pub enum Refusal {
     BadName,
     /// `bad mac`: a word isn't a hardware address where one is wanted.
     BadMac,
-    /// `bad number`: a word isn't the number, VLAN, IP address, hex bytes, pattern or option that is
-    /// wanted.
+    /// `bad number`: a word isn't the number, VLAN, IP address, hex bytes, pattern or option that
+    /// is wanted.
     BadNumber,
     /// `out of range`: a number is outside its range, an address or a text is of the wrong kind or
     /// length, or a word isn't one of those that are listed.

@@ -1,7 +1,8 @@
-//! What a reader of batmesh believes: the plain data that definitions speak of and, in `specs/`, the definitions.
+//! What a reader of batmesh believes: the plain data that definitions speak of and, in `specs/`,
+//! the definitions.
 //!
-//! Read `specs/` in the order of its `Lib.antt`. `rows` computes small scenarios from the definitions, `run_laws` and
-//! `present_laws` say what holds of them all.
+//! Read `specs/` in the order of its `Lib.antt`. `rows` computes small scenarios from the
+//! definitions, `run_laws` and `present_laws` say what holds of them all.
 
 #![tactic(auto)]
 

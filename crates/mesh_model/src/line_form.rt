@@ -13,8 +13,9 @@ pub enum Command {
         name: Bytes,
         mac: Mac,
     },
-    /// `link A B`, with options: a directed link. Its delay is 1 to 10,000 ms, its pattern 1 to 64 of
-    /// the marks `.`, `x`, `2` and `h`, and its throughput 1 to 1,000,000 in units of 100 kbit/s.
+    /// `link A B`, with options: a directed link. Its delay is 1 to 10,000 ms, its pattern 1 to 64
+    /// of the marks `.`, `x`, `2` and `h`, and its throughput 1 to 1,000,000 in units of 100
+    /// kbit/s.
     Link {
         from: Bytes,
         to: Bytes,

@@ -7,7 +7,8 @@ pub fn packets_are_found()
     ensures { PacketsAreFound }
 {}
 
-/// The text of bytes is that of their first packet, and of what follows it: the bound on packets is never met.
+/// The text of bytes is that of their first packet, and of what follows it: the bound on packets is
+/// never met.
 pub fn text_goes_on()
     ensures { TextGoesOn }
 {}

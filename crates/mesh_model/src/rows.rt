@@ -22,7 +22,8 @@ pub fn a_last_line_needs_no_newline()
     ensures { RunsToItsEnd (lines one_client ++ codes "show A tl") (lines one_row) }
 {}
 
-/// Comments and empty lines do nothing; a name that no line gave is refused, and what was printed stays.
+/// Comments and empty lines do nothing; a name that no line gave is refused, and what was printed
+/// stays.
 pub fn an_unknown_name_is_refused()
     ensures halts { HaltsAt
         (lines (one_client ++ codes "show A tl" ∷ codes "# x" ∷ [] ∷ codes "show A tl"
@@ -76,7 +77,8 @@ pub fn a_link_is_not_built()
 
 /// The words of a line are looked at from left to right.
 pub fn a_bad_address_is_named()
-    ensures { HaltsAt (lines (codes "frame A zz ff:ff:ff:ff:ff:ff - x" ∷ [])) [] 1 (Refused BadMac) }
+    ensures { HaltsAt (lines (codes "frame A zz ff:ff:ff:ff:ff:ff - x" ∷ [])) [] 1
+        (Refused BadMac) }
 {}
 
 /// A form wants all its words.
@@ -84,8 +86,8 @@ pub fn a_missing_word_is_named()
     ensures { HaltsAt (lines (codes "show A" ∷ [])) [] 1 (Refused MissingWord) }
 {}
 
-/// A carriage return before a newline is dropped, tabs and further spaces separate words, a client that is seen twice
-/// is one row, and rows stand in key order: untagged before tagged.
+/// A carriage return before a newline is dropped, tabs and further spaces separate words, a client
+/// that is seen twice is one row, and rows stand in key order: untagged before tagged.
 pub fn rows_stand_in_key_order()
     ensures { RunsToItsEnd
         (lines (codes "node A 02:00:00:00:00:0a"

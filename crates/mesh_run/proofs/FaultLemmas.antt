@@ -13,7 +13,8 @@ use Rattle.mesh_model.specs.Lines.{newline, lines_of, without_carriage_return}
 use Rattle.mesh_model.specs.PlainRun.{start, after_lines, after_reading, plain_run, output}
 use Rattle.mesh_model.specs.Reached.{halting_place}
 use Rattle.mesh_model.proofs.CutLemmas.{IsCut-newline}
-use Rattle.mesh_model.proofs.HaltLemmas.{after_lines-newline, cut-length, halts_newline, line_outcome-newline, plain_run-cut}
+use Rattle.mesh_model.proofs.HaltLemmas.{plain_run-cut}
+use Rattle.mesh_model.proofs.UnfinishedLemmas.{after_lines-newline, cut-length, halts_newline, line_outcome-newline}
 use Rattle.mesh_model.proofs.RunLemmas.{after_lines-grows}
 use Rattle.mesh_run.specs.declared.fault.Fault.{Fault}
 use Rattle.mesh_run.specs.declared.fault.Fault.TheVariants.{Halted, Read, Write, Memory}

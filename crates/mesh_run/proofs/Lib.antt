@@ -1,6 +1,7 @@
 -- What the proofs rest on.
 pub mod ProgressLemmas
 pub mod FaultLemmas
+pub mod NodesLemmas
 pub mod SceneLemmas
 pub mod PieceLemmas
 pub mod EndLemmas

@@ -14,7 +14,8 @@ use Rattle.mesh_model.specs.State.{State}
 use Rattle.mesh_model.specs.PlainRun.{Run, start, after_lines, after_reading, plain_run, output}
 use Rattle.mesh_model.specs.Reached.{halting_place}
 use Rattle.mesh_model.proofs.CutLemmas.{IsCut-more, IsCut-newline}
-use Rattle.mesh_model.proofs.HaltLemmas.{HaltsAfter, after_lines-newline, cut-length, halts_long, line_outcome-newline, plain_run-cut}
+use Rattle.mesh_model.proofs.HaltLemmas.{HaltsAfter, plain_run-cut}
+use Rattle.mesh_model.proofs.UnfinishedLemmas.{after_lines-newline, cut-length, halts_long, line_outcome-newline}
 use Rattle.mesh_model.proofs.RunLemmas.{after_lines-grows}
 use Rattle.mesh_run.specs.declared.fault.Fault.{Fault}
 use Rattle.mesh_run.specs.declared.fault.Fault.TheVariants.{Halted, Read, Write, Memory}

@@ -16,7 +16,8 @@ use Rattle.mesh_model.specs.Reached.{halting_byte}
 use Rattle.mesh_run.specs.declared.fault.Fault.{Fault}
 use Rattle.mesh_run.specs.declared.fault.Fault.TheVariants.{Halted, Read, Write, Memory}
 
--- the plain run halts there, out took what it prints, and the bytes taken end at most 4,095 bytes past the byte there
+-- the plain run halts there, out took what it prints, and the bytes taken end at most 4,095 bytes
+-- past the byte there
 pub record HaltsNear (old new left : Option (List ℕ)) (input : List ℕ) (halt : Halt) : Type 0 where
   pub halts : (plain_run input).halt ≡ Some halt
   pub printed : Appends old new (output (plain_run input))
@@ -28,9 +29,11 @@ pub record PrintsRead (old new left : Option (List ℕ)) (input : List ℕ) : Ty
   pub took : Consumes (Some input) left read
   pub printed : Appends old new (output (after_lines start (complete_lines read)))
 
--- the opening failed and nothing was printed, or a read did and the lines that had come were printed
+-- the opening failed and nothing was printed, or a read did and the lines that had come were
+-- printed
 abbrev pub PrintsTaken : (old new first left : Option (List ℕ)) → List ℕ → Type 0
-PrintsTaken old new first left input = (Keeps first left × Keeps old new) ⊎ PrintsRead old new left input
+PrintsTaken old new first left input =
+    (Keeps first left × Keeps old new) ⊎ PrintsRead old new left input
 
 -- a front of the whole output was written
 abbrev pub PrintsFrontOf : (old new : Option (List ℕ)) → List ℕ → Type 0
@@ -38,7 +41,8 @@ PrintsFrontOf old new input = AppendsFront old new (output (plain_run input))
 
 -- what a run that met a fault leaves, where its input is told
 abbrev pub RunFails : (old new first left : Option (List ℕ)) → Fault → List ℕ → Type 0
-RunFails old new first left (Halted line stop) input = HaltsNear old new left input (record { line = line; stop = stop })
+RunFails old new first left (Halted line stop) input =
+    HaltsNear old new left input (record { line = line; stop = stop })
 RunFails old new first left Read input = PrintsTaken old new first left input
 RunFails old new first left Write input = PrintsFrontOf old new input
 RunFails old new first left Memory input = PrintsFrontOf old new input

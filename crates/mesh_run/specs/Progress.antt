@@ -1,6 +1,7 @@
--- How far a run has come: the bytes that were read are whole lines, which were carried out, and an unfinished one.
--- The main words are `Stands`, for a runner, and `Fails`, for the fault that ended it.
-use Rattle.std.specs.Prelude.{◌≡◌, ℕ, ◌≤◌, List, ◌++◌, length, Option, Some, None, Result, Ok, Err, IfErr}
+-- How far a run has come: the bytes that were read are whole lines, which were carried out, and an
+-- unfinished one. The main words are `Stands`, for a runner, and `Fails`, for the fault that ended
+-- it.
+use Rattle.std.specs.Prelude.{◌≡◌, ℕ, ◌+◌, ◌≤◌, List, ◌++◌, length, Option, Some, None, Result, Ok, Err, OnOk, IfErr}
 use Rattle.std.specs.Io.KnownBytes.{Appends, Keeps}
 use Rattle.mesh_base.specs.Faults.{Rose}
 use Rattle.mesh_base.specs.Writes.{AppendsFront}
@@ -18,7 +19,8 @@ use Rattle.mesh_run.specs.Scene.{SceneStands}
 -- ---- one line
 
 -- a line that was carried out and whose text was written: the state after it, and what out took
-pub record Carried (wanted : Result State Stop) (before : State) (scene : Scene) (old new : Option (List ℕ)) : Type 0 where
+pub record Carried (wanted : Result State Stop) (before : State) (scene : Scene)
+    (old new : Option (List ℕ)) : Type 0 where
   pub after : State
   pub carried : wanted ≡ Ok after
   pub stands : SceneStands scene after
@@ -27,7 +29,8 @@ pub record Carried (wanted : Result State Stop) (before : State) (scene : Scene)
   pub taken : Appends old new printed
 
 -- a line whose text was cut off
-pub record CutOff (wanted : Result State Stop) (before : State) (old new : Option (List ℕ)) : Type 0 where
+pub record CutOff (wanted : Result State Stop) (before : State) (old new : Option (List ℕ))
+    : Type 0 where
   pub after : State
   pub carried : wanted ≡ Ok after
   pub printed : List ℕ
@@ -35,14 +38,17 @@ pub record CutOff (wanted : Result State Stop) (before : State) (old new : Optio
   pub taken : AppendsFront old new printed
 
 -- a line that halts the run: nothing was written
-pub record HaltsLine (wanted : Result State Stop) (old new : Option (List ℕ)) (number line : ℕ) (stop : Stop) : Type 0 where
+pub record HaltsLine (wanted : Result State Stop) (old new : Option (List ℕ)) (number line : ℕ)
+    (stop : Stop) : Type 0 where
   pub refused : wanted ≡ Err stop
   pub numbered : line ≡ number
   pub kept : Keeps old new
 
 -- the cause of a fault while a line is carried out, which reads nothing
-abbrev pub CarryFails : Result State Stop → State → Option (List ℕ) → Option (List ℕ) → ℕ → Fault → Type 0
-CarryFails wanted before old new number (Halted line stop) = HaltsLine wanted old new number line stop
+abbrev pub CarryFails : Result State Stop → State → (old new : Option (List ℕ)) → ℕ → Fault
+    → Type 0
+CarryFails wanted before old new number (Halted line stop) =
+    HaltsLine wanted old new number line stop
 CarryFails wanted before old new number Read = ⊥
 CarryFails wanted before old new number Write = CutOff wanted before old new
 CarryFails wanted before old new number Memory = Keeps old new
@@ -72,17 +78,36 @@ pub record Stands (base now : Option (List ℕ)) (runner : Runner) (read : List 
   pub printed : Appends base now (output (after_lines start lines))
 
 -- the run of an input halts at a line, at this byte at least, and out took what it prints
-pub record HaltsFrom (base now : Option (List ℕ)) (least : ℕ) (input : List ℕ) (line : ℕ) (stop : Stop) : Type 0 where
+pub record HaltsFrom (base now : Option (List ℕ)) (least : ℕ) (input : List ℕ) (line : ℕ)
+    (stop : Stop) : Type 0 where
   pub halt : (plain_run input).halt ≡ Some (record { line = line; stop = stop })
   pub printed : Appends base now (output (plain_run input))
   pub late : least ≤ halting_byte input (record { line = line; stop = stop })
 
--- the cause of a fault while what was read is carried out, whatever follows it; a halt comes at this byte at least
-abbrev pub Fails : Option (List ℕ) → Option (List ℕ) → ℕ → List ℕ → Fault → Type 0
-Fails base now least read (Halted line stop) = (more : List ℕ) → HaltsFrom base now least (read ++ more) line stop
+-- the cause of a fault while what was read is carried out, whatever follows it; a halt comes at
+-- this byte at least
+abbrev pub Fails : (base now : Option (List ℕ)) → ℕ → List ℕ → Fault → Type 0
+Fails base now least read (Halted line stop) =
+    (more : List ℕ) → HaltsFrom base now least (read ++ more) line stop
 Fails base now least read Read = ⊥
-Fails base now least read Write = (more : List ℕ) → AppendsFront base now (output (plain_run (read ++ more)))
-Fails base now least read Memory = (more : List ℕ) → AppendsFront base now (output (plain_run (read ++ more)))
+Fails base now least read Write =
+    (more : List ℕ) → AppendsFront base now (output (plain_run (read ++ more)))
+Fails base now least read Memory =
+    (more : List ℕ) → AppendsFront base now (output (plain_run (read ++ more)))
+
+-- from wherever the runner stood, a call reads these bytes further
+abbrev pub ReadsOn : (old new : Option (List ℕ)) → (before after : Runner) → List ℕ
+    → Result (Unit {0}) Fault → Type 0
+ReadsOn old new before after bytes result =
+    (base : Option (List ℕ)) (read : List ℕ) → Stands base old before read
+    → OnOk result (Stands base new after (read ++ bytes))
+
+-- from wherever the runner stood, a call's fault has its cause in these bytes, which it read
+abbrev pub FailsOn : (old new : Option (List ℕ)) → Runner → List ℕ → Result (Unit {0}) Fault
+    → Type 0
+FailsOn old new before bytes result =
+    (base : Option (List ℕ)) (read : List ℕ) → Stands base old before read
+    → IfErr result (Fails base new (length read + 1) (read ++ bytes))
 
 -- ---- the end of the input
 
@@ -92,7 +117,7 @@ pub record Finishes (base now : Option (List ℕ)) (input : List ℕ) : Type 0 w
   pub printed : Appends base now (output (plain_run input))
 
 -- the cause of a fault at the end of an input
-abbrev pub FailsAtEnd : Option (List ℕ) → Option (List ℕ) → List ℕ → Fault → Type 0
+abbrev pub FailsAtEnd : (base now : Option (List ℕ)) → List ℕ → Fault → Type 0
 FailsAtEnd base now input (Halted line stop) = HaltsFrom base now (length input) input line stop
 FailsAtEnd base now input Read = ⊥
 FailsAtEnd base now input Write = AppendsFront base now (output (plain_run input))

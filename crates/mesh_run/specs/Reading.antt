@@ -1,5 +1,5 @@
--- What the reading of a whole input leaves: what was taken from the intake, and what out took since it held base. The
--- main words are `ReadsAll` and `ReadFails`.
+-- What the reading of a whole input leaves: what was taken from the intake, and what out took since
+-- it held base. The main words are `ReadsAll` and `ReadFails`.
 use Rattle.std.specs.Prelude.{ℕ, ◌+◌, ◌≤◌, List, ◌++◌, length, Option, IfSome, Result, IfErr}
 use Rattle.std.specs.Io.KnownBytes.{Appends, Consumes, IsAtEnd}
 use Rattle.mesh_base.specs.Faults.{Rose}
@@ -19,7 +19,8 @@ Blames reads_old reads_new writes_old writes_new Write = Rose writes_old writes_
 Blames reads_old reads_new writes_old writes_new Memory = Unit {0}
 
 -- what a call does to the counts of faults of an intake and a sink
-pub record CountsFaults (reads_old reads_new writes_old writes_new : ℕ) (result : Result (Unit {0}) Fault) : Type 0 where
+pub record CountsFaults (reads_old reads_new writes_old writes_new : ℕ)
+    (result : Result (Unit {0}) Fault) : Type 0 where
   pub reads : reads_old ≤ reads_new
   pub writes : writes_old ≤ writes_new
   pub cause : IfErr result (Blames reads_old reads_new writes_old writes_new)

@@ -1,5 +1,6 @@
--- What a scene of nodes stands for: a state of the plain run, node by node. The main word is `SceneStands`.
-use Rattle.std.specs.Prelude.{◌≡◌, ℕ, List, [], ◌∷◌, ◌++◌, Result, Ok, Err, bytes_eq, Bool, false}
+-- What a scene of nodes stands for: a state of the plain run, node by node. The main words are
+-- `SceneStands`, and for a call on a scene `CarriesFrom` and `FailsFrom`.
+use Rattle.std.specs.Prelude.{◌≡◌, ℕ, List, [], ◌∷◌, ◌++◌, Result, Ok, Err, OnOk, IfErr, bytes_eq, Bool, false}
 use Rattle.mesh_model.specs.declared.ending.Stop.{Stop}
 use Rattle.mesh_base.specs.declared.address.Mac.{Mac}
 use Rattle.mesh_model.specs.Readings.{Reading}
@@ -11,8 +12,8 @@ use Rattle.mesh_run.specs.declared.node.SceneNode.{SceneNode}
 use Rattle.mesh_run.specs.declared.scene.Scene.{Scene}
 use Rattle.tt_local.specs.Locals.{StandsFor}
 
--- a node has the name and the address of one of the plain run, its clients are those of its log, and no setting marks
--- its sightings
+-- a node has the name and the address of one of the plain run, its clients are those of its log,
+-- and no setting marks its sightings
 pub record NodeStands (node : SceneNode) (kept : NodeLog) : Type 0 where
   pub name : node.name ≡ kept.name
   pub mac : node.mac ≡ kept.mac
@@ -40,18 +41,30 @@ abbrev pub is_at : Mac → SceneNode → Bool
 is_at mac node = bytes_eq node.mac.0 mac.0
 
 -- a line that is carried out: the state after it, for which the scene stands, and what it printed
-pub record Carries (wanted : Result State Stop) (before : State) (scene : Scene) (printed : List ℕ) : Type 0 where
+pub record Carries (wanted : Result State Stop) (before : State) (scene : Scene)
+    (printed : List ℕ) : Type 0 where
   pub after : State
   pub carried : wanted ≡ Ok after
   pub stands : SceneStands scene after
   pub text : events_text after ≡ events_text before ++ printed
 
 -- the cause of a line's fault: want of memory is free
-abbrev pub Refuses : Result State Stop → LineFault → Type 0
-Refuses wanted (Stopped stop) = wanted ≡ Err stop
-Refuses wanted Memory = Unit {0}
+abbrev pub HasLineCause : Result State Stop → LineFault → Type 0
+HasLineCause wanted (Stopped stop) = wanted ≡ Err stop
+HasLineCause wanted Memory = Unit {0}
 
 -- the cause of the fault of a line that isn't read
-abbrev pub RefusesReading : Reading → LineFault → Type 0
-RefusesReading reading (Stopped stop) = reading ≡ Err stop
-RefusesReading reading Memory = Unit {0}
+abbrev pub HasReadingCause : Reading → LineFault → Type 0
+HasReadingCause reading (Stopped stop) = reading ≡ Err stop
+HasReadingCause reading Memory = Unit {0}
+
+-- from each state that the scene stood for, a call carries out what has this outcome, and prints
+abbrev pub CarriesFrom : (old new : Scene) → (State → Result State Stop) → List ℕ
+    → Result (Unit {0}) LineFault → Type 0
+CarriesFrom old new outcome printed result =
+    (state : State) → SceneStands old state → OnOk result (Carries (outcome state) state new printed)
+
+-- from each state that the scene stood for, a call's fault has its cause in this outcome
+abbrev pub FailsFrom : Scene → (State → Result State Stop) → Result (Unit {0}) LineFault → Type 0
+FailsFrom old outcome result =
+    (state : State) → SceneStands old state → IfErr result (HasLineCause (outcome state))

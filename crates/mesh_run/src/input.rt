@@ -30,18 +30,20 @@ pub fn run_input<I: Intake, K: Sink>(
     intake: &mut I,
     out: &mut K,
 ) -> Result<(), Fault>
-    ensures finished { OnOk result (IfSome (I.named intake.old None) (Finishes (K.taken out.old) (K.taken out.new))) }
+    ensures finished { OnOk result (IfSome (I.named intake.old None)
+        (Finishes (K.taken out.old) (K.taken out.new))) }
     ensures at_end { OnOk result (IsAtEnd (I.left intake.new)) }
     ensures failed { IfErr result (λ fault. IfSome (I.named intake.old None)
-        (RunFails (K.taken out.old) (K.taken out.new) (I.left intake.old) (I.left intake.new) fault)) }
-    ensures faults { CountsFaults (I.faults intake.old) (I.faults intake.new) (K.faults out.old) (K.faults out.new) result }
+        (RunFails (K.taken out.old) (K.taken out.new)
+        (I.left intake.old) (I.left intake.new) fault)) }
+    ensures faults { CountsFaults (I.faults intake.old) (I.faults intake.new)
+        (K.faults out.old) (K.faults out.new) result }
 {
     match intake.open(None) {
         Ok(()) => {}
         Err(OpenErr::Failed) => return Err(Fault::Read),
         Err(OpenErr::Memory) => return Err(Fault::Memory),
     }
-    let mut runner = new_runner(alloc);
-    read_all(intake, out, &mut runner)?;
+    read_all(intake, out, new_runner(alloc))?;
     Ok(())
 }

@@ -42,10 +42,11 @@ fn status_of(fault: Fault) -> u8
     }
 }
 
-/// Carries out the scenario that the intake gives, and answers the status with which the program ends.
+/// Carries out the scenario that the intake gives, and answers the status with which the program
+/// ends.
 ///
-/// `words` are the command words after the program's name: none is taken. `out` takes what the scenario prints, `err`
-/// one line for each status other than `FINISHED`.
+/// `words` are the command words after the program's name: none is taken. `out` takes what the
+/// scenario prints, `err` one line for each status other than `FINISHED`.
 pub fn batmesh<I: Intake, K: Sink, E: Sink>(
     alloc: Global,
     words: &[String],
@@ -54,14 +55,16 @@ pub fn batmesh<I: Intake, K: Sink, E: Sink>(
     err: &mut E,
 ) -> u8
     // Where the input is told, out took the whole text of its plain run.
-    ensures finished { result ≡ FINISHED → IfSome (I.named intake.old None) (Finishes (K.taken out.old) (K.taken out.new)) }
+    ensures finished { result ≡ FINISHED → IfSome (I.named intake.old None)
+        (Finishes (K.taken out.old) (K.taken out.new)) }
     ensures at_end { result ≡ FINISHED → IsAtEnd (I.left intake.new) }
 
-    // The plain run halts at a line, out took what it prints up to there, and reading stopped near it.
-    ensures refused { result ≡ REFUSED →
-        IfSome (I.named intake.old None) (IsRefused (K.taken out.old) (K.taken out.new) (I.left intake.new)) }
-    ensures limited { result ≡ LIMITED →
-        IfSome (I.named intake.old None) (IsLimited (K.taken out.old) (K.taken out.new) (I.left intake.new)) }
+    // The plain run halts at a line, out took what it prints up to there, and reading stopped near
+    // it.
+    ensures refused { result ≡ REFUSED → IfSome (I.named intake.old None)
+        (IsRefused (K.taken out.old) (K.taken out.new) (I.left intake.new)) }
+    ensures limited { result ≡ LIMITED → IfSome (I.named intake.old None)
+        (IsLimited (K.taken out.old) (K.taken out.new) (I.left intake.new)) }
 
     // Any word is one too many, and then nothing is opened, read or written to out.
     ensures usage { (result ≡ USAGE) ↔ (0 < length words.now) }

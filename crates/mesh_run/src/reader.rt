@@ -10,13 +10,14 @@ use mesh_base::{Failed, Intake, PIECE_LIMIT, Sink};
 pub fn read_all<I: Intake, K: Sink>(
     intake: &mut I,
     out: &mut K,
-    runner: &mut Runner,
+    mut runner: Runner,
 ) -> Result<(), Fault>
-    ensures ok { (base : Option (List ℕ)) → Stands base (K.taken out.old) runner.old [] →
+    ensures ok { (base : Option (List ℕ)) → Stands base (K.taken out.old) runner [] →
         OnOk result (ReadsAll (I.left intake.old) (I.left intake.new) base (K.taken out.new)) }
-    ensures failed { (base : Option (List ℕ)) → Stands base (K.taken out.old) runner.old [] →
+    ensures failed { (base : Option (List ℕ)) → Stands base (K.taken out.old) runner [] →
         IfErr result (ReadFails (I.left intake.old) (I.left intake.new) base (K.taken out.new)) }
-    ensures faults { CountsFaults (I.faults intake.old) (I.faults intake.new) (K.faults out.old) (K.faults out.new) result }
+    ensures faults { CountsFaults (I.faults intake.old) (I.faults intake.new)
+        (K.faults out.old) (K.faults out.new) result }
 {
     let mut buffer = [0; PIECE_LIMIT];
     'pieces: loop {

@@ -1,7 +1,7 @@
 ghost use Rattle.std.specs.Prelude.{◌≡◌, ℕ, ◌+◌, ◌<◌, ◌≤◌, List, [], ◌∷◌, ◌++◌, length, Option, OnOk, IfErr};
 ghost use Rattle.mesh_model.specs.Cuts.{IsUnbroken};
 ghost use Rattle.mesh_model.specs.Lines.{input_limit, newline, without_carriage_return};
-ghost use Rattle.mesh_run.specs.Progress.{BlamesWrite, CountsWrites, Fails, FailsAtEnd, Finishes, Stands};
+ghost use Rattle.mesh_run.specs.Progress.{BlamesWrite, CountsWrites, Fails, FailsAtEnd, FailsOn, Finishes, ReadsOn, Stands};
 
 use crate::carrying::carry_line;
 use crate::fault::Fault;
@@ -21,10 +21,10 @@ impl Runner {
     /// Keeps more bytes of the unfinished line, none of them a newline.
     pub fn hold(&mut self, text: &[u8]) -> Result<(), Fault>
         requires within { self.old.taken + length text.now ≤ input_limit }
-        ensures ok { (base now : Option (List ℕ)) (read : List ℕ) → IsUnbroken text.now →
-            Stands base now self.old read → OnOk result (Stands base now self.new (read ++ text.now)) }
-        ensures failed { (base now : Option (List ℕ)) (read : List ℕ) → IsUnbroken text.now →
-            Stands base now self.old read → IfErr result (Fails base now (length read + 1) (read ++ text.now)) }
+        ensures ok { (taken : Option (List ℕ)) → IsUnbroken text.now →
+            ReadsOn taken taken self.old self.new text.now result }
+        ensures failed { (taken : Option (List ℕ)) → IsUnbroken text.now →
+            FailsOn taken taken self.old text.now result }
         ensures taken { OnOk result (self.new.taken ≡ self.old.taken + length text.now) }
         ensures blameless { (old new : ℕ) → IfErr result (BlamesWrite old new) }
     {
@@ -41,10 +41,10 @@ impl Runner {
     /// Carries out the unfinished line, whose newline came.
     pub fn end_line<K: Sink>(&mut self, out: &mut K) -> Result<(), Fault>
         requires within { self.old.taken < input_limit }
-        ensures ok { (base : Option (List ℕ)) (read : List ℕ) → Stands base (K.taken out.old) self.old read →
-            OnOk result (Stands base (K.taken out.new) self.new (read ++ newline ∷ [])) }
-        ensures failed { (base : Option (List ℕ)) (read : List ℕ) → Stands base (K.taken out.old) self.old read →
-            IfErr result (Fails base (K.taken out.new) (length read + 1) (read ++ newline ∷ [])) }
+        ensures ok { ReadsOn (K.taken out.old) (K.taken out.new) self.old self.new
+            (newline ∷ []) result }
+        ensures failed { FailsOn (K.taken out.old) (K.taken out.new) self.old
+            (newline ∷ []) result }
         ensures taken { OnOk result (self.new.taken ≡ self.old.taken + 1) }
         ensures faults { CountsWrites (K.faults out.old) (K.faults out.new) result }
     {
@@ -59,10 +59,8 @@ impl Runner {
     /// Carries out the lines that these bytes end, and keeps what they begin.
     pub fn take_lines<K: Sink>(&mut self, out: &mut K, bytes: &[u8]) -> Result<(), Fault>
         requires within { self.old.taken + length bytes.now ≤ input_limit }
-        ensures ok { (base : Option (List ℕ)) (read : List ℕ) → Stands base (K.taken out.old) self.old read →
-            OnOk result (Stands base (K.taken out.new) self.new (read ++ bytes.now)) }
-        ensures failed { (base : Option (List ℕ)) (read : List ℕ) → Stands base (K.taken out.old) self.old read →
-            IfErr result (Fails base (K.taken out.new) (length read + 1) (read ++ bytes.now)) }
+        ensures ok { ReadsOn (K.taken out.old) (K.taken out.new) self.old self.new bytes.now result }
+        ensures failed { FailsOn (K.taken out.old) (K.taken out.new) self.old bytes.now result }
         ensures taken { OnOk result (self.new.taken ≡ self.old.taken + length bytes.now) }
         ensures faults { CountsWrites (K.faults out.old) (K.faults out.new) result }
     {
@@ -75,15 +73,14 @@ impl Runner {
         Ok(())
     }
 
-    /// Carries out the unfinished line with these bytes, none of them a newline, and then a newline.
+    /// Carries out the unfinished line with these bytes, none of them a newline, and then a
+    /// newline.
     fn take_line<K: Sink>(&mut self, out: &mut K, text: &[u8]) -> Result<(), Fault>
         requires within { self.old.taken + length text.now < input_limit }
-        ensures ok { (base : Option (List ℕ)) (read : List ℕ) → IsUnbroken text.now →
-            Stands base (K.taken out.old) self.old read →
-            OnOk result (Stands base (K.taken out.new) self.new (read ++ (text.now ++ newline ∷ []))) }
-        ensures failed { (base : Option (List ℕ)) (read : List ℕ) → IsUnbroken text.now →
-            Stands base (K.taken out.old) self.old read →
-            IfErr result (Fails base (K.taken out.new) (length read + 1) (read ++ (text.now ++ newline ∷ []))) }
+        ensures ok { IsUnbroken text.now → ReadsOn (K.taken out.old) (K.taken out.new)
+            self.old self.new (text.now ++ newline ∷ []) result }
+        ensures failed { IsUnbroken text.now → FailsOn (K.taken out.old) (K.taken out.new)
+            self.old (text.now ++ newline ∷ []) result }
         ensures taken { OnOk result (self.new.taken ≡ self.old.taken + length text.now + 1) }
         ensures faults { CountsWrites (K.faults out.old) (K.faults out.new) result }
     {
@@ -94,10 +91,8 @@ impl Runner {
 
     /// Takes what one read gave; the byte past the input's limit halts the run.
     pub fn take_piece<K: Sink>(&mut self, out: &mut K, piece: &[u8]) -> Result<(), Fault>
-        ensures ok { (base : Option (List ℕ)) (read : List ℕ) → Stands base (K.taken out.old) self.old read →
-            OnOk result (Stands base (K.taken out.new) self.new (read ++ piece.now)) }
-        ensures failed { (base : Option (List ℕ)) (read : List ℕ) → Stands base (K.taken out.old) self.old read →
-            IfErr result (Fails base (K.taken out.new) (length read + 1) (read ++ piece.now)) }
+        ensures ok { ReadsOn (K.taken out.old) (K.taken out.new) self.old self.new piece.now result }
+        ensures failed { FailsOn (K.taken out.old) (K.taken out.new) self.old piece.now result }
         ensures taken { OnOk result (self.new.taken ≡ self.old.taken + length piece.now) }
         ensures faults { CountsWrites (K.faults out.old) (K.faults out.new) result }
     {
@@ -113,7 +108,8 @@ impl Runner {
     /// The fault of the byte past the input's limit.
     fn past_input(&self, byte: u8) -> Fault
         requires full { self.now.taken ≡ input_limit }
-        ensures failed { (base now : Option (List ℕ)) (read : List ℕ) → Stands base now self.now read →
+        ensures failed { (base now : Option (List ℕ)) (read : List ℕ) →
+            Stands base now self.now read →
             Fails base now (length read + 1) (read ++ byte ∷ []) result }
         ensures blameless { (old new : ℕ) → BlamesWrite old new result }
     {
@@ -137,18 +133,22 @@ impl Runner {
     }
 
     /// Carries out a last line without a newline, at the end of the input.
-    pub fn finish<K: Sink>(&mut self, out: &mut K) -> Result<(), Fault>
-        ensures ok { (base : Option (List ℕ)) (read : List ℕ) → Stands base (K.taken out.old) self.old read →
+    pub fn finish<K: Sink>(mut self, out: &mut K) -> Result<(), Fault>
+        ensures ok { (base : Option (List ℕ)) (read : List ℕ) →
+            Stands base (K.taken out.old) self read →
             OnOk result (Finishes base (K.taken out.new) read) }
-        ensures failed { (base : Option (List ℕ)) (read : List ℕ) → Stands base (K.taken out.old) self.old read →
+        ensures failed { (base : Option (List ℕ)) (read : List ℕ) →
+            Stands base (K.taken out.old) self read →
             IfErr result (FailsAtEnd base (K.taken out.new) read) }
         ensures faults { CountsWrites (K.faults out.old) (K.faults out.new) result }
     {
         if self.line.is_empty() {
             return Ok(());
         }
-        let line = self.line.as_slice();
-        carry_line(&mut self.scene, &mut self.text, out, line, self.lines + 1)?;
+        let runner = &mut self;
+        let number = runner.lines + 1;
+        let line = runner.line.as_slice();
+        carry_line(&mut runner.scene, &mut runner.text, out, line, number)?;
         Ok(())
     }
 }

@@ -58,7 +58,8 @@ fn tell_stop<E: Sink>(err: &mut E, stop: Stop) -> Result<(), Failed>
 /// Writes where and why a run halted, as a line. It takes no memory.
 #[tactic(auto, unfolding(mesh_model::specs::Messages::halt_text))]
 pub fn tell_halt<E: Sink>(err: &mut E, line: u64, stop: Stop) -> Result<(), Failed>
-    ensures told { OnOk result (Appends (E.taken err.old) (E.taken err.new) (halt_text (record { line = line; stop = stop }))) }
+    ensures told { OnOk result (Appends (E.taken err.old) (E.taken err.new)
+        (halt_text (record { line = line; stop = stop }))) }
     ensures cause { OnErr result (Rose (E.faults err.old) (E.faults err.new)) }
     ensures count { E.faults err.old ≤ E.faults err.new }
 {

@@ -1,17 +1,18 @@
-ghost use Rattle.std.specs.Prelude.{◌≡◌, ℕ, true, List, [], ◌++◌, vec_len, position, is_some, Ok, Err, OnOk, OnErr, IfErr};
+ghost use Rattle.std.specs.Prelude.{◌≡◌, ℕ, true, List, [], ◌++◌, vec_len, position, is_some, Ok, Err, OnOk, OnErr};
 ghost use Rattle.std.specs.List.{list_any};
 ghost use Rattle.mesh_base.specs.Address.{is_broadcast};
 ghost use Rattle.mesh_base.specs.declared.address.Mac.{Mac};
+ghost use Rattle.mesh_model.specs.CarriedOut.{carried_out};
 ghost use Rattle.mesh_model.specs.Commands.{command_of_line};
 ghost use Rattle.mesh_model.specs.DecodeText.{decode_text as decoded};
 ghost use Rattle.mesh_model.specs.Mentions.{Mention};
 ghost use Rattle.mesh_model.specs.PlainRun.{after_reading};
 ghost use Rattle.mesh_model.specs.Present.{present_clients};
 ghost use Rattle.mesh_model.specs.Readings.{Reading};
-ghost use Rattle.mesh_model.specs.State.{State, carried_out, no_nodes};
+ghost use Rattle.mesh_model.specs.State.{State, no_nodes};
 ghost use Rattle.mesh_model.specs.TableText.{LocalTable, table_text};
-ghost use Rattle.mesh_run.specs.Scene.{Carries, Refuses, RefusesReading, SceneStands, is_at, is_called};
-ghost use Rattle.mesh_scenario.specs.LineErr.{Refuses as IsCause};
+ghost use Rattle.mesh_run.specs.Scene.{CarriesFrom, FailsFrom, HasReadingCause, SceneStands, is_at, is_called};
+ghost use Rattle.mesh_scenario.specs.LineErr.{Refuses};
 ghost use Rattle.tt_local.specs.Locals.{StandsFor};
 
 use crate::fault::LineFault;
@@ -44,7 +45,7 @@ fn refused(refusal: Refusal) -> LineFault
 
 /// The fault of a line that isn't read.
 fn line_fault(error: LineErr) -> LineFault
-    ensures { (reading : Reading) → IsCause reading error → RefusesReading reading result }
+    ensures { (reading : Reading) → Refuses reading error → HasReadingCause reading result }
 {
     match error {
         LineErr::TooLong => LineFault::Stopped(Stop::Limit(LimitName::Line)),
@@ -129,10 +130,10 @@ impl Scene {
 
     /// Carries a line out and puts what it prints into `text`, in place of what is there.
     pub fn carry_line(&mut self, line: &[u8], text: &mut Vec<u8>) -> Result<(), LineFault>
-        ensures ok { (state : State) → SceneStands self.old state →
-            OnOk result (Carries (after_reading state (command_of_line line.now)) state self.new text.new.items) }
-        ensures refused { (state : State) → SceneStands self.old state →
-            IfErr result (Refuses (after_reading state (command_of_line line.now))) }
+        ensures ok { CarriesFrom self.old self.new
+            (λ state. after_reading state (command_of_line line.now)) text.new.items result }
+        ensures refused { FailsFrom self.old
+            (λ state. after_reading state (command_of_line line.now)) result }
     {
         text.clear();
         match read_line(self.alloc, line) {
@@ -147,9 +148,9 @@ impl Scene {
     /// Carries a command out and appends what it prints.
     fn carry_out(&mut self, command: Command, text: &mut Vec<u8>) -> Result<(), LineFault>
         requires { text.old.items ≡ [] }
-        ensures ok { (state : State) → SceneStands self.old state →
-            OnOk result (Carries (carried_out state command) state self.new text.new.items) }
-        ensures refused { (state : State) → SceneStands self.old state → IfErr result (Refuses (carried_out state command)) }
+        ensures ok { CarriesFrom self.old self.new (λ state. carried_out state command)
+            text.new.items result }
+        ensures refused { FailsFrom self.old (λ state. carried_out state command) result }
     {
         match command {
             Command::Nothing => {}
@@ -173,10 +174,10 @@ impl Scene {
 
     /// `node NAME MAC`
     fn add_node(&mut self, name: Bytes, mac: Mac) -> Result<(), LineFault>
-        ensures ok { (state : State) → SceneStands self.old state →
-            OnOk result (Carries (carried_out state (Command.Node name mac)) state self.new []) }
-        ensures refused { (state : State) → SceneStands self.old state →
-            IfErr result (Refuses (carried_out state (Command.Node name mac))) }
+        ensures ok { CarriesFrom self.old self.new
+            (λ state. carried_out state (Command.Node name mac)) [] result }
+        ensures refused { FailsFrom self.old
+            (λ state. carried_out state (Command.Node name mac)) result }
     {
         if self.is_name_taken(&name) {
             return Err(refused(Refusal::NameTaken));
@@ -193,11 +194,10 @@ impl Scene {
 
     /// `frame PLACE SRC DST VID TEXT`: a frame to all stations is built.
     fn take_frame(&mut self, place: &[u8], source: Key, dst: Mac) -> Result<(), LineFault>
-        ensures ok { (state : State) (text : List ℕ) → SceneStands self.old state →
-            OnOk result (Carries (carried_out state (Command.Frame place.now source.mac dst source.vid text))
-            state self.new []) }
-        ensures refused { (state : State) (text : List ℕ) → SceneStands self.old state →
-            IfErr result (Refuses (carried_out state (Command.Frame place.now source.mac dst source.vid text))) }
+        ensures ok { (text : List ℕ) → CarriesFrom self.old self.new (λ state. carried_out state
+            (Command.Frame place.now source.mac dst source.vid text)) [] result }
+        ensures refused { (text : List ℕ) → FailsFrom self.old (λ state. carried_out state
+            (Command.Frame place.now source.mac dst source.vid text)) result }
     {
         if !dst.is_broadcast() {
             return Err(refused(Refusal::NotBuilt));
@@ -206,13 +206,15 @@ impl Scene {
         Ok(())
     }
 
-    /// A client frame to all stations at a node that no link leaves: a sighting of its source, and no more.
+    /// A client frame to all stations at a node that no link leaves: a sighting of its source, and
+    /// no more.
     fn see(&mut self, place: &[u8], source: Key) -> Result<(), LineFault>
-        ensures ok { (state : State) (dst : Mac) (text : List ℕ) → is_broadcast dst ≡ true → SceneStands self.old state →
-            OnOk result (Carries (carried_out state (Command.Frame place.now source.mac dst source.vid text))
-            state self.new []) }
-        ensures refused { (state : State) (dst : Mac) (text : List ℕ) → is_broadcast dst ≡ true → SceneStands self.old state →
-            IfErr result (Refuses (carried_out state (Command.Frame place.now source.mac dst source.vid text))) }
+        ensures ok { (dst : Mac) (text : List ℕ) → is_broadcast dst ≡ true →
+            CarriesFrom self.old self.new (λ state. carried_out state
+            (Command.Frame place.now source.mac dst source.vid text)) [] result }
+        ensures refused { (dst : Mac) (text : List ℕ) → is_broadcast dst ≡ true →
+            FailsFrom self.old (λ state. carried_out state
+            (Command.Frame place.now source.mac dst source.vid text)) result }
     {
         let Some(place) = self.place_of(place) else {
             return Err(refused(Refusal::UnknownName));
@@ -227,10 +229,10 @@ impl Scene {
     /// `show NODE tl`
     fn show(&self, name: &[u8], text: &mut Vec<u8>) -> Result<(), LineFault>
         requires { text.old.items ≡ [] }
-        ensures ok { (state : State) → SceneStands self.now state →
-            OnOk result (Carries (carried_out state (Command.Show name.now Table.Locals)) state self.now text.new.items) }
-        ensures refused { (state : State) → SceneStands self.now state →
-            IfErr result (Refuses (carried_out state (Command.Show name.now Table.Locals))) }
+        ensures ok { CarriesFrom self.now self.now
+            (λ state. carried_out state (Command.Show name.now Table.Locals)) text.new.items result }
+        ensures refused { FailsFrom self.now
+            (λ state. carried_out state (Command.Show name.now Table.Locals)) result }
     {
         let Some(place) = self.place_of(name) else {
             return Err(refused(Refusal::UnknownName));

@@ -19,8 +19,8 @@ abbrev pub is_in_word : ℕ → Bool
 is_in_word byte = not (is_separator byte)
 
 -- a word that was found, apart from where it lies
-abbrev pub seen : Found → Word
-seen found = record { word = found.word.now; text = found.text.now }
+abbrev pub word_found : Found → Word
+word_found found = record { word = found.word.now; text = found.text.now }
 
 -- the next word has this value, and the others are left
 abbrev pub GivesField : {A : Type 0}

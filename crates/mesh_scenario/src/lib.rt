@@ -1,7 +1,7 @@
 //! The reading of a scenario's lines.
 //!
-//! `read_line` gives the command that a line says, or why it is refused. What a line says is settled
-//! by `command_of_line` of mesh_model.
+//! `read_line` gives the command that a line says, or why it is refused. What a line says is
+//! settled by `command_of_line` of mesh_model.
 
 #![tactic(auto)]
 

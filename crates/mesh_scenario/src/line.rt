@@ -1,6 +1,9 @@
 ghost use Rattle.std.specs.Prelude.{◌≡◌, Ok, IfOk, IfErr};
 ghost use Rattle.std.specs.Str.{is_utf8};
-ghost use Rattle.mesh_model.specs.Commands.{command_of_line, command_of_words, is_comment, read_form, read_given_form};
+ghost use Rattle.mesh_model.specs.Commands.{command_of_line, command_of_words, is_comment, read_form};
+ghost use Rattle.mesh_model.specs.NodeForms.{node_forms};
+ghost use Rattle.mesh_model.specs.Readings.{listed_form};
+ghost use Rattle.mesh_model.specs.declared.ending.Refusal.TheVariants.{UnknownCommand};
 ghost use Rattle.mesh_scenario.specs.LineErr.{Refuses};
 
 use crate::line_err::LineErr;
@@ -26,10 +29,12 @@ fn is_utf8(bytes: &[u8]) -> bool
     std::str::from_utf8(bytes).is_ok()
 }
 
-/// The form that a command word begins, of those that give a node something.
-fn read_given_form(alloc: Global, word: &[u8], words: &mut Words<'_>) -> Result<Command, LineErr>
-    ensures ok { IfOk result (λ command. read_given_form word.now words.old ≡ Ok command) }
-    ensures refused { IfErr result (Refuses (read_given_form word.now words.old)) }
+/// The form that a command word begins, of those that give a node, or a LAN, something.
+fn read_node_form(alloc: Global, word: &[u8], words: &mut Words<'_>) -> Result<Command, LineErr>
+    ensures ok { IfOk result (λ command.
+        listed_form node_forms UnknownCommand word.now words.old ≡ Ok command) }
+    ensures refused { IfErr result
+        (Refuses (listed_form node_forms UnknownCommand word.now words.old)) }
 {
     if word == b"frame".as_slice() {
         client_forms::read_frame(alloc, words)
@@ -78,7 +83,7 @@ fn read_form(alloc: Global, word: &[u8], words: &mut Words<'_>) -> Result<Comman
     } else if word == b"decode".as_slice() {
         net_forms::read_decode(alloc, words)
     } else {
-        read_given_form(alloc, word, words)
+        read_node_form(alloc, word, words)
     }
 }
 

@@ -84,8 +84,8 @@ impl<'a> LinkOptions<'a> {
         })
     }
 
-    /// The options with the one that a word gives, or `None` where it is no option, is badly written
-    /// or is given already.
+    /// The options with the one that a word gives, or `None` where it is no option, is badly
+    /// written or is given already.
     fn with_option(self, word: &'a [u8]) -> Option<LinkOptions<'a>>
         ensures { option_map options_seen result ≡ with_option (options_seen self.entry) word.now }
     {

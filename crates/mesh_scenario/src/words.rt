@@ -1,7 +1,7 @@
 ghost use Rattle.std.specs.Prelude.{◌≡◌, ◌≤◌, ◌∷◌, [], length, IfSome, IfNone};
 ghost use Rattle.std.specs.List.{position_or_len};
 ghost use Rattle.mesh_model.specs.Words.{words_of, is_separator};
-ghost use Rattle.mesh_scenario.specs.Reads.{seen, is_in_word};
+ghost use Rattle.mesh_scenario.specs.Reads.{word_found, is_in_word};
 
 use std::marker::Model;
 
@@ -64,7 +64,7 @@ impl<'a> Words<'a> {
 
     /// Takes the next word.
     pub fn next(&mut self) -> Option<Found<'a>>
-        ensures some { IfSome result (λ found. self.old ≡ seen found ∷ self.new) }
+        ensures some { IfSome result (λ found. self.old ≡ word_found found ∷ self.new) }
         ensures none { IfNone result (self.old ≡ []) }
     {
         let text = &self.rest[separators(self.rest)..];

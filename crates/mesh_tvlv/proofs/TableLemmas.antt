@@ -9,7 +9,7 @@ use Rattle.byteorder.specs.Endian.{big_bytes, big_number}
 use Rattle.byteorder.specs.Numbers.{big_number-reads_back}
 use Rattle.mesh_base.specs.declared.client.Key.{Key}
 use Rattle.mesh_base.specs.declared.client.Entry.{Entry}
-use Rattle.mesh_model.specs.ContainerBodies.{TtVlan, TtChange, TtData, Bandwidth, pieces, whole_pieces, vlan_of_bytes, vlan_text, key_of_bytes, key_text, change_of_bytes, change_text, told_vlans, tt_data, tt_of_body, tt_text, client_flags, change_of, entry_of, is_deletion}
+use Rattle.mesh_model.specs.ContainerBodies.{VlanSum, TtChange, TtData, Bandwidth, pieces, whole_pieces, vlan_of_bytes, vlan_text, key_of_bytes, key_text, change_of_bytes, change_text, told_vlans, tt_data, tt_of_body, tt_text, client_flags, change_of, entry_of_change, is_deletion}
 use Rattle.mesh_tvlv.specs.Laws.{FitsKey, FitsVlan, FitsTable, RecordIsReadBack, BodiesAreReadBack}
 use Rattle.mesh_tvlv.proofs.SpellingLemmas.{All-tail}
 
@@ -46,7 +46,7 @@ items_back size text read Fits codec (x ∷ xs) fits =
 vlan_back : IsCodec 8 vlan_text vlan_of_bytes FitsVlan
 vlan_back = record {
   long = λ vlan fits. refl;
-  back = λ vlan fits. ap₂ (λ (sum n : ℕ). let v : TtVlan = record { sum = sum; vid = record { 0 = n } } in v)
+  back = λ vlan fits. ap₂ (λ (sum n : ℕ). let v : VlanSum = record { sum = sum; vid = record { 0 = n } } in v)
       (big_number-reads_back 4 vlan.sum (big_bytes 2 vlan.vid.0 ++ 0 ∷ 0 ∷ []) fits.sum)
       (big_number-reads_back 2 vlan.vid.0 (0 ∷ 0 ∷ []) fits.vid);
 }
@@ -98,7 +98,7 @@ table_back table fits =
     ∙ whole_back 12 change_text change_of_bytes FitsClient change_back table.changes fits.each_change
     (omega (arith, longer)) in
     ap (λ (b : Bool). cond b None (Some (tt_data body))) whole
-    ∙ ap₂ (λ (vs : List TtVlan) (cs : List TtChange). let t : TtData =
+    ∙ ap₂ (λ (vs : List VlanSum) (cs : List TtChange). let t : TtData =
     record { flags = table.flags; ttvn = table.ttvn; vlans = vs; changes = cs } in Some t) vlans_back changes_back
 
 -- the other spelled bodies are read back
@@ -120,7 +120,7 @@ record_back entry is_gone =
     let with_flags : ℕ → Entry = λ flags. record entry { flags = flags } in
     let kept : bit_and (bit_and entry.flags 48) 48 ≡ bit_and entry.flags 48 = and_assoc 48 entry.flags 48 in
     let apart : bit_and (bit_and entry.flags 48) 1 ≡ 0 = and_assoc 1 entry.flags 48 ∙ and_zero_r entry.flags in
-    elim is_gone as (λ gone. (entry_of (change_of entry gone) ≡ with_flags (client_flags entry.flags))
+    elim is_gone as (λ gone. (entry_of_change (change_of entry gone) ≡ with_flags (client_flags entry.flags))
     × (is_deletion (change_of entry gone) ≡ gone)) [
       | true ↦ (
         ap with_flags (and_or_apart 48 (bit_and entry.flags 48) 1 refl ∙ kept),

@@ -4,7 +4,7 @@ use Rattle.std.specs.Prelude.{◌≡◌, ℕ, ◌^◌, ◌<◌, Bool, List, [], 
 use Rattle.mesh_base.specs.declared.client.Key.{Key}
 use Rattle.mesh_base.specs.declared.client.Entry.{Entry}
 use Rattle.mesh_model.specs.Containers.{Container, FitsLength, AreContainers, containers_text, containers_of, rest_of}
-use Rattle.mesh_model.specs.ContainerBodies.{TtVlan, TtData, Bandwidth, tt_of_body, tt_text, roaming_of_body, key_text, gateway_of_body, gateway_text, multicast_of_body, multicast_text, client_flags, change_of, entry_of, is_deletion}
+use Rattle.mesh_model.specs.ContainerBodies.{VlanSum, TtData, Bandwidth, tt_of_body, tt_text, roaming_of_body, key_text, gateway_of_body, gateway_text, multicast_of_body, multicast_text, client_flags, change_of, entry_of_change, is_deletion}
 
 -- spelled containers are these containers again, and nothing is left
 abbrev pub ContainersAreReadBack : Type 0
@@ -30,7 +30,7 @@ pub record FitsKey (key : Key) : Type 0 where
   pub vid : key.vid.0 < 2 ^ 16
 
 -- a VLAN whose wire number fits two bytes, and its checksum four
-pub record FitsVlan (vlan : TtVlan) : Type 0 where
+pub record FitsVlan (vlan : VlanSum) : Type 0 where
   pub vid : vlan.vid.0 < 2 ^ 16
   pub sum : vlan.sum < 2 ^ 32
 
@@ -47,7 +47,7 @@ TableIsReadBack = (table : TtData) → FitsTable table → tt_of_body (tt_text t
 -- a record for a client tells the client, with the flags that it keeps, and whether it is gone
 abbrev pub RecordIsReadBack : Type 0
 RecordIsReadBack = (entry : Entry) (is_gone : Bool)
-    → (entry_of (change_of entry is_gone) ≡ record entry { flags = client_flags entry.flags })
+    → (entry_of_change (change_of entry is_gone) ≡ record entry { flags = client_flags entry.flags })
     × (is_deletion (change_of entry is_gone) ≡ is_gone)
 
 -- the other spelled bodies are read back

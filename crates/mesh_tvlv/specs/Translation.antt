@@ -2,16 +2,16 @@
 use Rattle.std.specs.Prelude.{ℕ, Bool}
 use Rattle.mesh_base.specs.declared.client.Vid.{Vid}
 use Rattle.mesh_base.specs.declared.client.Entry.{Entry}
-use Rattle.mesh_model.specs.ContainerBodies.{Bandwidth, TtVlan, TtChange, entry_of, is_deletion}
+use Rattle.mesh_model.specs.ContainerBodies.{Bandwidth, VlanSum, TtChange, entry_of_change, is_deletion}
 
 -- download and upload of a gateway
 abbrev pub speeds : Bandwidth → ℕ × ℕ
 speeds bandwidth = (bandwidth.download, bandwidth.upload)
 
 -- the wire number of a VLAN, and its checksum
-abbrev pub vid_and_sum : TtVlan → Vid × ℕ
+abbrev pub vid_and_sum : VlanSum → Vid × ℕ
 vid_and_sum vlan = (vlan.vid, vlan.sum)
 
 -- the client of a record with the flags that it keeps, and whether the record takes it away
 abbrev pub entry_and_deletion : TtChange → Entry × Bool
-entry_and_deletion change = (entry_of change, is_deletion change)
+entry_and_deletion change = (entry_of_change change, is_deletion change)

@@ -7,9 +7,10 @@ use Rattle.std.proofs.lemmas.Bool.{and_parts, false≢true}
 use Rattle.std.proofs.lemmas.Cmp.{eq_by_cmp_equiv}
 use Rattle.std.proofs.lemmas.Grind.{common_steps}
 use Rattle.std.proofs.lemmas.Option.{gets}
+use Rattle.mesh_base.specs.KeyOrder.{key_order}
 use Rattle.mesh_base.specs.declared.client.Key.{Key}
 use Rattle.mesh_model.specs.Mentions.{Mention, News, Sighted, Departed, Roamed, Joined, Left}
-use Rattle.mesh_model.specs.Present.{key_cmp, same_key, is_membership, last_mention, row_after, row_by, present_row, present_clients}
+use Rattle.mesh_model.specs.Present.{same_key, is_membership, last_mention, row_after, row_by, present_row, present_clients}
 use Rattle.mesh_model.specs.declared.table_row.LocalRow.{LocalRow}
 use Rattle.mesh_model.proofs.KeyLists.{found_passes, item_at, item_at_filter, sorted_filter}
 use Rattle.mesh_model.proofs.PresentLemmas.{key_total, key_exact, equal_from_same, row_of_news, present_from_rows}
@@ -40,10 +41,10 @@ row_kept entries mentions stands now key =
     ∙ row_of_last now key (last_mention key mentions) (found_passes _ mentions)
     ∙ sym (ap (λ o. option_or (option_and_then (row_by now) o) (option_and_then (row_by now) (last_mention key mentions))) (stands.no_groups key))
 
-row_from_item : (now : ℕ) (q : Key) (entries : List (Key × Sighting)) → option_and_then (λ (e : Key × Sighting). sighting_row now e.0 e.1) (item_at key_cmp (λ (e : Key × Sighting). e.0) q entries) ≡ option_and_then (sighting_row now q) (lookup (same_key q) entries)
+row_from_item : (now : ℕ) (q : Key) (entries : List (Key × Sighting)) → option_and_then (λ (e : Key × Sighting). sighting_row now e.0 e.1) (item_at key_order (λ (e : Key × Sighting). e.0) q entries) ≡ option_and_then (sighting_row now q) (lookup (same_key q) entries)
 row_from_item now q [] = refl
 row_from_item now q (e ∷ es) =
-    elim (same_key q e.0) as (λ b. same_key q e.0 ≡ b → option_and_then (λ (d : Key × Sighting). sighting_row now d.0 d.1) (cond b (Some e) (item_at key_cmp (λ (d : Key × Sighting). d.0) q es)) ≡ option_and_then (sighting_row now q) (cond b (Some e.1) (lookup (same_key q) es))) [
+    elim (same_key q e.0) as (λ b. same_key q e.0 ≡ b → option_and_then (λ (d : Key × Sighting). sighting_row now d.0 d.1) (cond b (Some e) (item_at key_order (λ (d : Key × Sighting). d.0) q es)) ≡ option_and_then (sighting_row now q) (cond b (Some e.1) (lookup (same_key q) es))) [
       | true ↦ λ t. ap (λ k. sighting_row now k e.1) (sym (equal_from_same q e.0 t))
       | false ↦ λ t. row_from_item now q es
     ] refl
@@ -54,14 +55,14 @@ rows_kept entries mentions stands now =
     let row = λ (e : Key × Sighting). sighting_row now e.0 e.1 in
     let keeps : (e : Key × Sighting) → IfSome (sighting_row now e.0 e.1) (λ r. r.entry.key ≡ e.0) = λ e. row_of_news e.0 (now - e.1.moment) (Sighted e.1.flags) in
     present_from_rows now mentions (sighting_rows now entries)
-    (sorted_filter key_cmp (λ (e : Key × Sighting). e.0) (λ (r : LocalRow). r.entry.key) row keeps entries stands.ordered)
-    (λ q. item_at_filter key_cmp (λ (e : Key × Sighting). e.0) (λ (r : LocalRow). r.entry.key) row keeps key_exact q entries stands.ordered
+    (sorted_filter key_order (λ (e : Key × Sighting). e.0) (λ (r : LocalRow). r.entry.key) row keeps entries stands.ordered)
+    (λ q. item_at_filter key_order (λ (e : Key × Sighting). e.0) (λ (r : LocalRow). r.entry.key) row keeps key_exact q entries stands.ordered
     ∙ row_from_item now q entries ∙ row_kept entries mentions stands now q)
 
 -- a sighting takes the place of what its key had
 pub sighted : (entries after : List (Key × Sighting)) (mentions : List Mention) (now : ℕ) (key : Key) (flags : ℕ)
     → ((q : Key) → lookup (same_key q) after ≡ cond (same_key key q) (Some (record { flags = flags; moment = now })) (lookup (same_key q) entries))
-    → IsStrictlySortedBy key_cmp (keys_of after) → StandsFor entries mentions → StandsFor after (record { moment = now; key = key; news = Sighted flags } ∷ mentions)
+    → IsStrictlySortedBy key_order (keys_of after) → StandsFor entries mentions → StandsFor after (record { moment = now; key = key; news = Sighted flags } ∷ mentions)
 sighted entries after mentions now key flags updates sorted stands = record {
   kept = λ q. updates q
       ∙ ap (λ b. cond b (Some (record { flags = flags; moment = now })) (lookup (same_key q) entries)) ((eq_by_cmp_equiv key_total).symm key q)

@@ -4,10 +4,11 @@
 use Rattle.std.specs.Prelude.{◌≡◌, ℕ, ◌-◌, List, Option, Some, None, option_and_then}
 use Rattle.std.specs.List.Sorted.{IsStrictlySortedBy}
 use Rattle.std.specs.Map.{keys_of, lookup}
+use Rattle.mesh_base.specs.KeyOrder.{key_order}
 use Rattle.mesh_base.specs.declared.client.Key.{Key}
 use Rattle.mesh_model.specs.declared.table_row.LocalRow.{LocalRow}
 use Rattle.mesh_model.specs.Mentions.{Mention, News, Sighted, Departed, Roamed, Joined, Left}
-use Rattle.mesh_model.specs.Present.{key_cmp, same_key, last_mention, last_membership, row_after}
+use Rattle.mesh_model.specs.Present.{same_key, last_mention, last_membership, row_after}
 use Rattle.tt_local.specs.declared.sighting.Sighting.{Sighting}
 
 -- the sighting that news at a moment are, where they are one
@@ -32,6 +33,6 @@ pub record StandsFor (entries : List (Key × Sighting)) (mentions : List Mention
   pub kept : (key : Key) →
       lookup (same_key key) entries ≡ option_and_then sighting_in (last_mention key mentions)
   -- the keys ascend
-  pub ordered : IsStrictlySortedBy key_cmp (keys_of entries)
+  pub ordered : IsStrictlySortedBy key_order (keys_of entries)
   -- no group was joined or left
   pub no_groups : (key : Key) → last_membership key mentions ≡ None

@@ -68,15 +68,18 @@ fn lines_that_make_the_net_give_their_words(rt: HostRuntime) -> Result<(), Fail>
             ),
             (
                 b"link A B",
-                "Link { from: Bytes { bytes: [65] }, to: Bytes { bytes: [66] }, delay: 1, pattern: Bytes { bytes: [46] }, throughput: 10 }",
+                "Link { from: Bytes { bytes: [65] }, to: Bytes { bytes: [66] }, delay: 1, \
+                pattern: Bytes { bytes: [46] }, throughput: 10 }",
             ),
             (
                 b"link A B tp=7 pattern=.x2h delay=0005",
-                "Link { from: Bytes { bytes: [65] }, to: Bytes { bytes: [66] }, delay: 5, pattern: Bytes { bytes: [46, 120, 50, 104] }, throughput: 7 }",
+                "Link { from: Bytes { bytes: [65] }, to: Bytes { bytes: [66] }, delay: 5, \
+                pattern: Bytes { bytes: [46, 120, 50, 104] }, throughput: 7 }",
             ),
             (
                 b"lan L B A",
-                "Lan { name: Bytes { bytes: [76] }, gateways: NameList { names: [Bytes { bytes: [66] }, Bytes { bytes: [65] }] } }",
+                "Lan { name: Bytes { bytes: [76] }, gateways: NameList { names: [Bytes { bytes: \
+                [66] }, Bytes { bytes: [65] }] } }",
             ),
         ],
     )
@@ -90,23 +93,28 @@ fn lines_of_clients_give_their_words(rt: HostRuntime) -> Result<(), Fail> {
         &[
             (
                 b"gone A 02:00:00:00:01:07 -",
-                "Gone { place: Bytes { bytes: [65] }, key: Key { mac: Mac([2, 0, 0, 0, 1, 7]), vid: Vid(0) } }",
+                "Gone { place: Bytes { bytes: [65] }, key: Key { mac: Mac([2, 0, 0, 0, 1, 7]), \
+                vid: Vid(0) } }",
             ),
             (
                 b"join A 01:00:5e:00:00:01 7",
-                "Join { node: Bytes { bytes: [65] }, key: Key { mac: Mac([1, 0, 94, 0, 0, 1]), vid: Vid(32775) } }",
+                "Join { node: Bytes { bytes: [65] }, key: Key { mac: Mac([1, 0, 94, 0, 0, 1]), \
+                vid: Vid(32775) } }",
             ),
             (
                 b"leave A 01:00:5e:00:00:01 7",
-                "Leave { node: Bytes { bytes: [65] }, key: Key { mac: Mac([1, 0, 94, 0, 0, 1]), vid: Vid(32775) } }",
+                "Leave { node: Bytes { bytes: [65] }, key: Key { mac: Mac([1, 0, 94, 0, 0, 1]), \
+                vid: Vid(32775) } }",
             ),
             (
                 b"arp A 02:00:00:00:01:07 10.0.0.1 192.168.1.255 -",
-                "Arp { node: Bytes { bytes: [65] }, mac: Mac([2, 0, 0, 0, 1, 7]), own_ip: 167772161, asked_ip: 3232236031, vid: Vid(0) }",
+                "Arp { node: Bytes { bytes: [65] }, mac: Mac([2, 0, 0, 0, 1, 7]), own_ip: \
+                167772161, asked_ip: 3232236031, vid: Vid(0) }",
             ),
             (
                 b"dhcp A 02:00:00:00:01:07 - hi",
-                "Dhcp { node: Bytes { bytes: [65] }, key: Key { mac: Mac([2, 0, 0, 0, 1, 7]), vid: Vid(0) }, text: Bytes { bytes: [104, 105] } }",
+                "Dhcp { node: Bytes { bytes: [65] }, key: Key { mac: Mac([2, 0, 0, 0, 1, 7]), \
+                vid: Vid(0) }, text: Bytes { bytes: [104, 105] } }",
             ),
         ],
     )
@@ -171,7 +179,8 @@ fn lines_to_alfred_give_their_words(rt: HostRuntime) -> Result<(), Fail> {
             ),
             (
                 b"alfred A put 64 255 x",
-                "Put { node: Bytes { bytes: [65] }, type_no: 64, version: 255, text: Bytes { bytes: [120] } }",
+                "Put { node: Bytes { bytes: [65] }, type_no: 64, version: 255, text: Bytes { \
+                bytes: [120] } }",
             ),
             (
                 b"alfred A get 255",

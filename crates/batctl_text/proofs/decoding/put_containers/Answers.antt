@@ -10,7 +10,7 @@ pub loop-next-preserved : goal.loop-next-preserved
 loop-next-preserved c = elim c.match-next-2.branch [
   | in-Ok+in_ok-whole-in-Ok w ↦
       let container = seen w.in-Ok.container in
-      rw w.text-is (stands-whole c.args.text.now.items c.args.tail.now c.loop-next.text.items w.put_container.new.text.items c.loop-next.walk c.next.new.self container
+      rw w.page-is (stands-whole c.args.page.now.text.items c.args.tail.now c.loop-next.page.text.items w.put_container.new.page.text.items c.loop-next.walk c.next.new.self container
       (container_lines container) c.loop-next.invariant (rw w.in-Ok.is at c.in-Some.ensures.gives) (rw w.in-Ok.is at c.in-Some.ensures.goes_on) refl
       (rw (sym w.whole-is ∙ c.if-not-whole.false) at w.in_ok-whole-in-Ok.ensures.ok))
   | in-Err-Cut+in_ok-put_cut-in-Err-Cut w ↦ let no_cut = sym w.whole-is ∙ c.if-not-whole.false in absurd (cc)
@@ -21,16 +21,16 @@ returns-then-not-whole c = elim c.match-next-2.branch [
   | in-Ok+in_ok-whole-in-Ok w ↦
       let container = seen w.in-Ok.container in
       record {
-        ok = rw w.text-is (ends-short c.args.text.now.items c.args.tail.now c.loop-next.text.items w.put_container.new.text.items c.loop-next.walk c.next.new.self container
+        ok = rw w.page-is (ends-short c.args.page.now.text.items c.args.tail.now c.loop-next.page.text.items w.put_container.new.page.text.items c.loop-next.walk c.next.new.self container
             (container_lines container) c.loop-next.invariant (rw w.in-Ok.is at c.in-Some.ensures.gives) refl
             (rw (sym w.whole-is ∙ c.if-not-whole.true) at w.in_ok-whole-in-Ok.ensures.ok));
       }
   | in-Err-Cut+in_ok-put_cut-in-Err-Cut w ↦
       let none : to_come c.loop-next.walk ≡ [] = search rules in
       let some : 0 < length c.loop-next.walk.left = search rules in
-      let printed : w.put_cut.new.text.items ≡ c.loop-next.text.items ++ cut_line c.loop-next.walk.place = search rules in
+      let printed : w.put_cut.new.page.text.items ≡ c.loop-next.page.text.items ++ cut_line c.loop-next.walk.place = search rules in
       record {
-        ok = rw w.text-is (ends-cut c.args.text.now.items c.args.tail.now c.loop-next.text.items w.put_cut.new.text.items c.loop-next.walk
+        ok = rw w.page-is (ends-cut c.args.page.now.text.items c.args.tail.now c.loop-next.page.text.items w.put_cut.new.page.text.items c.loop-next.walk
             c.loop-next.invariant none some printed);
       }
 ]

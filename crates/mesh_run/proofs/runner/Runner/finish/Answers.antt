@@ -9,14 +9,14 @@ use Rattle.mesh_run.proofs.runner.Runner.finish.Goals as goal
 
 pub returns-then-is_empty-clause-ok : goal.returns-then-is_empty-clause-ok
 returns-then-is_empty-clause-ok g c = λ base read stands.
-    let runner = c.args.self.now in
+    let runner = c.args.self in
     let zero_long : vec_len runner.line ≡ 0 = eqb-true (vec_len runner.line) 0 (sym c.is_empty.ensures ∙ c.if-is_empty.true) in
     Finishes-empty base (g.K.Sink.taken c.args.out.now) runner read stands (nil-from_length runner.line.items (omega (arith, runner.line.ok.0, zero_long)))
 
 pub returns-in_err-carry_line-clause-failed : goal.returns-in_err-carry_line-clause-failed
 returns-in_err-carry_line-clause-failed g c = λ base read stands.
     let p = err_from_is_err_and c.from_residual.result c.from_residual.ensures.1 in
-    let runner = c.args.self.now in
+    let runner = c.args.self in
     let old = g.K.Sink.taken c.args.out.now in
     let new = g.K.Sink.taken c.carry_line.new.out in
     let state = (after_lines start stands.lines).state in
@@ -29,7 +29,7 @@ returns-in_err-carry_line-clause-failed g c = λ base read stands.
 
 pub returns-clause-ok : goal.returns-clause-ok
 returns-clause-ok g c = λ base read stands.
-    let runner = c.args.self.now in
+    let runner = c.args.self in
     let old = g.K.Sink.taken c.args.out.now in
     let new = g.K.Sink.taken c.carry_line.new.out in
     let state = (after_lines start stands.lines).state in

@@ -18,7 +18,7 @@ returns-in_err-take_line-clause-failed g c = λ base read stands.
     rw (p.1, p.2)
     (Fails-later base (g.K.Sink.taken c.take_line.new.out) (length (read ++ loop.done) + 1) (length read + 1) ((read ++ loop.done) ++ line) (read ++ c.args.bytes.now) later
     c.in_err-take_line.field-0.0 (omega (arith, length-append read loop.done)) all
-    (c.in_err-take_line.ensures.failed base (read ++ loop.done) (unbroken-front rest end c.in-Some.ensures) (loop.stands base read stands)))
+    (c.in_err-take_line.ensures.failed (unbroken-front rest end c.in-Some.ensures) base (read ++ loop.done) (loop.stands base read stands)))
 
 pub loop-end-preserved : goal.loop-end-preserved
 loop-end-preserved g c =
@@ -31,7 +31,7 @@ loop-end-preserved g c =
       split = piece-step c.args.bytes.now loop.done rest end loop.split c.in-Some.ensures;
       stands = λ base read stands.
           rw (append_assoc read loop.done line) at
-          (c.in_ok-take_line.ensures.ok base (read ++ loop.done) (unbroken-front rest end c.in-Some.ensures) (loop.stands base read stands));
+          (c.in_ok-take_line.ensures.ok (unbroken-front rest end c.in-Some.ensures) base (read ++ loop.done) (loop.stands base read stands));
       taken = omega (arith, loop.taken, piece-length rest end c.in-Some.ensures.0.high, c.in_ok-take_line.ensures.taken);
       within = loop.within;
       faults = omega (arith, loop.faults, c.in_ok-take_line.ensures.faults.kept);
@@ -46,7 +46,7 @@ returns-in_err-hold-clause-failed g c = λ base read stands.
     rw (p.1, p.2)
     (Fails-later base (g.K.Sink.taken c.loop-end.out) (length (read ++ loop.done) + 1) (length read + 1) ((read ++ loop.done) ++ rest) (read ++ c.args.bytes.now) []
     c.in_err-hold.field-0.0 (omega (arith, length-append read loop.done)) all
-    (c.in_err-hold.ensures.failed base (g.K.Sink.taken c.loop-end.out) (read ++ loop.done) (unbroken-none rest c.in_default.ensures) (loop.stands base read stands)))
+    (c.in_err-hold.ensures.failed (g.K.Sink.taken c.loop-end.out) (unbroken-none rest c.in_default.ensures) base (read ++ loop.done) (loop.stands base read stands)))
 
 pub returns-in_err-hold-clause-faults : goal.returns-in_err-hold-clause-faults
 returns-in_err-hold-clause-faults g c =
@@ -62,4 +62,4 @@ returns-clause-ok g c = λ base read stands.
     let rest = c.loop-end.rest.now in
     let all = ap (λ bytes. read ++ bytes) loop.split ∙ sym (append_assoc read loop.done rest) in
     rw all
-    (c.in_ok-hold.ensures.ok base (g.K.Sink.taken c.loop-end.out) (read ++ loop.done) (unbroken-none rest c.in_default.ensures) (loop.stands base read stands))
+    (c.in_ok-hold.ensures.ok (g.K.Sink.taken c.loop-end.out) (unbroken-none rest c.in_default.ensures) base (read ++ loop.done) (loop.stands base read stands))

@@ -1,6 +1,7 @@
 use Rattle.std.proofs.Common.{refl, sym, ◌∙◌}
 use Rattle.mesh_run.specs.declared.node.SceneNode.{SceneNode}
-use Rattle.mesh_run.proofs.SceneLemmas.{Carries-node, addressed, carried-address_taken, carried-name_taken, known}
+use Rattle.mesh_run.proofs.NodesLemmas.{addressed, known}
+use Rattle.mesh_run.proofs.SceneLemmas.{Carries-node, carried-address_taken, carried-name_taken}
 use Rattle.mesh_run.proofs.scene.Scene.add_node.Goals as goal
 
 pub returns-then-is_name_taken-clause-refused : goal.returns-then-is_name_taken-clause-refused

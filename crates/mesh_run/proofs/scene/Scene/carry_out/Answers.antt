@@ -2,8 +2,8 @@ use Rattle.std.proofs.Common.{ℕ, List, [], subst, sym}
 use Rattle.std.proofs.lemmas.Result.{err_from_is_err_and}
 use Rattle.mesh_model.specs.declared.line_form.Command.{Command}
 use Rattle.mesh_model.specs.declared.line_form.Command.TheVariants.{Frame}
-use Rattle.mesh_model.specs.State.{carried_out}
-use Rattle.mesh_run.specs.Scene.{Carries, Refuses}
+use Rattle.mesh_model.specs.CarriedOut.{carried_out}
+use Rattle.mesh_run.specs.Scene.{Carries, HasLineCause}
 use Rattle.mesh_run.proofs.scene.Scene.carry_out.Goals as goal
 
 pub returns-in_err-take_frame-in-Frame-clause-refused : goal.returns-in_err-take_frame-in-Frame-clause-refused
@@ -11,10 +11,10 @@ returns-in_err-take_frame-in-Frame-clause-refused c = λ state stands.
     let p = err_from_is_err_and c.from_residual-in_err-take_frame-in-Frame.result c.from_residual-in_err-take_frame-in-Frame.ensures.1 in
     let frame = c.in-Frame in
     let fault = c.in_err-take_frame-in-Frame.field-0.0 in
-    let F : List ℕ → Type 0 = λ place. Refuses (carried_out state (Frame place frame.src frame.dst frame.vid frame._text)) fault in
-    let C : Command → Type 0 = λ command. Refuses (carried_out state command) fault in
+    let F : List ℕ → Type 0 = λ place. HasLineCause (carried_out state (Frame place frame.src frame.dst frame.vid frame._text)) fault in
+    let C : Command → Type 0 = λ command. HasLineCause (carried_out state command) fault in
     rw (p.1, p.2)
-    (subst C (sym frame.is) (subst F c.as_slice.ensures.value (c.in_err-take_frame-in-Frame.ensures.refused state frame._text stands)))
+    (subst C (sym frame.is) (subst F c.as_slice.ensures.value (c.in_err-take_frame-in-Frame.ensures.refused frame._text state stands)))
 
 pub returns-in_ok-take_frame-in-Frame-clause-ok : goal.returns-in_ok-take_frame-in-Frame-clause-ok
 returns-in_ok-take_frame-in-Frame-clause-ok c = λ state stands.
@@ -22,4 +22,4 @@ returns-in_ok-take_frame-in-Frame-clause-ok c = λ state stands.
     let F : List ℕ → Type 0 = λ place. Carries (carried_out state (Frame place frame.src frame.dst frame.vid frame._text)) state c.take_frame.new.self [] in
     let C : Command → Type 0 = λ command. Carries (carried_out state command) state c.take_frame.new.self [] in
     rw c.requires
-    (subst C (sym frame.is) (subst F c.as_slice.ensures.value (c.in_ok-take_frame-in-Frame.ensures.ok state frame._text stands)))
+    (subst C (sym frame.is) (subst F c.as_slice.ensures.value (c.in_ok-take_frame-in-Frame.ensures.ok frame._text state stands)))

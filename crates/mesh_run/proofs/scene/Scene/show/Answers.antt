@@ -1,7 +1,8 @@
 use Rattle.std.proofs.Common.{sym, ◌∙◌, subst}
 use Rattle.mesh_run.specs.declared.node.SceneNode.{SceneNode}
 use Rattle.tt_local.specs.Locals.{StandsFor}
-use Rattle.mesh_run.proofs.SceneLemmas.{Carries-show, carried-show_unknown, unknown_at}
+use Rattle.mesh_run.proofs.NodesLemmas.{unknown_at}
+use Rattle.mesh_run.proofs.SceneLemmas.{Carries-show, carried-show_unknown}
 use Rattle.mesh_run.proofs.scene.Scene.show.Goals as goal
 
 pub returns-in_default-clause-refused : goal.returns-in_default-clause-refused

@@ -1,24 +1,12 @@
--- The rows of the table: their widths, and which of them tell a length.
-use Rattle.std.proofs.Common.{◌≡◌, ℕ, ◌+◌, List, [], ◌∷◌, length, Some, refl, ap, arith}
-use Rattle.std.proofs.lemmas.List.{length-append}
+-- The fields of headers in bytes: how many bytes they have, that each kind's header has the size that
+-- the table of sizes gives, and which rows depend on the length of containers.
+use Rattle.std.proofs.Common.{◌≡◌, ℕ, ◌+◌, List, [], ◌∷◌, length, Some, refl, ap, arith, length-append}
 use Rattle.byteorder.specs.Numbers.{length-bytes_high_first}
 use Rattle.mesh_model.specs.declared.packet.Head.{Head}
 use Rattle.mesh_model.specs.declared.packet.Head.TheVariants.{IvOgm, Bcast, Elp, Ogm2, Unicast, Frag, Unicast4, Icmp, Utvlv}
 use Rattle.mesh_model.specs.Packets.{Field, Holds, Fits, BeginWith, row_of, header_of, header_size}
 use Rattle.mesh_model.specs.Packets.Field.{number, address, fragment, reserved}
 use Rattle.mesh_model.specs.Packets.TailKind.{containers}
-
--- a row that tells no length is the same for each length
-pub untold : (head : Head) (m n : ℕ) → ((row_of head m).tail ≡ containers → ⊥) → row_of head m ≡ row_of head n
-untold (IvOgm ttl flags seq orig prev tq) m n other = absurd (other refl)
-untold (Bcast ttl seq orig) m n other = refl
-untold (Elp orig seq interval) m n other = refl
-untold (Ogm2 ttl flags seq orig throughput) m n other = absurd (other refl)
-untold (Unicast ttl ttvn dst) m n other = refl
-untold (Frag ttl index priority dst orig seq total) m n other = refl
-untold (Unicast4 ttl ttvn dst src subtype) m n other = refl
-untold (Icmp ttl msg dst orig uid seq) m n other = refl
-untold (Utvlv ttl dst src) m n other = absurd (other refl)
 
 -- the bytes of a field
 abbrev pub size_of : Field → ℕ
@@ -60,3 +48,27 @@ header_width (Frag ttl index priority dst orig seq total) told = refl
 header_width (Unicast4 ttl ttvn dst src subtype) told = refl
 header_width (Icmp ttl msg dst orig uid seq) told = refl
 header_width (Utvlv ttl dst src) told = refl
+
+-- a row's kind of tail doesn't depend on the length
+pub same_tail_kind : (head : Head) (m n : ℕ) → (row_of head m).tail ≡ (row_of head n).tail
+same_tail_kind (IvOgm a b c d e f) m n = refl
+same_tail_kind (Bcast a b c) m n = refl
+same_tail_kind (Elp a b c) m n = refl
+same_tail_kind (Ogm2 a b c d e) m n = refl
+same_tail_kind (Unicast a b c) m n = refl
+same_tail_kind (Frag a b c d e f g) m n = refl
+same_tail_kind (Unicast4 a b c d e) m n = refl
+same_tail_kind (Icmp a b c d e f) m n = refl
+same_tail_kind (Utvlv a b c) m n = refl
+
+-- a row that tells no length is the same for each length
+pub untold : (head : Head) (m n : ℕ) → ((row_of head m).tail ≡ containers → ⊥) → row_of head m ≡ row_of head n
+untold (IvOgm ttl flags seq orig prev tq) m n other = absurd (other refl)
+untold (Bcast ttl seq orig) m n other = refl
+untold (Elp orig seq interval) m n other = refl
+untold (Ogm2 ttl flags seq orig throughput) m n other = absurd (other refl)
+untold (Unicast ttl ttvn dst) m n other = refl
+untold (Frag ttl index priority dst orig seq total) m n other = refl
+untold (Unicast4 ttl ttvn dst src subtype) m n other = refl
+untold (Icmp ttl msg dst orig uid seq) m n other = refl
+untold (Utvlv ttl dst src) m n other = absurd (other refl)

@@ -1,7 +1,7 @@
 use Rattle.std.proofs.Common.{◌≡◌, ◌++◌, take}
 use Rattle.std.specs.List.{flat_map}
 use Rattle.mesh_model.specs.ContainerLines.{change_line}
-use Rattle.batctl_text.proofs.container_line.put_changes.Given as goal
+use Rattle.batctl_text.proofs.container.put_changes.Given as goal
 
 abbrev pub invariant-loop-i : goal.invariant-loop-i
-invariant-loop-i l = l.text.items ≡ l.initial.text.items ++ flat_map change_line (take l.i l.table.changes)
+invariant-loop-i l = l.page.text.items ≡ l.initial.page.text.items ++ flat_map change_line (take l.i l.table.changes)

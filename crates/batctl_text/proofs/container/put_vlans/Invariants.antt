@@ -1,0 +1,7 @@
+use Rattle.std.proofs.Common.{◌≡◌, ◌++◌, take}
+use Rattle.std.specs.List.{flat_map}
+use Rattle.mesh_model.specs.TableText.{vlan_line}
+use Rattle.batctl_text.proofs.container.put_vlans.Given as goal
+
+abbrev pub invariant-loop-i : goal.invariant-loop-i
+invariant-loop-i l = l.page.text.items ≡ l.initial.page.text.items ++ flat_map vlan_line (take l.i l.table.vlans)

@@ -1,7 +1,0 @@
-use Rattle.std.proofs.Common.{◌≡◌, ◌++◌, take}
-use Rattle.std.specs.List.{flat_map}
-use Rattle.mesh_model.specs.ContainerLines.{table_vlan_line}
-use Rattle.batctl_text.proofs.container_line.put_vlans.Given as goal
-
-abbrev pub invariant-loop-i : goal.invariant-loop-i
-invariant-loop-i l = l.text.items ≡ l.initial.text.items ++ flat_map table_vlan_line (take l.i l.table.vlans)
