@@ -1,23 +1,12 @@
 #!/bin/sh
-# Packets per second of decode: builds a program in a folder of its own, outside this repository, and runs it.
-# It goes through a million packets of the five kinds that may follow one another, where they lie in memory.
+# Packets per second of decode: builds a program in a folder of its own, outside this repository, and
+# runs it. It goes through a million packets of the five kinds that may follow one another, where
+# they lie in memory.
 set -e
 top=$(cd "$(dirname "$0")/.." && pwd)
-work=$(mktemp -d "${TMPDIR:-/tmp}/batmesh_codec.XXXXXX")
-trap 'rm -rf "$work"' EXIT
+. "$top/bench/crate.sh"
 
-mkdir -p "$work/crates/codec_bench/src"
-cp "$top/HANDLES" "$work/HANDLES"
-for name in mesh_base mesh_model mesh_codec; do
-    mkdir "$work/crates/$name"
-    for part in src specs proofs; do
-        if [ -d "$top/crates/$name/$part" ]; then cp -r "$top/crates/$name/$part" "$work/crates/$name/$part"; fi
-    done
-    grep "^$name:" "$top/crates.txt" >> "$work/crates.txt"
-done
-echo 'codec_bench: mesh_base mesh_codec io' >> "$work/crates.txt"
-
-cat > "$work/crates/codec_bench/src/main.rt" <<'END'
+make_program mesh_base mesh_model mesh_codec <<'END'
 #![tactic(auto)]
 
 use mesh_base::Mac;
@@ -75,6 +64,4 @@ fn main(rt: HostRuntime) -> io::Result<()> {
     println!(rt; "{packets} packets with {tails} bytes of tails in {micros} us: {each_second} packets/s")
 }
 END
-cd "$work/crates/codec_bench"
-rt run > log 2>&1 || true
-grep 'packets/s' log || { tail -40 log; exit 1; }
+run_program 'packets/s'
