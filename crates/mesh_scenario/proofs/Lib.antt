@@ -4,4 +4,5 @@ pub mod IpLemmas
 pub mod OptionsLemmas
 pub mod RefusalLemmas
 pub mod TermsLemmas
+pub mod PlaceLemmas
 pub mod WordsLemmas

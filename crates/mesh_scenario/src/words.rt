@@ -3,6 +3,7 @@ ghost use Rattle.std.specs.List.{position_or_len};
 ghost use Rattle.mesh_model.specs.Words.{words_of, is_separator};
 ghost use Rattle.mesh_scenario.specs.Reads.{word_found, is_in_word};
 
+use memchr::memchr2;
 use std::marker::Model;
 
 /// A word of a line, and the rest of the line from the word's first byte on.
@@ -49,9 +50,7 @@ fn word_length(text: &[u8]) -> usize
     ensures value { result ≡ position_or_len is_separator text.now }
     ensures within { result ≤ length text.now }
 {
-    text.iter()
-        .position(|byte| is_separator(*byte))
-        .unwrap_or(text.len())
+    memchr2(b' ', b'\t', text).unwrap_or(text.len())
 }
 
 impl<'a> Words<'a> {

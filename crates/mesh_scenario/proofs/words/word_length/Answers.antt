@@ -1,13 +1,6 @@
-use Rattle.std.proofs.Common.{rules, tests, ◌∙◌}
-use Rattle.std.proofs.lemmas.Iterator.{YieldsList-from_slice}
-use Rattle.std.proofs.lemmas.Iterator.Search.{position_from_yields_List}
-use Rattle.mesh_model.specs.Words.{is_separator}
-use Rattle.mesh_scenario.proofs.WordsLemmas.{unwrap_or-position}
+use Rattle.std.proofs.Common.{◌∙◌}
+use Rattle.mesh_scenario.proofs.PlaceLemmas.{first_place}
 use Rattle.mesh_scenario.proofs.words.word_length.Goals as goal
 
 pub returns-clause-value : goal.returns-clause-value
-returns-clause-value c =
-    let bytes = c.args.text.now in
-    c.unwrap_or.ensures ∙ unwrap_or-position is_separator bytes c.position.result
-    (position_from_yields_List is_separator _ _ c.position.result c.position.ensures.ran (YieldsList-from_slice bytes cc)
-    (λ x b q k. search (rules, tests)))
+returns-clause-value c = c.unwrap_or.ensures ∙ first_place c.args.text.now c.memchr2.result c.memchr2.ensures
