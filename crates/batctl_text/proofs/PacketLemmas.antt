@@ -4,12 +4,12 @@ use Rattle.std.specs.Prelude.{slice_get, if◌then◌else◌}
 use Rattle.std.proofs.lemmas.List.{length-drop, length-take-le, take-take}
 use Rattle.mesh_model.specs.declared.packet.Head.{Head}
 use Rattle.mesh_model.specs.declared.packet.Head.TheVariants.{IvOgm, Bcast, Elp, Ogm2, Unicast, Frag, Unicast4, Icmp, Utvlv}
-use Rattle.mesh_model.specs.Packets.{IsPacket, row_of, header_of, header_size, compat_version}
-use Rattle.mesh_model.specs.PacketLines.{packet_line}
-use Rattle.mesh_model.specs.DecodeText.{decode_text, packet_lines, tail_lines, after_packet, is_followed, rest_line, type_byte}
-use Rattle.mesh_model.proofs.FirstPacketLemmas.{first_packet-found, front_of_header}
-use Rattle.mesh_model.proofs.HeaderLemmas.{width, begin_length, header_width}
-use Rattle.mesh_model.proofs.DecodeLemmas.{decode_text-first}
+use Rattle.mesh_model.specs.Packets.Layout.{IsPacket, row_of, header_of, header_size, compat_version}
+use Rattle.mesh_model.specs.Text.PacketLines.{packet_line}
+use Rattle.mesh_model.specs.Text.Decode.{decode_text, packet_lines, tail_lines, after_packet, is_followed, rest_line, type_byte}
+use Rattle.mesh_laws.proofs.FirstPacketLemmas.{first_packet-found, front_of_header}
+use Rattle.mesh_laws.proofs.HeaderLemmas.{width, begin_length, header_width}
+use Rattle.mesh_laws.proofs.DecodeLemmas.{decode_text-first}
 use Rattle.batctl_text.specs.Printed.{IsTailPrinted, IsHeader, HasPrinted}
 
 -- the text of bytes that begin with a packet

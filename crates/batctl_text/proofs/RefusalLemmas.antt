@@ -2,12 +2,12 @@
 use Rattle.std.proofs.Common.{◌≡◌, ℕ, ◌<◌, List, [], ◌∷◌, inl, inr, Option, Some, None, true, false, Ok, Err, refl, sym, ap, subst, ◌∙◌, arith, length}
 use Rattle.std.specs.Prelude.{◌≢◌, ◌==◌, slice_get, option_and_then, nat_lt}
 use Rattle.std.proofs.lemmas.Bool.Decides.{nat_tests}
-use Rattle.mesh_model.specs.Packets.{compat_version, header_size}
-use Rattle.mesh_model.specs.FirstPacket.{NoPacket, Packet, first_packet, packet_of_kind}
-use Rattle.mesh_model.specs.FirstPacket.NoPacket.{Short, Version, Kind, Length}
-use Rattle.mesh_model.specs.DecodeText.{decode_text, refusal_line, packet_lines}
-use Rattle.mesh_model.proofs.FirstPacketLemmas.{first_packet-long}
-use Rattle.mesh_model.proofs.DecodeLemmas.{decode_text-first}
+use Rattle.mesh_model.specs.Packets.Layout.{compat_version, header_size}
+use Rattle.mesh_model.specs.Packets.FirstPacket.{NoPacket, Packet, first_packet, packet_of_kind}
+use Rattle.mesh_model.specs.Packets.FirstPacket.NoPacket.{Short, Version, Kind, Length}
+use Rattle.mesh_model.specs.Text.Decode.{decode_text, refusal_line, packet_lines}
+use Rattle.mesh_laws.proofs.FirstPacketLemmas.{first_packet-long}
+use Rattle.mesh_laws.proofs.DecodeLemmas.{decode_text-first}
 use Rattle.mesh_codec.specs.declared.failure.CodecErr.{CodecErr}
 use Rattle.mesh_codec.specs.declared.failure.CodecErr.TheVariants.{Short as TooShort, Version as OtherVersion, Kind as NoKind, Length as TooLong, Long, Tail, Memory}
 use Rattle.mesh_codec.specs.Decoding.{IsShort, HasVersion, HasCause}

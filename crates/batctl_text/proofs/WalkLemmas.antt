@@ -1,10 +1,10 @@
 -- A walk over the containers of a tail: what is still to be printed at each step, and at its end.
 use Rattle.std.proofs.Common.{◌≡◌, ℕ, ◌+◌, ◌<◌, inl, inr, List, [], ◌∷◌, ◌++◌, length, drop, true, false, Option, Some, None, refl, sym, ap, ◌∙◌, arith, length-append, append_assoc}
 use Rattle.std.proofs.lemmas.List.{drop-drop}
-use Rattle.mesh_model.specs.Containers.{Container, container_size, container_text, containers_text, containers_of, rest_of}
-use Rattle.mesh_model.specs.Packets.TailKind.{containers}
-use Rattle.mesh_model.specs.ContainerLines.{container_lines, containers_lines, bad_length_line, lines_before}
-use Rattle.mesh_model.specs.DecodeText.{cut_line, unless_cut, tail_lines}
+use Rattle.mesh_model.specs.Packets.Containers.{Container, container_size, container_text, containers_text, containers_of, rest_of}
+use Rattle.mesh_model.specs.Packets.Layout.TailKind.{containers}
+use Rattle.mesh_model.specs.Text.ContainerLines.{container_lines, containers_lines, bad_length_line, lines_before}
+use Rattle.mesh_model.specs.Text.Decode.{cut_line, unless_cut, tail_lines}
 use Rattle.mesh_tvlv.specs.Walk.{Walk, to_come, behind, walk_over, HasEnded}
 use Rattle.mesh_tvlv.proofs.ContainersLemmas.{to_come-ended}
 use Rattle.batctl_text.specs.Printed.{IsPrinted}

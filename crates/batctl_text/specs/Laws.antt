@@ -1,7 +1,7 @@
 -- The packet that is computed from bytes is the packet of the grammar.
 use Rattle.std.specs.Prelude.{◌≡◌, ℕ, ◌-◌, List, length, Ok}
-use Rattle.mesh_model.specs.Packets.{IsPacket}
-use Rattle.mesh_model.specs.FirstPacket.{Packet, first_packet}
+use Rattle.mesh_model.specs.Packets.Layout.{IsPacket}
+use Rattle.mesh_model.specs.Packets.FirstPacket.{Packet, first_packet}
 
 -- a packet that is computed from these bytes is one that they begin with
 abbrev pub IsRight : List ℕ → Type 0

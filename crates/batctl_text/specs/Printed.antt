@@ -2,9 +2,9 @@
 use Rattle.std.specs.Prelude.{◌≡◌, ◌++◌, ◌<◌, ℕ, Bool, true, false, List, length, slice_get, Option, Some, None, MatchOption, ⊤}
 use Rattle.mesh_base.specs.declared.client.Key.{Key}
 use Rattle.mesh_model.specs.declared.packet.Head.{Head}
-use Rattle.mesh_model.specs.ContainerBodies.{TtChange}
-use Rattle.mesh_model.specs.DecodeText.{decode_text, tail_lines, type_byte}
-use Rattle.mesh_model.specs.Packets.{TailKind, compat_version, header_size}
+use Rattle.mesh_model.specs.Packets.Bodies.{TtChange}
+use Rattle.mesh_model.specs.Text.Decode.{decode_text, tail_lines, type_byte}
+use Rattle.mesh_model.specs.Packets.Layout.{TailKind, compat_version, header_size}
 
 -- these lines were appended; or, where there are none, the line that says why, and `whole` is false
 abbrev pub IsPrinted : List ℕ → List ℕ → Option (List ℕ) → List ℕ → Bool → Type 0

@@ -4,9 +4,9 @@
 ghost use Rattle.std.specs.Prelude.{◌≡◌, ◌++◌, OnOk, length};
 ghost use Rattle.mesh_codec.specs.declared.failure.CodecErr.{CodecErr};
 ghost use Rattle.mesh_codec.specs.Decoding.{HasCause};
-ghost use Rattle.mesh_model.specs.ContainerLines.{bad_length_line};
-ghost use Rattle.mesh_model.specs.DecodeText.{cut_line, refusal_line, rest_line};
-ghost use Rattle.mesh_model.specs.FirstPacket.NoPacket.{Short, Version, Kind, Length};
+ghost use Rattle.mesh_model.specs.Text.ContainerLines.{bad_length_line};
+ghost use Rattle.mesh_model.specs.Text.Decode.{cut_line, refusal_line, rest_line};
+ghost use Rattle.mesh_model.specs.Packets.FirstPacket.NoPacket.{Short, Version, Kind, Length};
 ghost use Rattle.mesh_tvlv.specs.Walk.{seen};
 
 use crate::fields::{put_named_number, put_number, start_line};
@@ -14,7 +14,7 @@ use mesh_base::NoMemory;
 use mesh_tvlv::Container;
 
 /// The line of bytes that are fewer than are needed.
-#[tactic(auto, unfolding(mesh_model::specs::DecodeText::refusal_line))]
+#[tactic(auto, unfolding(mesh_model::specs::Text::Decode::refusal_line))]
 pub fn short_line(line: &mut Vec<u8>, have: usize, need: usize) -> Result<(), NoMemory>
     ensures ok { OnOk result (line.new.items ≡ refusal_line (Short have need)) }
 {
@@ -26,7 +26,7 @@ pub fn short_line(line: &mut Vec<u8>, have: usize, need: usize) -> Result<(), No
 }
 
 /// The line of another version.
-#[tactic(auto, unfolding(mesh_model::specs::DecodeText::refusal_line))]
+#[tactic(auto, unfolding(mesh_model::specs::Text::Decode::refusal_line))]
 pub fn version_line(line: &mut Vec<u8>, version: u8) -> Result<(), NoMemory>
     ensures ok { OnOk result (line.new.items ≡ refusal_line (Version version)) }
 {
@@ -37,7 +37,7 @@ pub fn version_line(line: &mut Vec<u8>, version: u8) -> Result<(), NoMemory>
 }
 
 /// The line of a type byte that no kind has.
-#[tactic(auto, unfolding(mesh_model::specs::DecodeText::refusal_line))]
+#[tactic(auto, unfolding(mesh_model::specs::Text::Decode::refusal_line))]
 pub fn kind_line(line: &mut Vec<u8>, kind: u8) -> Result<(), NoMemory>
     ensures ok { OnOk result (line.new.items ≡ refusal_line (Kind kind)) }
 {
@@ -48,7 +48,7 @@ pub fn kind_line(line: &mut Vec<u8>, kind: u8) -> Result<(), NoMemory>
 }
 
 /// The line of a told length that passes the end.
-#[tactic(auto, unfolding(mesh_model::specs::DecodeText::refusal_line))]
+#[tactic(auto, unfolding(mesh_model::specs::Text::Decode::refusal_line))]
 pub fn length_line(line: &mut Vec<u8>, told: usize, left: usize) -> Result<(), NoMemory>
     ensures ok { OnOk result (line.new.items ≡ refusal_line (Length told left)) }
 {
@@ -60,7 +60,7 @@ pub fn length_line(line: &mut Vec<u8>, told: usize, left: usize) -> Result<(), N
 }
 
 /// The line of a container that is cut at this place, counted from the first container.
-#[tactic(auto, unfolding(mesh_model::specs::DecodeText::cut_line))]
+#[tactic(auto, unfolding(mesh_model::specs::Text::Decode::cut_line))]
 pub fn cut_line(line: &mut Vec<u8>, place: usize) -> Result<(), NoMemory>
     ensures ok { OnOk result (line.new.items ≡ cut_line place) }
 {
@@ -71,7 +71,7 @@ pub fn cut_line(line: &mut Vec<u8>, place: usize) -> Result<(), NoMemory>
 }
 
 /// The line of a container that is too short for its type.
-#[tactic(auto, unfolding(mesh_model::specs::ContainerLines::bad_length_line))]
+#[tactic(auto, unfolding(mesh_model::specs::Text::ContainerLines::bad_length_line))]
 pub fn bad_length_line(line: &mut Vec<u8>, container: &Container<'_>) -> Result<(), NoMemory>
     ensures ok { OnOk result (line.new.items ≡ bad_length_line (seen container.now)) }
 {
@@ -83,7 +83,7 @@ pub fn bad_length_line(line: &mut Vec<u8>, container: &Container<'_>) -> Result<
 }
 
 /// The line of bytes after a packet, or none where there are none.
-#[tactic(auto, unfolding(mesh_model::specs::DecodeText::rest_line))]
+#[tactic(auto, unfolding(mesh_model::specs::Text::Decode::rest_line))]
 pub fn rest_line(line: &mut Vec<u8>, rest: &[u8]) -> Result<(), NoMemory>
     ensures ok { OnOk result (line.new.items ≡ rest_line rest.now) }
 {

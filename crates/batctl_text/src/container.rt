@@ -2,9 +2,9 @@
 
 ghost use Rattle.std.specs.Prelude.{◌≡◌, ◌++◌, IfOk, OnOk, Some, option_map, slice_get, flat_map};
 ghost use Rattle.batctl_text.specs.Printed.{IsPrinted, flags_and_client};
-ghost use Rattle.mesh_model.specs.ContainerBodies.{gateway_of_body, multicast_of_body, roaming_of_body, tt_of_body};
-ghost use Rattle.mesh_model.specs.ContainerLines.{container_lines, plain_line, gateway_line, roaming_line, multicast_line, table_lines, change_line, bad_length_line};
-ghost use Rattle.mesh_model.specs.TableText.{vlan_line};
+ghost use Rattle.mesh_model.specs.Packets.Bodies.{gateway_of_body, multicast_of_body, roaming_of_body, tt_of_body};
+ghost use Rattle.mesh_model.specs.Text.ContainerLines.{container_lines, plain_line, gateway_line, roaming_line, multicast_line, table_lines, change_line, bad_length_line};
+ghost use Rattle.mesh_model.specs.Text.Tables.{vlan_line};
 ghost use Rattle.mesh_tvlv.specs.Walk.{seen};
 
 use crate::bad_line::bad_length_line;

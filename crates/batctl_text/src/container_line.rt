@@ -1,8 +1,8 @@
 //! The lines of containers, of which each call writes one in place of what `line` holds.
 
 ghost use Rattle.std.specs.Prelude.{◌≡◌, OnOk};
-ghost use Rattle.mesh_model.specs.ContainerLines.{container_start, plain_line, gateway_line, roaming_line, multicast_line, table_start, change_line};
-ghost use Rattle.mesh_model.specs.TableText.{vlan_line};
+ghost use Rattle.mesh_model.specs.Text.ContainerLines.{container_start, plain_line, gateway_line, roaming_line, multicast_line, table_start, change_line};
+ghost use Rattle.mesh_model.specs.Text.Tables.{vlan_line};
 ghost use Rattle.mesh_tvlv.specs.Walk.{seen};
 
 use crate::fields::{
@@ -24,7 +24,7 @@ fn container_start(line: &mut Vec<u8>, container: &Container<'_>) -> Result<(), 
 }
 
 /// The line of a container whose body has no fields that are known.
-#[tactic(auto, unfolding(mesh_model::specs::ContainerLines::plain_line))]
+#[tactic(auto, unfolding(mesh_model::specs::Text::ContainerLines::plain_line))]
 pub fn plain_line(line: &mut Vec<u8>, container: &Container<'_>) -> Result<(), NoMemory>
     ensures ok { OnOk result (line.new.items ≡ plain_line (seen container.now)) }
 {
@@ -34,7 +34,7 @@ pub fn plain_line(line: &mut Vec<u8>, container: &Container<'_>) -> Result<(), N
 }
 
 /// The line of a gateway's container, with its bandwidth down and up in 100 kbit/s.
-#[tactic(auto, unfolding(mesh_model::specs::ContainerLines::gateway_line))]
+#[tactic(auto, unfolding(mesh_model::specs::Text::ContainerLines::gateway_line))]
 pub fn gateway_line(
     line: &mut Vec<u8>,
     container: &Container<'_>,
@@ -52,7 +52,7 @@ pub fn gateway_line(
 }
 
 /// The line of a roaming advertisement.
-#[tactic(auto, unfolding(mesh_model::specs::ContainerLines::roaming_line))]
+#[tactic(auto, unfolding(mesh_model::specs::Text::ContainerLines::roaming_line))]
 pub fn roaming_line(
     line: &mut Vec<u8>,
     container: &Container<'_>,
@@ -69,7 +69,7 @@ pub fn roaming_line(
 }
 
 /// The line of multicast flags.
-#[tactic(auto, unfolding(mesh_model::specs::ContainerLines::multicast_line))]
+#[tactic(auto, unfolding(mesh_model::specs::Text::ContainerLines::multicast_line))]
 pub fn multicast_line(
     line: &mut Vec<u8>,
     container: &Container<'_>,
@@ -84,7 +84,7 @@ pub fn multicast_line(
 }
 
 /// The first line of a translation table.
-#[tactic(auto, unfolding(mesh_model::specs::ContainerLines::table_start))]
+#[tactic(auto, unfolding(mesh_model::specs::Text::ContainerLines::table_start))]
 pub fn table_start(
     line: &mut Vec<u8>,
     container: &Container<'_>,
@@ -102,7 +102,7 @@ pub fn table_start(
 }
 
 /// The line of a VLAN with the checksum of its clients.
-#[tactic(auto, unfolding(mesh_model::specs::TableText::vlan_line))]
+#[tactic(auto, unfolding(mesh_model::specs::Text::Tables::vlan_line))]
 pub fn vlan_line(line: &mut Vec<u8>, vid: Vid, sum: u32) -> Result<(), NoMemory>
     ensures ok { OnOk result (line.new.items ≡ vlan_line (record { vid = vid; sum = sum })) }
 {
@@ -115,7 +115,7 @@ pub fn vlan_line(line: &mut Vec<u8>, vid: Vid, sum: u32) -> Result<(), NoMemory>
 }
 
 /// The line of a record with these flags, as they stand.
-#[tactic(auto, unfolding(mesh_model::specs::ContainerLines::change_line))]
+#[tactic(auto, unfolding(mesh_model::specs::Text::ContainerLines::change_line))]
 pub fn change_line(line: &mut Vec<u8>, flags: u8, client: Key) -> Result<(), NoMemory>
     ensures ok { OnOk result (line.new.items
         ≡ change_line (record { flags = flags; key = client })) }

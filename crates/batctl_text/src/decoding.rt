@@ -4,10 +4,10 @@ ghost use Rattle.std.specs.Prelude.{◌≡◌, ◌++◌, OnOk, OnErr, IfOk, opti
 ghost use Rattle.batctl_text.specs.Printed.{HasPrinted, IsHeader, IsTailPrinted};
 ghost use Rattle.mesh_codec.specs.declared.failure.CodecErr.{CodecErr};
 ghost use Rattle.mesh_codec.specs.Decoding.{HasCause};
-ghost use Rattle.mesh_model.specs.DecodeText.{cut_line, decode_text, is_followed, rest_line, tail_lines};
-ghost use Rattle.mesh_model.specs.PacketLines.{packet_line};
-ghost use Rattle.mesh_model.specs.Packets.{IsPacket, row_of};
-ghost use Rattle.mesh_model.specs.Packets.TailKind.{containers};
+ghost use Rattle.mesh_model.specs.Text.Decode.{cut_line, decode_text, is_followed, rest_line, tail_lines};
+ghost use Rattle.mesh_model.specs.Text.PacketLines.{packet_line};
+ghost use Rattle.mesh_model.specs.Packets.Layout.{IsPacket, row_of};
+ghost use Rattle.mesh_model.specs.Packets.Layout.TailKind.{containers};
 
 use crate::bad_line::{cut_line, kind_line, length_line, rest_line, short_line, version_line};
 use crate::container::put_container;

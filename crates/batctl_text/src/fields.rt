@@ -3,8 +3,8 @@
 ghost use Rattle.std.specs.Prelude.{◌≡◌, ◌/◌, ◌%◌, ◌++◌, ◌<◌, decimal, slice_index, OnOk};
 ghost use Rattle.hex.specs.Hex.{lower_digits};
 ghost use Rattle.mesh_base.specs.Address.{hex_of_byte, mac_text, pairs_text};
-ghost use Rattle.mesh_model.specs.PacketLines.{named_number, named_address, named_flags};
-ghost use Rattle.mesh_model.specs.TableText.{sum_text, vid_text};
+ghost use Rattle.mesh_model.specs.Text.PacketLines.{named_number, named_address, named_flags};
+ghost use Rattle.mesh_model.specs.Text.Tables.{sum_text, vid_text};
 
 use mesh_base::{Mac, NoMemory, Vid};
 
@@ -83,7 +83,7 @@ pub fn put_hex_byte(line: &mut Vec<u8>, byte: u8) -> Result<(), NoMemory>
 }
 
 /// Appends a VLAN: `-`, its number, or `raw:` and its wire number.
-#[tactic(auto, unfolding(mesh_model::specs::TableText::vid_text))]
+#[tactic(auto, unfolding(mesh_model::specs::Text::Tables::vid_text))]
 pub fn put_vid(line: &mut Vec<u8>, vid: Vid) -> Result<(), NoMemory>
     ensures ok { OnOk result (line.new.items ≡ line.old.items ++ vid_text vid) }
 {
@@ -99,7 +99,7 @@ pub fn put_vid(line: &mut Vec<u8>, vid: Vid) -> Result<(), NoMemory>
 }
 
 /// Appends a checksum as eight hex digits.
-#[tactic(auto, unfolding(mesh_model::specs::TableText::sum_text))]
+#[tactic(auto, unfolding(mesh_model::specs::Text::Tables::sum_text))]
 pub fn put_sum(line: &mut Vec<u8>, sum: u32) -> Result<(), NoMemory>
     ensures ok { OnOk result (line.new.items ≡ line.old.items ++ sum_text sum) }
 {

@@ -1,7 +1,7 @@
 //! The local table of a node.
 
 ghost use Rattle.std.specs.Prelude.{◌≡◌, ◌/◌, ◌%◌, ◌++◌, ◌<◌, OnOk, OnErr};
-ghost use Rattle.mesh_model.specs.TableText.{age_text, flag_text, flags_text, local_header, local_line};
+ghost use Rattle.mesh_model.specs.Text.Tables.{age_text, flag_text, flags_text, local_header, local_line};
 
 use crate::fields::{put_mac, put_number, put_vid};
 use mesh_base::{Millis, NoMemory};
@@ -17,7 +17,7 @@ const ISOLATED: u8 = 32;
 
 /// Appends the first line of a local table: the node's name, the byte of its last commit, and how
 /// many clients follow.
-#[tactic(auto, unfolding(mesh_model::specs::TableText::local_header))]
+#[tactic(auto, unfolding(mesh_model::specs::Text::Tables::local_header))]
 pub fn local_header(
     out: &mut Vec<u8>,
     name: &[u8],
@@ -41,7 +41,7 @@ pub fn local_header(
 }
 
 /// Appends the line of a present client of a local table.
-#[tactic(auto, unfolding(mesh_model::specs::TableText::local_line))]
+#[tactic(auto, unfolding(mesh_model::specs::Text::Tables::local_line))]
 pub fn local_line(out: &mut Vec<u8>, row: &LocalRow) -> Result<(), NoMemory>
     ensures ok { OnOk result (out.new.items ≡ out.old.items ++ local_line row.now) }
     ensures err { OnErr result (out.new.items ≡ out.old.items) }
@@ -61,7 +61,7 @@ pub fn local_line(out: &mut Vec<u8>, row: &LocalRow) -> Result<(), NoMemory>
 }
 
 /// Appends the flags of an entry, a letter or `-` each.
-#[tactic(auto, unfolding(mesh_model::specs::TableText::flags_text))]
+#[tactic(auto, unfolding(mesh_model::specs::Text::Tables::flags_text))]
 fn put_flags(line: &mut Vec<u8>, flags: u8) -> Result<(), NoMemory>
     ensures ok { OnOk result (line.new.items ≡ line.old.items ++ flags_text flags) }
 {
@@ -81,7 +81,7 @@ fn flag_letter(flags: u8, flag: u8, letter: u8) -> u8
 }
 
 /// Appends an age, or `-` for none.
-#[tactic(auto, unfolding(mesh_model::specs::TableText::age_text))]
+#[tactic(auto, unfolding(mesh_model::specs::Text::Tables::age_text))]
 fn put_age(line: &mut Vec<u8>, age: Option<Millis>) -> Result<(), NoMemory>
     ensures ok { OnOk result (line.new.items ≡ line.old.items ++ age_text age) }
 {

@@ -1,15 +1,15 @@
 //! The line of a packet, by its kind. Each call writes it in place of what `line` holds.
 
 ghost use Rattle.std.specs.Prelude.{◌≡◌, OnOk};
-ghost use Rattle.mesh_model.specs.Packets.{row_of};
-ghost use Rattle.mesh_model.specs.PacketLines.{packet_line};
+ghost use Rattle.mesh_model.specs.Packets.Layout.{row_of};
+ghost use Rattle.mesh_model.specs.Text.PacketLines.{packet_line};
 
 use crate::fields::{put_named_address, put_named_flags, put_named_number, start_line};
 use mesh_base::NoMemory;
 use mesh_model::Head;
 
 // The line of an originator message of algorithm IV.
-#[tactic(auto, unfolding(mesh_model::specs::PacketLines::packet_line))]
+#[tactic(auto, unfolding(mesh_model::specs::Text::PacketLines::packet_line))]
 fn iv_ogm_line(line: &mut Vec<u8>, head: &Head, len: usize) -> Result<(), NoMemory>
     requires kind { (row_of head.now 0).kind ≡ 0 }
     ensures ok { OnOk result (line.new.items ≡ packet_line head.now len) }
@@ -38,7 +38,7 @@ fn iv_ogm_line(line: &mut Vec<u8>, head: &Head, len: usize) -> Result<(), NoMemo
 }
 
 // The line of a broadcast.
-#[tactic(auto, unfolding(mesh_model::specs::PacketLines::packet_line))]
+#[tactic(auto, unfolding(mesh_model::specs::Text::PacketLines::packet_line))]
 fn bcast_line(line: &mut Vec<u8>, head: &Head, len: usize) -> Result<(), NoMemory>
     requires kind { (row_of head.now 0).kind ≡ 1 }
     ensures ok { OnOk result (line.new.items ≡ packet_line head.now len) }
@@ -56,7 +56,7 @@ fn bcast_line(line: &mut Vec<u8>, head: &Head, len: usize) -> Result<(), NoMemor
 }
 
 // The line of a message of the echo location protocol.
-#[tactic(auto, unfolding(mesh_model::specs::PacketLines::packet_line))]
+#[tactic(auto, unfolding(mesh_model::specs::Text::PacketLines::packet_line))]
 fn elp_line(line: &mut Vec<u8>, head: &Head) -> Result<(), NoMemory>
     requires kind { (row_of head.now 0).kind ≡ 3 }
     ensures ok { OnOk result (line.new.items ≡ packet_line head.now 0) }
@@ -78,7 +78,7 @@ fn elp_line(line: &mut Vec<u8>, head: &Head) -> Result<(), NoMemory>
 }
 
 // The line of an originator message of algorithm V.
-#[tactic(auto, unfolding(mesh_model::specs::PacketLines::packet_line))]
+#[tactic(auto, unfolding(mesh_model::specs::Text::PacketLines::packet_line))]
 fn ogm2_line(line: &mut Vec<u8>, head: &Head, len: usize) -> Result<(), NoMemory>
     requires kind { (row_of head.now 0).kind ≡ 4 }
     ensures ok { OnOk result (line.new.items ≡ packet_line head.now len) }
@@ -105,7 +105,7 @@ fn ogm2_line(line: &mut Vec<u8>, head: &Head, len: usize) -> Result<(), NoMemory
 }
 
 // The line of a frame for one node.
-#[tactic(auto, unfolding(mesh_model::specs::PacketLines::packet_line))]
+#[tactic(auto, unfolding(mesh_model::specs::Text::PacketLines::packet_line))]
 fn unicast_line(line: &mut Vec<u8>, head: &Head, len: usize) -> Result<(), NoMemory>
     requires kind { (row_of head.now 0).kind ≡ 64 }
     ensures ok { OnOk result (line.new.items ≡ packet_line head.now len) }
@@ -123,7 +123,7 @@ fn unicast_line(line: &mut Vec<u8>, head: &Head, len: usize) -> Result<(), NoMem
 }
 
 // The line of a fragment.
-#[tactic(auto, unfolding(mesh_model::specs::PacketLines::packet_line))]
+#[tactic(auto, unfolding(mesh_model::specs::Text::PacketLines::packet_line))]
 fn frag_line(line: &mut Vec<u8>, head: &Head, len: usize) -> Result<(), NoMemory>
     requires kind { (row_of head.now 0).kind ≡ 65 }
     ensures ok { OnOk result (line.new.items ≡ packet_line head.now len) }
@@ -154,7 +154,7 @@ fn frag_line(line: &mut Vec<u8>, head: &Head, len: usize) -> Result<(), NoMemory
 }
 
 // The line of a frame for one node with its sender.
-#[tactic(auto, unfolding(mesh_model::specs::PacketLines::packet_line))]
+#[tactic(auto, unfolding(mesh_model::specs::Text::PacketLines::packet_line))]
 fn unicast4_line(line: &mut Vec<u8>, head: &Head, len: usize) -> Result<(), NoMemory>
     requires kind { (row_of head.now 0).kind ≡ 66 }
     ensures ok { OnOk result (line.new.items ≡ packet_line head.now len) }
@@ -181,7 +181,7 @@ fn unicast4_line(line: &mut Vec<u8>, head: &Head, len: usize) -> Result<(), NoMe
 }
 
 // The line of a message of ping or traceroute.
-#[tactic(auto, unfolding(mesh_model::specs::PacketLines::packet_line))]
+#[tactic(auto, unfolding(mesh_model::specs::Text::PacketLines::packet_line))]
 fn icmp_line(line: &mut Vec<u8>, head: &Head) -> Result<(), NoMemory>
     requires kind { (row_of head.now 0).kind ≡ 67 }
     ensures ok { OnOk result (line.new.items ≡ packet_line head.now 0) }
@@ -209,7 +209,7 @@ fn icmp_line(line: &mut Vec<u8>, head: &Head) -> Result<(), NoMemory>
 }
 
 // The line of containers for one node.
-#[tactic(auto, unfolding(mesh_model::specs::PacketLines::packet_line))]
+#[tactic(auto, unfolding(mesh_model::specs::Text::PacketLines::packet_line))]
 fn utvlv_line(line: &mut Vec<u8>, head: &Head, len: usize) -> Result<(), NoMemory>
     requires kind { (row_of head.now 0).kind ≡ 68 }
     ensures ok { OnOk result (line.new.items ≡ packet_line head.now len) }
@@ -227,7 +227,7 @@ fn utvlv_line(line: &mut Vec<u8>, head: &Head, len: usize) -> Result<(), NoMemor
 }
 
 /// The line of a packet with this head, whose tail has so many bytes.
-#[tactic(auto, unfolding(mesh_model::specs::PacketLines::packet_line))]
+#[tactic(auto, unfolding(mesh_model::specs::Text::PacketLines::packet_line))]
 pub fn packet_line(line: &mut Vec<u8>, head: &Head, len: usize) -> Result<(), NoMemory>
     ensures ok { OnOk result (line.new.items ≡ packet_line head.now len) }
 {

@@ -2,7 +2,7 @@
 use Rattle.std.proofs.Common.{◌≡◌, ℕ, ◌+◌, ◌-◌, ◌%◌, ◌<◌, ◌≤◌, List, [], ◌∷◌, length, take, drop, refl, sym, ap, subst, ◌∙◌, arith}
 use Rattle.std.proofs.lemmas.List.{take-append-drop, length-take-le, length-drop, drop_all}
 use Rattle.mesh_model.specs.declared.packet.Head.{Head}
-use Rattle.mesh_model.specs.Packets.{Row, BeginWith, IsTail, IsPacket, row_of, header_of, byte, compat_version}
+use Rattle.mesh_model.specs.Packets.Layout.{Row, BeginWith, IsTail, IsPacket, row_of, header_of, byte, compat_version}
 use Rattle.mesh_codec.specs.declared.header.Extent.{Extent}
 use Rattle.mesh_codec.specs.declared.header.Extent.TheVariants.{Told, Rest, Nothing}
 use Rattle.mesh_codec.specs.declared.header.Header.{Header}
@@ -10,7 +10,7 @@ use Rattle.mesh_codec.specs.declared.kind.Kind.{Kind}
 use Rattle.mesh_codec.specs.declared.kind.Kind.TheVariants.{IvOgm, Bcast, Elp, Ogm2, Unicast, Frag, Unicast4, Icmp, Utvlv}
 use Rattle.mesh_codec.specs.Kinds.{kind_byte}
 use Rattle.mesh_codec.specs.Reading.{told_by, tail_kind, row_read, HasRead}
-use Rattle.mesh_model.proofs.HeaderLemmas.{untold, begin_length}
+use Rattle.mesh_laws.proofs.HeaderLemmas.{untold, begin_length}
 
 -- the length that an extent gives a tail before so many bytes
 abbrev pub tail_length : Extent → ℕ → ℕ

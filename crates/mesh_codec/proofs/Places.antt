@@ -1,8 +1,8 @@
 -- A fragment's byte is its number, its priority and a spare bit.
 use Rattle.std.proofs.Common.{◌≡◌, ℕ, ◌+◌, ◌-◌, ◌*◌, ◌/◌, ◌<◌, List, [], ◌∷◌, ◌++◌, length, slice_index, ap, arith, bit_and}
 use Rattle.std.proofs.lemmas.Nat.{and_mask}
-use Rattle.mesh_model.specs.Packets.{BeginsWith}
-use Rattle.mesh_model.specs.Packets.Field.{fragment}
+use Rattle.mesh_model.specs.Packets.Layout.{BeginsWith}
+use Rattle.mesh_model.specs.Packets.Layout.Field.{fragment}
 
 -- what is read from a byte as number and priority is a fragment's place there
 pub begins_with_fragment : (bytes front rest : List ℕ) → length front ≡ 1 → slice_index front 0 < 256 → bytes ≡ front ++ rest

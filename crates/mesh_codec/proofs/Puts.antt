@@ -5,8 +5,8 @@ use Rattle.std.specs.Vec.{vec_capacity}
 use Rattle.std.specs.List.{flat_map, AllByRecursion}
 use Rattle.std.proofs.lemmas.List.{append-nil}
 use Rattle.mesh_model.specs.declared.packet.Head.{Head}
-use Rattle.mesh_model.specs.Packets.{Field, TailKind, Fits, IsTail, HasSpelling, row_of, header_of, field_bytes, spelling}
-use Rattle.mesh_model.specs.Packets.TailKind.{containers, all_the_rest, nothing}
+use Rattle.mesh_model.specs.Packets.Layout.{Field, TailKind, Fits, IsTail, HasSpelling, row_of, header_of, field_bytes, spelling}
+use Rattle.mesh_model.specs.Packets.Layout.TailKind.{containers, all_the_rest, nothing}
 use Rattle.mesh_codec.specs.Encoding.{HasStrayTail}
 use Rattle.mesh_codec.specs.Writing.{PutsFields}
 

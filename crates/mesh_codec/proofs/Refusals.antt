@@ -4,11 +4,11 @@ use Rattle.std.specs.Prelude.{slice_get, IfOk, IfErr, IsOkAnd, IsErrOf}
 use Rattle.std.specs.Borrow.{Bor}
 use Rattle.std.proofs.lemmas.List.{length-append}
 use Rattle.mesh_model.specs.declared.packet.Head.{Head}
-use Rattle.mesh_model.specs.Packets.{BeginWith, IsPacket, row_of, header_of, header_size, compat_version}
+use Rattle.mesh_model.specs.Packets.Layout.{BeginWith, IsPacket, row_of, header_of, header_size, compat_version}
 use Rattle.mesh_codec.specs.declared.failure.CodecErr.{CodecErr}
 use Rattle.mesh_codec.specs.declared.failure.CodecErr.TheVariants.{Short, Version, Kind, Length, Long, Tail, Memory}
 use Rattle.mesh_codec.specs.Decoding.{IsShort, TellsTooMuch, HasCause, IsSame}
-use Rattle.mesh_model.proofs.HeaderLemmas.{width, begin_length, header_width}
+use Rattle.mesh_laws.proofs.HeaderLemmas.{width, begin_length, header_width}
 use Rattle.mesh_codec.proofs.Same.{same_header, one_packet}
 
 -- the first two bytes of a header, and how long the bytes are

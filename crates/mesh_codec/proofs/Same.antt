@@ -6,10 +6,10 @@ use Rattle.byteorder.specs.Numbers.{big_number-reads_back}
 use Rattle.byteorder.specs.Endian.{big_number}
 use Rattle.mesh_model.specs.declared.packet.Head.{Head}
 use Rattle.mesh_model.specs.declared.packet.Head.TheVariants.{IvOgm, Bcast, Elp, Ogm2, Unicast, Frag, Unicast4, Icmp, Utvlv}
-use Rattle.mesh_model.specs.Packets.{Field, TailKind, Holds, Fits, BeginsWith, BeginWith, IsTail, IsPacket, row_of, header_of, byte}
-use Rattle.mesh_model.specs.Packets.Field.{number, address, fragment, reserved}
-use Rattle.mesh_model.specs.Packets.TailKind.{containers, all_the_rest, nothing}
-use Rattle.mesh_model.proofs.HeaderLemmas.{size_of, held_length, same_tail_kind}
+use Rattle.mesh_model.specs.Packets.Layout.{Field, TailKind, Holds, Fits, BeginsWith, BeginWith, IsTail, IsPacket, row_of, header_of, byte}
+use Rattle.mesh_model.specs.Packets.Layout.Field.{number, address, fragment, reserved}
+use Rattle.mesh_model.specs.Packets.Layout.TailKind.{containers, all_the_rest, nothing}
+use Rattle.mesh_laws.proofs.HeaderLemmas.{size_of, held_length, same_tail_kind}
 
 -- a field without its value
 abbrev pub blank : Field → Field

@@ -4,10 +4,10 @@ use Rattle.std.specs.List.{flat_map, AllByRecursion}
 use Rattle.std.proofs.lemmas.List.{append-nil, length-append, length-replicate}
 use Rattle.mesh_model.specs.declared.packet.Head.{Head}
 use Rattle.mesh_model.specs.declared.packet.Head.TheVariants.{IvOgm, Bcast, Elp, Ogm2, Unicast, Frag, Unicast4, Icmp, Utvlv}
-use Rattle.mesh_model.specs.Packets.{Field, TailKind, Holds, Fits, BeginWith, IsTail, IsPacket, HasSpelling, HasSmallPlace, row_of, header_of, header_size, field_bytes, spelling}
-use Rattle.mesh_model.specs.Packets.Field.{number, address, fragment, reserved}
-use Rattle.mesh_model.specs.Packets.TailKind.{containers, all_the_rest, nothing}
-use Rattle.mesh_model.proofs.HeaderLemmas.{width, begin_length, header_width}
+use Rattle.mesh_model.specs.Packets.Layout.{Field, TailKind, Holds, Fits, BeginWith, IsTail, IsPacket, HasSpelling, HasSmallPlace, row_of, header_of, header_size, field_bytes, spelling}
+use Rattle.mesh_model.specs.Packets.Layout.Field.{number, address, fragment, reserved}
+use Rattle.mesh_model.specs.Packets.Layout.TailKind.{containers, all_the_rest, nothing}
+use Rattle.mesh_laws.proofs.HeaderLemmas.{width, begin_length, header_width}
 use Rattle.mesh_codec.proofs.Same.{one_packet}
 
 -- what a field is written as holds it

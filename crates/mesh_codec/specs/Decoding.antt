@@ -4,8 +4,8 @@
 use Rattle.std.specs.Prelude.{◌≡◌, ◌≢◌, ◌⊎◌, ℕ, ◌<◌, List, length, Some, None, slice_get, option_and_then}
 use Rattle.std.specs.Borrow.{Bor}
 use Rattle.mesh_model.specs.declared.packet.Head.{Head}
-use Rattle.mesh_model.specs.Packets.{compat_version, header_size, header_of, row_of, BeginWith}
-use Rattle.mesh_model.specs.Packets.TailKind.{containers}
+use Rattle.mesh_model.specs.Packets.Layout.{compat_version, header_size, header_of, row_of, BeginWith}
+use Rattle.mesh_model.specs.Packets.Layout.TailKind.{containers}
 use Rattle.mesh_codec.specs.declared.failure.CodecErr.{CodecErr}
 use Rattle.mesh_codec.specs.declared.failure.CodecErr.TheVariants.{Short, Version, Kind, Length, Long, Tail, Memory}
 

@@ -2,8 +2,8 @@
 -- can tell, or where a tail is given to a kind that has none. The main word is `HasObstacle`.
 use Rattle.std.specs.Prelude.{◌≡◌, ℕ, ◌<◌, List, length, ⊤}
 use Rattle.mesh_model.specs.declared.packet.Head.{Head}
-use Rattle.mesh_model.specs.Packets.{row_of}
-use Rattle.mesh_model.specs.Packets.TailKind.{containers, nothing}
+use Rattle.mesh_model.specs.Packets.Layout.{row_of}
+use Rattle.mesh_model.specs.Packets.Layout.TailKind.{containers, nothing}
 use Rattle.mesh_codec.specs.declared.failure.CodecErr.{CodecErr}
 use Rattle.mesh_codec.specs.declared.failure.CodecErr.TheVariants.{Short, Version, Kind, Length, Long, Tail, Memory}
 

@@ -1,6 +1,6 @@
 -- The kinds of packets by their type bytes. No public clause cites this module.
 use Rattle.std.specs.Prelude.{◌≡◌, ℕ, ◌+◌, ◌≤◌, List, ◌∷◌, length, Some, unwrap_or, slice_get}
-use Rattle.mesh_model.specs.Packets.{compat_version, header_size}
+use Rattle.mesh_model.specs.Packets.Layout.{compat_version, header_size}
 use Rattle.mesh_codec.specs.declared.kind.Kind.{Kind}
 use Rattle.mesh_codec.specs.declared.kind.Kind.TheVariants.{IvOgm, Bcast, Elp, Ogm2, Unicast, Frag, Unicast4, Icmp, Utvlv}
 

@@ -3,8 +3,8 @@
 use Rattle.std.specs.Prelude.{◌≡◌, ◌≢◌, ℕ, List, ◌++◌, length, Some}
 use Rattle.std.specs.List.{flat_map}
 use Rattle.mesh_model.specs.declared.packet.Head.{Head}
-use Rattle.mesh_model.specs.Packets.{row_of, header_of, header_size, field_bytes, spelling, HasSpelling, HasSmallPlace, IsPacket}
-use Rattle.mesh_model.specs.Packets.TailKind.{all_the_rest}
+use Rattle.mesh_model.specs.Packets.Layout.{row_of, header_of, header_size, field_bytes, spelling, HasSpelling, HasSmallPlace, IsPacket}
+use Rattle.mesh_model.specs.Packets.Layout.TailKind.{all_the_rest}
 
 -- the bytes begin with one packet at most
 abbrev pub HasOneReading : Type 0

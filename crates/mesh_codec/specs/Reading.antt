@@ -1,7 +1,7 @@
 -- What the steps of reading a packet leave. No public clause cites this module.
 use Rattle.std.specs.Prelude.{◌≡◌, ℕ, List}
-use Rattle.mesh_model.specs.Packets.{Row, row_of, header_of, BeginWith, TailKind}
-use Rattle.mesh_model.specs.Packets.TailKind.{containers, all_the_rest, nothing}
+use Rattle.mesh_model.specs.Packets.Layout.{Row, row_of, header_of, BeginWith, TailKind}
+use Rattle.mesh_model.specs.Packets.Layout.TailKind.{containers, all_the_rest, nothing}
 use Rattle.mesh_codec.specs.declared.kind.Kind.{Kind}
 use Rattle.mesh_codec.specs.declared.header.Extent.{Extent}
 use Rattle.mesh_codec.specs.declared.header.Extent.TheVariants.{Told, Rest, Nothing}

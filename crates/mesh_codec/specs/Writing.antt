@@ -3,8 +3,8 @@ use Rattle.std.specs.Prelude.{◌≡◌, ◌≤◌, ◌+◌, ℕ, List, [], ◌�
 use Rattle.std.specs.Global.{Vec}
 use Rattle.std.specs.Vec.{vec_len, vec_capacity}
 use Rattle.mesh_model.specs.declared.packet.Head.{Head}
-use Rattle.mesh_model.specs.Packets.{Field, Fits, row_of, field_bytes}
-use Rattle.mesh_model.specs.Packets.TailKind.{containers}
+use Rattle.mesh_model.specs.Packets.Layout.{Field, Fits, row_of, field_bytes}
+use Rattle.mesh_model.specs.Packets.Layout.TailKind.{containers}
 use Rattle.mesh_codec.specs.declared.kind.Kind.{Kind}
 use Rattle.mesh_codec.specs.Kinds.{kind_byte}
 

@@ -2,8 +2,8 @@
 //! and the bytes after it.
 
 ghost use Rattle.std.specs.Prelude.{◌≡◌, ◌+◌, ◌≤◌, length};
-ghost use Rattle.mesh_model.specs.Packets.{BeginsWith};
-ghost use Rattle.mesh_model.specs.Packets.Field.{number, address, fragment, reserved};
+ghost use Rattle.mesh_model.specs.Packets.Layout.{BeginsWith};
+ghost use Rattle.mesh_model.specs.Packets.Layout.Field.{number, address, fragment, reserved};
 
 use byteorder::{BigEndian, ByteOrder};
 use mesh_base::Mac;

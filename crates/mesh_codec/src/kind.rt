@@ -1,7 +1,7 @@
 //! The kinds of packets and their type bytes (`batadv_packet.h`, compat version 15).
 
 ghost use Rattle.std.specs.Prelude.{◌≡◌, None, IfSome, IfNone};
-ghost use Rattle.mesh_model.specs.Packets.{header_size};
+ghost use Rattle.mesh_model.specs.Packets.Layout.{header_size};
 ghost use Rattle.mesh_codec.specs.Kinds.{kind_byte, header_bytes};
 
 /// The version byte, the second of each packet.

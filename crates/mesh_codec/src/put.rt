@@ -2,7 +2,7 @@
 
 ghost use Rattle.std.specs.Prelude.{◌≡◌, ◌++◌, ◌+◌, ◌≤◌, length};
 ghost use Rattle.std.specs.Vec.{vec_len, vec_capacity};
-ghost use Rattle.mesh_model.specs.Packets.Field.{number, address, fragment, reserved};
+ghost use Rattle.mesh_model.specs.Packets.Layout.Field.{number, address, fragment, reserved};
 ghost use Rattle.mesh_codec.specs.Writing.{HasRoom, Puts};
 
 use byteorder::{BigEndian, ByteOrder};

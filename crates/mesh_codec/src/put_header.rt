@@ -2,7 +2,7 @@
 
 ghost use Rattle.std.specs.Prelude.{◌≡◌, ℕ, ◌+◌, ◌≤◌};
 ghost use Rattle.std.specs.Vec.{vec_len};
-ghost use Rattle.mesh_model.specs.Packets.{header_of, HasSmallPlace};
+ghost use Rattle.mesh_model.specs.Packets.Layout.{header_of, HasSmallPlace};
 ghost use Rattle.mesh_codec.specs.Kinds.{header_bytes};
 ghost use Rattle.mesh_codec.specs.Writing.{HasRoom, PutsFields, IsOfKind, CanTell};
 

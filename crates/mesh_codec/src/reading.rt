@@ -1,6 +1,6 @@
 ghost use Rattle.std.specs.Prelude.{ℕ, List, IfOk, IfErr, IsOkAnd, IsErrOf};
 ghost use Rattle.mesh_model.specs.declared.packet.Head.{Head};
-ghost use Rattle.mesh_model.specs.Packets.{IsPacket};
+ghost use Rattle.mesh_model.specs.Packets.Layout.{IsPacket};
 ghost use Rattle.mesh_codec.specs.declared.failure.CodecErr.{CodecErr};
 ghost use Rattle.mesh_codec.specs.Decoding.{HasCause, IsSame};
 ghost use Rattle.mesh_codec.specs.Kinds.{HasKind, HasFields};

@@ -1,4 +1,4 @@
-ghost use Rattle.mesh_model.specs.Packets.{HasSmallPlace};
+ghost use Rattle.mesh_model.specs.Packets.Layout.{HasSmallPlace};
 
 use super::*;
 use mesh_base::Mac;

@@ -1,5 +1,5 @@
 ghost use Rattle.std.specs.Prelude.{◌≡◌, ◌++◌, ◌+◌, ℕ, List, length, OnOk, OnErr, IfErr, IsErrOf, IsOk};
-ghost use Rattle.mesh_model.specs.Packets.{HasSmallPlace, HasSpelling, spelling};
+ghost use Rattle.mesh_model.specs.Packets.Layout.{HasSmallPlace, HasSpelling, spelling};
 ghost use Rattle.mesh_codec.specs.Encoding.{IsTooLong, HasStrayTail, HasObstacle};
 
 use crate::failure::CodecErr;

@@ -1,20 +1,15 @@
 //! What a reader of batmesh believes: the plain data that definitions speak of and, in `specs/`,
 //! the definitions.
 //!
-//! Read `specs/` in the order of its `Lib.antt`. `rows` computes small scenarios from the
-//! definitions, `run_laws` and `present_laws` say what holds of them all.
+//! Read `specs/` in the order of its `Lib.antt`, room by room. `mesh_laws` says what holds of the
+//! definitions, `mesh_rows` computes small scenarios from them.
 
 #![tactic(auto)]
 
-pub mod decode_rows;
 pub mod ending;
 pub mod line_form;
 pub mod name_list;
 pub mod packet;
-pub mod packet_laws;
-pub mod present_laws;
-pub mod rows;
-pub mod run_laws;
 pub mod table_row;
 
 pub use ending::{LimitName, Refusal, Stop};

@@ -7,14 +7,14 @@ use Rattle.mesh_base.specs.Writes.{AppendsFront}
 use Rattle.mesh_model.specs.declared.ending.LimitName.TheVariants.{Line, Input}
 use Rattle.mesh_model.specs.declared.ending.Stop.{Stop}
 use Rattle.mesh_model.specs.declared.ending.Stop.TheVariants.{Refused, Limit}
-use Rattle.mesh_model.specs.Commands.{command_of_line}
-use Rattle.mesh_model.specs.Lines.{newline}
-use Rattle.mesh_model.specs.PlainRun.{Run, start, after_lines, after_reading, plain_run, output}
-use Rattle.mesh_model.specs.Reached.{halting_place}
-use Rattle.mesh_model.proofs.CutLemmas.{IsCut-more, lines_of-cut_end, open_line}
-use Rattle.mesh_model.proofs.HaltLemmas.{after_line-going, halts_after}
-use Rattle.mesh_model.proofs.UnfinishedLemmas.{cut-length, halts_input, halts_long, line_outcome-last}
-use Rattle.mesh_model.proofs.RunLemmas.{after_lines-append}
+use Rattle.mesh_model.specs.Scenario.Commands.{command_of_line}
+use Rattle.mesh_model.specs.Scenario.Lines.{newline}
+use Rattle.mesh_model.specs.Run.PlainRun.{Run, start, after_lines, after_reading, plain_run, output}
+use Rattle.mesh_laws.specs.Halting.{halting_place}
+use Rattle.mesh_laws.proofs.CutLemmas.{IsCut-more, lines_of-cut_end, open_line}
+use Rattle.mesh_laws.proofs.HaltLemmas.{after_line-going, halts_after}
+use Rattle.mesh_laws.proofs.UnfinishedLemmas.{cut-length, halts_input, halts_long, line_outcome-last}
+use Rattle.mesh_laws.proofs.RunLemmas.{after_lines-append}
 use Rattle.mesh_run.specs.declared.fault.Fault.{Fault}
 use Rattle.mesh_run.specs.declared.fault.Fault.TheVariants.{Halted, Read, Write, Memory}
 use Rattle.mesh_run.specs.declared.runner.Runner.{Runner}

@@ -8,14 +8,14 @@ use Rattle.mesh_base.specs.Writes.{AppendsFront}
 use Rattle.mesh_model.specs.declared.ending.LimitName.TheVariants.{Line, Input}
 use Rattle.mesh_model.specs.declared.ending.Stop.{Stop}
 use Rattle.mesh_model.specs.declared.ending.Stop.TheVariants.{Refused, Limit}
-use Rattle.mesh_model.specs.Commands.{command_of_line}
-use Rattle.mesh_model.specs.Lines.{newline, lines_of, without_carriage_return}
-use Rattle.mesh_model.specs.PlainRun.{start, after_lines, after_reading, plain_run, output}
-use Rattle.mesh_model.specs.Reached.{halting_place}
-use Rattle.mesh_model.proofs.CutLemmas.{IsCut-newline}
-use Rattle.mesh_model.proofs.HaltLemmas.{plain_run-cut}
-use Rattle.mesh_model.proofs.UnfinishedLemmas.{after_lines-newline, cut-length, halts_newline, line_outcome-newline}
-use Rattle.mesh_model.proofs.RunLemmas.{after_lines-grows}
+use Rattle.mesh_model.specs.Scenario.Commands.{command_of_line}
+use Rattle.mesh_model.specs.Scenario.Lines.{newline, lines_of, without_carriage_return}
+use Rattle.mesh_model.specs.Run.PlainRun.{start, after_lines, after_reading, plain_run, output}
+use Rattle.mesh_laws.specs.Halting.{halting_place}
+use Rattle.mesh_laws.proofs.CutLemmas.{IsCut-newline}
+use Rattle.mesh_laws.proofs.HaltLemmas.{plain_run-cut}
+use Rattle.mesh_laws.proofs.UnfinishedLemmas.{after_lines-newline, cut-length, halts_newline, line_outcome-newline}
+use Rattle.mesh_laws.proofs.RunLemmas.{after_lines-grows}
 use Rattle.mesh_run.specs.declared.fault.Fault.{Fault}
 use Rattle.mesh_run.specs.declared.fault.Fault.TheVariants.{Halted, Read, Write, Memory}
 use Rattle.mesh_run.specs.declared.runner.Runner.{Runner}

@@ -3,7 +3,7 @@ use Rattle.std.proofs.Common.{◌≡◌, ℕ, inr, List, length, Option, Some, N
 use Rattle.std.proofs.KnownBytes.{Consumes-whole}
 use Rattle.mesh_base.specs.Writes.{AppendsFront}
 use Rattle.mesh_model.specs.declared.ending.Stop.{Stop}
-use Rattle.mesh_model.specs.PlainRun.{plain_run, output}
+use Rattle.mesh_model.specs.Run.PlainRun.{plain_run, output}
 use Rattle.mesh_run.specs.declared.fault.Fault.{Fault}
 use Rattle.mesh_run.specs.declared.fault.Fault.TheVariants.{Halted, Read, Write, Memory}
 use Rattle.mesh_run.specs.Outcome.{HaltsNear, PrintsFrontOf, RunFails}

@@ -4,8 +4,8 @@ use Rattle.std.specs.Prelude.{bytes_eq, nat_lt, position}
 use Rattle.std.specs.List.{list_any, position_or_len}
 use Rattle.std.proofs.lemmas.Bool.{ltb-true, ltb-false}
 use Rattle.mesh_base.specs.declared.address.Mac.{Mac}
-use Rattle.mesh_model.specs.CarriedOut.{change_named}
-use Rattle.mesh_model.specs.State.{NodeLog, has_address, is_named, node_named}
+use Rattle.mesh_model.specs.Run.Outcome.{change_named}
+use Rattle.mesh_model.specs.Run.State.{NodeLog, has_address, is_named, node_named}
 use Rattle.mesh_run.specs.declared.node.SceneNode.{SceneNode}
 use Rattle.mesh_run.specs.Scene.{NodeStands, NodesStand, is_at, is_called}
 

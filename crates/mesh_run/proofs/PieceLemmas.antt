@@ -3,8 +3,8 @@ use Rattle.std.proofs.Common.{◌≡◌, ℕ, suc, ◌+◌, ◌-◌, ◌<◌, �
 use Rattle.std.proofs.lemmas.Bool.{eqb-true}
 use Rattle.std.proofs.lemmas.List.{drop_more, get_or-take, take_rest}
 use Rattle.memchr.specs.Find.{IsFirstByte, is_byte}
-use Rattle.mesh_model.specs.Cuts.{IsUnbroken}
-use Rattle.mesh_model.specs.Lines.{newline}
+use Rattle.mesh_laws.specs.Cuts.{IsUnbroken}
+use Rattle.mesh_model.specs.Scenario.Lines.{newline}
 
 by_test : (b : ℕ) (test : Bool) → (b == newline) ≡ test → (test ≡ true → ⊥) → (b == newline) ≡ false
 by_test b true is h = absurd (h refl)

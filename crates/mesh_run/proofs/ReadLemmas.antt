@@ -4,8 +4,8 @@ use Rattle.std.specs.Io.KnownBytes.{Appends, Consumes, IsAtEnd}
 use Rattle.std.proofs.KnownBytes.{Consumes-trans}
 use Rattle.mesh_base.specs.Faults.{Rose}
 use Rattle.mesh_base.specs.Writes.{AppendsFront}
-use Rattle.mesh_model.specs.PlainRun.{start, after_lines, plain_run, output}
-use Rattle.mesh_model.proofs.CutLemmas.{complete_lines-cut}
+use Rattle.mesh_model.specs.Run.PlainRun.{start, after_lines, plain_run, output}
+use Rattle.mesh_laws.proofs.CutLemmas.{complete_lines-cut}
 use Rattle.mesh_run.specs.declared.fault.Fault.{Fault}
 use Rattle.mesh_run.specs.declared.fault.Fault.TheVariants.{Halted, Read, Write, Memory}
 use Rattle.mesh_run.specs.declared.runner.Runner.{Runner}

@@ -9,21 +9,21 @@ use Rattle.mesh_base.specs.Address.{is_broadcast}
 use Rattle.mesh_base.specs.declared.address.Mac.{Mac}
 use Rattle.mesh_base.specs.declared.client.Key.{Key}
 use Rattle.mesh_base.specs.declared.client.Vid.{Vid}
-use Rattle.mesh_model.specs.Present.{present_clients}
-use Rattle.mesh_model.specs.TableText.{LocalTable, table_text}
+use Rattle.mesh_model.specs.Clients.Present.{present_clients}
+use Rattle.mesh_model.specs.Text.Tables.{LocalTable, table_text}
 use Rattle.std.proofs.lemmas.List.Concat.{flat_map-append}
 use Rattle.mesh_model.specs.declared.line_form.Table.TheVariants.{Locals}
 use Rattle.mesh_run.specs.declared.scene.Scene.{Scene}
 use Rattle.tt_local.specs.Locals.{StandsFor}
 use Rattle.mesh_model.specs.declared.line_form.Table.{Table}
-use Rattle.mesh_model.specs.Log.{Log}
-use Rattle.mesh_model.specs.Log.{Frame as GivenFrame}
-use Rattle.mesh_model.specs.Mentions.{Mention, Sighted, is_wifi_on, key_of, mentions}
-use Rattle.mesh_model.specs.CarriedOut.{after_command, after_input, carried_out, change_named, given_at, local_table, with_input}
-use Rattle.mesh_model.specs.State.{NodeLog, State, LocalsShown, event_text, events_text, has_address, is_named, log_of}
+use Rattle.mesh_model.specs.Clients.Log.{Log}
+use Rattle.mesh_model.specs.Clients.Log.{Frame as GivenFrame}
+use Rattle.mesh_model.specs.Clients.Mentions.{Mention, Sighted, is_wifi_on, key_of, mentions}
+use Rattle.mesh_model.specs.Run.Outcome.{after_command, after_input, carried_out, change_named, given_at, local_table, with_input}
+use Rattle.mesh_model.specs.Run.State.{NodeLog, State, LocalsShown, event_text, events_text, has_address, is_named, log_of}
 use Rattle.mesh_run.specs.declared.node.SceneNode.{SceneNode}
-use Rattle.mesh_model.specs.PlainRun.{after_reading}
-use Rattle.mesh_model.specs.Readings.{Reading}
+use Rattle.mesh_model.specs.Run.PlainRun.{after_reading}
+use Rattle.mesh_model.specs.Scenario.Readings.{Reading}
 use Rattle.mesh_run.specs.declared.fault.LineFault.{LineFault}
 use Rattle.mesh_run.specs.declared.fault.LineFault.TheVariants.{Stopped, Memory}
 use Rattle.mesh_run.specs.Scene.{HasLineCause, HasReadingCause, Carries, NodeStands, NodesStand, SceneStands, is_at, is_called}

@@ -9,10 +9,11 @@ use Rattle.mesh_model.specs.declared.ending.LimitName.{LimitName}
 use Rattle.mesh_model.specs.declared.ending.Refusal.{Refusal}
 use Rattle.mesh_model.specs.declared.ending.Stop.{Stop}
 use Rattle.mesh_model.specs.declared.ending.Stop.TheVariants.{Refused, Limit}
-use Rattle.mesh_model.specs.Lines.{complete_lines}
-use Rattle.mesh_model.specs.Messages.{halt_text, memory_text, read_fault_text, usage_text, write_fault_text}
-use Rattle.mesh_model.specs.PlainRun.{Halt, start, after_lines, plain_run, output}
-use Rattle.mesh_model.specs.Reached.{halting_byte}
+use Rattle.mesh_model.specs.Scenario.Lines.{complete_lines}
+use Rattle.mesh_model.specs.Text.Messages.{halt_text, memory_text, read_fault_text, usage_text, write_fault_text}
+use Rattle.mesh_model.specs.Scenario.Halt.{Halt}
+use Rattle.mesh_model.specs.Run.PlainRun.{start, after_lines, plain_run, output}
+use Rattle.mesh_laws.specs.Halting.{halting_byte}
 use Rattle.mesh_run.specs.declared.fault.Fault.{Fault}
 use Rattle.mesh_run.specs.declared.fault.Fault.TheVariants.{Halted, Read, Write, Memory}
 

@@ -6,10 +6,10 @@ use Rattle.std.specs.Io.KnownBytes.{Appends, Keeps}
 use Rattle.mesh_base.specs.Faults.{Rose}
 use Rattle.mesh_base.specs.Writes.{AppendsFront}
 use Rattle.mesh_model.specs.declared.ending.Stop.{Stop}
-use Rattle.mesh_model.specs.Cuts.{IsCut}
-use Rattle.mesh_model.specs.PlainRun.{start, after_lines, plain_run, output}
-use Rattle.mesh_model.specs.Reached.{halting_byte}
-use Rattle.mesh_model.specs.State.{State, events_text}
+use Rattle.mesh_laws.specs.Cuts.{IsCut}
+use Rattle.mesh_model.specs.Run.PlainRun.{start, after_lines, plain_run, output}
+use Rattle.mesh_laws.specs.Halting.{halting_byte}
+use Rattle.mesh_model.specs.Run.State.{State, events_text}
 use Rattle.mesh_run.specs.declared.fault.Fault.{Fault}
 use Rattle.mesh_run.specs.declared.fault.Fault.TheVariants.{Halted, Read, Write, Memory}
 use Rattle.mesh_run.specs.declared.runner.Runner.{Runner}

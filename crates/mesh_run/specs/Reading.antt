@@ -5,8 +5,8 @@ use Rattle.std.specs.Io.KnownBytes.{Appends, Consumes, IsAtEnd}
 use Rattle.mesh_base.specs.Faults.{Rose}
 use Rattle.mesh_base.specs.Writes.{AppendsFront}
 use Rattle.mesh_model.specs.declared.ending.Stop.{Stop}
-use Rattle.mesh_model.specs.Lines.{complete_lines}
-use Rattle.mesh_model.specs.PlainRun.{start, after_lines, plain_run, output}
+use Rattle.mesh_model.specs.Scenario.Lines.{complete_lines}
+use Rattle.mesh_model.specs.Run.PlainRun.{start, after_lines, plain_run, output}
 use Rattle.mesh_run.specs.declared.fault.Fault.{Fault}
 use Rattle.mesh_run.specs.declared.fault.Fault.TheVariants.{Halted, Read, Write, Memory}
 use Rattle.mesh_run.specs.Progress.{Finishes, HaltsFrom}

@@ -3,9 +3,9 @@
 use Rattle.std.specs.Prelude.{◌≡◌, ℕ, List, [], ◌∷◌, ◌++◌, Result, Ok, Err, OnOk, IfErr, bytes_eq, Bool, false}
 use Rattle.mesh_model.specs.declared.ending.Stop.{Stop}
 use Rattle.mesh_base.specs.declared.address.Mac.{Mac}
-use Rattle.mesh_model.specs.Readings.{Reading}
-use Rattle.mesh_model.specs.Mentions.{is_wifi_on, mentions}
-use Rattle.mesh_model.specs.State.{NodeLog, State, events_text}
+use Rattle.mesh_model.specs.Scenario.Readings.{Reading}
+use Rattle.mesh_model.specs.Clients.Mentions.{is_wifi_on, mentions}
+use Rattle.mesh_model.specs.Run.State.{NodeLog, State, events_text}
 use Rattle.mesh_run.specs.declared.fault.LineFault.{LineFault}
 use Rattle.mesh_run.specs.declared.fault.LineFault.TheVariants.{Stopped, Memory}
 use Rattle.mesh_run.specs.declared.node.SceneNode.{SceneNode}

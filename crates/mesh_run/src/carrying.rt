@@ -1,7 +1,7 @@
 ghost use Rattle.std.specs.Prelude.{OnOk, IfErr};
-ghost use Rattle.mesh_model.specs.Commands.{command_of_line};
-ghost use Rattle.mesh_model.specs.PlainRun.{after_reading};
-ghost use Rattle.mesh_model.specs.State.{State};
+ghost use Rattle.mesh_model.specs.Scenario.Commands.{command_of_line};
+ghost use Rattle.mesh_model.specs.Run.PlainRun.{after_reading};
+ghost use Rattle.mesh_model.specs.Run.State.{State};
 ghost use Rattle.mesh_run.specs.Progress.{Carried, CarryFails, CountsWrites};
 ghost use Rattle.mesh_run.specs.Scene.{SceneStands};
 

@@ -1,5 +1,5 @@
 ghost use Rattle.std.specs.Prelude.{◌≡◌, [], ◌++◌, OnOk};
-ghost use Rattle.mesh_model.specs.TableText.{table_text};
+ghost use Rattle.mesh_model.specs.Text.Tables.{table_text};
 
 use mesh_base::NoMemory;
 use mesh_model::LocalRow;

@@ -1,7 +1,7 @@
 ghost use Rattle.std.specs.Prelude.{◌≡◌, ◌<◌, ◌⊎◌, ◌↔◌, [], length, None, IfSome};
 ghost use Rattle.std.specs.Io.KnownBytes.{IsAtEnd};
 ghost use Rattle.mesh_base.specs.Faults.{Rose};
-ghost use Rattle.mesh_model.specs.PlainRun.{plain_run};
+ghost use Rattle.mesh_model.specs.Run.PlainRun.{plain_run};
 ghost use Rattle.mesh_run.specs.Outcome.{IsLimited, IsRefused, IsStatusOr, PrintsFrontOf, PrintsTaken, TellsStatus, fault_status, plain_status};
 ghost use Rattle.mesh_run.specs.Progress.{Finishes};
 

@@ -1,6 +1,6 @@
 ghost use Rattle.std.specs.Prelude.{◌≡◌, ℕ, ◌+◌, ◌<◌, ◌≤◌, List, [], ◌∷◌, ◌++◌, length, Option, OnOk, IfErr};
-ghost use Rattle.mesh_model.specs.Cuts.{IsUnbroken};
-ghost use Rattle.mesh_model.specs.Lines.{input_limit, newline, without_carriage_return};
+ghost use Rattle.mesh_laws.specs.Cuts.{IsUnbroken};
+ghost use Rattle.mesh_model.specs.Scenario.Lines.{input_limit, newline, without_carriage_return};
 ghost use Rattle.mesh_run.specs.Progress.{BlamesWrite, CountsWrites, Fails, FailsAtEnd, FailsOn, Finishes, ReadsOn, Stands};
 
 use crate::carrying::carry_line;

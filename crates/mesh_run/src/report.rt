@@ -2,7 +2,7 @@ ghost use Rattle.std.specs.Prelude.{◌≡◌, ◌≤◌, OnOk, OnErr};
 ghost use Rattle.std.specs.Io.KnownBytes.{Appends};
 ghost use Rattle.mesh_base.specs.Faults.{Rose};
 ghost use Rattle.mesh_run.specs.Outcome.{fault_text};
-ghost use Rattle.mesh_model.specs.Messages.{halt_text, limit_words, refusal_words, stop_words};
+ghost use Rattle.mesh_model.specs.Text.Messages.{halt_text, limit_words, refusal_words, stop_words};
 
 use crate::fault::Fault;
 use mesh_base::{Failed, Sink, write_all};
@@ -56,7 +56,7 @@ fn tell_stop<E: Sink>(err: &mut E, stop: Stop) -> Result<(), Failed>
 }
 
 /// Writes where and why a run halted, as a line. It takes no memory.
-#[tactic(auto, unfolding(mesh_model::specs::Messages::halt_text))]
+#[tactic(auto, unfolding(mesh_model::specs::Text::Messages::halt_text))]
 pub fn tell_halt<E: Sink>(err: &mut E, line: u64, stop: Stop) -> Result<(), Failed>
     ensures told { OnOk result (Appends (E.taken err.old) (E.taken err.new)
         (halt_text (record { line = line; stop = stop }))) }

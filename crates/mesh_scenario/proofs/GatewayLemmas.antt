@@ -7,10 +7,10 @@ use Rattle.std.proofs.lemmas.List.{map-append, length-map, take-append-le, take_
 use Rattle.std.proofs.lemmas.Bool.{lt-ltb, and_parts, and_from, and_left, and_right}
 use Rattle.mesh_model.specs.declared.line_form.Command.{Command}
 use Rattle.mesh_model.specs.declared.ending.Refusal.TheVariants.{BadName, ExtraWord}
-use Rattle.mesh_model.specs.NetForms.{the_gateways, gateway_limit}
-use Rattle.mesh_model.specs.Readings.{Reading, refused}
-use Rattle.mesh_model.specs.Terms.{is_name}
-use Rattle.mesh_model.specs.Words.{Word}
+use Rattle.mesh_model.specs.Scenario.NetForms.{the_gateways, gateway_limit}
+use Rattle.mesh_model.specs.Scenario.Readings.{Reading, refused}
+use Rattle.mesh_model.specs.Scenario.Terms.{is_name}
+use Rattle.mesh_model.specs.Scenario.Words.{Word}
 
 -- whether a word is a name
 abbrev pub is_name_word : Word → Bool

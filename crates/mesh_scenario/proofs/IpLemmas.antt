@@ -6,7 +6,7 @@ use Rattle.std.specs.List.{slice_split, onto_first, position_or_len, count_by}
 use Rattle.std.proofs.lemmas.Bool.{ltb-false, ltb-true, ne_eqb}
 use Rattle.std.proofs.lemmas.List.Splits.{slice_split_first, length-slice_split}
 use Rattle.mesh_base.specs.Address.{option_both}
-use Rattle.mesh_model.specs.Terms.{octet, octets_of, number_of, ip_of, ip_of_octets}
+use Rattle.mesh_model.specs.Scenario.Terms.{octet, octets_of, number_of, ip_of, ip_of_octets}
 use Rattle.mesh_scenario.specs.Reads.{is_dot}
 use Rattle.mesh_scenario.proofs.WordsLemmas.{slice_from}
 

@@ -2,8 +2,8 @@
 use Rattle.std.proofs.Common.{◌≡◌, List, [], ◌∷◌, Ok, Err, refl, ap, ◌∙◌}
 use Rattle.std.specs.Prelude.{fold}
 use Rattle.mesh_model.specs.declared.ending.Refusal.{Refusal}
-use Rattle.mesh_model.specs.LinkOptions.{LinkOptions, after_one_more, with_one_more}
-use Rattle.mesh_model.specs.Words.{Word}
+use Rattle.mesh_model.specs.Scenario.LinkOptions.{LinkOptions, after_one_more, with_one_more}
+use Rattle.mesh_model.specs.Scenario.Words.{Word}
 
 -- a refusal stays
 refused_stays : (refusal : Refusal) (words : List Word) → fold after_one_more (Err refusal) words ≡ Err refusal

@@ -3,7 +3,7 @@ use Rattle.std.proofs.Common.{◌≡◌, ℕ, zero, suc, ◌<◌, Bool, true, fa
 use Rattle.std.specs.Prelude.{unwrap_or}
 use Rattle.std.specs.List.{position_or_len}
 use Rattle.memchr.specs.Find.{IsFirstByte}
-use Rattle.mesh_model.specs.Words.{is_separator}
+use Rattle.mesh_model.specs.Scenario.Words.{is_separator}
 
 -- no byte of a list is a separator
 abbrev AreNone : List ℕ → ℕ → Type 0

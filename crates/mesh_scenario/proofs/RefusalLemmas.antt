@@ -1,6 +1,6 @@
 -- A refusal of a word, as a refusal of its line.
 use Rattle.std.proofs.Common.{◌≡◌, sym, subst}
-use Rattle.mesh_model.specs.Readings.{Reading, refused}
+use Rattle.mesh_model.specs.Scenario.Readings.{Reading, refused}
 use Rattle.mesh_scenario.specs.LineErr.{Refuses, line_err_of, refusal_of}
 use Rattle.mesh_scenario.specs.declared.line_err.LineErr.{LineErr}
 use Rattle.mesh_scenario.specs.declared.line_err.WordErr.{WordErr}

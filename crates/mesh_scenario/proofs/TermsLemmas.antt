@@ -4,8 +4,8 @@ use Rattle.std.specs.Prelude.{◌==◌, ◌&&◌, Some, None, if◌then◌else�
 use Rattle.std.specs.List.{list_all}
 use Rattle.std.proofs.lemmas.Bool.{le-leb, lt-ltb, eqb-false}
 use Rattle.std.proofs.lemmas.List.Sums.{fold_more}
-use Rattle.mesh_model.specs.Terms.{is_letter, is_digit, is_mark, is_pattern, is_name, is_name_character, number_of, digits_value}
-use Rattle.mesh_model.specs.Fields.{kept_number}
+use Rattle.mesh_model.specs.Scenario.Terms.{is_letter, is_digit, is_mark, is_pattern, is_name, is_name_character, number_of, digits_value}
+use Rattle.mesh_model.specs.Scenario.Fields.{kept_number}
 
 -- only the middle one of three tests is open
 and_true : (x y z : Bool) → x ≡ true → z ≡ true → (x && y && z) ≡ y

@@ -7,7 +7,7 @@ use Rattle.std.proofs.lemmas.Grind.{common_steps}
 use Rattle.std.proofs.lemmas.List.{drop_more, length-drop}
 use Rattle.std.proofs.lemmas.List.Sums.{passes_at_first, prefix_len-le-length}
 use Rattle.mesh_scenario.specs.Reads.{is_in_word}
-use Rattle.mesh_model.specs.Words.{Word, is_separator, word_at, word_tails, words_of}
+use Rattle.mesh_model.specs.Scenario.Words.{Word, is_separator, word_at, word_tails, words_of}
 
 -- the tails that begin a word, by whether the first byte is a separator
 abbrev tails_by : Bool → Bool → ℕ → List ℕ → List (List ℕ)

@@ -1,7 +1,7 @@
 -- The cause of each refusal of a line: what `command_of_line` says of it. Want of memory is free.
 -- The main word is `Refuses`.
 use Rattle.std.specs.Prelude.{◌≡◌, Err}
-use Rattle.mesh_model.specs.Readings.{Reading, refused}
+use Rattle.mesh_model.specs.Scenario.Readings.{Reading, refused}
 use Rattle.mesh_model.specs.declared.ending.LimitName.TheVariants.{Line}
 use Rattle.mesh_model.specs.declared.ending.Refusal.{Refusal}
 use Rattle.mesh_model.specs.declared.ending.Refusal.TheVariants as because

@@ -4,11 +4,11 @@
 use Rattle.std.specs.Prelude.{◌≡◌, ◌==◌, ℕ, Bool, not, List, Result, Ok}
 use Rattle.mesh_model.specs.declared.ending.Refusal.{Refusal}
 use Rattle.mesh_model.specs.declared.line_form.Command.{Command}
-use Rattle.mesh_model.specs.LinkOptions.{LinkOptions, the_options}
-use Rattle.mesh_model.specs.NetForms.{the_gateways}
-use Rattle.mesh_model.specs.Readings.{Reading, refused, a_field, a_text, a_text_up_to, the_end}
-use Rattle.mesh_model.specs.Terms.{dot}
-use Rattle.mesh_model.specs.Words.{Word, is_separator}
+use Rattle.mesh_model.specs.Scenario.LinkOptions.{LinkOptions, the_options}
+use Rattle.mesh_model.specs.Scenario.NetForms.{the_gateways}
+use Rattle.mesh_model.specs.Scenario.Readings.{Reading, refused, a_field, a_text, a_text_up_to, the_end}
+use Rattle.mesh_model.specs.Scenario.Terms.{dot}
+use Rattle.mesh_model.specs.Scenario.Words.{Word, is_separator}
 use Rattle.mesh_scenario.specs.LineErr.{Refuses, refusal_of}
 use Rattle.mesh_scenario.specs.declared.line_err.LineErr.{LineErr}
 use Rattle.mesh_scenario.specs.declared.line_err.WordErr.{WordErr}

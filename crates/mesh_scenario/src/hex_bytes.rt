@@ -1,5 +1,5 @@
 ghost use Rattle.std.specs.Prelude.{◌≡◌, IfOk};
-ghost use Rattle.mesh_model.specs.Terms.{bytes_of_hex};
+ghost use Rattle.mesh_model.specs.Scenario.Terms.{bytes_of_hex};
 
 use hex::FromHexError;
 use mesh_base::{Bytes, NoMemory};

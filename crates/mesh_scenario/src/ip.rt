@@ -2,7 +2,7 @@
 
 ghost use Rattle.std.specs.Prelude.{◌≡◌, ◌∷◌, [], IfSome, IfNone, option_and_then};
 ghost use Rattle.std.specs.List.{slice_split};
-ghost use Rattle.mesh_model.specs.Terms.{number_of, octet, ip_of};
+ghost use Rattle.mesh_model.specs.Scenario.Terms.{number_of, octet, ip_of};
 ghost use Rattle.mesh_scenario.specs.Reads.{is_dot};
 
 use crate::terms::number;

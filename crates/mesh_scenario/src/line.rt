@@ -1,8 +1,8 @@
 ghost use Rattle.std.specs.Prelude.{◌≡◌, Ok, IfOk, IfErr};
 ghost use Rattle.std.specs.Str.{is_utf8};
-ghost use Rattle.mesh_model.specs.Commands.{command_of_line, command_of_words, is_comment, read_form};
-ghost use Rattle.mesh_model.specs.NodeForms.{node_forms};
-ghost use Rattle.mesh_model.specs.Readings.{listed_form};
+ghost use Rattle.mesh_model.specs.Scenario.Commands.{command_of_line, command_of_words, is_comment, read_form};
+ghost use Rattle.mesh_model.specs.Scenario.NodeForms.{node_forms};
+ghost use Rattle.mesh_model.specs.Scenario.Readings.{listed_form};
 ghost use Rattle.mesh_model.specs.declared.ending.Refusal.TheVariants.{UnknownCommand};
 ghost use Rattle.mesh_scenario.specs.LineErr.{Refuses};
 
@@ -102,7 +102,7 @@ fn read_words(alloc: Global, words: &mut Words<'_>) -> Result<Command, LineErr>
 }
 
 /// Reads what a line says: the bytes before its newline, less a carriage return that stood there.
-#[tactic(auto, unfolding(mesh_model::specs::Commands::command_of_line))]
+#[tactic(auto, unfolding(mesh_model::specs::Scenario::Commands::command_of_line))]
 pub fn read_line(alloc: Global, line: &[u8]) -> Result<Command, LineErr>
     ensures ok { IfOk result (λ command. command_of_line line.now ≡ Ok command) }
     ensures refused { IfErr result (Refuses (command_of_line line.now)) }

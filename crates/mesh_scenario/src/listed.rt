@@ -1,7 +1,7 @@
 //! The fixed words of the language, each by what it stands for.
 
 ghost use Rattle.std.specs.Prelude.{◌≡◌, ok_or};
-ghost use Rattle.mesh_model.specs.Fields.{switch_field, algorithm_field, alfred_mode_field, table_field};
+ghost use Rattle.mesh_model.specs.Scenario.Fields.{switch_field, algorithm_field, alfred_mode_field, table_field};
 ghost use Rattle.mesh_model.specs.declared.ending.Refusal.TheVariants.{OutOfRange};
 
 use mesh_model::{AlfredMode, Algorithm, Table};

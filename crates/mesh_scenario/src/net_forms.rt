@@ -1,7 +1,7 @@
 //! The forms of lines that make the net, let time pass, and print.
 
 ghost use Rattle.std.specs.Prelude.{◌≡◌, Ok, IfOk, IfErr};
-ghost use Rattle.mesh_model.specs.NetForms.{read_algo, read_node, read_link, read_lan, read_ping, read_traceroute, read_run, read_deliver, read_show, read_decode};
+ghost use Rattle.mesh_model.specs.Scenario.NetForms.{read_algo, read_node, read_link, read_lan, read_ping, read_traceroute, read_run, read_deliver, read_show, read_decode};
 ghost use Rattle.mesh_scenario.specs.LineErr.{Refuses};
 
 use crate::line_err::LineErr;

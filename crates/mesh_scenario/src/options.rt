@@ -1,9 +1,9 @@
 //! The options of a `link` line.
 
 ghost use Rattle.std.specs.Prelude.{◌≡◌, ◌<◌, Ok, Err, IfOk, IfErr, option_map};
-ghost use Rattle.mesh_model.specs.Fields.{number_limit};
-ghost use Rattle.mesh_model.specs.LinkOptions.{no_options, are_all_given, options_beside, with_one_more, number_within, with_delay, with_pattern, with_throughput, with_option};
-ghost use Rattle.mesh_model.specs.Terms.{number_of};
+ghost use Rattle.mesh_model.specs.Scenario.Fields.{number_limit};
+ghost use Rattle.mesh_model.specs.Scenario.LinkOptions.{no_options, are_all_given, options_beside, with_one_more, number_within, with_delay, with_pattern, with_throughput, with_option};
+ghost use Rattle.mesh_model.specs.Scenario.Terms.{number_of};
 ghost use Rattle.mesh_scenario.specs.LineErr.{refusal_of};
 ghost use Rattle.mesh_scenario.specs.Options.{options_seen};
 ghost use Rattle.mesh_scenario.specs.Reads.{GivesOptions, FailsOptions};

@@ -1,9 +1,9 @@
 //! The forms of lines that set how a node behaves.
 
 ghost use Rattle.std.specs.Prelude.{◌≡◌, Ok, IfOk, IfErr};
-ghost use Rattle.mesh_model.specs.NodeForms.{read_wifi, read_server, read_late, read_policy, read_gateway, read_mcast, read_dat, read_setting, read_set};
+ghost use Rattle.mesh_model.specs.Scenario.NodeForms.{read_wifi, read_server, read_late, read_policy, read_gateway, read_mcast, read_dat, read_setting, read_set};
 ghost use Rattle.mesh_scenario.specs.LineErr.{Refuses};
-ghost use Rattle.mesh_model.specs.Readings.{the_end};
+ghost use Rattle.mesh_model.specs.Scenario.Readings.{the_end};
 ghost use Rattle.mesh_model.specs.declared.line_form.Command.TheVariants.{GwOff, GwClient};
 
 use crate::line_err::LineErr;

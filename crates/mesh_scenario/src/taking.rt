@@ -1,7 +1,7 @@
 //! The next words of a line, taken as fields.
 
 ghost use Rattle.std.specs.Prelude.{◌≡◌, ◌<◌, ◌≤◌, IfOk, IfErr};
-ghost use Rattle.mesh_model.specs.Fields.{word_field, name_field, unicast_field, target_field, group_field, vid_field, ip_field, hex_field, number_field, number_limit, frame_number_field, switch_field, algorithm_field, alfred_mode_field, table_field};
+ghost use Rattle.mesh_model.specs.Scenario.Fields.{word_field, name_field, unicast_field, target_field, group_field, vid_field, ip_field, hex_field, number_field, number_limit, frame_number_field, switch_field, algorithm_field, alfred_mode_field, table_field};
 ghost use Rattle.mesh_scenario.specs.Reads.{GivesField, FailsField, RefusesField, GivesText, FailsText, GivesTextUpTo, FailsTextUpTo, IsAtEnd, HasMore};
 
 use crate::hex_bytes::hex_bytes;

@@ -1,10 +1,10 @@
 //! What a single word may say.
 
 ghost use Rattle.std.specs.Prelude.{◌≡◌, ◌<◌, ◌≤◌, ◌&&◌, not, option_map, option_and_then, IfSome};
-ghost use Rattle.mesh_model.specs.Terms.{is_letter, is_digit, is_name_character, is_name, number_of, vid_of, is_mark, is_pattern};
-ghost use Rattle.mesh_model.specs.LinkOptions.{number_within};
+ghost use Rattle.mesh_model.specs.Scenario.Terms.{is_letter, is_digit, is_name_character, is_name, number_of, vid_of, is_mark, is_pattern};
+ghost use Rattle.mesh_model.specs.Scenario.LinkOptions.{number_within};
 ghost use Rattle.mesh_base.specs.Address.{is_broadcast, is_group, is_unicast};
-ghost use Rattle.mesh_model.specs.Fields.{kept_number, number_limit};
+ghost use Rattle.mesh_model.specs.Scenario.Fields.{kept_number, number_limit};
 
 use mesh_base::{Mac, Vid};
 

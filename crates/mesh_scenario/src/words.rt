@@ -1,6 +1,6 @@
 ghost use Rattle.std.specs.Prelude.{◌≡◌, ◌≤◌, ◌∷◌, [], length, IfSome, IfNone};
 ghost use Rattle.std.specs.List.{position_or_len};
-ghost use Rattle.mesh_model.specs.Words.{words_of, is_separator};
+ghost use Rattle.mesh_model.specs.Scenario.Words.{words_of, is_separator};
 ghost use Rattle.mesh_scenario.specs.Reads.{word_found, is_in_word};
 
 use memchr::memchr2;
@@ -21,7 +21,7 @@ pub struct Words<'a> {
 
 impl<'a> Model for Words<'a> {
     ghost use Rattle.std.specs.Prelude.{List};
-    ghost use Rattle.mesh_model.specs.Words.{Word, words_of};
+    ghost use Rattle.mesh_model.specs.Scenario.Words.{Word, words_of};
 
     ghost Value = { List Word };
 

@@ -3,7 +3,7 @@ use Rattle.std.proofs.Common.{◌≡◌, ℕ, zero, suc, ◌≤◌, List, [], �
 use Rattle.std.proofs.lemmas.List.{length-drop}
 use Rattle.std.specs.Prelude.{Bool, if◌then◌else◌, Option, Some, None, option_map, unwrap_or}
 use Rattle.mesh_tvlv.specs.Walk.{Walk, to_come, HasEnded}
-use Rattle.mesh_model.specs.Containers.{Container, container_size, first_container, first_containers, containers_of}
+use Rattle.mesh_model.specs.Packets.Containers.{Container, container_size, first_container, first_containers, containers_of}
 
 -- two ways to go on from an option, where they agree on its value
 same_way : {A : Type 0} (o : Option A) (f g : A → List A) → ((x : A) → f x ≡ g x)

@@ -5,7 +5,7 @@ use Rattle.std.proofs.lemmas.List.{drop_at, drop-drop, length-drop, length-take-
 use Rattle.std.proofs.lemmas.List.Elements.{All-cons, All-drop}
 use Rattle.std.proofs.lemmas.Option.{none-some}
 use Rattle.std.specs.Prelude.{Bool, cond, nat_lt, Option, Some, None, All}
-use Rattle.mesh_model.specs.Containers.{Container, FitsLength, AreContainers, container_text, containers_text, container_size, told_length, front_container, first_container, containers_of, rest_of}
+use Rattle.mesh_model.specs.Packets.Containers.{Container, FitsLength, AreContainers, container_text, containers_text, container_size, told_length, front_container, first_container, containers_of, rest_of}
 use Rattle.mesh_tvlv.proofs.ContainersLemmas.{containers_of-some, containers_of-none}
 use Rattle.mesh_tvlv.proofs.SpellingLemmas.{first-text}
 

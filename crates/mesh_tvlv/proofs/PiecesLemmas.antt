@@ -3,7 +3,7 @@ use Rattle.std.proofs.Common.{◌≡◌, ℕ, zero, suc, ◌+◌, ◌*◌, ◌<�
 use Rattle.std.proofs.lemmas.List.{drop-drop}
 use Rattle.std.proofs.lemmas.Option.{slice_get_past}
 use Rattle.std.specs.Prelude.{Some, None}
-use Rattle.mesh_model.specs.ContainerBodies.{pieces, whole_pieces}
+use Rattle.mesh_model.specs.Packets.Bodies.{pieces, whole_pieces}
 
 -- so many pieces as are wanted
 pub length_pieces : (n size : ℕ) (bytes : List ℕ) → length (pieces n size bytes) ≡ n

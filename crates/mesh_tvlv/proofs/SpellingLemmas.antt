@@ -5,7 +5,7 @@ use Rattle.std.proofs.lemmas.List.{drop_at, drop_all}
 use Rattle.std.proofs.Math.Seq.{take-append_seam}
 use Rattle.std.specs.Prelude.{Bool, cond, nat_lt, Some, None, All}
 use Rattle.byteorder.specs.Numbers.{big_number-reads_back}
-use Rattle.mesh_model.specs.Containers.{Container, FitsLength, BeginsNone, AreContainers, container_text, containers_text, container_size, told_length, front_container, first_container, containers_of, rest_of}
+use Rattle.mesh_model.specs.Packets.Containers.{Container, FitsLength, BeginsNone, AreContainers, container_text, containers_text, container_size, told_length, front_container, first_container, containers_of, rest_of}
 use Rattle.mesh_tvlv.proofs.ContainersLemmas.{containers_of-some, containers_of-none}
 
 -- the length that a spelled container tells

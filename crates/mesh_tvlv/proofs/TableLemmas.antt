@@ -9,7 +9,7 @@ use Rattle.byteorder.specs.Endian.{big_bytes, big_number}
 use Rattle.byteorder.specs.Numbers.{big_number-reads_back}
 use Rattle.mesh_base.specs.declared.client.Key.{Key}
 use Rattle.mesh_base.specs.declared.client.Entry.{Entry}
-use Rattle.mesh_model.specs.ContainerBodies.{VlanSum, TtChange, TtData, Bandwidth, pieces, whole_pieces, vlan_of_bytes, vlan_text, key_of_bytes, key_text, change_of_bytes, change_text, told_vlans, tt_data, tt_of_body, tt_text, client_flags, change_of, entry_of_change, is_deletion}
+use Rattle.mesh_model.specs.Packets.Bodies.{VlanSum, TtChange, TtData, Bandwidth, pieces, whole_pieces, vlan_of_bytes, vlan_text, key_of_bytes, key_text, change_of_bytes, change_text, told_vlans, tt_data, tt_of_body, tt_text, client_flags, change_of, entry_of_change, is_deletion}
 use Rattle.mesh_tvlv.specs.Laws.{FitsKey, FitsVlan, FitsTable, RecordIsReadBack, BodiesAreReadBack}
 use Rattle.mesh_tvlv.proofs.SpellingLemmas.{All-tail}
 

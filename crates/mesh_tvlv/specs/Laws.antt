@@ -3,8 +3,8 @@
 use Rattle.std.specs.Prelude.{◌≡◌, ℕ, ◌^◌, ◌<◌, Bool, List, [], length, All, Some}
 use Rattle.mesh_base.specs.declared.client.Key.{Key}
 use Rattle.mesh_base.specs.declared.client.Entry.{Entry}
-use Rattle.mesh_model.specs.Containers.{Container, FitsLength, AreContainers, containers_text, containers_of, rest_of}
-use Rattle.mesh_model.specs.ContainerBodies.{VlanSum, TtData, Bandwidth, tt_of_body, tt_text, roaming_of_body, key_text, gateway_of_body, gateway_text, multicast_of_body, multicast_text, client_flags, change_of, entry_of_change, is_deletion}
+use Rattle.mesh_model.specs.Packets.Containers.{Container, FitsLength, AreContainers, containers_text, containers_of, rest_of}
+use Rattle.mesh_model.specs.Packets.Bodies.{VlanSum, TtData, Bandwidth, tt_of_body, tt_text, roaming_of_body, key_text, gateway_of_body, gateway_text, multicast_of_body, multicast_text, client_flags, change_of, entry_of_change, is_deletion}
 
 -- spelled containers are these containers again, and nothing is left
 abbrev pub ContainersAreReadBack : Type 0

@@ -2,7 +2,7 @@
 use Rattle.std.specs.Prelude.{ℕ, Bool}
 use Rattle.mesh_base.specs.declared.client.Vid.{Vid}
 use Rattle.mesh_base.specs.declared.client.Entry.{Entry}
-use Rattle.mesh_model.specs.ContainerBodies.{Bandwidth, VlanSum, TtChange, entry_of_change, is_deletion}
+use Rattle.mesh_model.specs.Packets.Bodies.{Bandwidth, VlanSum, TtChange, entry_of_change, is_deletion}
 
 -- download and upload of a gateway
 abbrev pub speeds : Bandwidth → ℕ × ℕ

@@ -3,7 +3,7 @@
 -- will still give.
 use Rattle.std.specs.Prelude.{◌≡◌, ℕ, ◌+◌, ◌<◌, ◌⊎◌, Bool, true, false, IsTrue, if◌then◌else◌, List, [], length, drop}
 use Rattle.mesh_model.specs.Containers as grammar
-use Rattle.mesh_model.specs.Containers.{containers_of, container_size, AreShort}
+use Rattle.mesh_model.specs.Packets.Containers.{containers_of, container_size, AreShort}
 use Rattle.mesh_tvlv.specs.declared.walk.Container.{Container}
 
 -- a container apart from where its body lies

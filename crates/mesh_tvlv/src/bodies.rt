@@ -1,5 +1,5 @@
 ghost use Rattle.std.specs.Prelude.{◌≡◌, ◌<◌, ◌≤◌, ◌↔◌, length, IsErr, ok_or, option_map};
-ghost use Rattle.mesh_model.specs.ContainerBodies.{key_of_bytes, roaming_of_body, gateway_of_body, multicast_of_body};
+ghost use Rattle.mesh_model.specs.Packets.Bodies.{key_of_bytes, roaming_of_body, gateway_of_body, multicast_of_body};
 ghost use Rattle.mesh_tvlv.specs.Translation.{speeds};
 
 use crate::failure::TvlvErr;

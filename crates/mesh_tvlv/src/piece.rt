@@ -1,5 +1,5 @@
 ghost use Rattle.std.specs.Prelude.{◌≡◌, ◌<◌, length, IfSome, option_copied, slice_get};
-ghost use Rattle.mesh_model.specs.ContainerBodies.{whole_pieces};
+ghost use Rattle.mesh_model.specs.Packets.Bodies.{whole_pieces};
 
 /// The piece at this place, of those of this size that the bytes hold whole.
 pub(crate) fn piece(bytes: &[u8], size: usize, place: usize) -> Option<&[u8]>

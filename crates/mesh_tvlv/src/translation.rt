@@ -1,5 +1,5 @@
 ghost use Rattle.std.specs.Prelude.{◌≡◌, ◌<◌, ◌≤◌, ◌↔◌, length, IsErr, ok_or, option_map, slice_get};
-ghost use Rattle.mesh_model.specs.ContainerBodies.{tt_of_body, tt_size, vlan_of_bytes, change_of_bytes};
+ghost use Rattle.mesh_model.specs.Packets.Bodies.{tt_of_body, tt_size, vlan_of_bytes, change_of_bytes};
 ghost use Rattle.mesh_tvlv.specs.Translation.{vid_and_sum, entry_and_deletion};
 
 use crate::bodies::key_in;
@@ -25,7 +25,7 @@ pub struct TtView<'a> {
 
 impl<'a> Model for TtView<'a> {
     ghost use Rattle.std.specs.Prelude.{map};
-    ghost use Rattle.mesh_model.specs.ContainerBodies.{TtData, vlan_of_bytes, change_of_bytes, whole_pieces};
+    ghost use Rattle.mesh_model.specs.Packets.Bodies.{TtData, vlan_of_bytes, change_of_bytes, whole_pieces};
 
     ghost Value = { TtData };
 

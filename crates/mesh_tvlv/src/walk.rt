@@ -1,5 +1,5 @@
 ghost use Rattle.std.specs.Prelude.{◌≡◌, ◌↔◌, ◌∷◌, [], IsNone, IfNone, IfSome, MatchOption, IfOk, IfErr, OnErr, option_map};
-ghost use Rattle.mesh_model.specs.Containers.{first_container};
+ghost use Rattle.mesh_model.specs.Packets.Containers.{first_container};
 ghost use Rattle.mesh_tvlv.specs.Walk.{seen, walk_over, to_come, behind, stopped, HasEnded, IsAtCut};
 
 use crate::failure::TvlvErr;

@@ -1,6 +1,6 @@
 ghost use Rattle.std.specs.Prelude.{◌≡◌, ◌≤◌, ◌++◌, length, OnOk, OnErr};
-ghost use Rattle.mesh_model.specs.Containers.{container_text};
-ghost use Rattle.mesh_model.specs.ContainerBodies.{tt_head_text, key_text, vlan_text, change_text, change_of};
+ghost use Rattle.mesh_model.specs.Packets.Containers.{container_text};
+ghost use Rattle.mesh_model.specs.Packets.Bodies.{tt_head_text, key_text, vlan_text, change_text, change_of};
 
 use crate::layout::{
     CHANGE_KEY_PLACE, CHANGE_SIZE, CLIENT_FLAGS, DEL, HEADER_SIZE, KEY_SIZE, LENGTH_PLACE,

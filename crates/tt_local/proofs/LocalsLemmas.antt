@@ -9,11 +9,11 @@ use Rattle.std.proofs.lemmas.Grind.{common_steps}
 use Rattle.std.proofs.lemmas.Option.{gets}
 use Rattle.mesh_base.specs.KeyOrder.{key_order}
 use Rattle.mesh_base.specs.declared.client.Key.{Key}
-use Rattle.mesh_model.specs.Mentions.{Mention, News, Sighted, Departed, Roamed, Joined, Left}
-use Rattle.mesh_model.specs.Present.{same_key, is_membership, last_mention, row_after, row_by, present_row, present_clients}
+use Rattle.mesh_model.specs.Clients.Mentions.{Mention, News, Sighted, Departed, Roamed, Joined, Left}
+use Rattle.mesh_model.specs.Clients.Present.{same_key, is_membership, last_mention, row_after, row_by, present_row, present_clients}
 use Rattle.mesh_model.specs.declared.table_row.LocalRow.{LocalRow}
-use Rattle.mesh_model.proofs.KeyLists.{found_passes, item_at, item_at_filter, sorted_filter}
-use Rattle.mesh_model.proofs.PresentLemmas.{key_total, key_exact, equal_from_same, row_of_news, present_from_rows}
+use Rattle.mesh_laws.proofs.KeyLists.{found_passes, item_at, item_at_filter, sorted_filter}
+use Rattle.mesh_laws.proofs.PresentLemmas.{key_total, key_exact, equal_from_same, row_of_news, present_from_rows}
 use Rattle.tt_local.specs.Locals.{sighting_by, sighting_in, sighting_row, StandsFor}
 use Rattle.tt_local.specs.declared.sighting.Sighting.{Sighting}
 

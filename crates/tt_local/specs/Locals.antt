@@ -7,8 +7,8 @@ use Rattle.std.specs.Map.{keys_of, lookup}
 use Rattle.mesh_base.specs.KeyOrder.{key_order}
 use Rattle.mesh_base.specs.declared.client.Key.{Key}
 use Rattle.mesh_model.specs.declared.table_row.LocalRow.{LocalRow}
-use Rattle.mesh_model.specs.Mentions.{Mention, News, Sighted, Departed, Roamed, Joined, Left}
-use Rattle.mesh_model.specs.Present.{same_key, last_mention, last_membership, row_after}
+use Rattle.mesh_model.specs.Clients.Mentions.{Mention, News, Sighted, Departed, Roamed, Joined, Left}
+use Rattle.mesh_model.specs.Clients.Present.{same_key, last_mention, last_membership, row_after}
 use Rattle.tt_local.specs.declared.sighting.Sighting.{Sighting}
 
 -- the sighting that news at a moment are, where they are one

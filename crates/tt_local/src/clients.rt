@@ -1,6 +1,6 @@
 ghost use Rattle.std.specs.Prelude.{◌≡◌, ◌≤◌, ◌↔◌, List, [], ◌∷◌, length, slice_get, option_map, IfOk, OnOk, OnErr, IsTrue, IsNone};
-ghost use Rattle.mesh_model.specs.Mentions.{Mention, Sighted};
-ghost use Rattle.mesh_model.specs.Present.{present_clients, present_row};
+ghost use Rattle.mesh_model.specs.Clients.Mentions.{Mention, Sighted};
+ghost use Rattle.mesh_model.specs.Clients.Present.{present_clients, present_row};
 ghost use Rattle.tt_local.specs.Locals.{StandsFor};
 
 use crate::failure::LocalErr;

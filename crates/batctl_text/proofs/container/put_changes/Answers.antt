@@ -1,6 +1,6 @@
 use Rattle.std.proofs.Common.{ℕ, List, sym, ap, ◌∙◌, arith}
 use Rattle.mesh_base.specs.declared.client.Key.{Key}
-use Rattle.mesh_model.specs.ContainerLines.{change_line}
+use Rattle.mesh_model.specs.Text.ContainerLines.{change_line}
 use Rattle.batctl_text.specs.Printed.{flags_and_client}
 use Rattle.batctl_text.proofs.LinesLemmas.{appended_more, some_at}
 use Rattle.batctl_text.proofs.container.put_changes.Goals as goal

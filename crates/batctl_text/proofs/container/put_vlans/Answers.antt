@@ -1,6 +1,6 @@
 use Rattle.std.proofs.Common.{ℕ, List, sym, ap, ◌∙◌, arith}
 use Rattle.mesh_base.specs.declared.client.Vid.{Vid}
-use Rattle.mesh_model.specs.TableText.{vlan_line}
+use Rattle.mesh_model.specs.Text.Tables.{vlan_line}
 use Rattle.mesh_tvlv.specs.Translation.{vid_and_sum}
 use Rattle.batctl_text.proofs.LinesLemmas.{appended_more, some_at}
 use Rattle.batctl_text.proofs.container.put_vlans.Goals as goal

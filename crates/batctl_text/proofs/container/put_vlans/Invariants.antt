@@ -1,6 +1,6 @@
 use Rattle.std.proofs.Common.{◌≡◌, ◌++◌, take}
 use Rattle.std.specs.List.{flat_map}
-use Rattle.mesh_model.specs.TableText.{vlan_line}
+use Rattle.mesh_model.specs.Text.Tables.{vlan_line}
 use Rattle.batctl_text.proofs.container.put_vlans.Given as goal
 
 abbrev pub invariant-loop-i : goal.invariant-loop-i

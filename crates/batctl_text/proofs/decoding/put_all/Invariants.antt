@@ -1,5 +1,5 @@
 use Rattle.std.proofs.Common.{◌≡◌, ◌++◌, length}
-use Rattle.mesh_model.specs.DecodeText.{decode_text}
+use Rattle.mesh_model.specs.Text.Decode.{decode_text}
 use Rattle.batctl_text.proofs.decoding.put_all.Given as goal
 
 abbrev pub invariant-loop-further : goal.invariant-loop-further

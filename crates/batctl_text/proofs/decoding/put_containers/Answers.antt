@@ -1,6 +1,6 @@
 use Rattle.std.proofs.Common.{◌≡◌, ◌++◌, ◌<◌, [], length, rules, refl, sym, ◌∙◌}
-use Rattle.mesh_model.specs.ContainerLines.{container_lines}
-use Rattle.mesh_model.specs.DecodeText.{cut_line}
+use Rattle.mesh_model.specs.Text.ContainerLines.{container_lines}
+use Rattle.mesh_model.specs.Text.Decode.{cut_line}
 use Rattle.mesh_tvlv.specs.Walk.{seen, to_come}
 use Rattle.batctl_text.proofs.WalkLemmas.{stands-whole, ends-short, ends-cut}
 use Rattle.batctl_text.proofs.decoding.put_containers.Goals as goal

@@ -3,9 +3,9 @@ use Rattle.std.specs.Prelude.{IfOk, IfErr}
 use Rattle.std.specs.Borrow.{Bor}
 use Rattle.std.proofs.lemmas.List.{length-drop}
 use Rattle.mesh_model.specs.declared.packet.Head.{Head}
-use Rattle.mesh_model.specs.Packets.{IsPacket}
-use Rattle.mesh_model.specs.FirstPacket.{Packet}
-use Rattle.mesh_model.proofs.FirstPacketLemmas.{first_packet-found}
+use Rattle.mesh_model.specs.Packets.Layout.{IsPacket}
+use Rattle.mesh_model.specs.Packets.FirstPacket.{Packet}
+use Rattle.mesh_laws.proofs.FirstPacketLemmas.{first_packet-found}
 use Rattle.mesh_codec.specs.declared.failure.CodecErr.{CodecErr}
 use Rattle.mesh_codec.specs.Decoding.{HasCause}
 use Rattle.batctl_text.specs.Laws.{IsRight}

@@ -1,6 +1,6 @@
 use Rattle.std.proofs.Common.{◌≡◌, ◌++◌, length, take}
 use Rattle.std.specs.Prelude.{flat_map}
-use Rattle.mesh_model.specs.TableText.{local_header, local_line}
+use Rattle.mesh_model.specs.Text.Tables.{local_header, local_line}
 use Rattle.mesh_run.proofs.local_table.put_local_table.Given as goal
 
 abbrev pub invariant-loop-row : goal.invariant-loop-row

@@ -1,7 +1,7 @@
 use Rattle.std.proofs.Common.{ℕ, List, [], ◌∷◌, ◌++◌, decimal, codes, subst, ◌∙◌}
 use Rattle.std.specs.Io.KnownBytes.{Appends}
 use Rattle.std.proofs.KnownBytes.{Appends-trans}
-use Rattle.mesh_model.specs.Messages.{halt_text, stop_words}
+use Rattle.mesh_model.specs.Text.Messages.{halt_text, stop_words}
 use Rattle.mesh_run.proofs.report.tell_halt.Goals as goal
 
 pub returns-clause-told : goal.returns-clause-told

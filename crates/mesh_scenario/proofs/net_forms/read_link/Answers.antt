@@ -1,6 +1,6 @@
 use Rattle.std.proofs.Common.{◌∙◌}
 use Rattle.std.proofs.lemmas.Result.{err_from_is_err_and}
-use Rattle.mesh_model.specs.LinkOptions.{link_with}
+use Rattle.mesh_model.specs.Scenario.LinkOptions.{link_with}
 use Rattle.mesh_scenario.proofs.RefusalLemmas.{Refuses-word}
 use Rattle.mesh_scenario.proofs.net_forms.read_link.Goals as goal
 

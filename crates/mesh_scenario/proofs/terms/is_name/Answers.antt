@@ -2,7 +2,7 @@ use Rattle.std.proofs.Common.{rules, tests, arith, ap, ◌∙◌, length, take, 
 use Rattle.std.specs.List.{list_all}
 use Rattle.std.proofs.lemmas.Iterator.{YieldsList-from_slice}
 use Rattle.std.proofs.lemmas.Iterator.Search.{all_from_yields_List}
-use Rattle.mesh_model.specs.Terms.{is_name_character}
+use Rattle.mesh_model.specs.Scenario.Terms.{is_name_character}
 use Rattle.mesh_scenario.proofs.TermsLemmas.{is_name-from_letter}
 use Rattle.mesh_scenario.proofs.WordsLemmas.{slice_from}
 use Rattle.mesh_scenario.proofs.terms.is_name.Goals as goal

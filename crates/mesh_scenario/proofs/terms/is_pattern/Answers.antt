@@ -1,7 +1,7 @@
 use Rattle.std.proofs.Common.{rules, tests, sym, ◌∙◌}
 use Rattle.std.proofs.lemmas.Iterator.{YieldsList-from_slice}
 use Rattle.std.proofs.lemmas.Iterator.Search.{all_from_yields_List}
-use Rattle.mesh_model.specs.Terms.{is_mark}
+use Rattle.mesh_model.specs.Scenario.Terms.{is_mark}
 use Rattle.mesh_scenario.proofs.TermsLemmas.{is_pattern-sized}
 use Rattle.mesh_scenario.proofs.terms.is_pattern.Goals as goal
 

@@ -2,8 +2,8 @@ use Rattle.std.proofs.Common.{rules, tests, arith, ap, sym, ◌∙◌, take_all}
 use Rattle.std.specs.Prelude.{Some, option_map}
 use Rattle.std.proofs.lemmas.Iterator.{YieldsList-from_slice}
 use Rattle.std.proofs.lemmas.Iterator.Search.{all_from_yields_List}
-use Rattle.mesh_model.specs.Terms.{is_digit, digits_value}
-use Rattle.mesh_model.specs.Fields.{kept_number}
+use Rattle.mesh_model.specs.Scenario.Terms.{is_digit, digits_value}
+use Rattle.mesh_model.specs.Scenario.Fields.{kept_number}
 use Rattle.mesh_scenario.proofs.TermsLemmas.{number_of-digits, digits_value-more}
 use Rattle.mesh_scenario.proofs.terms.number.Goals as goal
 

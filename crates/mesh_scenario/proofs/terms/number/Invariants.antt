@@ -1,6 +1,6 @@
 use Rattle.std.proofs.Common.{◌≡◌, take}
-use Rattle.mesh_model.specs.Terms.{digits_value}
-use Rattle.mesh_model.specs.Fields.{kept_number}
+use Rattle.mesh_model.specs.Scenario.Terms.{digits_value}
+use Rattle.mesh_model.specs.Scenario.Fields.{kept_number}
 use Rattle.mesh_scenario.proofs.terms.number.Given as goal
 
 abbrev pub invariant-loop-digit : goal.invariant-loop-digit

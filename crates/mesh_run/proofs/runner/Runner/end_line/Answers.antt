@@ -1,8 +1,8 @@
 use Rattle.std.proofs.Common.{◌≡◌, ℕ, ◌+◌, List, ap, arith, refl, subst, ◌∙◌}
 use Rattle.std.proofs.lemmas.Result.{err_from_is_err_and}
-use Rattle.mesh_model.specs.Commands.{command_of_line}
-use Rattle.mesh_model.specs.Lines.{without_carriage_return}
-use Rattle.mesh_model.specs.PlainRun.{start, after_lines, after_reading}
+use Rattle.mesh_model.specs.Scenario.Commands.{command_of_line}
+use Rattle.mesh_model.specs.Scenario.Lines.{without_carriage_return}
+use Rattle.mesh_model.specs.Run.PlainRun.{start, after_lines, after_reading}
 use Rattle.mesh_run.specs.Progress.{Carried, CarryFails}
 use Rattle.mesh_run.proofs.FaultLemmas.{Fails-newline}
 use Rattle.mesh_run.proofs.ProgressLemmas.{Stands-newline}

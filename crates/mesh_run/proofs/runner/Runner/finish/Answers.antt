@@ -1,8 +1,8 @@
 use Rattle.std.proofs.Common.{◌≡◌, ◌≢◌, ℕ, ◌+◌, List, vec_len, arith, subst, sym, ◌∙◌}
 use Rattle.std.proofs.lemmas.Bool.{eqb-true, eqb-false}
 use Rattle.std.proofs.lemmas.Result.{err_from_is_err_and}
-use Rattle.mesh_model.specs.Commands.{command_of_line}
-use Rattle.mesh_model.specs.PlainRun.{start, after_lines, after_reading}
+use Rattle.mesh_model.specs.Scenario.Commands.{command_of_line}
+use Rattle.mesh_model.specs.Run.PlainRun.{start, after_lines, after_reading}
 use Rattle.mesh_run.specs.Progress.{Carried, CarryFails}
 use Rattle.mesh_run.proofs.EndLemmas.{FailsAtEnd-last, Finishes-empty, Finishes-last, nil-from_length}
 use Rattle.mesh_run.proofs.runner.Runner.finish.Goals as goal

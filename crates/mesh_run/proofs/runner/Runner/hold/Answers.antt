@@ -1,5 +1,5 @@
 use Rattle.std.proofs.Common.{arith, refl, rules}
-use Rattle.mesh_model.proofs.CutLemmas.{IsCut-more}
+use Rattle.mesh_laws.proofs.CutLemmas.{IsCut-more}
 use Rattle.mesh_run.proofs.ProgressLemmas.{front-cut, halts-hold, Stands-more}
 use Rattle.mesh_run.proofs.runner.Runner.hold.Goals as goal
 

@@ -1,6 +1,6 @@
 use Rattle.std.proofs.Common.{[], ◌∷◌, ◌++◌, ◌+◌, length, arith, append_assoc, append-nil, length-append, sym, ◌∙◌}
 use Rattle.std.proofs.lemmas.Result.{err_from_is_err_and}
-use Rattle.mesh_model.specs.Lines.{newline}
+use Rattle.mesh_model.specs.Scenario.Lines.{newline}
 use Rattle.mesh_run.proofs.ProgressLemmas.{Fails-later}
 use Rattle.mesh_run.proofs.runner.Runner.take_line.Goals as goal
 

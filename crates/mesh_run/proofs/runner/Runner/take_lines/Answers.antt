@@ -1,6 +1,6 @@
 use Rattle.std.proofs.Common.{[], ◌∷◌, ◌++◌, ◌+◌, ◌-◌, length, take, drop, arith, ap, append_assoc, append-nil, length-append, sym, ◌∙◌}
 use Rattle.std.proofs.lemmas.Result.{err_from_is_err_and}
-use Rattle.mesh_model.specs.Lines.{newline}
+use Rattle.mesh_model.specs.Scenario.Lines.{newline}
 use Rattle.mesh_run.proofs.PieceLemmas.{piece-length, piece-step, unbroken-front, unbroken-none}
 use Rattle.mesh_run.proofs.ProgressLemmas.{Fails-later}
 use Rattle.mesh_run.proofs.runner.Runner.take_lines.Goals as goal

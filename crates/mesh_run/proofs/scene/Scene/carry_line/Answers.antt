@@ -1,4 +1,4 @@
-use Rattle.mesh_model.specs.Commands.{command_of_line}
+use Rattle.mesh_model.specs.Scenario.Commands.{command_of_line}
 use Rattle.mesh_run.proofs.SceneLemmas.{HasLineCause-reading}
 use Rattle.mesh_run.proofs.scene.Scene.carry_line.Goals as goal
 

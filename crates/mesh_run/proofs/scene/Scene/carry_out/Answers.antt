@@ -2,7 +2,7 @@ use Rattle.std.proofs.Common.{ℕ, List, [], subst, sym}
 use Rattle.std.proofs.lemmas.Result.{err_from_is_err_and}
 use Rattle.mesh_model.specs.declared.line_form.Command.{Command}
 use Rattle.mesh_model.specs.declared.line_form.Command.TheVariants.{Frame}
-use Rattle.mesh_model.specs.CarriedOut.{carried_out}
+use Rattle.mesh_model.specs.Run.Outcome.{carried_out}
 use Rattle.mesh_run.specs.Scene.{Carries, HasLineCause}
 use Rattle.mesh_run.proofs.scene.Scene.carry_out.Goals as goal
 

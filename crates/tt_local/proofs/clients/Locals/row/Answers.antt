@@ -1,6 +1,6 @@
 use Rattle.std.proofs.Common.{◌≡◌, ◌∙◌, option_and_then, rules}
 use Rattle.std.specs.Map.{lookup}
-use Rattle.mesh_model.specs.Present.{same_key}
+use Rattle.mesh_model.specs.Clients.Present.{same_key}
 use Rattle.tt_local.specs.Locals.{sighting_row}
 use Rattle.tt_local.proofs.LocalsLemmas.{row_kept}
 use Rattle.tt_local.proofs.clients.Locals.row.Goals as goal

@@ -1,7 +1,7 @@
 use Rattle.std.proofs.Common.{◌∙◌, ap, slice_get, sym, rules, tests}
 use Rattle.std.proofs.lemmas.Iterator.Adapters.{option_map_id}
 use Rattle.std.proofs.lemmas.Iterator.Consumers.{YieldsList-from_filter_map, YieldsList-from_rest, nth_from_yields_List}
-use Rattle.mesh_model.specs.Present.{present_clients}
+use Rattle.mesh_model.specs.Clients.Present.{present_clients}
 use Rattle.tt_local.specs.Locals.{sighting_row}
 use Rattle.tt_local.proofs.LocalsLemmas.{none_past_end, rows_kept}
 use Rattle.tt_local.proofs.clients.Locals.row_at.Goals as goal

@@ -1,5 +1,0 @@
-use Rattle.mesh_model.proofs.FirstPacketLemmas.{first_packet-found}
-use Rattle.mesh_model.proofs.packet_laws.packets_are_found.Goals as goal
-
-pub returns : goal.returns
-returns c = first_packet-found

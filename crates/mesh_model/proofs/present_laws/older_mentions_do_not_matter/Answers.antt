@@ -1,5 +1,0 @@
-use Rattle.mesh_model.proofs.PresentLemmas.{last_membership_kept, last_mention_kept, row_kept}
-use Rattle.mesh_model.proofs.present_laws.older_mentions_do_not_matter.Goals as goal
-
-pub returns : goal.returns
-returns c = record { mention = last_mention_kept; membership = last_membership_kept; row = row_kept }

@@ -1,5 +1,0 @@
-use Rattle.mesh_model.proofs.PresentLemmas.{present_at}
-use Rattle.mesh_model.proofs.present_laws.the_last_mention_decides.Goals as goal
-
-pub returns : goal.returns
-returns c = present_at

@@ -1,7 +1,0 @@
-use Rattle.std.proofs.Common.{refl}
-use Rattle.mesh_model.proofs.OnLiterals.{model_on_literals}
-use Rattle.mesh_model.proofs.rows.a_last_line_needs_no_newline.Goals as goal
-
-pub returns : goal.returns
-unfolding model_on_literals
-returns c = (refl, refl)

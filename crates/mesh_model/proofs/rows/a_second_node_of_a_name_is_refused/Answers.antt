@@ -1,7 +1,0 @@
-use Rattle.std.proofs.Common.{refl}
-use Rattle.mesh_model.proofs.OnLiterals.{model_on_literals}
-use Rattle.mesh_model.proofs.rows.a_second_node_of_a_name_is_refused.Goals as goal
-
-pub returns : goal.returns
-unfolding model_on_literals
-returns c = (refl, refl)

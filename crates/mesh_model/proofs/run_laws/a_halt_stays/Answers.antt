@@ -1,5 +1,0 @@
-use Rattle.mesh_model.proofs.RunLemmas.{after_lines-halted}
-use Rattle.mesh_model.proofs.run_laws.a_halt_stays.Goals as goal
-
-pub returns : goal.returns
-returns c = after_lines-halted

@@ -1,0 +1,63 @@
+-- The mentions of clients in a node's log, newest first: sightings with their flags, departures,
+-- roaming advertisements taken, and the joining and leaving of groups. A client frame, an ARP
+-- question and a call for a gateway are sightings of their source. A sighting's flags are WIFI
+-- where the last `set wifi` before it was on, else 0. The main word is `mentions`.
+use Rattle.std.specs.Prelude.{ℕ, Bool, false, List, [], ◌∷◌, ◌++◌, if◌then◌else◌}
+use Rattle.mesh_base.specs.declared.address.Mac.{Mac}
+use Rattle.mesh_base.specs.declared.client.Key.{Key}
+use Rattle.mesh_base.specs.declared.client.Vid.{Vid}
+use Rattle.mesh_model.specs.Clients.Log.{Given, Frame, Gone, Join, Leave, Arp, Dhcp, Wifi, Log}
+
+-- what a mention says of its key
+pub data News : Type 0 where
+  Sighted : (flags : ℕ) → News
+  Departed : News
+  Roamed : News
+  Joined : News
+  Left : News
+
+-- a key, when it was mentioned, and what was said of it
+pub record Mention : Type 0 where
+  pub moment : ℕ
+  pub key : Key
+  pub news : News
+
+-- the flag of a client that was sighted by wireless
+abbrev pub wifi_flag : ℕ
+wifi_flag = 16
+
+-- the marking of sightings after an input, from the marking before it
+abbrev pub wifi_after : Given → Bool → Bool
+wifi_after (Wifi on) before = on
+wifi_after given before = before
+
+-- whether the last setting of a log marks sightings as wireless
+abbrev pub is_wifi_on : Log → Bool
+is_wifi_on [] = false
+is_wifi_on (entry ∷ older) = wifi_after entry.given (is_wifi_on older)
+
+-- what a sighting right after a log says
+abbrev pub sighted_after : Log → News
+sighted_after older = Sighted (if is_wifi_on older then wifi_flag else 0)
+
+-- the key of an address in a VLAN
+abbrev pub key_of : Mac → Vid → Key
+key_of mac vid = record { mac = mac; vid = vid }
+
+-- the mentions that an input right after a log makes, with their news
+abbrev pub mentions_by : Log → ℕ → Given → List Mention
+mentions_by older moment (Frame src dst vid text) =
+    record { moment = moment; key = key_of src vid; news = sighted_after older } ∷ []
+mentions_by older moment (Gone key) = record { moment = moment; key = key; news = Departed } ∷ []
+mentions_by older moment (Join key) = record { moment = moment; key = key; news = Joined } ∷ []
+mentions_by older moment (Leave key) = record { moment = moment; key = key; news = Left } ∷ []
+mentions_by older moment (Arp mac own_ip asked_ip vid) =
+    record { moment = moment; key = key_of mac vid; news = sighted_after older } ∷ []
+mentions_by older moment (Dhcp key text) =
+    record { moment = moment; key = key; news = sighted_after older } ∷ []
+mentions_by older moment (Wifi on) = []
+
+-- the mentions in a log, newest first
+abbrev pub mentions : Log → List Mention
+mentions [] = []
+mentions (entry ∷ older) = mentions_by older entry.moment entry.given ++ mentions older

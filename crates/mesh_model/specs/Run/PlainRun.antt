@@ -1,0 +1,72 @@
+-- The plain run of an input: its lines are carried out one after another, each as a whole, and the
+-- first that is refused or at which a quantity would pass its limit ends the run there. The limit
+-- `line` is reached at the byte past 4,096 before a line's newline, `input` at the byte past
+-- 67,108,864 of the input, whichever comes first; where one byte is both, it is `line`. The main
+-- words are `plain_run` and `output`.
+use Rattle.std.specs.Prelude.{ℕ, ◌+◌, ◌&&◌, nat_lt, nat_le, Bool, List, length, fold, Option, Some, None, is_some, Result, Ok, Err, if◌then◌else◌}
+use Rattle.mesh_model.specs.declared.ending.LimitName.TheVariants.{Line, Input}
+use Rattle.mesh_model.specs.declared.ending.Stop.{Stop}
+use Rattle.mesh_model.specs.declared.ending.Stop.TheVariants.{Limit}
+use Rattle.mesh_model.specs.Run.Outcome.{carried_out}
+use Rattle.mesh_model.specs.Scenario.Commands.{command_of_line}
+use Rattle.mesh_model.specs.Scenario.Halt.{Halt}
+use Rattle.mesh_model.specs.Scenario.Lines.{line_limit, input_limit, lines_of, before_newline, content}
+use Rattle.mesh_model.specs.Scenario.Readings.{Reading}
+use Rattle.mesh_model.specs.Run.State.{State, no_nodes, events_text}
+
+-- a run so far: its state, how many lines and bytes were carried out, and where it halted
+pub record Run : Type 0 where
+  pub state : State
+  pub lines : ℕ
+  pub bytes : ℕ
+  pub halt : Option Halt
+
+-- before the first line
+abbrev pub start : Run
+start = record { state = no_nodes; lines = 0; bytes = 0; halt = None }
+
+-- whether a line's byte past 4,096 stands within the input's limit or right past it, after so many
+-- bytes
+abbrev pub passes_line : ℕ → List ℕ → Bool
+passes_line before line =
+    nat_lt line_limit (length (before_newline line)) && nat_le (before + line_limit) input_limit
+
+-- whether a line passes the limit of the input, after so many bytes
+abbrev pub passes_input : ℕ → List ℕ → Bool
+passes_input before line = nat_lt input_limit (before + length line)
+
+-- the state after a line that was read
+abbrev pub after_reading : State → Reading → Result State Stop
+after_reading state (Ok command) = carried_out state command
+after_reading state (Err stop) = Err stop
+
+-- the state after a line that follows so many bytes, or what ends the run there
+unfoldable pub line_outcome : State → ℕ → List ℕ → Result State Stop
+line_outcome state before line =
+    if passes_line before line then Err (Limit Line)
+    else if passes_input before line then Err (Limit Input)
+    else after_reading state (command_of_line (content line))
+
+-- the run after a line with this outcome
+abbrev pub after_outcome : Run → List ℕ → Result State Stop → Run
+after_outcome run line (Ok state) =
+    record { state = state; lines = run.lines + 1; bytes = run.bytes + length line; halt = None }
+after_outcome run line (Err stop) =
+    record run { halt = Some (record { line = run.lines + 1; stop = stop }) }
+
+-- the run after one more line; a run that halted stays as it is
+abbrev pub after_line : Run → List ℕ → Run
+after_line run line =
+    if is_some run.halt then run else after_outcome run line (line_outcome run.state run.bytes line)
+
+-- the run after these lines
+abbrev pub after_lines : Run → List (List ℕ) → Run
+after_lines run lines = fold after_line run lines
+
+-- the plain run of an input
+unfoldable pub plain_run : List ℕ → Run
+plain_run input = after_lines start (lines_of input)
+
+-- what a run prints
+abbrev pub output : Run → List ℕ
+output run = events_text run.state

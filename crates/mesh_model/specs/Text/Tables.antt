@@ -1,0 +1,67 @@
+-- The printed tables. Each line ends with a newline; rows stand in key order, ages are in
+-- milliseconds. The local table of a node (`show NODE tl`) is `tl NODE version=B clients=C`, a line
+-- `vlan VID sum=S` for each VLAN of the last commit, and a line `c MAC VID FF age=AGE` for each
+-- present client. The main word is `table_text`.
+use Rattle.std.specs.Prelude.{ℕ, ◌-◌, ◌/◌, ◌%◌, ◌==◌, nat_le, List, [], ◌∷◌, ◌++◌, length, flat_map, codes, decimal, Option, Some, None, if◌then◌else◌}
+use Rattle.byteorder.specs.Endian.{big_bytes}
+use Rattle.hex.specs.Hex.{encode_lower}
+use Rattle.mesh_base.specs.Address.{mac_text}
+use Rattle.mesh_base.specs.declared.client.Vid.{Vid}
+use Rattle.mesh_model.specs.declared.table_row.LocalRow.{LocalRow}
+use Rattle.mesh_model.specs.Packets.Bodies.{VlanSum}
+use Rattle.mesh_model.specs.Scenario.Lines.{newline}
+
+-- a node's local table: its name, the byte and the sums of its last commit, and its present clients
+pub record LocalTable : Type 0 where
+  pub name : List ℕ
+  pub version : ℕ
+  pub sums : List VlanSum
+  pub rows : List LocalRow
+
+-- a VLAN as it is printed: `-` for untagged, the number of a tagged one, else `raw:` and the wire
+-- number
+unfoldable pub vid_text : Vid → List ℕ
+vid_text vid =
+    if vid.0 == 0 then codes "-"
+    else if nat_le 32768 vid.0 then decimal (vid.0 - 32768)
+    else codes "raw:" ++ decimal vid.0
+
+-- a letter where a flag is set, else `-`
+abbrev pub flag_text : ℕ → ℕ → ℕ → ℕ
+flag_text flags flag letter = if flags / flag % 2 == 1 then letter else 45
+
+-- the flags of an entry: `w` for WIFI, `i` for ISOLATED
+unfoldable pub flags_text : ℕ → List ℕ
+flags_text flags = flag_text flags 16 119 ∷ flag_text flags 32 105 ∷ []
+
+-- an age, or `-` for none
+unfoldable pub age_text : Option ℕ → List ℕ
+age_text (Some age) = decimal age
+age_text None = codes "-"
+
+-- a checksum as eight hex digits
+unfoldable pub sum_text : ℕ → List ℕ
+sum_text sum = encode_lower (big_bytes 4 sum)
+
+-- the line of a VLAN of the last commit
+unfoldable pub vlan_line : VlanSum → List ℕ
+vlan_line vlan =
+    codes "vlan " ++ vid_text vlan.vid ++ codes " sum=" ++ sum_text vlan.sum ++ newline ∷ []
+
+-- the line of a present client
+unfoldable pub local_line : LocalRow → List ℕ
+local_line row =
+    codes "c " ++ mac_text row.entry.key.mac ++ codes " " ++ vid_text row.entry.key.vid ++ codes " "
+    ++ flags_text row.entry.flags ++ codes " age=" ++ age_text row.age ++ newline ∷ []
+
+-- the first line of a local table
+unfoldable pub local_header : List ℕ → ℕ → ℕ → List ℕ
+local_header name version clients =
+    codes "tl " ++ name ++ codes " version=" ++ decimal version
+    ++ codes " clients=" ++ decimal clients ++ newline ∷ []
+
+-- a local table as it is printed
+abbrev pub table_text : LocalTable → List ℕ
+table_text table =
+    local_header table.name table.version (length table.rows)
+    ++ flat_map vlan_line table.sums ++ flat_map local_line table.rows

@@ -1,0 +1,3 @@
+-- How the definitions compute on scenarios and bytes that are written out.
+pub mod OnLiterals
+pub mod DecodeOnLiterals

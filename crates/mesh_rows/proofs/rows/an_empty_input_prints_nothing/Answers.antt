@@ -1,0 +1,7 @@
+use Rattle.std.proofs.Common.{refl}
+use Rattle.mesh_rows.proofs.OnLiterals.{model_on_literals}
+use Rattle.mesh_rows.proofs.rows.an_empty_input_prints_nothing.Goals as goal
+
+pub returns : goal.returns
+unfolding model_on_literals
+returns c = (refl, refl)

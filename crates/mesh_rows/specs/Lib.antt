@@ -1,0 +1,3 @@
+-- What is said of a worked scenario, and of bytes that are decoded.
+pub mod Rows
+pub mod DecodeRows
