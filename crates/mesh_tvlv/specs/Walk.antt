@@ -2,7 +2,7 @@
 -- first cut. The main words are `Walk`, the state of a walk, and `to_come`, the containers that it
 -- will still give.
 use Rattle.std.specs.Prelude.{◌≡◌, ℕ, ◌+◌, ◌<◌, ◌⊎◌, Bool, true, false, IsTrue, if◌then◌else◌, List, [], length, drop}
-use Rattle.mesh_model.specs.Containers as grammar
+use Rattle.mesh_model.specs.Packets.Containers as grammar
 use Rattle.mesh_model.specs.Packets.Containers.{containers_of, container_size, AreShort}
 use Rattle.mesh_tvlv.specs.declared.walk.Container.{Container}
 
