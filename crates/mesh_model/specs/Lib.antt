@@ -3,4 +3,6 @@ pub mod Scenario
 pub mod Packets
 pub mod Clients
 pub mod Text
+pub mod Acts
+pub mod Net
 pub mod Run

@@ -6,13 +6,19 @@
 
 #![tactic(auto)]
 
+pub mod act;
 pub mod ending;
+pub mod frame_choice;
+pub mod happening;
 pub mod line_form;
 pub mod name_list;
 pub mod packet;
 pub mod table_row;
 
+pub use act::Act;
 pub use ending::{LimitName, Refusal, Stop};
+pub use frame_choice::FrameChoice;
+pub use happening::{Class, Happening};
 pub use line_form::{AlfredMode, Algorithm, Command, Policy, Table};
 pub use name_list::NameList;
 pub use packet::Head;
