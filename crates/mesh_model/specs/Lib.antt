@@ -6,3 +6,4 @@ pub mod Text
 pub mod Acts
 pub mod Net
 pub mod Run
+pub mod NetRun

@@ -1,0 +1,8 @@
+-- The run of a scenario whose lines reach the net: what the room Run becomes when the program
+-- carries out links, time and deliveries. Until then it stands beside that room, and the program is
+-- said by Run. It stands on all rooms before it. The main word is `carried_out`, in Outcome.
+pub mod State
+pub mod Passing
+pub mod Built
+pub mod Rules
+pub mod Outcome
