@@ -8,3 +8,4 @@ pub mod PresentLemmas
 pub mod HeaderLemmas
 pub mod FirstPacketLemmas
 pub mod DecodeLemmas
+pub mod Schedule

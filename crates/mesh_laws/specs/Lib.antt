@@ -4,3 +4,6 @@ pub mod Halting
 pub mod RunLaws
 pub mod PacketLaws
 pub mod PresentLaws
+pub mod Soundness
+pub mod HappeningLaws
+pub mod MeshLaws

@@ -4,6 +4,8 @@
 
 #![tactic(auto)]
 
+pub mod happening_laws;
 pub mod packet_laws;
 pub mod present_laws;
 pub mod run_laws;
+pub mod sound_laws;

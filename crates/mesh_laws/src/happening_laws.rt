@@ -1,0 +1,37 @@
+//! What holds of all that happens in a mesh, whatever its nodes put.
+
+ghost use Rattle.mesh_laws.specs.HappeningLaws.{AllIsCarriedOut, FindsNext, HasTurnsEnough, LaterIsLater, LastRises, LeavesNothingDue, NothingAddedBefore, OneNext, RunsByHappenings, RunsInSlices};
+
+/// The next happening is computed exactly where there is one.
+pub fn the_next_happening_is_found()
+    ensures { FindsNext }
+{}
+
+/// There is at most one next happening.
+pub fn one_happening_is_next()
+    ensures { OneNext }
+{}
+
+/// Happenings are carried out in rising order, each at most once, and nothing is added before them.
+pub fn happenings_rise()
+    ensures last { LastRises }
+    ensures later { LaterIsLater }
+    ensures added { NothingAddedBefore }
+{}
+
+/// A run has turns enough, leaves nothing due, and carries out all that happens.
+pub fn runs_leave_nothing_due()
+    ensures turns { HasTurnsEnough }
+    ensures quiet { LeavesNothingDue }
+    ensures all { AllIsCarriedOut }
+{}
+
+/// A run may be cut at a moment.
+pub fn runs_may_be_cut()
+    ensures { RunsInSlices }
+{}
+
+/// A run may be cut behind its first happening.
+pub fn runs_go_by_happenings()
+    ensures { RunsByHappenings }
+{}
