@@ -1,3 +1,5 @@
--- What is said of a worked scenario, and of bytes that are decoded.
+-- What is said of a worked scenario, of bytes that are decoded, and of a scenario with links.
 pub mod Rows
 pub mod DecodeRows
+pub mod NetRows
+pub mod NetLines

@@ -5,4 +5,5 @@
 #![tactic(auto)]
 
 pub mod decode_rows;
+pub mod net_rows;
 pub mod rows;
