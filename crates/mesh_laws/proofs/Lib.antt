@@ -9,3 +9,4 @@ pub mod HeaderLemmas
 pub mod FirstPacketLemmas
 pub mod DecodeLemmas
 pub mod Schedule
+pub mod Lines

@@ -8,3 +8,4 @@ pub mod Sound
 pub mod Runs
 pub mod Kept
 pub mod Added
+pub mod ToCome

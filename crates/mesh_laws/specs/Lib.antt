@@ -7,3 +7,4 @@ pub mod PresentLaws
 pub mod Soundness
 pub mod HappeningLaws
 pub mod MeshLaws
+pub mod LineLaws

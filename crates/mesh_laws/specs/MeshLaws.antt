@@ -1,6 +1,6 @@
 -- Laws of the meshes that are reached: what holds of all of them is kept by happenings, by runs and
 -- by what lines do between runs, and a frame that was sent stays as it is.
-use Rattle.std.specs.Prelude.{◌≡◌, ℕ, ◌≤◌, ◌<◌, ◌⊎◌, [], ◌∷◌, ◌++◌, length, Some, Ok, slice_get}
+use Rattle.std.specs.Prelude.{◌↔◌, ◌≡◌, ℕ, ◌≤◌, ◌<◌, ◌⊎◌, [], ◌∷◌, ◌++◌, length, Some, Ok, slice_get}
 use Rattle.mesh_model.specs.declared.happening.Happening.{Happening}
 use Rattle.mesh_model.specs.Clients.Log.{Given}
 use Rattle.mesh_model.specs.Net.Mesh.{NodeLog, NetLink, SentFrame, Mesh, Setup, empty_mesh}
@@ -81,3 +81,26 @@ InputsAddLater = (setup : Setup) (place now root : ℕ) (given : Given) (mesh af
     (x : Happening) → IsSound mesh → GivesItsBytes mesh.frames given →
     given_to setup place now root given mesh ≡ Ok after →
     Happens after x → Happens mesh x ⊎ (now < x.moment)
+
+-- what happens in a mesh, before or to come, happens in it behind a happening too
+abbrev pub HappeningsStay : Type 0
+HappeningsStay = (setup : Setup) (mesh after : Mesh) (h x : Happening) →
+    carried_out setup h mesh ≡ Ok after → Happens mesh x → Happens after x
+
+-- and behind a line that gives a node something
+abbrev pub InputsLeaveToCome : Type 0
+InputsLeaveToCome = (setup : Setup) (place now root : ℕ) (given : Given) (mesh after : Mesh)
+    (x : Happening) → GivesItsBytes mesh.frames given →
+    given_to setup place now root given mesh ≡ Ok after → Happens mesh x → Happens after x
+
+-- a new node adds its ticks, which come after it was made
+abbrev pub NodesAddLater : Type 0
+NodesAddLater = (mesh : Mesh) (node : NodeLog) (x : Happening) →
+    (Happens mesh x → Happens (record mesh { nodes = mesh.nodes ++ node ∷ [] }) x)
+    × (Happens (record mesh { nodes = mesh.nodes ++ node ∷ [] }) x →
+    Happens mesh x ⊎ (node.made < x.moment))
+
+-- a new link changes nothing that is to come
+abbrev pub LinksChangeNothing : Type 0
+LinksChangeNothing = (mesh : Mesh) (link : NetLink) (x : Happening) → IsSound mesh →
+    Happens mesh x ↔ Happens (record mesh { links = mesh.links ++ link ∷ [] }) x

@@ -1,6 +1,6 @@
 -- What holds of every mesh that lines and happenings lead to: each node had the ticks up to the
--- last happening and no other, places fit 32 bits, and no link delivers a frame at the moment of
--- its sending; and every frame in a log has the bytes that it was sent with. The main words are
+-- last happening and no other, places fit 32 bits, each frame was sent over a link, and none
+-- arrives at the moment of its sending; and every frame in a log has the bytes that it was sent with. The main words are
 -- `IsSound` and `KeepsBytes`.
 use Rattle.std.specs.Prelude.{◌≡◌, ℕ, suc, ◌+◌, ◌*◌, ◌-◌, ◌<◌, ◌≤◌, ◌⊎◌, List, length, slice_get, Some, ⊤}
 use Rattle.mesh_model.specs.declared.happening.Happening.{Happening}
@@ -26,6 +26,8 @@ pub record IsSound (mesh : Mesh) : Type 0 where
   pub few_frames : length mesh.frames ≤ places
   pub few_nodes : length mesh.nodes ≤ places
   pub low_last : mesh.last.place < places
+  pub on_links : (place : ℕ) (frame : SentFrame) → slice_get mesh.frames place ≡ Some frame
+      → frame.link < length mesh.links
   pub delays : (place : ℕ) (link : NetLink) → slice_get mesh.links place ≡ Some link
       → 1 ≤ link.delay
 

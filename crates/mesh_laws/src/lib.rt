@@ -5,6 +5,7 @@
 #![tactic(auto)]
 
 pub mod happening_laws;
+pub mod line_laws;
 pub mod packet_laws;
 pub mod present_laws;
 pub mod run_laws;

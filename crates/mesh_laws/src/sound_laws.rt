@@ -1,6 +1,6 @@
 //! What holds of every mesh that lines and happenings lead to.
 
-ghost use Rattle.mesh_laws.specs.MeshLaws.{DeliveriesKeepBytes, DeliveriesKeepSound, EmptyIsSound, FramesStay, HappeningsKeepSound, InputsAddLater, InputsKeepBytes, InputsKeepSound, LinksKeepSound, NodesKeepSound, RunsKeepBytes, RunsKeepSound, ScenariosFit};
+ghost use Rattle.mesh_laws.specs.MeshLaws.{DeliveriesKeepBytes, DeliveriesKeepSound, EmptyIsSound, FramesStay, HappeningsKeepSound, HappeningsStay, InputsAddLater, InputsKeepBytes, InputsKeepSound, InputsLeaveToCome, LinksChangeNothing, LinksKeepSound, NodesAddLater, NodesKeepSound, RunsKeepBytes, RunsKeepSound, ScenariosFit};
 
 /// It holds before the first line, and the limits of every scenario are low enough.
 pub fn the_first_mesh_is_sound()
@@ -20,7 +20,15 @@ pub fn lines_keep_sound()
     ensures deliveries { DeliveriesKeepSound }
     ensures nodes { NodesKeepSound }
     ensures links { LinksKeepSound }
+{}
+
+/// What is to come stays to come, and what is added comes later.
+pub fn what_is_to_come_stays()
+    ensures happenings { HappeningsStay }
+    ensures inputs { InputsLeaveToCome }
     ensures later { InputsAddLater }
+    ensures nodes { NodesAddLater }
+    ensures links { LinksChangeNothing }
 {}
 
 /// A frame stays as it was sent, and is given so at every delivery.

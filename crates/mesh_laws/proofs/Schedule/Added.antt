@@ -1,5 +1,5 @@
 -- Nothing is added before the last happening, and all that happens is carried_out out.
-use Rattle.std.proofs.Common.{◌≡◌, ℕ, zero, suc, ◌+◌, ◌*◌, ◌<◌, ◌≤◌, ◌⊎◌, inl, inr, List, [], ◌∷◌, ◌++◌, length, slice_get, Option, Some, None, Ok, refl, sym, ap, ◌∙◌, subst, arith, length-append}
+use Rattle.std.proofs.Common.{◌≡◌, ℕ, suc, ◌+◌, ◌*◌, ◌<◌, ◌≤◌, ◌⊎◌, inl, inr, [], ◌∷◌, ◌++◌, length, slice_get, Option, Some, None, Ok, refl, sym, ap, ◌∙◌, subst, arith, length-append}
 use Rattle.std.specs.Fn.{iterate}
 use Rattle.mesh_model.specs.declared.happening.Happening.{Happening}
 use Rattle.mesh_model.specs.declared.happening.Class.TheVariants.{NodeTick}
@@ -12,24 +12,14 @@ use Rattle.mesh_laws.specs.Soundness.{HadItsTicks, IsSound, FitsPlaces, GivesIts
 use Rattle.mesh_model.specs.Net.Runs.{carried_out, Course, turn, going_on}
 use Rattle.mesh_laws.proofs.Schedule.Order.{before_irrefl, before_at_most, at_most_before, by_moment, cases, both_at_most}
 use Rattle.mesh_laws.proofs.Schedule.Due.{due_is_next}
-use Rattle.mesh_laws.proofs.Schedule.Members.{one_some}
+use Rattle.mesh_laws.proofs.Schedule.Members.{get_either, get_last}
 use Rattle.mesh_laws.proofs.Schedule.Sends.{Adds}
 use Rattle.mesh_laws.proofs.Schedule.Steps.{Was, ticks_of, step_is}
 use Rattle.mesh_laws.proofs.Schedule.Sound.{steps_keep_sound}
 use Rattle.mesh_laws.proofs.Schedule.Runs.{Turned, rests, goes, stops, turned, turns_keep, Fine, Iterates, iterate-add}
 use Rattle.mesh_laws.proofs.Schedule.Kept.{runs_end_quiet}
 
--- ---- where a frame stands after more were sent
-got : {X : Type 0} (xs : List X) (i : ℕ) (x : X) → slice_get xs i ≡ Some x → Has xs x
-got [] i x e = cc
-got (y ∷ ys) zero x e = inl (sym (one_some y x e))
-got (y ∷ ys) (suc i) x e = inr (got ys i x e)
-
-get_either : {X : Type 0} (before more : List X) (i : ℕ) (x : X) → slice_get (before ++ more) i ≡ Some x → (slice_get before i ≡ Some x) ⊎ Has more x
-get_either [] more i x e = inr (got more i x e)
-get_either (f ∷ before) more zero x e = inl e
-get_either (f ∷ before) more (suc i) x e = get_either before more i x e
-
+-- ---- what is added comes later
 -- a frame arrives after it was sent
 later_of : (fate : Fate) (sent delay moment : ℕ) → 1 ≤ delay → Has (arrivals_by fate sent delay) moment → sent < moment
 later_of Once sent delay moment l (inl e) = omega (arith, l, e)
@@ -132,13 +122,6 @@ all_carried setup t o x fits fine low s happens since within =
     until (inr p) = absurd (let l = runs_end_quiet setup t o fits fine low s x happens p in omega (arith, l, within))
 
 -- ---- lines between runs
--- an item of a list with one more at its end
-get_last : {X : Type 0} (xs : List X) (y : X) (i : ℕ) (x : X) → slice_get (xs ++ y ∷ []) i ≡ Some x → (slice_get xs i ≡ Some x) ⊎ (x ≡ y)
-get_last [] y zero x e = inr (sym (one_some y x e))
-get_last [] y (suc i) x e = cc
-get_last (z ∷ xs) y zero x e = inl e
-get_last (z ∷ xs) y (suc i) x e = get_last xs y i x e
-
 -- a new node has had no tick
 new_ticked : (last : Happening) (place : ℕ) (node : NodeLog) → node.log ≡ [] → last.moment ≤ node.made → HadItsTicks last place node
 new_ticked last place node new late =
@@ -152,6 +135,7 @@ nodes_sound mesh new sound empty late few = record {
   few_frames = sound.few_frames;
   few_nodes = subst (λ k. k ≤ places) (sym (length-append mesh.nodes (new ∷ []))) (omega (arith, few));
   low_last = sound.low_last;
+  on_links = sound.on_links;
   delays = sound.delays;
 }
   where
@@ -165,6 +149,9 @@ links_sound mesh link sound l = record {
   few_frames = sound.few_frames;
   few_nodes = sound.few_nodes;
   low_last = sound.low_last;
+  on_links = λ place frame found.
+      let l = sound.on_links place frame found in
+      subst (λ n. frame.link < n) (sym (length-append mesh.links (link ∷ []))) (omega (arith, l));
   delays = λ place x found. either place x (get_last mesh.links link place x found);
 }
   where
@@ -178,6 +165,7 @@ empty_sound = record {
   few_frames = omega arith;
   few_nodes = omega arith;
   low_last = omega arith;
+  on_links = λ place frame found. cc;
   delays = λ place link found. cc;
 }
   where

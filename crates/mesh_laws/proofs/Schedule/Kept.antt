@@ -47,7 +47,7 @@ bytes_after setup extra now mesh after kept nodes adds place node found e has = 
 step_bytes : (setup : Setup) (mesh : Mesh) (h : Happening) (after : Mesh) → KeepsBytes mesh → HasStepped setup mesh h after → KeepsBytes after
 step_bytes setup mesh h after kept step = bytes_after setup (ticks_of h.class h.place) h.moment mesh after kept step.nodes step.adds
 
-bytes_turn : (setup : Setup) (t : ℕ) (o after : Course) → KeepsBytes o.mesh → Turned setup t o after → KeepsBytes after.mesh
+pub bytes_turn : (setup : Setup) (t : ℕ) (o after : Course) → KeepsBytes o.mesh → Turned setup t o after → KeepsBytes after.mesh
 bytes_turn setup t o after p (rests d e) = subst (λ (x : Course). KeepsBytes x.mesh) (sym e) p
 bytes_turn setup t o after p (goes h mesh s n c e) = subst (λ (x : Course). KeepsBytes x.mesh) (sym e) (step_bytes setup o.mesh h mesh p (step_is setup o.mesh h mesh c))
 bytes_turn setup t o after p (stops h limit s n c e) = subst (λ (x : Course). KeepsBytes x.mesh) (sym e) p
@@ -91,7 +91,7 @@ unfolding going_on
 sound_kept setup t o fits sound =
     let l = turns_keep setup t (Later o.mesh.last) (λ x p. later_turn setup t o.mesh.last x (turn setup t x) fits p (turned setup t x)) 82 o (record { sound = sound; after = inl refl }) in l.sound
 
-none_due : (stop : Option PassedLimit) (n : Option Happening) → stop ≡ None → (is_some stop || is_none n) ≡ true → n ≡ None
+pub none_due : (stop : Option PassedLimit) (n : Option Happening) → stop ≡ None → (is_some stop || is_none n) ≡ true → n ≡ None
 none_due None None s d = refl
 none_due None (Some h) s d = cc
 none_due (Some l) n s d = cc

@@ -1,5 +1,5 @@
 -- What stands in a list, and the earliest of a list of happenings.
-use Rattle.std.proofs.Common.{◌≡◌, ◌⊎◌, inl, inr, Bool, true, false, cond, List, [], ◌∷◌, ◌++◌, map, filter, Option, Some, None, refl, sym, ap, ◌∙◌, subst}
+use Rattle.std.proofs.Common.{◌≡◌, ◌⊎◌, inl, inr, Bool, true, false, cond, List, [], ◌∷◌, ◌++◌, map, filter, ℕ, zero, suc, slice_get, Option, Some, None, refl, sym, ap, ◌∙◌, subst}
 use Rattle.mesh_model.specs.declared.happening.Happening.{Happening}
 use Rattle.mesh_model.specs.Net.Happenings.{is_before, Before, earliest, earlier}
 use Rattle.mesh_model.specs.Net.Next.{Has, AtMost}
@@ -89,3 +89,20 @@ earliest_is (k ∷ rest) h e = subst (IsEarliest (k ∷ rest)) (some_one (earlie
 
 pub one_some : {X : Type 0} (x y : X) → Some x ≡ Some y → x ≡ y
 one_some x y e = cc
+
+got : {X : Type 0} (xs : List X) (i : ℕ) (x : X) → slice_get xs i ≡ Some x → Has xs x
+got [] i x e = cc
+got (y ∷ ys) zero x e = inl (sym (one_some y x e))
+got (y ∷ ys) (suc i) x e = inr (got ys i x e)
+
+pub get_either : {X : Type 0} (before more : List X) (i : ℕ) (x : X) → slice_get (before ++ more) i ≡ Some x → (slice_get before i ≡ Some x) ⊎ Has more x
+get_either [] more i x e = inr (got more i x e)
+get_either (f ∷ before) more zero x e = inl e
+get_either (f ∷ before) more (suc i) x e = get_either before more i x e
+
+-- an item of a list with one more at its end
+pub get_last : {X : Type 0} (xs : List X) (y : X) (i : ℕ) (x : X) → slice_get (xs ++ y ∷ []) i ≡ Some x → (slice_get xs i ≡ Some x) ⊎ (x ≡ y)
+get_last [] y zero x e = inr (sym (one_some y x e))
+get_last [] y (suc i) x e = cc
+get_last (z ∷ xs) y zero x e = inl e
+get_last (z ∷ xs) y (suc i) x e = get_last xs y i x e

@@ -65,7 +65,7 @@ pub record Fine (t : ℕ) (o : Course) : Type 0 where
   pub sound : IsSound o.mesh
   pub within : o.mesh.last.moment ≤ t
 
-fine_turn : (setup : Setup) (t : ℕ) (o after : Course) → FitsPlaces setup → Fine t o → Turned setup t o after → Fine t after
+pub fine_turn : (setup : Setup) (t : ℕ) (o after : Course) → FitsPlaces setup → Fine t o → Turned setup t o after → Fine t after
 fine_turn setup t o after fits fine (rests p e) = subst (Fine t) (sym e) fine
 fine_turn setup t o after fits fine (goes h mesh s n c e) =
     let is = due_is_next t o.mesh fine.sound h n in

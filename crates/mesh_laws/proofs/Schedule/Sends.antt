@@ -1,5 +1,5 @@
 -- What the acts of a node leave: frames and events are added, and all else stays.
-use Rattle.std.proofs.Common.{◌≡◌, ℕ, ◌≤◌, ◌⊎◌, inl, inr, Bool, true, false, cond, nat_lt, if◌then◌else◌, List, [], ◌∷◌, ◌++◌, length, Option, Ok, Err, refl, sym, ap, ◌∙◌, subst, arith, append_assoc, append-nil}
+use Rattle.std.proofs.Common.{◌≡◌, ℕ, suc, ◌+◌, ◌<◌, ◌≤◌, ◌⊎◌, nat_eq, ◌&&◌, inl, inr, Bool, true, false, cond, nat_lt, if◌then◌else◌, List, [], ◌∷◌, ◌++◌, length, Option, Ok, Err, refl, sym, ap, ◌∙◌, subst, arith, append_assoc, append-nil}
 use Rattle.std.proofs.lemmas.Bool.{ltb-false}
 use Rattle.mesh_base.specs.declared.address.Mac.{Mac}
 use Rattle.mesh_base.specs.declared.event.Event.{Event}
@@ -8,8 +8,8 @@ use Rattle.mesh_model.specs.declared.act.Act.{Act}
 use Rattle.mesh_model.specs.declared.act.Act.TheVariants.{Link, Lan, Print}
 use Rattle.mesh_model.specs.declared.ending.LimitName.{LimitName}
 use Rattle.mesh_model.specs.declared.ending.LimitName.TheVariants.{Frames, FrameBytes}
-use Rattle.mesh_model.specs.Net.Mesh.{SentFrame, Mesh, Setup}
-use Rattle.mesh_model.specs.Net.Sending.{Step, on_ok, with_frames, frames_over, frames_of, ways, total_bytes, sent_events, Actor, after_act, after_acts}
+use Rattle.mesh_model.specs.Net.Mesh.{NodeLog, NetLink, SentFrame, Mesh, Setup}
+use Rattle.mesh_model.specs.Net.Sending.{Step, on_ok, with_frames, frames_over, frames_of, goes_to, ways, total_bytes, sent_events, Actor, after_act, after_acts}
 use Rattle.mesh_model.specs.Net.Next.{Has}
 use Rattle.mesh_laws.specs.Soundness.{places, FitsPlaces}
 use Rattle.mesh_laws.proofs.Schedule.Members.{has_either}
@@ -35,6 +35,7 @@ pub record Adds (setup : Setup) (now : ℕ) (mesh after : Mesh) : Type 0 where
   pub more : List SentFrame
   pub frames : after.frames ≡ mesh.frames ++ more
   pub sent : (frame : SentFrame) → Has more frame → frame.moment ≡ now
+  pub on_links : (frame : SentFrame) → Has more frame → frame.link < length mesh.links
   pub more_events : List Event
   pub events : after.events ≡ mesh.events ++ more_events
   pub few : FitsPlaces setup → length mesh.frames ≤ places → length after.frames ≤ places
@@ -45,6 +46,7 @@ adds_nothing setup now mesh after links frames events = record {
   more = [];
   frames = frames ∙ sym (append-nil mesh.frames);
   sent = λ f h. absurd h;
+  on_links = λ f h. absurd h;
   more_events = [];
   events = events ∙ sym (append-nil mesh.events);
   few = λ fits few. subst (λ fs. length fs ≤ places) (sym frames) few;
@@ -63,6 +65,7 @@ adds_both setup now a b c p q = record {
   more = p.more ++ q.more;
   frames = q.frames ∙ ap (λ fs. fs ++ q.more) p.frames ∙ append_assoc a.frames p.more q.more;
   sent = all_both (λ (f : SentFrame). f.moment ≡ now) p.more q.more p.sent q.sent;
+  on_links = all_both (λ (f : SentFrame). f.link < length a.links) p.more q.more p.on_links (λ f h. subst (λ ls. f.link < length ls) p.links (q.on_links f h));
   more_events = p.more_events ++ q.more_events;
   events = q.events ∙ ap (λ es. es ++ q.more_events) p.events ∙ append_assoc a.events p.more_events q.more_events;
   few = λ fits few. q.few fits (p.few fits few);
@@ -79,8 +82,30 @@ sent_now [] before now root bytes f h = absurd h
 sent_now (link ∷ links) before now root bytes f (inl e) = ap (λ (x : SentFrame). x.moment) e
 sent_now (link ∷ links) before now root bytes f (inr h) = sent_now links before now root bytes f h
 
-sends_frames : (setup : Setup) (now : ℕ) (me : Mac) (reason : Option Reason) (new : List SentFrame) (mesh after : Mesh) → ((f : SentFrame) → Has new f → f.moment ≡ now) → with_frames setup me reason new mesh ≡ Ok after → Sends setup now mesh after
-sends_frames setup now me reason new mesh after at e =
+sent_over : (links : List ℕ) (before : List SentFrame) (now root : ℕ) (bytes : List ℕ) (f : SentFrame) → Has (frames_over links before now root bytes) f → Has links f.link
+sent_over [] before now root bytes f h = absurd h
+sent_over (link ∷ links) before now root bytes f (inl e) = inl (ap (λ (x : SentFrame). x.link) e)
+sent_over (link ∷ links) before now root bytes f (inr h) = inr (sent_over links before now root bytes f h)
+
+-- a way that is there or not
+one_way : (place place_of_way most : ℕ) (test : Bool) → place < most → Has (if test then place ∷ [] else []) place_of_way → place_of_way < most
+one_way place way most true l (inl e) = omega (arith, l, e)
+one_way place way most true l (inr h) = absurd h
+one_way place way most false l h = absurd h
+
+ways_low : (nodes : List NodeLog) (sender : ℕ) (to : Option Mac) (place : ℕ) (links : List NetLink) (way : ℕ) → Has (ways nodes sender to place links) way → way < place + length links
+ways_low nodes sender to place [] way h = absurd h
+ways_low nodes sender to place (link ∷ rest) way h =
+    let here = if nat_eq link.from sender && goes_to to nodes link.to then place ∷ [] else [] in
+    either (has_either here (ways nodes sender to (suc place) rest) way h) (ways_low nodes sender to (suc place) rest way)
+  where
+    either : Has (if nat_eq link.from sender && goes_to to nodes link.to then place ∷ [] else []) way ⊎ Has (ways nodes sender to (suc place) rest) way
+        → (Has (ways nodes sender to (suc place) rest) way → way < suc place + length rest) → way < place + suc (length rest)
+    either (inl q) more = one_way place way (place + suc (length rest)) (nat_eq link.from sender && goes_to to nodes link.to) (omega arith) q
+    either (inr q) more = let l = more q in omega (arith, l)
+
+sends_frames : (setup : Setup) (now : ℕ) (me : Mac) (reason : Option Reason) (new : List SentFrame) (mesh after : Mesh) → ((f : SentFrame) → Has new f → f.moment ≡ now) → ((f : SentFrame) → Has new f → f.link < length mesh.links) → with_frames setup me reason new mesh ≡ Ok after → Sends setup now mesh after
+sends_frames setup now me reason new mesh after at over e =
     let made : Mesh = record mesh { frames = mesh.frames ++ new; events = mesh.events ++ sent_events me reason mesh (length mesh.frames) new } in
     let one = passed (nat_lt setup.frames_limit (length (mesh.frames ++ new))) Frames (if nat_lt setup.bytes_limit (total_bytes (mesh.frames ++ new)) then Err FrameBytes else Ok made) after e in
     let two = passed (nat_lt setup.bytes_limit (total_bytes (mesh.frames ++ new))) FrameBytes (Ok made) after one.1 in
@@ -93,6 +118,7 @@ sends_frames setup now me reason new mesh after at e =
         more = new;
         frames = refl;
         sent = at;
+        on_links = over;
         more_events = sent_events me reason mesh (length mesh.frames) new;
         events = refl;
         few = λ fits few. omega (arith, most, fits);
@@ -104,7 +130,8 @@ sends_nothing setup now mesh after e = subst (Sends setup now mesh) (ok_one mesh
 
 act_sends : (setup : Setup) (actor : Actor) (act : Act) (mesh after : Mesh) → after_act setup actor act mesh ≡ Ok after → Sends setup actor.now mesh after
 act_sends setup actor (Link to reason bytes) mesh after e = sends_frames setup actor.now actor.mac reason (frames_of actor to bytes mesh) mesh after
-    (sent_now (ways mesh.nodes actor.place to 0 mesh.links) mesh.frames actor.now actor.root bytes) e
+    (sent_now (ways mesh.nodes actor.place to 0 mesh.links) mesh.frames actor.now actor.root bytes)
+    (λ f h. let l = ways_low mesh.nodes actor.place to 0 mesh.links f.link (sent_over (ways mesh.nodes actor.place to 0 mesh.links) mesh.frames actor.now actor.root bytes f h) in omega (arith, l)) e
 act_sends setup actor (Lan bytes) mesh after e = sends_nothing setup actor.now mesh after e
 act_sends setup actor (Print event) mesh after e = subst (Sends setup actor.now mesh) (ok_one (record mesh { events = mesh.events ++ event ∷ [] }) after e) (record {
   nodes = refl;
@@ -114,6 +141,7 @@ act_sends setup actor (Print event) mesh after e = subst (Sends setup actor.now 
     more = [];
     frames = sym (append-nil mesh.frames);
     sent = λ f h. absurd h;
+    on_links = λ f h. absurd h;
     more_events = event ∷ [];
     events = refl;
     few = λ fits few. few;

@@ -1,19 +1,20 @@
 -- Each step keeps what holds of the meshes that are reached.
-use Rattle.std.proofs.Common.{◌≡◌, ℕ, suc, ◌+◌, ◌*◌, ◌<◌, ◌≤◌, ◌⊎◌, inl, inr, cond, slice_get, Some, Ok, refl, sym, ap, ◌∙◌, subst, arith}
+use Rattle.std.proofs.Common.{◌≡◌, ℕ, suc, ◌+◌, ◌*◌, ◌<◌, ◌≤◌, ◌⊎◌, inl, inr, cond, length, slice_get, Some, Ok, refl, sym, ap, ◌∙◌, subst, arith}
 use Rattle.std.proofs.lemmas.Bool.{cases_eq, eq-eqb, ne_eqb}
 use Rattle.std.proofs.lemmas.Option.{slice_get_within}
 use Rattle.mesh_model.specs.declared.happening.Class.{Class}
 use Rattle.mesh_model.specs.declared.happening.Class.TheVariants.{LinkDelivery, NodeTick}
 use Rattle.mesh_model.specs.declared.happening.Happening.{Happening}
 use Rattle.mesh_model.specs.Net.Happenings.{Before}
-use Rattle.mesh_model.specs.Net.Mesh.{NodeLog, Mesh, Setup}
+use Rattle.mesh_model.specs.Net.Mesh.{NodeLog, SentFrame, Mesh, Setup}
 use Rattle.mesh_model.specs.Net.Due.{tick_time, ticks_in, tick_at}
-use Rattle.mesh_model.specs.Net.Next.{Happens, delivers, ticks, AtMost, IsNext}
+use Rattle.mesh_model.specs.Net.Next.{Has, Happens, delivers, ticks, AtMost, IsNext}
 use Rattle.mesh_laws.specs.Soundness.{HadItsTicks, IsSound, FitsPlaces, places, rank}
 use Rattle.mesh_model.specs.Net.Runs.{carried_out}
 use Rattle.mesh_laws.proofs.Schedule.Order.{by_moment, ranks, at_most_before, both_at_most}
 use Rattle.mesh_laws.proofs.Schedule.Due.{ticks_rise, tick_not_had}
-use Rattle.mesh_laws.proofs.Schedule.Members.{one_some}
+use Rattle.mesh_laws.proofs.Schedule.Members.{one_some, get_either}
+use Rattle.mesh_laws.proofs.Schedule.Sends.{Adds}
 use Rattle.mesh_laws.proofs.Schedule.Steps.{no_ticks, ticks_of, Effect, step_is}
 
 -- a tick of a node is one of the node after it grew
@@ -90,6 +91,15 @@ rank_rises t mesh h sound n = ranks mesh.last h n.after sound.low_last (low_plac
 pub steps_rise : (setup : Setup) (t : ℕ) (mesh after : Mesh) (h : Happening) → IsSound mesh → IsNext t mesh h → carried_out setup h mesh ≡ Ok after → (after.last ≡ h) × Before mesh.last h × (rank mesh.last < rank h)
 steps_rise setup t mesh after h sound n e = ((step_is setup mesh h after e).last, n.after, rank_rises t mesh h sound n)
 
+-- the frames of a mesh, and those that joined them, were sent over links
+frames_on_links : (setup : Setup) (now : ℕ) (mesh after : Mesh) → IsSound mesh → Adds setup now mesh after → (place : ℕ) (frame : SentFrame) → slice_get after.frames place ≡ Some frame → frame.link < length after.links
+frames_on_links setup now mesh after sound adds place frame found =
+    subst (λ ls. frame.link < length ls) (sym adds.links) (either (get_either mesh.frames adds.more place frame (subst (λ fs. slice_get fs place ≡ Some frame) adds.frames found)))
+  where
+    either : (slice_get mesh.frames place ≡ Some frame) ⊎ Has adds.more frame → frame.link < length mesh.links
+    either (inl old) = sound.on_links place frame old
+    either (inr new) = adds.on_links frame new
+
 pub steps_keep_sound : (setup : Setup) (t : ℕ) (mesh after : Mesh) (h : Happening) → FitsPlaces setup → IsSound mesh → IsNext t mesh h → carried_out setup h mesh ≡ Ok after → IsSound after
 steps_keep_sound setup t mesh after h fits sound n e =
     let s = step_is setup mesh h after e in
@@ -101,6 +111,7 @@ steps_keep_sound setup t mesh after h fits sound n e =
       few_frames = few;
       few_nodes = subst (λ k. k ≤ places) (sym s.count) sound.few_nodes;
       low_last = subst (λ (x : Happening). x.place < places) (sym s.last) (low_place mesh h sound n.happens);
+      on_links = frames_on_links setup h.moment mesh after sound s.adds;
       delays = λ place link found. sound.delays place link (subst (λ ls. slice_get ls place ≡ Some link) s.adds.links found);
     }
 
@@ -117,6 +128,7 @@ lines_keep_sound setup mesh now after fits sound x =
       few_frames = few;
       few_nodes = subst (λ k. k ≤ places) (sym x.count) sound.few_nodes;
       low_last = subst (λ (y : Happening). y.place < places) (sym x.last) sound.low_last;
+      on_links = frames_on_links setup now mesh after sound x.adds;
       delays = λ place link found. sound.delays place link (subst (λ ls. slice_get ls place ≡ Some link) x.adds.links found);
     }
   where

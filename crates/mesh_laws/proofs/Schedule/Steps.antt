@@ -128,7 +128,7 @@ entry_effect setup mesh actor entry after g e =
       count = length_noted actor.place entry p.0.nodes ∙ ap length sends.nodes;
       names = names_noted actor.place entry p.0.nodes ∙ ap names_of sends.nodes;
       last = sends.last;
-      adds = record { links = sends.adds.links; more = sends.adds.more; frames = sends.adds.frames; sent = sends.adds.sent; more_events = sends.adds.more_events; events = sends.adds.events; few = sends.adds.few };
+      adds = record { links = sends.adds.links; more = sends.adds.more; frames = sends.adds.frames; sent = sends.adds.sent; on_links = sends.adds.on_links; more_events = sends.adds.more_events; events = sends.adds.events; few = sends.adds.few };
     })
 
 -- a step after which there is a mesh passed no limit before it
@@ -219,6 +219,6 @@ step_is setup mesh h after e =
       nodes = x.nodes;
       count = x.count;
       names = x.names;
-      adds = record { links = x.adds.links; more = x.adds.more; frames = x.adds.frames; sent = x.adds.sent; more_events = x.adds.more_events; events = x.adds.events; few = x.adds.few };
+      adds = record { links = x.adds.links; more = x.adds.more; frames = x.adds.frames; sent = x.adds.sent; on_links = x.adds.on_links; more_events = x.adds.more_events; events = x.adds.events; few = x.adds.few };
       last = refl;
     })

@@ -1,7 +1,6 @@
-use Rattle.mesh_laws.proofs.Schedule.Steps.{at_place, delivered_effect, given_effect, tickless}
+use Rattle.mesh_laws.proofs.Schedule.Steps.{delivered_effect, tickless}
 use Rattle.mesh_laws.proofs.Schedule.Sound.{lines_keep_sound}
-use Rattle.mesh_laws.proofs.Schedule.Added.{added, links_sound, nodes_sound}
-use Rattle.mesh_model.specs.Net.Due.{ticks_by}
+use Rattle.mesh_laws.proofs.Schedule.Added.{links_sound, nodes_sound}
 use Rattle.mesh_laws.proofs.sound_laws.lines_keep_sound.Goals as goal
 
 pub returns-clause-inputs : goal.returns-clause-inputs
@@ -15,8 +14,3 @@ returns-clause-nodes c = nodes_sound
 
 pub returns-clause-links : goal.returns-clause-links
 returns-clause-links c = links_sound
-
-pub returns-clause-later : goal.returns-clause-later
-returns-clause-later c = λ setup place now root given mesh after x sound gives e happens.
-    let effect = given_effect setup mesh place now root given after gives e in
-    added setup (at_place place (ticks_by given)) now mesh after x sound effect.nodes effect.adds happens
