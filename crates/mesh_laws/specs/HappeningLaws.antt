@@ -10,7 +10,7 @@ use Rattle.mesh_model.specs.Net.Mesh.{Mesh, Setup}
 use Rattle.mesh_model.specs.Net.Due.{next_due}
 use Rattle.mesh_model.specs.Net.Next.{Happens, IsNext, IsQuiet}
 use Rattle.mesh_model.specs.Net.Limits.{clock_limit}
-use Rattle.mesh_model.specs.Net.Runs.{carried_out, begin, after_step, turn, is_done, going_on, run_to}
+use Rattle.mesh_model.specs.Net.Runs.{after_happening, begin, course_after, turn, is_done, going_on, run_to}
 use Rattle.mesh_laws.specs.Soundness.{FitsPlaces, IsSound, rank}
 
 -- the next happening is computed exactly where there is one
@@ -27,20 +27,20 @@ OneNext = (t : ℕ) (mesh : Mesh) (h k : Happening) →
 -- the last happening rises with each that is carried out, as a number too
 abbrev pub LastRises : Type 0
 LastRises = (setup : Setup) (t : ℕ) (mesh after : Mesh) (h : Happening) → IsSound mesh →
-    IsNext t mesh h → carried_out setup h mesh ≡ Ok after →
+    IsNext t mesh h → after_happening setup h mesh ≡ Ok after →
     (after.last ≡ h) × Before mesh.last h × (rank mesh.last < rank h)
 
 -- what a happening adds comes after it: nothing is ever added before the last happening
 abbrev pub NothingAddedBefore : Type 0
 NothingAddedBefore = (setup : Setup) (t : ℕ) (mesh after : Mesh) (h x : Happening) → IsSound mesh →
-    IsNext t mesh h → carried_out setup h mesh ≡ Ok after →
+    IsNext t mesh h → after_happening setup h mesh ≡ Ok after →
     Happens after x → Happens mesh x ⊎ Before h x
 
 -- what is carried out after a happening comes after it, so each is carried out at most once
 abbrev pub LaterIsLater : Type 0
 LaterIsLater = (setup : Setup) (t u : ℕ) (mesh after : Mesh) (h k : Happening) (more : ℕ) →
     FitsPlaces setup → IsSound mesh →
-    next_due t mesh ≡ Some h → carried_out setup h mesh ≡ Ok after →
+    next_due t mesh ≡ Some h → after_happening setup h mesh ≡ Ok after →
     next_due u (iterate (turn setup u) more (begin after)).mesh ≡ Some k → Before h k
 
 -- a run until a moment that begins before it
@@ -77,7 +77,7 @@ abbrev pub RunsByHappenings : Type 0
 RunsByHappenings = (setup : Setup) (t : ℕ) (mesh : Mesh) → CanRun setup t mesh →
     (IsQuiet t mesh → run_to setup t mesh ≡ begin mesh)
     × ((h : Happening) → IsNext t mesh h →
-    ((after : Mesh) → carried_out setup h mesh ≡ Ok after →
+    ((after : Mesh) → after_happening setup h mesh ≡ Ok after →
     run_to setup t mesh ≡ run_to setup t after)
-    × ((limit : LimitName) → carried_out setup h mesh ≡ Err limit →
-    run_to setup t mesh ≡ after_step mesh h (Err limit)))
+    × ((limit : LimitName) → after_happening setup h mesh ≡ Err limit →
+    run_to setup t mesh ≡ course_after mesh h (Err limit)))

@@ -12,10 +12,10 @@ use Rattle.mesh_model.specs.declared.line_form.Command.TheVariants.{Link, Run}
 use Rattle.mesh_model.specs.Net.Limits.{clock_limit}
 use Rattle.mesh_model.specs.Net.Mesh.{Setup}
 use Rattle.mesh_model.specs.Net.Next.{IsQuiet}
-use Rattle.mesh_model.specs.NetRun.State.{Printed, State, Goes, Ends, first_state, reached, and_then, state_text}
+use Rattle.mesh_model.specs.NetRun.State.{Printed, State, first_state, text_of}
+use Rattle.mesh_model.specs.NetRun.Outcome.{Goes, Ends, reached, and_then}
 use Rattle.mesh_model.specs.NetRun.Passing.{run_until, one_happening}
-use Rattle.mesh_model.specs.NetRun.Rules.{first_refused_rule}
-use Rattle.mesh_model.specs.NetRun.Outcome.{carried_out}
+use Rattle.mesh_model.specs.NetRun.Rules.{carried_out, first_refused_rule}
 use Rattle.mesh_laws.specs.Soundness.{FitsPlaces, IsSound, KeepsBytes}
 
 -- what holds of every state that is reached
@@ -67,7 +67,7 @@ PrintedGrows = (setup : Setup) (state : State) (command : Command) →
 -- and so the text of it
 abbrev pub TextGrows : Type 0
 TextGrows = (setup : Setup) (state : State) (command : Command) → (more : List ℕ)
-    × (state_text (reached (carried_out setup state command)) ≡ state_text state ++ more)
+    × (text_of (reached (carried_out setup state command)) ≡ text_of state ++ more)
 
 -- a command that breaks a rule changes nothing
 abbrev pub RefusedChangesNothing : Type 0

@@ -8,7 +8,7 @@ use Rattle.mesh_model.specs.Net.Inputs.{given_to}
 use Rattle.mesh_model.specs.Net.Due.{ticks_by}
 use Rattle.mesh_model.specs.Net.Limits.{scenario_setup}
 use Rattle.mesh_model.specs.Net.Next.{Happens, IsNext}
-use Rattle.mesh_model.specs.Net.Runs.{carried_out, delivered, run_to}
+use Rattle.mesh_model.specs.Net.Runs.{after_happening, delivered, run_to}
 use Rattle.mesh_laws.specs.Soundness.{FitsPlaces, IsSound, GivesItsBytes, KeepsBytes, places}
 
 -- the mesh before the first line
@@ -23,7 +23,7 @@ ScenariosFit = FitsPlaces scenario_setup
 abbrev pub HappeningsKeepSound : Type 0
 HappeningsKeepSound = (setup : Setup) (t : ℕ) (mesh after : Mesh) (h : Happening) →
     FitsPlaces setup → IsSound mesh →
-    IsNext t mesh h → carried_out setup h mesh ≡ Ok after → IsSound after
+    IsNext t mesh h → after_happening setup h mesh ≡ Ok after → IsSound after
 
 -- a run, also one that a limit ends
 abbrev pub RunsKeepSound : Type 0
@@ -85,7 +85,7 @@ InputsAddLater = (setup : Setup) (place now root : ℕ) (given : Given) (mesh af
 -- what happens in a mesh, before or to come, happens in it behind a happening too
 abbrev pub HappeningsStay : Type 0
 HappeningsStay = (setup : Setup) (mesh after : Mesh) (h x : Happening) →
-    carried_out setup h mesh ≡ Ok after → Happens mesh x → Happens after x
+    after_happening setup h mesh ≡ Ok after → Happens mesh x → Happens after x
 
 -- and behind a line that gives a node something
 abbrev pub InputsLeaveToCome : Type 0

@@ -8,7 +8,7 @@ use Rattle.mesh_model.specs.declared.table_row.LocalRow.{LocalRow}
 use Rattle.mesh_model.specs.Clients.Limits.{limit_beside}
 use Rattle.mesh_model.specs.Net.Mesh.{NetLink, empty_mesh}
 use Rattle.mesh_model.specs.NetRun.State.{first_state}
-use Rattle.mesh_model.specs.NetRun.Outcome.{link_outcome}
+use Rattle.mesh_model.specs.NetRun.Steps.{link_step}
 use Rattle.mesh_rows.specs.NetRows.{stop_of}
 
 -- the lines of two nodes with a link each way
@@ -56,9 +56,8 @@ many_vlans (suc more) =
 
 -- whether no link may be added to so many
 abbrev pub is_full_after : ℕ → Bool
-is_full_after count = is_some (stop_of (link_outcome
-    (record (first_state Hidden) { mesh = record empty_mesh { links = replicate count some_link } })
-    some_link))
+is_full_after count = is_some (stop_of (link_step some_link
+    (record (first_state Hidden) { mesh = record empty_mesh { links = replicate count some_link } })))
 
 -- the limit that a client passes beside so many
 abbrev pub limit_after : ℕ → Option LimitName

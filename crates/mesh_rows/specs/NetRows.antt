@@ -1,14 +1,16 @@
 -- What is said of a small scenario with links: what it prints, at which line it ends and why, and
 -- which link frames a node was given. `Rows` says what `lines` are.
 use Rattle.std.specs.Prelude.{◌≡◌, ℕ, ◌+◌, List, [], ◌∷◌, ◌++◌, fold, Option, Some, None, Ok, Err}
+use Rattle.std.specs.Option.{option_map_or}
 use Rattle.mesh_base.specs.declared.address.Mac.{Mac}
 use Rattle.mesh_model.specs.declared.ending.Stop.{Stop}
 use Rattle.mesh_model.specs.declared.frame_choice.FrameChoice.{FrameChoice}
 use Rattle.mesh_model.specs.Clients.Log.{Given, Tick, LinkFrame, Frame, Gone, Join, Leave, Arp, Dhcp, Wifi, Log}
 use Rattle.mesh_model.specs.Net.Mesh.{Setup}
 use Rattle.mesh_model.specs.Net.Limits.{scenario_setup}
-use Rattle.mesh_model.specs.NetRun.State.{State, Outcome, Goes, Ends, first_state, reached, state_text}
-use Rattle.mesh_model.specs.NetRun.Outcome.{carried_out, log_of}
+use Rattle.mesh_model.specs.NetRun.State.{State, first_state, node_named, text_of}
+use Rattle.mesh_model.specs.NetRun.Outcome.{Outcome, Goes, Ends, reached}
+use Rattle.mesh_model.specs.NetRun.Rules.{carried_out}
 use Rattle.mesh_model.specs.Scenario.Commands.{command_of_line}
 use Rattle.mesh_model.specs.Scenario.Readings.{Reading}
 use Rattle.mesh_rows.specs.Rows.{lines}
@@ -45,14 +47,14 @@ run_of setup choice texts = fold (λ run text. one_more setup text run run.outco
 abbrev pub PrintsWith : Setup → FrameChoice → List (List ℕ) → List (List ℕ) → Type 0
 PrintsWith setup choice texts printed =
     (stop_of (run_of setup choice texts).outcome ≡ None)
-    × (state_text (reached (run_of setup choice texts).outcome) ≡ lines printed)
+    × (text_of (reached (run_of setup choice texts).outcome) ≡ lines printed)
 
 -- with this setup, the lines print this and end at a line
 abbrev pub EndsWith : Setup → FrameChoice → List (List ℕ) → List (List ℕ) → ℕ → Stop → Type 0
 EndsWith setup choice texts printed number stop =
     (stop_of (run_of setup choice texts).outcome ≡ Some stop)
     × ((run_of setup choice texts).lines ≡ number)
-    × (state_text (reached (run_of setup choice texts).outcome) ≡ lines printed)
+    × (text_of (reached (run_of setup choice texts).outcome) ≡ lines printed)
 
 -- the scenario is carried out and prints this
 abbrev pub Prints : FrameChoice → List (List ℕ) → List (List ℕ) → Type 0
@@ -92,7 +94,11 @@ abbrev pub taken : Log → List Taken
 taken [] = []
 taken (entry ∷ older) = taken_by entry.moment entry.given ++ taken older
 
+-- the link frames that a node was given, newest first; none where there is no such node
+abbrev pub taken_at : List ℕ → State → List Taken
+taken_at name state = option_map_or (λ node. taken node.log) (node_named state name) []
+
 -- behind these lines, the node of this name was given these link frames, newest first
 abbrev pub Takes : List (List ℕ) → FrameChoice → List ℕ → List Taken → Type 0
 Takes texts choice name frames =
-    taken (log_of name (reached (run_of scenario_setup choice texts).outcome)) ≡ frames
+    taken_at name (reached (run_of scenario_setup choice texts).outcome) ≡ frames

@@ -7,7 +7,7 @@ ghost use Rattle.mesh_model.specs.declared.ending.Refusal.TheVariants.{LinkTaken
 ghost use Rattle.mesh_model.specs.declared.ending.Stop.TheVariants.{Limit, Refused};
 ghost use Rattle.mesh_model.specs.declared.frame_choice.FrameChoice.TheVariants.{All, Client, Hidden, Ogm};
 ghost use Rattle.mesh_model.specs.Net.Limits.{scenario_setup};
-ghost use Rattle.mesh_model.specs.NetRun.State.{reached};
+ghost use Rattle.mesh_model.specs.NetRun.Outcome.{reached};
 ghost use Rattle.mesh_rows.specs.NetLines.{duo, is_full_after, limit_after, many_nodes, many_vlans, message_line, node_mac};
 ghost use Rattle.mesh_rows.specs.NetRows.{run_of, with_limits, EndsAt, EndsWith, Prints, Takes};
 

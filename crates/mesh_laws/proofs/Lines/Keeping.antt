@@ -1,13 +1,15 @@
 -- Commands lead to states that are reached, and nothing is due between them.
-use Rattle.std.proofs.Common.{◌≡◌, ℕ, ◌+◌, ◌<◌, ◌≤◌, ◌⊎◌, inl, inr, List, [], ◌∷◌, ◌++◌, length, slice_get, Some, sym, ap, ◌∙◌, subst, arith}
+use Rattle.std.proofs.Common.{◌≡◌, ℕ, ◌+◌, ◌<◌, ◌≤◌, ◌⊎◌, inl, inr, [], ◌∷◌, ◌++◌, length, slice_get, Some, sym, ap, ◌∙◌, subst, arith}
 use Rattle.mesh_model.specs.declared.frame_choice.FrameChoice.{FrameChoice}
 use Rattle.mesh_model.specs.declared.happening.Happening.{Happening}
 use Rattle.mesh_model.specs.declared.line_form.Command.{Command}
 use Rattle.mesh_model.specs.Net.Mesh.{NodeLog, NetLink, Mesh, Setup}
 use Rattle.mesh_model.specs.Net.Next.{Has}
-use Rattle.mesh_model.specs.NetRun.State.{State, Outcome, first_state, reached}
+use Rattle.mesh_model.specs.NetRun.State.{Printed, State, first_state}
+use Rattle.mesh_model.specs.NetRun.Outcome.{Outcome, reached}
 use Rattle.mesh_model.specs.NetRun.Passing.{gone_on}
-use Rattle.mesh_model.specs.NetRun.Outcome.{with_node, with_link, printing}
+use Rattle.mesh_model.specs.NetRun.Shown.{after_print}
+use Rattle.mesh_model.specs.NetRun.Steps.{with_node, with_link}
 use Rattle.mesh_laws.specs.LineLaws.{IsReached, CanPass, HasDelay}
 use Rattle.mesh_laws.specs.Soundness.{FitsPlaces, GivesItsBytes, KeepsBytes}
 use Rattle.mesh_laws.proofs.Schedule.Members.{get_last}
@@ -21,7 +23,7 @@ use Rattle.mesh_laws.proofs.Lines.Ways.{Led, ended, printed, stayed, noded, link
 pub first_is_reached : (choice : FrameChoice) → IsReached (first_state choice)
 first_is_reached choice = record { sound = empty_sound; bytes = empty_bytes; past = omega arith; low = omega arith }
 
-printing_reached : (state : State) (more : List _) → IsReached state → IsReached (printing state more)
+printing_reached : (state : State) (more : Printed) → IsReached state → IsReached (after_print state more)
 printing_reached state more r = record { sound = r.sound; bytes = r.bytes; past = r.past; low = r.low }
 
 -- a new node was given no frame

@@ -1,5 +1,5 @@
 -- What commands print, and what a command that ends the run leaves.
-use Rattle.std.proofs.Common.{◌≡◌, ℕ, ◌+◌, ◌⊎◌, inl, inr, List, [], ◌++◌, map, Option, Some, None, refl, sym, ap, ◌∙◌, subst, append-nil}
+use Rattle.std.proofs.Common.{◌≡◌, ℕ, ◌+◌, ◌⊎◌, inl, inr, List, [], ◌∷◌, ◌++◌, map, Option, Some, None, refl, sym, ap, ◌∙◌, subst, append-nil}
 use Rattle.std.proofs.lemmas.Grind.{flat_map-append}
 use Rattle.std.specs.List.{flat_map}
 use Rattle.mesh_model.specs.declared.ending.Refusal.{Refusal}
@@ -8,10 +8,11 @@ use Rattle.mesh_model.specs.declared.ending.Stop.TheVariants.{Refused}
 use Rattle.mesh_model.specs.declared.line_form.Command.{Command}
 use Rattle.mesh_model.specs.Net.Mesh.{Mesh, Setup}
 use Rattle.mesh_model.specs.Net.Runs.{PassedLimit, run_to}
-use Rattle.mesh_model.specs.NetRun.State.{Printed, Happened, State, Outcome, Goes, Ends, names_of, reached, printed_text, state_text}
+use Rattle.mesh_model.specs.NetRun.State.{Printed, Happened, State, names_of, printed_text, text_of}
+use Rattle.mesh_model.specs.NetRun.Outcome.{Outcome, Goes, Ends, reached}
 use Rattle.mesh_model.specs.NetRun.Passing.{events_since, gone_on, course_outcome}
-use Rattle.mesh_model.specs.NetRun.Rules.{first_refused_rule}
-use Rattle.mesh_model.specs.NetRun.Outcome.{command_outcome, unless_refused, carried_out}
+use Rattle.mesh_model.specs.NetRun.Steps.{step_of}
+use Rattle.mesh_model.specs.NetRun.Rules.{first_refused_rule, unless_refused, after_step, carried_out}
 use Rattle.mesh_laws.specs.LineLaws.{IsRun}
 use Rattle.mesh_laws.proofs.Lines.Ways.{Led, ended, printed, stayed, noded, linked, given, again, passed, led}
 
@@ -34,7 +35,7 @@ course_grows state t mesh (Some p) = gone_on_grows state p.moment mesh
 outcome_grows : (setup : Setup) (state : State) (command : Command) (outcome : Outcome) → Led setup state command outcome → Grows state (reached outcome)
 outcome_grows setup state command outcome (ended stop e) = subst (λ o. Grows state (reached o)) (sym e) (grows_by_none state state refl refl)
 outcome_grows setup state command outcome (stayed e) = subst (λ o. Grows state (reached o)) (sym e) (grows_by_none state state refl refl)
-outcome_grows setup state command outcome (printed more e) = subst (λ o. Grows state (reached o)) (sym e) (record { more = more; grows = refl; choice = refl })
+outcome_grows setup state command outcome (printed more e) = subst (λ o. Grows state (reached o)) (sym e) (record { more = more ∷ []; grows = refl; choice = refl })
 outcome_grows setup state command outcome (noded node new made few e) = subst (λ o. Grows state (reached o)) (sym e) (grows_by_none state _ refl refl)
 outcome_grows setup state command outcome (linked link delay e) = subst (λ o. Grows state (reached o)) (sym e) (grows_by_none state _ refl refl)
 outcome_grows setup state command outcome (given place input after none gives g e) = subst (λ o. Grows state (reached o)) (sym e) (gone_on_grows state state.clock after)
@@ -48,17 +49,17 @@ grows setup state command = outcome_grows setup state command (carried_out setup
 pub printed_grows : (setup : Setup) (state : State) (command : Command) → (more : List Printed) × ((reached (carried_out setup state command)).printed ≡ state.printed ++ more)
 printed_grows setup state command = let g = grows setup state command in (g.more, g.grows)
 
-text_of_more : (state after : State) → (g : Grows state after) → state_text after ≡ state_text state ++ flat_map (printed_text state.choice) g.more
+text_of_more : (state after : State) → (g : Grows state after) → text_of after ≡ text_of state ++ flat_map (printed_text state.choice) g.more
 text_of_more state after g =
     ap (λ c. flat_map (printed_text c) after.printed) g.choice
     ∙ ap (flat_map (printed_text state.choice)) g.grows
     ∙ flat_map-append (printed_text state.choice) state.printed g.more
 
-pub text_grows : (setup : Setup) (state : State) (command : Command) → (more : List ℕ) × (state_text (reached (carried_out setup state command)) ≡ state_text state ++ more)
+pub text_grows : (setup : Setup) (state : State) (command : Command) → (more : List ℕ) × (text_of (reached (carried_out setup state command)) ≡ text_of state ++ more)
 text_grows setup state command = let g = grows setup state command in (flat_map (printed_text state.choice) g.more, text_of_more state (reached (carried_out setup state command)) g)
 
 pub refused_changes_nothing : (setup : Setup) (state : State) (command : Command) (refusal : Refusal) → first_refused_rule state command ≡ Some refusal → carried_out setup state command ≡ Ends state (Refused refusal)
-refused_changes_nothing setup state command refusal e = ap (unless_refused state (command_outcome setup state command)) e
+refused_changes_nothing setup state command refusal e = ap (λ r. unless_refused state r (after_step state (step_of setup command))) e
 
 end_of_two : (a b : State) (s t : Stop) → Ends a s ≡ Ends b t → a ≡ b
 end_of_two a b s t e = cc

@@ -7,9 +7,11 @@ use Rattle.mesh_model.specs.Net.Happenings.{Before}
 use Rattle.mesh_model.specs.Net.Mesh.{NodeLog, Mesh, Setup}
 use Rattle.mesh_model.specs.Net.Next.{Happens, IsQuiet}
 use Rattle.mesh_model.specs.Net.Runs.{PassedLimit, Course, begin, run_to}
-use Rattle.mesh_model.specs.NetRun.State.{State, Outcome, Goes, Ends}
+use Rattle.mesh_model.specs.NetRun.State.{State}
+use Rattle.mesh_model.specs.NetRun.Outcome.{Outcome, Goes, Ends}
 use Rattle.mesh_model.specs.NetRun.Passing.{gone_on, course_outcome, run_until}
-use Rattle.mesh_model.specs.NetRun.Outcome.{with_node, with_link, printing}
+use Rattle.mesh_model.specs.NetRun.Shown.{after_print}
+use Rattle.mesh_model.specs.NetRun.Steps.{with_node, with_link}
 use Rattle.mesh_laws.specs.LineLaws.{IsReached, CanPass, HasDelay, IsQuietNow}
 use Rattle.mesh_laws.specs.Soundness.{FitsPlaces, IsSound}
 use Rattle.mesh_laws.proofs.Schedule.Steps.{Effect, delivered_effect, no_ticks, tickless}
@@ -58,7 +60,7 @@ quiet_run setup t state after can e =
 pub goes_quiet : (setup : Setup) (state after : State) (command : Command) (outcome : Outcome) → FitsPlaces setup → IsReached state → HasDelay command → Led setup state command outcome → outcome ≡ Goes after → IsQuietNow state → IsQuietNow after
 goes_quiet setup state after command outcome fits r delay (ended stop e) f quiet = absurd (no_end state after stop (sym e ∙ f))
 goes_quiet setup state after command outcome fits r delay (stayed e) f quiet = subst IsQuietNow (goes_one state after (sym e ∙ f)) quiet
-goes_quiet setup state after command outcome fits r delay (printed more e) f quiet = subst IsQuietNow (goes_one (printing state more) after (sym e ∙ f)) quiet
+goes_quiet setup state after command outcome fits r delay (printed more e) f quiet = subst IsQuietNow (goes_one (after_print state more) after (sym e ∙ f)) quiet
 goes_quiet setup state after command outcome fits r delay (noded node new made few e) f quiet = subst IsQuietNow (goes_one (with_node state node) after (sym e ∙ f)) (quiet_node state node made quiet)
 goes_quiet setup state after command outcome fits r delay (linked link has e) f quiet = subst IsQuietNow (goes_one (with_link state link) after (sym e ∙ f)) (λ x happens later. quiet x (links_add_nothing state.mesh link x r.sound happens) later)
 goes_quiet setup state after command outcome fits r delay (given place input mesh none gives g e) f quiet = subst IsQuietNow (goes_one (gone_on state state.clock mesh) after (sym e ∙ f))

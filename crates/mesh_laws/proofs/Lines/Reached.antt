@@ -5,7 +5,8 @@ use Rattle.mesh_model.specs.Net.Mesh.{Mesh, Setup}
 use Rattle.mesh_model.specs.Net.Due.{next_due}
 use Rattle.mesh_model.specs.Net.Limits.{clock_limit}
 use Rattle.mesh_model.specs.Net.Runs.{PassedLimit, Course, begin, turn, run_to}
-use Rattle.mesh_model.specs.NetRun.State.{State, reached}
+use Rattle.mesh_model.specs.NetRun.State.{State}
+use Rattle.mesh_model.specs.NetRun.Outcome.{reached}
 use Rattle.mesh_model.specs.NetRun.Passing.{course_outcome, run_until, clock_behind, one_happening}
 use Rattle.mesh_laws.specs.LineLaws.{IsReached, CanPass}
 use Rattle.mesh_laws.specs.Soundness.{KeepsBytes}

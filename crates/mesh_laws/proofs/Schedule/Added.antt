@@ -1,4 +1,4 @@
--- Nothing is added before the last happening, and all that happens is carried_out out.
+-- Nothing is added before the last happening, and all that happens is after_happening out.
 use Rattle.std.proofs.Common.{◌≡◌, ℕ, suc, ◌+◌, ◌*◌, ◌<◌, ◌≤◌, ◌⊎◌, inl, inr, [], ◌∷◌, ◌++◌, length, slice_get, Option, Some, None, Ok, refl, sym, ap, ◌∙◌, subst, arith, length-append}
 use Rattle.std.specs.Fn.{iterate}
 use Rattle.mesh_model.specs.declared.happening.Happening.{Happening}
@@ -9,7 +9,7 @@ use Rattle.mesh_model.specs.Net.Mesh.{NetLink, SentFrame, NodeLog, Mesh, empty_m
 use Rattle.mesh_model.specs.Net.Due.{Fate, Once, Never, Twice, Held, fate_of, arrivals_by, arrivals_over, arrivals, tick_time, ticks_in, tick_at, next_due}
 use Rattle.mesh_model.specs.Net.Next.{Has, Happens, delivers, ticks, AtMost, IsNext}
 use Rattle.mesh_laws.specs.Soundness.{HadItsTicks, IsSound, FitsPlaces, GivesItsBytes, KeepsBytes, places}
-use Rattle.mesh_model.specs.Net.Runs.{carried_out, Course, turn, going_on}
+use Rattle.mesh_model.specs.Net.Runs.{after_happening, Course, turn, going_on}
 use Rattle.mesh_laws.proofs.Schedule.Order.{before_irrefl, before_at_most, at_most_before, by_moment, cases, both_at_most}
 use Rattle.mesh_laws.proofs.Schedule.Due.{due_is_next}
 use Rattle.mesh_laws.proofs.Schedule.Members.{get_either, get_last}
@@ -56,14 +56,14 @@ added setup extra now mesh after x sound nodes adds (ticks d) =
       is = d.is ∙ ap (λ m. record { moment = m + tick_time * suc d.index; class = NodeTick; place = x.place }) w.grew.made;
     }))
 
-pub nothing_before : (setup : Setup) (t : ℕ) (mesh after : Mesh) (h x : Happening) → IsSound mesh → IsNext t mesh h → carried_out setup h mesh ≡ Ok after → Happens after x → Happens mesh x ⊎ Before h x
+pub nothing_before : (setup : Setup) (t : ℕ) (mesh after : Mesh) (h x : Happening) → IsSound mesh → IsNext t mesh h → after_happening setup h mesh ≡ Ok after → Happens after x → Happens mesh x ⊎ Before h x
 nothing_before setup t mesh after h x sound n e happens = let s = step_is setup mesh h after e in either (added setup (ticks_of h.class h.place) h.moment mesh after x sound s.nodes s.adds happens)
   where
     either : Happens mesh x ⊎ (h.moment < x.moment) → Happens mesh x ⊎ Before h x
     either (inl p) = inl p
     either (inr l) = inr (by_moment h x l)
 
--- ---- all is carried_out out
+-- ---- all is after_happening out
 abbrev Seen : Setup → ℕ → Course → Happening → Type 0
 Seen setup t begin x = (n : ℕ) × (next_due t (iterate (turn setup t) n begin).mesh ≡ Some x)
 

@@ -7,7 +7,7 @@ use Rattle.mesh_model.specs.Net.Mesh.{NodeLog, SentFrame, Mesh, Setup}
 use Rattle.mesh_model.specs.Net.Due.{next_due}
 use Rattle.mesh_model.specs.Net.Next.{Has, AtMost, IsQuiet}
 use Rattle.mesh_laws.specs.Soundness.{IsSound, FitsPlaces, GivesItsBytes, KeepsBytes}
-use Rattle.mesh_model.specs.Net.Runs.{PassedLimit, carried_out, Course, begin, turn, is_done, going_on}
+use Rattle.mesh_model.specs.Net.Runs.{PassedLimit, after_happening, Course, begin, turn, is_done, going_on}
 use Rattle.mesh_laws.proofs.Schedule.Order.{at_most_before}
 use Rattle.mesh_laws.proofs.Schedule.Due.{due_is_next, due_none_is_quiet}
 use Rattle.mesh_laws.proofs.Schedule.Sends.{Adds}
@@ -76,7 +76,7 @@ later_iterate : (setup : Setup) (t : ℕ) (h : Happening) (n : ℕ) (o : Course)
 later_iterate setup t h zero o fits l = l
 later_iterate setup t h (suc n) o fits l = later_iterate setup t h n (turn setup t o) fits (later_turn setup t h o (turn setup t o) fits l (turned setup t o))
 
-pub later_is_later : (setup : Setup) (t u : ℕ) (mesh after : Mesh) (h k : Happening) (more : ℕ) → FitsPlaces setup → IsSound mesh → next_due t mesh ≡ Some h → carried_out setup h mesh ≡ Ok after → next_due u (iterate (turn setup u) more (begin after)).mesh ≡ Some k → Before h k
+pub later_is_later : (setup : Setup) (t u : ℕ) (mesh after : Mesh) (h k : Happening) (more : ℕ) → FitsPlaces setup → IsSound mesh → next_due t mesh ≡ Some h → after_happening setup h mesh ≡ Ok after → next_due u (iterate (turn setup u) more (begin after)).mesh ≡ Some k → Before h k
 later_is_later setup t u mesh after h k more fits sound n c m =
     let is = due_is_next t mesh sound h n in
     let step = step_is setup mesh h after c in

@@ -7,11 +7,11 @@ use Rattle.mesh_model.specs.declared.happening.Class.TheVariants.{LinkDelivery, 
 use Rattle.mesh_model.specs.declared.happening.Happening.{Happening}
 use Rattle.mesh_model.specs.Net.Happenings.{class_number}
 use Rattle.mesh_model.specs.Net.Mesh.{Mesh, Setup}
-use Rattle.mesh_model.specs.Net.Sending.{Step}
+use Rattle.mesh_model.specs.Net.Sending.{Attempt}
 use Rattle.mesh_model.specs.Net.Due.{next_happening, next_due, if_due}
 use Rattle.mesh_model.specs.declared.ending.LimitName.{LimitName}
 use Rattle.mesh_laws.specs.Soundness.{IsSound, FitsPlaces, rank}
-use Rattle.mesh_model.specs.Net.Runs.{PassedLimit, carried_out, Course, begin, after_step, after_next, turn, is_done, unless_done, turns, going_on}
+use Rattle.mesh_model.specs.Net.Runs.{PassedLimit, after_happening, Course, begin, course_after, after_next, turn, is_done, unless_done, turns, going_on}
 use Rattle.mesh_laws.proofs.Schedule.Due.{next_due_some, due_is_next}
 use Rattle.mesh_laws.proofs.Schedule.Steps.{step_is}
 use Rattle.mesh_laws.proofs.Schedule.Sound.{rank_rises, steps_keep_sound}
@@ -20,16 +20,16 @@ use Rattle.mesh_laws.proofs.Schedule.Sound.{rank_rises, steps_keep_sound}
 -- what a turn leaves: the outcome, which is done; the mesh after the next happening; or a stop
 pub data Turned (setup : Setup) (t : ℕ) (o after : Course) : Type 0 where
   rests : is_done t o ≡ true → after ≡ o → Turned setup t o after
-  goes : (h : Happening) (mesh : Mesh) → o.stop ≡ None → next_due t o.mesh ≡ Some h → carried_out setup h o.mesh ≡ Ok mesh → after ≡ begin mesh → Turned setup t o after
-  stops : (h : Happening) (limit : LimitName) → o.stop ≡ None → next_due t o.mesh ≡ Some h → carried_out setup h o.mesh ≡ Err limit → after ≡ after_step o.mesh h (Err limit) → Turned setup t o after
+  goes : (h : Happening) (mesh : Mesh) → o.stop ≡ None → next_due t o.mesh ≡ Some h → after_happening setup h o.mesh ≡ Ok mesh → after ≡ begin mesh → Turned setup t o after
+  stops : (h : Happening) (limit : LimitName) → o.stop ≡ None → next_due t o.mesh ≡ Some h → after_happening setup h o.mesh ≡ Err limit → after ≡ course_after o.mesh h (Err limit) → Turned setup t o after
 
-by_result : (setup : Setup) (t : ℕ) (o : Course) (h : Happening) (r : Step) → o.stop ≡ None → next_due t o.mesh ≡ Some h → carried_out setup h o.mesh ≡ r → Turned setup t o (after_step o.mesh h r)
+by_result : (setup : Setup) (t : ℕ) (o : Course) (h : Happening) (r : Attempt) → o.stop ≡ None → next_due t o.mesh ≡ Some h → after_happening setup h o.mesh ≡ r → Turned setup t o (course_after o.mesh h r)
 by_result setup t o h (Ok mesh) s d e = goes h mesh s d e refl
 by_result setup t o h (Err limit) s d e = stops h limit s d e refl
 
 by_next : (setup : Setup) (t : ℕ) (o : Course) (n : Option Happening) → o.stop ≡ None → next_due t o.mesh ≡ n → Turned setup t o (after_next setup o n)
 by_next setup t o None s d = rests (ap (λ x. is_some x || is_none (next_due t o.mesh)) s ∙ ap is_none d) refl
-by_next setup t o (Some h) s d = by_result setup t o h (carried_out setup h o.mesh) s d refl
+by_next setup t o (Some h) s d = by_result setup t o h (after_happening setup h o.mesh) s d refl
 
 by_stop : (setup : Setup) (t : ℕ) (o : Course) (stop : Option PassedLimit) → o.stop ≡ stop → Turned setup t o (cond (is_some stop) o (after_next setup o (next_due t o.mesh)))
 by_stop setup t o None s = by_next setup t o (next_due t o.mesh) s refl
@@ -161,7 +161,7 @@ due_later t u mesh h l d =
     let p = next_due_some t mesh h (next_happening mesh) refl d in
     ap (option_and_then (if_due u)) p.0 ∙ ap (λ b. cond b (Some h) None) (le-leb h.moment u (let w = p.1 in omega (arith, l, w)))
 
-turn_of : (setup : Setup) (t : ℕ) (o : Course) (h : Happening) → o.stop ≡ None → next_due t o.mesh ≡ Some h → turn setup t o ≡ after_step o.mesh h (carried_out setup h o.mesh)
+turn_of : (setup : Setup) (t : ℕ) (o : Course) (h : Happening) → o.stop ≡ None → next_due t o.mesh ≡ Some h → turn setup t o ≡ course_after o.mesh h (after_happening setup h o.mesh)
 turn_of setup t o h s n = ap (λ x. cond (is_some x) o (after_next setup o (next_due t o.mesh))) s ∙ ap (after_next setup o) n
 
 earlier_turn : (setup : Setup) (t u : ℕ) (o after : Course) → t ≤ u → Turned setup t o after → (turn setup t o ≡ o) ⊎ (turn setup t o ≡ turn setup u o)
@@ -214,5 +214,5 @@ after_turn setup t o fits fine low =
     let fine' = fine_turn setup t o (turn setup t o) fits fine (turned setup t o) in
     p.1 ∙ one_end setup t p.0 (suc q.0) o (ap (is_done t) (sym p.1) ∙ ends setup t o fits fine low) (ap (is_done t) (sym q.1) ∙ ends setup t (turn setup t o) fits fine' low) ∙ sym q.1
 
-pub one_turn : (setup : Setup) (t : ℕ) (o : Course) (h : Happening) (r : Step) → FitsPlaces setup → Fine t o → t ≤ 1099511627776 → o.stop ≡ None → next_due t o.mesh ≡ Some h → carried_out setup h o.mesh ≡ r → going_on setup t o ≡ going_on setup t (after_step o.mesh h r)
-one_turn setup t o h r fits fine low s n c = after_turn setup t o fits fine low ∙ ap (going_on setup t) (turn_of setup t o h s n ∙ ap (after_step o.mesh h) c)
+pub one_turn : (setup : Setup) (t : ℕ) (o : Course) (h : Happening) (r : Attempt) → FitsPlaces setup → Fine t o → t ≤ 1099511627776 → o.stop ≡ None → next_due t o.mesh ≡ Some h → after_happening setup h o.mesh ≡ r → going_on setup t o ≡ going_on setup t (course_after o.mesh h r)
+one_turn setup t o h r fits fine low s n c = after_turn setup t o fits fine low ∙ ap (going_on setup t) (turn_of setup t o h s n ∙ ap (course_after o.mesh h) c)

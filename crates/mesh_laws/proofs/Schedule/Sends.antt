@@ -9,23 +9,23 @@ use Rattle.mesh_model.specs.declared.act.Act.TheVariants.{Link, Lan, Print}
 use Rattle.mesh_model.specs.declared.ending.LimitName.{LimitName}
 use Rattle.mesh_model.specs.declared.ending.LimitName.TheVariants.{Frames, FrameBytes}
 use Rattle.mesh_model.specs.Net.Mesh.{NodeLog, NetLink, SentFrame, Mesh, Setup}
-use Rattle.mesh_model.specs.Net.Sending.{Step, on_ok, with_frames, frames_over, frames_of, goes_to, ways, total_bytes, sent_events, Actor, after_act, after_acts}
+use Rattle.mesh_model.specs.Net.Sending.{Attempt, on_ok, with_frames, frames_over, frames_of, goes_to, ways, total_bytes, sent_events, Actor, after_act, after_acts}
 use Rattle.mesh_model.specs.Net.Next.{Has}
 use Rattle.mesh_laws.specs.Soundness.{places, FitsPlaces}
 use Rattle.mesh_laws.proofs.Schedule.Members.{has_either}
 
-abbrev pub as_ok : Mesh → Step
+abbrev pub as_ok : Mesh → Attempt
 as_ok mesh = Ok mesh
 
 pub ok_one : (a b : Mesh) → as_ok a ≡ as_ok b → a ≡ b
 ok_one a b e = cc
 
-pub on_ok_ok : (f : Mesh → Step) (r : Step) (m : Mesh) → on_ok f r ≡ Ok m → (n : Mesh) × (r ≡ Ok n) × (f n ≡ Ok m)
+pub on_ok_ok : (f : Mesh → Attempt) (r : Attempt) (m : Mesh) → on_ok f r ≡ Ok m → (n : Mesh) × (r ≡ Ok n) × (f n ≡ Ok m)
 on_ok_ok f (Ok n) m e = (n, refl, e)
 on_ok_ok f (Err l) m e = cc
 
 -- a test that ends a step didn't, where there is a mesh after it
-passed : (test : Bool) (limit : LimitName) (r : Step) (m : Mesh) → cond test (Err limit) r ≡ Ok m → (test ≡ false) × (r ≡ Ok m)
+passed : (test : Bool) (limit : LimitName) (r : Attempt) (m : Mesh) → cond test (Err limit) r ≡ Ok m → (test ≡ false) × (r ≡ Ok m)
 passed true limit r m e = cc
 passed false limit r m e = (refl, e)
 

@@ -10,7 +10,7 @@ use Rattle.mesh_model.specs.Net.Mesh.{NodeLog, SentFrame, Mesh, Setup}
 use Rattle.mesh_model.specs.Net.Due.{tick_time, ticks_in, tick_at}
 use Rattle.mesh_model.specs.Net.Next.{Has, Happens, delivers, ticks, AtMost, IsNext}
 use Rattle.mesh_laws.specs.Soundness.{HadItsTicks, IsSound, FitsPlaces, places, rank}
-use Rattle.mesh_model.specs.Net.Runs.{carried_out}
+use Rattle.mesh_model.specs.Net.Runs.{after_happening}
 use Rattle.mesh_laws.proofs.Schedule.Order.{by_moment, ranks, at_most_before, both_at_most}
 use Rattle.mesh_laws.proofs.Schedule.Due.{ticks_rise, tick_not_had}
 use Rattle.mesh_laws.proofs.Schedule.Members.{one_some, get_either}
@@ -88,7 +88,7 @@ low_place mesh h sound (ticks d) = let w = slice_get_within mesh.nodes h.place d
 pub rank_rises : (t : ℕ) (mesh : Mesh) (h : Happening) → IsSound mesh → IsNext t mesh h → rank mesh.last < rank h
 rank_rises t mesh h sound n = ranks mesh.last h n.after sound.low_last (low_place mesh h sound n.happens)
 
-pub steps_rise : (setup : Setup) (t : ℕ) (mesh after : Mesh) (h : Happening) → IsSound mesh → IsNext t mesh h → carried_out setup h mesh ≡ Ok after → (after.last ≡ h) × Before mesh.last h × (rank mesh.last < rank h)
+pub steps_rise : (setup : Setup) (t : ℕ) (mesh after : Mesh) (h : Happening) → IsSound mesh → IsNext t mesh h → after_happening setup h mesh ≡ Ok after → (after.last ≡ h) × Before mesh.last h × (rank mesh.last < rank h)
 steps_rise setup t mesh after h sound n e = ((step_is setup mesh h after e).last, n.after, rank_rises t mesh h sound n)
 
 -- the frames of a mesh, and those that joined them, were sent over links
@@ -100,7 +100,7 @@ frames_on_links setup now mesh after sound adds place frame found =
     either (inl old) = sound.on_links place frame old
     either (inr new) = adds.on_links frame new
 
-pub steps_keep_sound : (setup : Setup) (t : ℕ) (mesh after : Mesh) (h : Happening) → FitsPlaces setup → IsSound mesh → IsNext t mesh h → carried_out setup h mesh ≡ Ok after → IsSound after
+pub steps_keep_sound : (setup : Setup) (t : ℕ) (mesh after : Mesh) (h : Happening) → FitsPlaces setup → IsSound mesh → IsNext t mesh h → after_happening setup h mesh ≡ Ok after → IsSound after
 steps_keep_sound setup t mesh after h fits sound n e =
     let s = step_is setup mesh h after e in
     let few = s.adds.few fits sound.few_frames in

@@ -7,11 +7,11 @@ use Rattle.mesh_model.specs.declared.happening.Class.TheVariants.{LinkDelivery, 
 use Rattle.mesh_model.specs.declared.happening.Happening.{Happening}
 use Rattle.mesh_model.specs.Clients.Log.{Given, Tick, LinkFrame, Frame, Gone, Join, Leave, Arp, Dhcp, Wifi, LogEntry}
 use Rattle.mesh_model.specs.Net.Mesh.{NetLink, SentFrame, NodeLog, Mesh, Setup, address_at}
-use Rattle.mesh_model.specs.Net.Sending.{Step, Actor, after_acts}
+use Rattle.mesh_model.specs.Net.Sending.{Attempt, Actor, after_acts}
 use Rattle.mesh_model.specs.Net.Inputs.{noting, noted_at, noted, with_entry, entry_of, unless_passed, given_node, given_to}
 use Rattle.mesh_model.specs.Net.Due.{ticks_by, ticks_in}
 use Rattle.mesh_model.specs.Net.Next.{Has}
-use Rattle.mesh_model.specs.Net.Runs.{throughput_between, frame_over, frame_given, delivered, tick_given, effect, with_last, carried_out}
+use Rattle.mesh_model.specs.Net.Runs.{throughput_between, frame_over, frame_given, delivered, tick_given, effect, with_last, after_happening}
 use Rattle.mesh_model.specs.NetRun.State.{names_of}
 use Rattle.mesh_laws.specs.Soundness.{GivesItsBytes}
 use Rattle.mesh_laws.proofs.Schedule.Members.{one_some}
@@ -132,7 +132,7 @@ entry_effect setup mesh actor entry after g e =
     })
 
 -- a step after which there is a mesh passed no limit before it
-not_passed : (o : Option LimitName) (step : Step) (after : Mesh) → unless_passed o step ≡ Ok after → step ≡ Ok after
+not_passed : (o : Option LimitName) (step : Attempt) (after : Mesh) → unless_passed o step ≡ Ok after → step ≡ Ok after
 not_passed None step after e = e
 not_passed (Some limit) step after e = cc
 
@@ -211,7 +211,7 @@ pub record HasStepped (setup : Setup) (mesh : Mesh) (h : Happening) (after : Mes
   pub adds : Adds setup h.moment mesh after
   pub last : after.last ≡ h
 
-pub step_is : (setup : Setup) (mesh : Mesh) (h : Happening) (after : Mesh) → carried_out setup h mesh ≡ Ok after → HasStepped setup mesh h after
+pub step_is : (setup : Setup) (mesh : Mesh) (h : Happening) (after : Mesh) → after_happening setup h mesh ≡ Ok after → HasStepped setup mesh h after
 step_is setup mesh h after e =
     let p = on_ok_ok (with_last h) (effect setup h.class h.place h.moment mesh) after e in
     let x = effect_is setup mesh h.class h.place h.moment p.0 p.1 in

@@ -4,7 +4,7 @@ use Rattle.std.specs.Prelude.{ℕ, zero, suc, List, [], ◌∷◌, slice_get, Op
 use Rattle.mesh_model.specs.declared.ending.LimitName.{LimitName}
 use Rattle.mesh_model.specs.Clients.Log.{Given, LogEntry}
 use Rattle.mesh_model.specs.Net.Mesh.{NodeLog, Mesh, Setup}
-use Rattle.mesh_model.specs.Net.Sending.{Step, on_ok, Actor, after_acts}
+use Rattle.mesh_model.specs.Net.Sending.{Attempt, on_ok, Actor, after_acts}
 
 -- a node that notes an entry
 abbrev pub noting : LogEntry → NodeLog → NodeLog
@@ -17,11 +17,11 @@ noted_at zero entry (node ∷ rest) = noting entry node ∷ rest
 noted_at (suc place) entry (node ∷ rest) = node ∷ noted_at place entry rest
 
 -- the mesh, of which the node at a place notes an entry
-abbrev pub noted : ℕ → LogEntry → Mesh → Step
+abbrev pub noted : ℕ → LogEntry → Mesh → Attempt
 noted place entry mesh = Ok (record mesh { nodes = noted_at place entry mesh.nodes })
 
 -- the mesh after a node's acts, and with its entry
-abbrev pub with_entry : Setup → Actor → LogEntry → Mesh → Step
+abbrev pub with_entry : Setup → Actor → LogEntry → Mesh → Attempt
 with_entry setup actor entry mesh =
     on_ok (noted actor.place entry) (after_acts setup actor entry.acts mesh)
 
@@ -31,12 +31,12 @@ entry_of setup node now given =
     record { moment = now; given = given; acts = setup.acts node.mac node.log now given }
 
 -- a step, unless its input passes a limit
-abbrev pub unless_passed : Option LimitName → Step → Step
+abbrev pub unless_passed : Option LimitName → Attempt → Attempt
 unless_passed None step = step
 unless_passed (Some limit) step = Err limit
 
 -- the mesh after the node that stands at a place is given something
-abbrev pub given_node : Setup → ℕ → ℕ → ℕ → Given → Option NodeLog → Mesh → Step
+abbrev pub given_node : Setup → ℕ → ℕ → ℕ → Given → Option NodeLog → Mesh → Attempt
 given_node setup place now root given None mesh = Ok mesh
 given_node setup place now root given (Some node) mesh =
     unless_passed (setup.client_limit node.log now given)
@@ -44,6 +44,6 @@ given_node setup place now root given (Some node) mesh =
     (entry_of setup node now given) mesh)
 
 -- the mesh after the node at a place is given something at a moment; what it sends has this root
-abbrev pub given_to : Setup → ℕ → ℕ → ℕ → Given → Mesh → Step
+abbrev pub given_to : Setup → ℕ → ℕ → ℕ → Given → Mesh → Attempt
 given_to setup place now root given mesh =
     given_node setup place now root given (slice_get mesh.nodes place) mesh

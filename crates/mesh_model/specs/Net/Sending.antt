@@ -16,11 +16,11 @@ use Rattle.mesh_model.specs.declared.ending.LimitName.TheVariants.{Frames, Frame
 use Rattle.mesh_model.specs.Net.Mesh.{NodeLog, NetLink, SentFrame, Mesh, Setup, address_at}
 
 -- what a step leads to: the mesh after it, or the limit that it would pass
-abbrev pub Step : Type 0
-Step = Result Mesh LimitName
+abbrev pub Attempt : Type 0
+Attempt = Result Mesh LimitName
 
 -- what follows a step that passed no limit
-abbrev pub on_ok : (Mesh → Step) → Step → Step
+abbrev pub on_ok : (Mesh → Attempt) → Attempt → Attempt
 on_ok next (Ok mesh) = next mesh
 on_ok next (Err limit) = Err limit
 
@@ -72,7 +72,7 @@ sent_events me reason mesh place (frame ∷ rest) =
     ∷ sent_events me reason mesh (suc place) rest
 
 -- the mesh with these frames of a node
-abbrev pub with_frames : Setup → Mac → Option Reason → List SentFrame → Mesh → Step
+abbrev pub with_frames : Setup → Mac → Option Reason → List SentFrame → Mesh → Attempt
 with_frames setup me reason new mesh =
     if nat_lt setup.frames_limit (length (mesh.frames ++ new)) then Err Frames
     else if nat_lt setup.bytes_limit (total_bytes (mesh.frames ++ new)) then Err FrameBytes
@@ -94,14 +94,14 @@ frames_of actor to bytes mesh =
     frames_over (ways mesh.nodes actor.place to 0 mesh.links) mesh.frames actor.now actor.root bytes
 
 -- the mesh after an act
-abbrev pub after_act : Setup → Actor → Act → Mesh → Step
+abbrev pub after_act : Setup → Actor → Act → Mesh → Attempt
 after_act setup actor (Link to reason bytes) mesh =
     with_frames setup actor.mac reason (frames_of actor to bytes mesh) mesh
 after_act setup actor (Lan bytes) mesh = Ok mesh
 after_act setup actor (Print event) mesh = Ok (record mesh { events = mesh.events ++ event ∷ [] })
 
 -- the mesh after acts, one after another
-abbrev pub after_acts : Setup → Actor → List Act → Mesh → Step
+abbrev pub after_acts : Setup → Actor → List Act → Mesh → Attempt
 after_acts setup actor [] mesh = Ok mesh
 after_acts setup actor (act ∷ acts) mesh =
     on_ok (after_acts setup actor acts) (after_act setup actor act mesh)

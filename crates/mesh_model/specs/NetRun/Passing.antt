@@ -6,10 +6,11 @@ use Rattle.mesh_base.specs.declared.event.Event.{Event}
 use Rattle.mesh_model.specs.declared.ending.Stop.TheVariants.{Limit}
 use Rattle.mesh_model.specs.declared.happening.Happening.{Happening}
 use Rattle.mesh_model.specs.Net.Mesh.{Mesh, Setup}
-use Rattle.mesh_model.specs.Net.Sending.{Step}
+use Rattle.mesh_model.specs.Net.Sending.{Attempt}
 use Rattle.mesh_model.specs.Net.Due.{next_due}
 use Rattle.mesh_model.specs.Net.Runs.{Course, PassedLimit, begin, turn, run_to}
-use Rattle.mesh_model.specs.NetRun.State.{Happened, State, Outcome, Goes, Ends, names_of}
+use Rattle.mesh_model.specs.NetRun.State.{Happened, State, names_of}
+use Rattle.mesh_model.specs.NetRun.Outcome.{Outcome, Goes, Ends}
 
 -- the events of a mesh that an earlier one didn't have
 abbrev pub events_since : Mesh → Mesh → List Event
@@ -48,6 +49,6 @@ one_happening setup t state =
     after_course state (clock_behind t (next_due t state.mesh)) (turn setup t (begin state.mesh))
 
 -- the outcome of a step at the clock: one that would pass a limit leaves the state as it was
-abbrev pub after_line_step : State → Step → Outcome
-after_line_step state (Ok mesh) = Goes (gone_on state state.clock mesh)
-after_line_step state (Err limit) = Ends state (Limit limit)
+abbrev pub after_attempt : State → Attempt → Outcome
+after_attempt state (Ok mesh) = Goes (gone_on state state.clock mesh)
+after_attempt state (Err limit) = Ends state (Limit limit)

@@ -1,82 +1,50 @@
--- The rules on a command that was read, in the state before it, in the order in which they are
--- looked at: its form is carried out by this version; each name that it uses is that of a node; a
--- new node has a name and an address of its own; a link leads to another node, and from one node to
--- another there is one link; a frame that is delivered again was sent. The main word is
--- `first_refused_rule`.
-use Rattle.std.specs.Prelude.{ℕ, ◌==◌, ◌||◌, nat_lt, Bool, false, not, bytes_eq, length, List, Option, Some, None, if◌then◌else◌}
+-- The rules on a command that was read, in the state before it: it is of a form that this version
+-- carries out, and not too early; each name that it uses is that of a node; what else it asks is
+-- met: a new node has a name and an address of its own, a link leads to another node and isn't
+-- there yet, and a frame that is delivered again was sent. They are looked at in this order. The
+-- first that is broken refuses the command and ends the run in the state before it; a command that
+-- breaks none takes its step. The main words are `first_refused_rule` and `carried_out`.
+use Rattle.std.specs.Prelude.{◌||◌, not, Option, Some, None, is_none}
 use Rattle.std.specs.List.{list_any}
 use Rattle.std.specs.Option.{option_or, option_map_or}
 use Rattle.mesh_model.specs.declared.ending.Refusal.{Refusal}
-use Rattle.mesh_model.specs.declared.ending.Refusal.TheVariants.{AddressTaken, LinkTaken, NameTaken, NoSuchFrame, NotBuilt, SameNode, UnknownName}
+use Rattle.mesh_model.specs.declared.ending.Refusal.TheVariants.{NotBuilt, UnknownName}
+use Rattle.mesh_model.specs.declared.ending.Stop.TheVariants.{Refused}
 use Rattle.mesh_model.specs.declared.line_form.Command.{Command}
-use Rattle.mesh_model.specs.declared.line_form.Command.TheVariants.{Nothing, Algo, Node, Link, Lan, Frame, Gone, Join, Leave, Arp, Dhcp, Wifi, GwOff, GwServer, GwClient, Mcast, Dat, Alfred, Put, Get, Ping, Trace, Run, Deliver, Show, Decode}
-use Rattle.mesh_model.specs.Net.Mesh.{has_address}
-use Rattle.mesh_model.specs.Net.Runs.{leads}
-use Rattle.mesh_model.specs.NetRun.State.{State, is_named, place_of}
-use Rattle.mesh_model.specs.NetRun.Built.{is_built}
+use Rattle.mesh_model.specs.Net.Limits.{scenario_setup}
+use Rattle.mesh_model.specs.Net.Mesh.{Setup}
+use Rattle.mesh_model.specs.NetRun.State.{State}
+use Rattle.mesh_model.specs.NetRun.Outcome.{Outcome, Goes, Ends}
+use Rattle.mesh_model.specs.NetRun.Steps.{Step, step_of}
+use Rattle.mesh_model.specs.NetRun.Demands.{demand_of, is_early, is_known, refusal_if, first_unmet}
 use Rattle.mesh_model.specs.Run.Names.{names_used}
 
--- whether a node of the state has this name
-abbrev pub is_known : State → List ℕ → Bool
-is_known state name = list_any (is_named name) state.mesh.nodes
-
--- a refusal where a condition holds
-abbrev pub refusal_if : Bool → Refusal → Option Refusal
-refusal_if holds refusal = if holds then Some refusal else None
-
--- a command of a form that this version doesn't carry out
+-- a command that has no step, or comes too early for this version
 abbrev pub not_built : State → Command → Option Refusal
-not_built state command = refusal_if (not (is_built state command)) NotBuilt
+not_built state command = refusal_if
+    (is_none (step_of scenario_setup command) || is_early state (demand_of command)) NotBuilt
 
 -- a command uses a name that no node has
 abbrev pub unknown_name : State → Command → Option Refusal
 unknown_name state command =
     refusal_if (list_any (λ name. not (is_known state name)) (names_used command)) UnknownName
 
--- whether a link leads from the node of one name to the node of another
-abbrev pub are_linked : State → List ℕ → List ℕ → Bool
-are_linked state from to = option_map_or (λ start. option_map_or
-    (λ end. list_any (leads start end) state.mesh.links) (place_of to state) false)
-    (place_of from state) false
-
--- whether no link frame has this number
-abbrev pub is_no_frame : State → ℕ → Bool
-is_no_frame state number = number == 0 || nat_lt (length state.mesh.frames) number
-
--- what of a command is already there, or not there: a name, an address, a link, a frame
-abbrev pub first_clash : State → Command → Option Refusal
-first_clash state Nothing = None
-first_clash state (Algo algorithm) = None
-first_clash state (Node name mac) = option_or (refusal_if (is_known state name) NameTaken)
-    (refusal_if (list_any (has_address mac) state.mesh.nodes) AddressTaken)
-first_clash state (Link from to delay pattern throughput) =
-    option_or (refusal_if (bytes_eq from to) SameNode)
-    (refusal_if (are_linked state from to) LinkTaken)
-first_clash state (Lan name gateways) = None
-first_clash state (Frame place src dst vid text) = None
-first_clash state (Gone place key) = None
-first_clash state (Join node key) = None
-first_clash state (Leave node key) = None
-first_clash state (Arp node mac own asked vid) = None
-first_clash state (Dhcp node key text) = None
-first_clash state (Wifi node on) = None
-first_clash state (GwOff node) = None
-first_clash state (GwServer node down up) = None
-first_clash state (GwClient node policy) = None
-first_clash state (Mcast node flags) = None
-first_clash state (Dat node on) = None
-first_clash state (Alfred node mode) = None
-first_clash state (Put node type_no version text) = None
-first_clash state (Get node type_no) = None
-first_clash state (Ping node target) = None
-first_clash state (Trace node target) = None
-first_clash state (Run time) = None
-first_clash state (Deliver number) = refusal_if (is_no_frame state number) NoSuchFrame
-first_clash state (Show node table) = None
-first_clash state (Decode bytes) = None
-
 -- the first rule that a command breaks
 abbrev pub first_refused_rule : State → Command → Option Refusal
 first_refused_rule state command =
     option_or (not_built state command)
-    (option_or (unknown_name state command) (first_clash state command))
+    (option_or (unknown_name state command) (first_unmet state (demand_of command)))
+
+-- the outcome of a rule's answer, and else that of a step
+abbrev pub unless_refused : State → Option Refusal → Outcome → Outcome
+unless_refused before (Some refusal) outcome = Ends before (Refused refusal)
+unless_refused before None outcome = outcome
+
+-- the outcome of a step, where there is one
+abbrev pub after_step : State → Option Step → Outcome
+after_step state step = option_map_or (λ go. go state) step (Goes state)
+
+-- the outcome of a command
+abbrev pub carried_out : Setup → State → Command → Outcome
+carried_out setup state command = unless_refused state (first_refused_rule state command)
+    (after_step state (step_of setup command))

@@ -1,23 +1,22 @@
 -- The state of a scenario's run: the mesh, the clock, which link frames are printed, and what is
--- printed so far. An event is kept with the names that the nodes have when it comes. An outcome of
--- a line carries the state that was reached, also where the line ends the run: what its first part
--- prints is printed. The main words are `State` and `Outcome`.
-use Rattle.std.specs.Prelude.{ℕ, Bool, List, [], flat_map, map, bytes_eq, position, Option}
+-- printed so far. An event is kept with the names that the nodes have when it comes. The main words
+-- are `State` and `text_of`.
+use Rattle.std.specs.Prelude.{ℕ, Bool, List, [], flat_map, map, bytes_eq, position, slice_get, Option, option_and_then}
 use Rattle.mesh_base.specs.declared.event.Event.{Event}
-use Rattle.mesh_model.specs.declared.ending.Stop.{Stop}
 use Rattle.mesh_model.specs.declared.frame_choice.FrameChoice.{FrameChoice}
 use Rattle.mesh_model.specs.Net.Mesh.{NodeLog, Mesh, empty_mesh}
 use Rattle.mesh_model.specs.Text.Decode.{decode_text}
 use Rattle.mesh_model.specs.Text.Events.{NodeName, event_text}
 use Rattle.mesh_model.specs.Text.Tables.{LocalTable, table_text}
 
--- what a run prints: a table, the text of bytes, or an event by names
+-- what a run prints: a table that is shown, the packets in bytes that are decoded, or an event, by
+-- names of nodes
 pub data Printed : Type 0 where
   LocalsShown : LocalTable → Printed
   Decoded : List ℕ → Printed
   Happened : List NodeName → Event → Printed
 
--- the mesh, the clock in milliseconds, the choice of frames, and what is printed, in order
+-- the mesh, the clock in milliseconds, the choice of frames, and what was printed so far
 pub record State : Type 0 where
   pub mesh : Mesh
   pub clock : ℕ
@@ -34,34 +33,23 @@ abbrev pub is_named : List ℕ → NodeLog → Bool
 is_named name node = bytes_eq node.name name
 
 -- the place of the node of this name
-abbrev pub place_of : List ℕ → State → Option ℕ
-place_of name state = position (is_named name) state.mesh.nodes
+abbrev pub place_of : State → List ℕ → Option ℕ
+place_of state name = position (is_named name) state.mesh.nodes
+
+-- the node of this name
+abbrev pub node_named : State → List ℕ → Option NodeLog
+node_named state name = option_and_then (slice_get state.mesh.nodes) (place_of state name)
 
 -- the names of nodes
 abbrev pub names_of : List NodeLog → List NodeName
 names_of nodes = map (λ (node : NodeLog). record { mac = node.mac; name = node.name }) nodes
 
--- what is printed of one thing
+-- the text of what is printed at once
 abbrev pub printed_text : FrameChoice → Printed → List ℕ
 printed_text choice (LocalsShown table) = table_text table
 printed_text choice (Decoded bytes) = decode_text bytes
 printed_text choice (Happened names event) = event_text choice names event
 
--- what a state prints
-abbrev pub state_text : State → List ℕ
-state_text state = flat_map (printed_text state.choice) state.printed
-
--- a line goes on to a state, or ends the run at a state that it reached
-pub data Outcome : Type 0 where
-  Goes : State → Outcome
-  Ends : State → Stop → Outcome
-
--- the state that was reached
-abbrev pub reached : Outcome → State
-reached (Goes state) = state
-reached (Ends state stop) = state
-
--- an outcome, and what follows it where it goes on
-abbrev pub and_then : Outcome → (State → Outcome) → Outcome
-and_then (Goes state) next = next state
-and_then (Ends state stop) next = Ends state stop
+-- the text of all that was printed
+abbrev pub text_of : State → List ℕ
+text_of state = flat_map (printed_text state.choice) state.printed

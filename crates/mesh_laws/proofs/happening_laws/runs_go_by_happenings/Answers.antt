@@ -1,5 +1,5 @@
 use Rattle.std.proofs.Common.{refl, ap, ◌∙◌, Ok, Err, is_none}
-use Rattle.mesh_model.specs.Net.Runs.{Course, begin, after_step}
+use Rattle.mesh_model.specs.Net.Runs.{Course, begin, course_after}
 use Rattle.mesh_laws.proofs.Schedule.Due.{finds_next}
 use Rattle.mesh_laws.proofs.Schedule.Runs.{done_stays, one_turn}
 use Rattle.mesh_laws.proofs.Schedule.Kept.{fine_start}
@@ -13,6 +13,6 @@ returns c = λ setup t mesh can.
       λ quiet. done_stays setup t o (ap is_none (finds.1.1 quiet)),
       λ h next. (
         λ after e. one_turn setup t o h (Ok after) can.fits fine can.ends refl ((finds.0 h).1 next) e,
-        λ limit e. one_turn setup t o h (Err limit) can.fits fine can.ends refl ((finds.0 h).1 next) e ∙ done_stays setup t (after_step mesh h (Err limit)) refl,
+        λ limit e. one_turn setup t o h (Err limit) can.fits fine can.ends refl ((finds.0 h).1 next) e ∙ done_stays setup t (course_after mesh h (Err limit)) refl,
       ),
     )
