@@ -1,6 +1,16 @@
 //! What holds of all that happens in a mesh, whatever its nodes put.
 
+ghost use Rattle.std.specs.Prelude.{◌≡◌};
+ghost use Rattle.mesh_model.specs.declared.happening.Happening.{Happening};
+ghost use Rattle.mesh_model.specs.Net.Happenings.{happening_order};
 ghost use Rattle.mesh_laws.specs.HappeningLaws.{AllIsCarriedOut, FindsNext, HasTurnsEnough, LaterIsLater, LastRises, LeavesNothingDue, NothingAddedBefore, OneNext, RunsByHappenings, RunsInSlices};
+
+use mesh_model::Happening;
+
+/// Values of the code are ordered as happenings are.
+pub fn happenings_have_one_order()
+    ensures { (a b : Happening) → ⟦<Happening as Ord>⟧.cmp a b ≡ happening_order a b }
+{}
 
 /// The next happening is computed exactly where there is one.
 pub fn the_next_happening_is_found()
