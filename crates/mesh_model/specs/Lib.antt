@@ -2,5 +2,6 @@
 pub mod Scenario
 pub mod Packets
 pub mod Clients
+pub mod Tables
 pub mod Text
 pub mod Run
