@@ -2,6 +2,7 @@
 pub mod Scenario
 pub mod Packets
 pub mod Clients
+pub mod Tables
 pub mod Text
 pub mod Acts
 pub mod Net

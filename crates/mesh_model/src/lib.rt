@@ -13,6 +13,7 @@ pub mod happening;
 pub mod line_form;
 pub mod name_list;
 pub mod packet;
+pub mod table_change;
 pub mod table_row;
 
 pub use act::Act;
@@ -22,4 +23,5 @@ pub use happening::{Class, Happening};
 pub use line_form::{AlfredMode, Algorithm, Command, Policy, Table};
 pub use name_list::NameList;
 pub use packet::Head;
+pub use table_change::Change;
 pub use table_row::LocalRow;
