@@ -9,3 +9,7 @@ pub mod HeaderLemmas
 pub mod FirstPacketLemmas
 pub mod DecodeLemmas
 pub mod Schedule
+pub mod KeyTables
+pub mod TableSums
+pub mod AnnouncedSums
+pub mod TableChanges

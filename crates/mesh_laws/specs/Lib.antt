@@ -7,3 +7,5 @@ pub mod PresentLaws
 pub mod Soundness
 pub mod HappeningLaws
 pub mod MeshLaws
+pub mod TableLaws
+pub mod Machine
