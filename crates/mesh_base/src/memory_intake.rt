@@ -23,8 +23,8 @@ pub struct MemIntake {
 }
 
 impl MemIntake {
-    ghost use Rattle.mesh_base.specs.CallPlan.{IsFreshPlan};
-    ghost use Rattle.mesh_base.specs.Memory.{intake_plan};
+    ghost use Rattle.mesh_base.specs.Inner.CallPlan.{IsFreshPlan};
+    ghost use Rattle.mesh_base.specs.Inner.Memory.{intake_plan};
 
     /// An input of these bytes, which gives at most `piece` of them at a read and fails at the
     /// calls of these numbers: reads and opens are counted together, from 1.
@@ -60,7 +60,7 @@ impl MemIntake {
 }
 
 impl Intake for MemIntake {
-    ghost use Rattle.mesh_base.specs.Memory.{known_bytes, known_left, intake_faults, given_count, CallsInput};
+    ghost use Rattle.mesh_base.specs.Inner.Memory.{known_bytes, known_left, intake_faults, given_count, CallsInput};
 
     ghost left = { known_left };
 

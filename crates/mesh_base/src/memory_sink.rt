@@ -22,8 +22,8 @@ pub struct MemSink {
 }
 
 impl MemSink {
-    ghost use Rattle.mesh_base.specs.CallPlan.{IsFreshPlan};
-    ghost use Rattle.mesh_base.specs.Memory.{sink_plan, whole_room};
+    ghost use Rattle.mesh_base.specs.Inner.CallPlan.{IsFreshPlan};
+    ghost use Rattle.mesh_base.specs.Inner.Memory.{sink_plan, whole_room};
 
     /// An output with `room` for bytes, which takes at most `piece` of them at a write and fails at
     /// the writes of these numbers, from 1. A write of some bytes is a fault too where no room is
@@ -61,8 +61,8 @@ impl MemSink {
 }
 
 impl Sink for MemSink {
-    ghost use Rattle.mesh_base.specs.CallPlan.{IsFailing};
-    ghost use Rattle.mesh_base.specs.Memory.{known_taken, sink_faults, sink_plan, taken_count, CallsOutput, IsFullFor};
+    ghost use Rattle.mesh_base.specs.Inner.CallPlan.{IsFailing};
+    ghost use Rattle.mesh_base.specs.Inner.Memory.{known_taken, sink_faults, sink_plan, taken_count, CallsOutput, IsFullFor};
 
     ghost taken = { known_taken };
 

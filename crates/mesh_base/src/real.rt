@@ -3,7 +3,7 @@ ghost use Rattle.std.specs.Option.{option_copied};
 ghost use Rattle.std.specs.Io.{ReadsAtMost, WritesAtMost};
 ghost use Rattle.std.specs.Io.KnownBytes.{Appends, ReadConsumes};
 ghost use Rattle.mesh_base.specs.Faults.{Rose, HasOpenCause};
-ghost use Rattle.mesh_base.specs.Real.{source_left, IsOpenAt};
+ghost use Rattle.mesh_base.specs.Inner.Real.{source_left, IsOpenAt};
 
 use crate::failure::{Failed, OpenErr};
 use crate::fault_count::FaultCount;
