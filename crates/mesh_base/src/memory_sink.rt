@@ -1,7 +1,7 @@
-ghost use Rattle.std.specs.Prelude.{◌≡◌, ◌<◌, ◌≤◌, ◌↔◌, ◌⊎◌, [], length, IfOk, OnErr, IsErr, vec_capacity};
+ghost use Rattle.std.specs.Prelude.{◌≡◌, ◌<◌, ◌≤◌, ◌↔◌, ◌⊎◌, [], length, IfOk, OnOk, OnErr, IsErr, vec_capacity};
 ghost use Rattle.std.specs.Io.{WritesAtMost};
 ghost use Rattle.std.specs.Io.KnownBytes.{WriteAppends};
-ghost use Rattle.mesh_base.specs.Faults.{Rose};
+ghost use Rattle.mesh_base.specs.Faults.{Rose, CountsOne};
 
 use crate::call_plan::CallPlan;
 use crate::failure::{Failed, NoMemory};
@@ -80,6 +80,10 @@ impl Sink for MemSink {
             (IsFailing (sink_plan self.new) ⊎ IsFullFor self.old buf.now) }
         ensures given { IfOk result (λ count. count ≡ taken_count self.old (length buf.now)) }
         ensures call { CallsOutput self.old self.new }
+
+        // A fault counts one more, and nothing else does.
+        ensures counted { OnErr result (CountsOne (sink_faults self.old) (sink_faults self.new)) }
+        ensures calm { OnOk result (sink_faults self.new ≡ sink_faults self.old) }
     {
         let room = self.room - self.bytes.len();
         if self.plan.next_fails() || (room == 0 && !buf.is_empty()) {
