@@ -8,12 +8,14 @@
 
 pub mod ending;
 pub mod line_form;
+pub mod link_frame;
 pub mod name_list;
 pub mod packet;
 pub mod table_row;
 
 pub use ending::{LimitName, Refusal, Stop};
 pub use line_form::{AlfredMode, Algorithm, Command, Policy, Table};
+pub use link_frame::{Ending, NoPacket, TvlvErr};
 pub use name_list::NameList;
 pub use packet::Head;
 pub use table_row::LocalRow;
