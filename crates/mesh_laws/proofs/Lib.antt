@@ -6,5 +6,10 @@ pub mod UnfinishedLemmas
 pub mod KeyLists
 pub mod PresentLemmas
 pub mod HeaderLemmas
+pub mod ReadingLemmas
 pub mod FirstPacketLemmas
-pub mod DecodeLemmas
+pub mod NumberLemmas
+pub mod FoundLemmas
+pub mod FrameLemmas
+pub mod BadLineLemmas
+pub mod CauseLemmas

@@ -2,5 +2,6 @@
 pub mod Cuts
 pub mod Halting
 pub mod RunLaws
+pub mod Causes
 pub mod PacketLaws
 pub mod PresentLaws
