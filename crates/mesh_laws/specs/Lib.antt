@@ -2,6 +2,7 @@
 pub mod Cuts
 pub mod Halting
 pub mod RunLaws
+pub mod Causes
 pub mod PacketLaws
 pub mod PresentLaws
 pub mod Soundness
