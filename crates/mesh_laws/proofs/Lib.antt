@@ -6,7 +6,16 @@ pub mod UnfinishedLemmas
 pub mod KeyLists
 pub mod PresentLemmas
 pub mod HeaderLemmas
+pub mod ReadingLemmas
 pub mod FirstPacketLemmas
-pub mod DecodeLemmas
 pub mod Schedule
 pub mod Lines
+pub mod KeyTables
+pub mod TableSums
+pub mod AnnouncedSums
+pub mod TableChanges
+pub mod NumberLemmas
+pub mod FoundLemmas
+pub mod FrameLemmas
+pub mod BadLineLemmas
+pub mod CauseLemmas

@@ -2,3 +2,4 @@
 pub mod OnLiterals
 pub mod DecodeOnLiterals
 pub mod NetOnLiterals
+pub mod TablesOnLiterals

@@ -1,5 +1,5 @@
-//! Worked rows: small scenarios, and bytes, with what is printed of them. The checker computes them
-//! from the definitions of `mesh_model` alone. No other crate stands on this one, so an edited row
+//! Worked rows: small scenarios, and bytes, with what is printed of them, and small tables. The
+//! checker computes them from the definitions of `mesh_model` alone. No other crate stands on this one, so an edited row
 //! proves nothing else anew.
 
 #![tactic(auto)]
@@ -7,3 +7,4 @@
 pub mod decode_rows;
 pub mod net_rows;
 pub mod rows;
+pub mod table_rows;

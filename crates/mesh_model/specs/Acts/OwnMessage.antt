@@ -6,8 +6,10 @@ use Rattle.mesh_base.specs.declared.address.Mac.{Mac}
 use Rattle.mesh_model.specs.declared.packet.Head.TheVariants.{IvOgm}
 use Rattle.mesh_model.specs.Clients.Log.{Given, Tick, LinkFrame, Frame, Gone, Join, Leave, Arp, Dhcp, Wifi, Log}
 use Rattle.mesh_model.specs.Packets.Layout.{spelling}
-use Rattle.mesh_model.specs.Packets.Containers.{Container, containers_text}
-use Rattle.mesh_model.specs.Packets.Bodies.{TtData, tt_text}
+use Rattle.mesh_model.specs.Packets.Numbers.{dat_tvlv, tt_tvlv, tvlv_version, ogm_diff_flag}
+use Rattle.mesh_model.specs.Packets.Containers.{Container, containers_spelling}
+use Rattle.mesh_model.specs.Packets.Bodies.{TtData}
+use Rattle.mesh_model.specs.Packets.BodySpellings.{tt_spelling}
 
 -- whether a node sends its originator message at the tick of this index: at each second one
 abbrev pub is_message_tick : ℕ → Bool
@@ -32,19 +34,16 @@ own_messages (entry ∷ older) = messages_by entry.given + own_messages older
 
 -- the container of a node that takes part in the distributed ARP table
 abbrev pub arp_table_container : Container
-arp_table_container = record { kind = 2; version = 1; body = [] }
+arp_table_container = record { kind = dat_tvlv; version = tvlv_version; body = [] }
 
 -- the container of a translation table
 abbrev pub table_container : TtData → Container
-table_container table = record { kind = 4; version = 1; body = tt_text table }
-
--- the flag of a translation table that an originator message carries (OGM_DIFF)
-abbrev pub message_flag : ℕ
-message_flag = 1
+table_container table =
+    record { kind = tt_tvlv; version = tvlv_version; body = tt_spelling table }
 
 -- what is announced before the first commit: the version 0, no VLAN and no change
 abbrev pub first_announcement : TtData
-first_announcement = record { flags = message_flag; ttvn = 0; vlans = []; changes = [] }
+first_announcement = record { flags = ogm_diff_flag; ttvn = 0; vlans = []; changes = [] }
 
 -- the containers of a node's originator message
 abbrev pub own_containers : List Container
@@ -53,4 +52,4 @@ own_containers = arp_table_container ∷ table_container first_announcement ∷ 
 -- the originator message of the node with this address, by its number
 abbrev pub own_message : Mac → ℕ → List ℕ
 own_message me number =
-    spelling (IvOgm 50 0 number me me 255) (containers_text own_containers)
+    spelling (IvOgm 50 0 number me me 255) (containers_spelling own_containers)

@@ -7,7 +7,6 @@
 -- elp, `client` unicast, unicast4 and bcast. The main word is `event_text`.
 use Rattle.std.specs.Prelude.{ℕ, ◌==◌, Bool, true, false, List, [], ◌∷◌, ◌++◌, find, codes, decimal, bytes_eq, slice_index_or, Option, Some, None, if◌then◌else◌}
 use Rattle.std.specs.List.{list_any}
-use Rattle.std.specs.Map.{lookup}
 use Rattle.std.specs.Option.{option_map_or}
 use Rattle.hex.specs.Hex.{encode_lower}
 use Rattle.mesh_base.specs.Address.{mac_text}
@@ -21,6 +20,8 @@ use Rattle.mesh_base.specs.declared.event.Reason.{Reason}
 use Rattle.mesh_base.specs.declared.event.Reason.TheVariants.{Roam, Table, Old, Gw, Mc, Alfred, Fwd}
 use Rattle.mesh_model.specs.declared.frame_choice.FrameChoice.{FrameChoice}
 use Rattle.mesh_model.specs.declared.frame_choice.FrameChoice.TheVariants.{Hidden, All, Client, Ogm}
+use Rattle.mesh_model.specs.Packets.Numbers.{iv_ogm_type, bcast_type, elp_type, ogm2_type, unicast_type, unicast4_type}
+use Rattle.mesh_model.specs.Packets.Shapes.{Shape, shape_of_type}
 use Rattle.mesh_model.specs.Scenario.Lines.{newline}
 use Rattle.mesh_model.specs.Text.Tables.{vid_text}
 
@@ -34,13 +35,6 @@ abbrev pub name_text : List NodeName → Mac → List ℕ
 name_text names mac = option_map_or (λ (known : NodeName). known.name)
     (find (λ known. bytes_eq known.mac.0 mac.0) names) (mac_text mac)
 
--- the words of the kinds of packets, by type byte
-abbrev pub kind_words : List (ℕ × List ℕ)
-kind_words =
-    (0, codes "iv_ogm") ∷ (1, codes "bcast") ∷ (3, codes "elp") ∷ (4, codes "ogm2")
-    ∷ (64, codes "unicast") ∷ (65, codes "frag") ∷ (66, codes "unicast4") ∷ (67, codes "icmp")
-    ∷ (68, codes "utvlv") ∷ []
-
 -- the type byte of a frame; 255, which is no kind's, where it has none
 abbrev pub type_byte : List ℕ → ℕ
 type_byte bytes = slice_index_or bytes 0 255
@@ -48,7 +42,7 @@ type_byte bytes = slice_index_or bytes 0 255
 -- the word of a frame's kind, or `-` for none
 abbrev pub kind_word : List ℕ → List ℕ
 kind_word bytes =
-    option_map_or (λ word. word) (lookup (λ known. known == type_byte bytes) kind_words) (codes "-")
+    option_map_or (λ (shape : Shape). shape.word) (shape_of_type (type_byte bytes)) (codes "-")
 
 -- whether a frame's type byte is one of these
 abbrev pub is_of_type : List ℕ → List ℕ → Bool
@@ -58,8 +52,8 @@ is_of_type types bytes = list_any (λ kind. kind == type_byte bytes) types
 abbrev pub shows : FrameChoice → List ℕ → Bool
 shows Hidden bytes = false
 shows All bytes = true
-shows Client bytes = is_of_type (1 ∷ 64 ∷ 66 ∷ []) bytes
-shows Ogm bytes = is_of_type (0 ∷ 3 ∷ 4 ∷ []) bytes
+shows Client bytes = is_of_type (bcast_type ∷ unicast_type ∷ unicast4_type ∷ []) bytes
+shows Ogm bytes = is_of_type (iv_ogm_type ∷ elp_type ∷ ogm2_type ∷ []) bytes
 
 -- whether an event is printed
 abbrev pub is_shown : FrameChoice → Event → Bool

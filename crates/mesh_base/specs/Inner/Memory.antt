@@ -1,7 +1,7 @@
 -- Inputs and outputs in memory: what they tell, what they were made with, and how many bytes their
 -- next call moves. The main words are `given_count` and `taken_count`.
 use Rattle.std.specs.Prelude.{ℕ, ◌-◌, ◌≡◌, ◌↔◌, Bool, IsTrue, ◌<◌, min, List, length, drop, Option, Some}
-use Rattle.mesh_base.specs.CallPlan.{IsFailing, MakesCall}
+use Rattle.mesh_base.specs.Inner.CallPlan.{IsFailing, MakesCall}
 use Rattle.mesh_base.specs.declared.call_plan.CallPlan.{CallPlan}
 use Rattle.mesh_base.specs.declared.memory_intake.MemIntake.{MemIntake}
 use Rattle.mesh_base.specs.declared.memory_sink.MemSink.{MemSink}
