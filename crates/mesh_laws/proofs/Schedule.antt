@@ -9,3 +9,4 @@ pub mod Runs
 pub mod Kept
 pub mod Added
 pub mod ToCome
+pub mod Stops

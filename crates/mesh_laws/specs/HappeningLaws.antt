@@ -10,7 +10,7 @@ use Rattle.mesh_model.specs.Net.Mesh.{Mesh, Setup}
 use Rattle.mesh_model.specs.Net.Due.{next_due}
 use Rattle.mesh_model.specs.Net.Next.{Happens, IsNext, IsQuiet}
 use Rattle.mesh_model.specs.Net.Limits.{clock_limit}
-use Rattle.mesh_model.specs.Net.Runs.{after_happening, begin, course_after, turn, is_done, going_on, run_to}
+use Rattle.mesh_model.specs.Net.Runs.{PassedLimit, after_happening, begin, course_after, turn, is_done, going_on, run_to}
 use Rattle.mesh_laws.specs.Soundness.{FitsPlaces, IsSound, rank}
 
 -- the next happening is computed exactly where there is one
@@ -66,6 +66,19 @@ HasTurnsEnough = (setup : Setup) (t : ℕ) (mesh : Mesh) → CanRun setup t mesh
 abbrev pub LeavesNothingDue : Type 0
 LeavesNothingDue = (setup : Setup) (t : ℕ) (mesh : Mesh) → CanRun setup t mesh →
     (run_to setup t mesh).stop ≡ None → IsQuiet t (run_to setup t mesh).mesh
+
+-- a limit that ends a run is passed by the next happening, at its moment
+pub record IsPassedNext (setup : Setup) (t : ℕ) (mesh : Mesh) (passed : PassedLimit) : Type 0 where
+  pub happening : Happening
+  pub next : next_due t mesh ≡ Some happening
+  pub attempt : after_happening setup happening mesh ≡ Err passed.limit
+  pub moment : passed.moment ≡ happening.moment
+
+-- so it is wherever a run is ended
+abbrev pub LimitsArePassedNext : Type 0
+LimitsArePassedNext = (setup : Setup) (t : ℕ) (mesh : Mesh) (passed : PassedLimit) →
+    (run_to setup t mesh).stop ≡ Some passed →
+    IsPassedNext setup t (run_to setup t mesh).mesh passed
 
 -- a run until a moment that goes on until a later one is the run until the later one
 abbrev pub RunsInSlices : Type 0

@@ -93,6 +93,13 @@ InputsLeaveToCome = (setup : Setup) (place now root : ℕ) (given : Given) (mesh
     (x : Happening) → GivesItsBytes mesh.frames given →
     given_to setup place now root given mesh ≡ Ok after → Happens mesh x → Happens after x
 
+-- a frame that is delivered again, at a moment, takes nothing away and adds what comes later
+abbrev pub DeliveriesAddLater : Type 0
+DeliveriesAddLater = (setup : Setup) (place now : ℕ) (mesh after : Mesh) (x : Happening) →
+    IsSound mesh → delivered setup place now mesh ≡ Ok after →
+    (Happens mesh x → Happens after x)
+    × (Happens after x → Happens mesh x ⊎ (now < x.moment))
+
 -- a new node adds its ticks, which come after it was made
 abbrev pub NodesAddLater : Type 0
 NodesAddLater = (mesh : Mesh) (node : NodeLog) (x : Happening) →

@@ -3,7 +3,7 @@
 ghost use Rattle.std.specs.Prelude.{◌≡◌};
 ghost use Rattle.mesh_model.specs.declared.happening.Happening.{Happening};
 ghost use Rattle.mesh_model.specs.Net.Happenings.{happening_order};
-ghost use Rattle.mesh_laws.specs.HappeningLaws.{AllIsCarriedOut, FindsNext, HasTurnsEnough, LaterIsLater, LastRises, LeavesNothingDue, NothingAddedBefore, OneNext, RunsByHappenings, RunsInSlices};
+ghost use Rattle.mesh_laws.specs.HappeningLaws.{AllIsCarriedOut, FindsNext, HasTurnsEnough, LaterIsLater, LastRises, LeavesNothingDue, LimitsArePassedNext, NothingAddedBefore, OneNext, RunsByHappenings, RunsInSlices};
 
 use mesh_model::Happening;
 
@@ -34,6 +34,11 @@ pub fn runs_leave_nothing_due()
     ensures turns { HasTurnsEnough }
     ensures quiet { LeavesNothingDue }
     ensures all { AllIsCarriedOut }
+{}
+
+/// A limit ends a run exactly before the happening that would pass it.
+pub fn a_limit_is_passed_by_the_next_happening()
+    ensures { LimitsArePassedNext }
 {}
 
 /// A run may be cut at a moment.

@@ -1,6 +1,6 @@
 //! What holds of every mesh that lines and happenings lead to.
 
-ghost use Rattle.mesh_laws.specs.MeshLaws.{DeliveriesKeepBytes, DeliveriesKeepSound, EmptyIsSound, FramesStay, HappeningsKeepSound, HappeningsStay, InputsAddLater, InputsKeepBytes, InputsKeepSound, InputsLeaveToCome, LinksChangeNothing, LinksKeepSound, NodesAddLater, NodesKeepSound, RunsKeepBytes, RunsKeepSound, ScenariosFit};
+ghost use Rattle.mesh_laws.specs.MeshLaws.{DeliveriesAddLater, DeliveriesKeepBytes, DeliveriesKeepSound, EmptyIsSound, FramesStay, HappeningsKeepSound, HappeningsStay, InputsAddLater, InputsKeepBytes, InputsKeepSound, InputsLeaveToCome, LinksChangeNothing, LinksKeepSound, NodesAddLater, NodesKeepSound, RunsKeepBytes, RunsKeepSound, ScenariosFit};
 
 /// It holds before the first line, and the limits of every scenario are low enough.
 pub fn the_first_mesh_is_sound()
@@ -27,6 +27,7 @@ pub fn what_is_to_come_stays()
     ensures happenings { HappeningsStay }
     ensures inputs { InputsLeaveToCome }
     ensures later { InputsAddLater }
+    ensures deliveries { DeliveriesAddLater }
     ensures nodes { NodesAddLater }
     ensures links { LinksChangeNothing }
 {}
