@@ -49,7 +49,15 @@ first_announcement = record { flags = ogm_diff_flag; ttvn = 0; vlans = []; chang
 abbrev pub own_containers : List Container
 own_containers = arp_table_container ∷ table_container first_announcement ∷ []
 
+-- how many hops a message may take
+abbrev pub first_ttl : ℕ
+first_ttl = 50
+
+-- the transmit quality of a message at its originator
+abbrev pub full_quality : ℕ
+full_quality = 255
+
 -- the originator message of the node with this address, by its number
 abbrev pub own_message : Mac → ℕ → List ℕ
 own_message me number =
-    spelling (IvOgm 50 0 number me me 255) (containers_spelling own_containers)
+    spelling (IvOgm first_ttl 0 number me me full_quality) (containers_spelling own_containers)

@@ -22,14 +22,31 @@ pub data Fate : Type 0 where
   Twice : Fate
   Held : Fate
 
--- the fate of a mark: `.`, `x`, `2`, or else `h`
+-- the mark `.`
+abbrev pub once_mark : ℕ
+once_mark = 46
+
+-- the mark `x`
+abbrev pub never_mark : ℕ
+never_mark = 120
+
+-- the mark `2`
+abbrev pub twice_mark : ℕ
+twice_mark = 50
+
+-- the mark `h`
+abbrev pub held_mark : ℕ
+held_mark = 104
+
+-- the fate of a mark; a pattern has no other marks
 abbrev pub fate_of_mark : ℕ → Fate
 fate_of_mark mark =
-    if mark == 46 then Once else if mark == 120 then Never else if mark == 50 then Twice else Held
+    if mark == once_mark then Once else if mark == never_mark then Never
+    else if mark == twice_mark then Twice else Held
 
 -- the fate of a link's frame by its turn
 abbrev pub fate_of : List ℕ → ℕ → Fate
-fate_of pattern turn = fate_of_mark (slice_index_or pattern (turn % length pattern) 104)
+fate_of pattern turn = fate_of_mark (slice_index_or pattern (turn % length pattern) held_mark)
 
 -- when a frame of this fate arrives, by its sending and the link's delay
 abbrev pub arrivals_by : Fate → ℕ → ℕ → List ℕ

@@ -1,8 +1,8 @@
 -- What a happening does, and the run until a moment: what is due is carried out, one happening
--- after another, until none is left or one would pass a limit. A happening that would pass a limit
--- leaves nothing. Turns are taken by doubling, so that the number of turns that there may be is no
--- bound on what is computed; the laws say that it is never used up. The main words are
--- `after_happening` and `run_to`.
+-- after another, each at its own moment, until none is left or one would pass a limit. What is sent
+-- meanwhile joins what is due. A happening that would pass a limit leaves nothing. Turns are taken
+-- by doubling, so that the number of turns that there may be is no bound on what is computed; the
+-- laws say that it is never used up. The main words are `after_happening` and `run_to`.
 use Rattle.std.specs.Prelude.{ℕ, suc, zero, ◌||◌, ◌&&◌, nat_eq, Bool, true, false, find, List, slice_get, Option, Some, None, is_some, is_none, Ok, Err, if◌then◌else◌}
 use Rattle.std.specs.Option.{option_map_or}
 use Rattle.mesh_model.specs.declared.ending.LimitName.{LimitName}
@@ -105,16 +105,20 @@ abbrev pub unless_done : Bool → (Course → Course) → Course → Course
 unless_done true go course = course
 unless_done false go course = go course
 
--- two turns, twice as many, and so on, doubled this many times; or as many as there are to take
+-- as many turns as one that is doubled so many times, or as many as there are to take
 abbrev pub turns : Setup → ℕ → ℕ → Course → Course
 turns setup t zero course = turn setup t course
 turns setup t (suc depth) course =
     unless_done (is_done t (turns setup t depth course)) (turns setup t depth)
     (turns setup t depth course)
 
+-- how often turns are doubled: there are fewer happenings until the last moment than 2 ^ 82 turns
+abbrev pub doublings : ℕ
+doublings = 82
+
 -- a course that goes on until a moment
 unfoldable pub going_on : Setup → ℕ → Course → Course
-going_on setup t course = turns setup t 82 course
+going_on setup t course = turns setup t doublings course
 
 -- the run of a mesh until a moment
 abbrev pub run_to : Setup → ℕ → Mesh → Course
