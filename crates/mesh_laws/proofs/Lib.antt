@@ -8,3 +8,7 @@ pub mod PresentLemmas
 pub mod HeaderLemmas
 pub mod FirstPacketLemmas
 pub mod DecodeLemmas
+pub mod KeyTables
+pub mod TableSums
+pub mod AnnouncedSums
+pub mod TableChanges

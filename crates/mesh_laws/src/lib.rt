@@ -1,9 +1,10 @@
 //! Laws of the definitions of `mesh_model`, each the contract of a function that does nothing: what
-//! holds of every plain run, of every packet and of all present clients. Their proofs are those of
-//! crates above too.
+//! holds of every plain run, of every packet, of all present clients and of all tables of clients.
+//! Crates above rest on their proofs too.
 
 #![tactic(auto)]
 
 pub mod packet_laws;
 pub mod present_laws;
 pub mod run_laws;
+pub mod table_laws;
