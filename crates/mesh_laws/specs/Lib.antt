@@ -5,3 +5,4 @@ pub mod RunLaws
 pub mod PacketLaws
 pub mod PresentLaws
 pub mod TableLaws
+pub mod Machine

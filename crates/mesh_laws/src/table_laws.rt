@@ -12,7 +12,7 @@ pub fn equal_checksums_were_equal()
     ensures { HadEqualChecksums }
 {}
 
-/// The changeset from one table to another leads there, and names a key once for each of its halves.
+/// The changeset from one table to another leads there, and each of its halves names a key once.
 pub fn a_changeset_leads_to_its_table()
     ensures leads { ChangesetLeads }
     ensures once { NamesKeysOnce }

@@ -1,0 +1,32 @@
+-- What stays true of the table machine whatever moves are made, while no two commits are an alias.
+-- The main word is `HeldAreCommits`.
+use Rattle.std.specs.Prelude.{◌≡◌, ℕ, List, map, Some}
+use Rattle.mesh_base.specs.declared.client.Entry.{Entry}
+use Rattle.mesh_model.specs.Tables.Changes.{addition}
+use Rattle.mesh_laws.specs.Machine.Pieces.{piece, piece_count, put_together}
+use Rattle.mesh_laws.specs.Machine.World.{World, Saying, Version, Told, start, WasSaid, IsCommit, commit_numbered}
+use Rattle.mesh_laws.specs.Machine.Moves.{Reaches}
+use Rattle.mesh_laws.specs.Machine.Agreement.{HasNoAlias, Agrees, IsAgreed}
+
+-- the pieces of a table, put together, are the table
+abbrev pub PiecesMakeTable : Type 0
+PiecesMakeTable = (table : List Entry) →
+    put_together (piece_count table) (λ place. piece place table) ≡ map addition table
+
+-- each saying agrees with its commit
+abbrev pub SayingsAgree : Type 0
+SayingsAgree = (w : World) → Reaches start w → HasNoAlias w.commits →
+    (saying : Saying) → WasSaid w.said saying → Agrees w.commits saying
+
+-- each held table is a commit under the held byte
+abbrev pub HeldAreCommits : Type 0
+HeldAreCommits = (w : World) → Reaches start w → HasNoAlias w.commits →
+    (m : ℕ) (held : Version) → (w.nodes m).held ≡ Some held → IsCommit w.commits held
+
+-- where the held byte and sums are the told ones, the held table is that of the told commit
+abbrev pub AgreedHoldTheTold : Type 0
+AgreedHoldTheTold = (w : World) → Reaches start w → HasNoAlias w.commits →
+    (m : ℕ) (told : Told) (held : Version) →
+    (w.nodes m).told ≡ Some told → (w.nodes m).held ≡ Some held → IsAgreed told held →
+    (commit : Version) × (commit_numbered told.number w.commits ≡ Some commit)
+    × (held.table ≡ commit.table)
