@@ -12,3 +12,6 @@ pub mod KeyTables
 pub mod TableSums
 pub mod AnnouncedSums
 pub mod TableChanges
+pub mod PieceLemmas
+pub mod MachineInvariant
+pub mod MachineLemmas
