@@ -15,3 +15,4 @@ pub mod TableChanges
 pub mod PieceLemmas
 pub mod MachineInvariant
 pub mod MachineLemmas
+pub mod MisledWorld

@@ -6,7 +6,7 @@ use Rattle.mesh_model.specs.Tables.Changes.{addition}
 use Rattle.mesh_laws.specs.Machine.Pieces.{piece, piece_count, put_together}
 use Rattle.mesh_laws.specs.Machine.World.{World, Saying, Version, Told, start, WasSaid, IsCommit, commit_numbered}
 use Rattle.mesh_laws.specs.Machine.Moves.{Reaches}
-use Rattle.mesh_laws.specs.Machine.Agreement.{HasNoAlias, Agrees, IsAgreed}
+use Rattle.mesh_laws.specs.Machine.Agreement.{HasNoAlias, AreOf, Agrees, IsAgreed}
 
 -- the pieces of a table, put together, are the table
 abbrev pub PiecesMakeTable : Type 0
@@ -22,6 +22,12 @@ SayingsAgree = (w : World) → Reaches start w → HasNoAlias w.commits →
 abbrev pub HeldAreCommits : Type 0
 HeldAreCommits = (w : World) → Reaches start w → HasNoAlias w.commits →
     (m : ℕ) (held : Version) → (w.nodes m).held ≡ Some held → IsCommit w.commits held
+
+-- what a node was told is the byte and sums of the commit of its number
+abbrev pub ToldAreCommits : Type 0
+ToldAreCommits = (w : World) → Reaches start w → HasNoAlias w.commits →
+    (m : ℕ) (told : Told) → (w.nodes m).told ≡ Some told → (commit : Version)
+    × (commit_numbered told.number w.commits ≡ Some commit) × AreOf commit told.byte told.sums
 
 -- where the held byte and sums are the told ones, the held table is that of the told commit
 abbrev pub AgreedHoldTheTold : Type 0
