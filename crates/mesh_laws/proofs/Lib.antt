@@ -9,6 +9,7 @@ pub mod HeaderLemmas
 pub mod FirstPacketLemmas
 pub mod DecodeLemmas
 pub mod KeyTables
+pub mod KeptOrder
 pub mod TableSums
 pub mod AnnouncedSums
 pub mod TableChanges

@@ -5,7 +5,7 @@ use Rattle.std.specs.List.{range_with_len}
 use Rattle.mesh_base.specs.declared.client.Entry.{Entry}
 use Rattle.mesh_model.specs.Tables.Changes.{addition}
 use Rattle.mesh_laws.specs.Machine.Pieces.{piece_size, piece_count, places}
-use Rattle.mesh_laws.specs.Machine.MachineLaws.{PiecesMakeTable}
+use Rattle.mesh_laws.specs.Machine.MachineLaws.{PiecesAreCounted, PiecesMakeTable}
 
 -- pieces of one size that follow one another are one piece
 joined : {X : Type 0} (size : ℕ) (xs : List X) (first count : ℕ) → flat_map (λ i. take size (drop (i * size) xs)) (range_with_len first count) ≡ take (count * size) (drop (first * size) xs)
@@ -35,3 +35,7 @@ pub pieces_make_table : PiecesMakeTable
 pieces_make_table t =
     additions_joined (λ i. take piece_size (drop (i * piece_size) t)) (places (piece_count t))
     ∙ ap (map addition) (joined piece_size t 0 (piece_count t) ∙ rw zero-mul (take_all (piece_count t * piece_size) t (enough t)))
+
+pub pieces_are_counted : PiecesAreCounted
+unfolding piece_size piece_count
+pieces_are_counted entry = (refl, refl, refl, refl)

@@ -26,6 +26,11 @@ HadEqualChecksums = (one other one_after other_after : List Entry) (changes : Li
     apply_strictly one changes ≡ Ok one_after → apply_strictly other changes ≡ Ok other_after →
     checksums one_after ≡ checksums other_after → checksums one ≡ checksums other
 
+-- where changes apply strictly to a table in key order, the table afterwards is in key order too
+abbrev pub KeepsKeyOrder : Type 0
+KeepsKeyOrder = (before after : List Entry) (changes : List Change) → IsInKeyOrder before →
+    apply_strictly before changes ≡ Ok after → IsInKeyOrder after
+
 -- the changeset from a table to another applies strictly to the one and makes the other
 abbrev pub ChangesetLeads : Type 0
 ChangesetLeads = (old new : List Entry) → IsInKeyOrder old → IsInKeyOrder new →

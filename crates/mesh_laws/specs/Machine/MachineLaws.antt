@@ -1,6 +1,6 @@
 -- What stays true of the table machine whatever moves are made, while no two commits are an alias.
 -- The main word is `HeldAreCommits`.
-use Rattle.std.specs.Prelude.{◌≡◌, ℕ, List, map, Some}
+use Rattle.std.specs.Prelude.{◌≡◌, ℕ, List, [], ◌∷◌, map, replicate, Some}
 use Rattle.mesh_base.specs.declared.client.Entry.{Entry}
 use Rattle.mesh_model.specs.Tables.Changes.{addition}
 use Rattle.mesh_laws.specs.Machine.Pieces.{piece, piece_count, put_together}
@@ -12,6 +12,13 @@ use Rattle.mesh_laws.specs.Machine.Agreement.{HasNoAlias, AreOf, Agrees, IsAgree
 abbrev pub PiecesMakeTable : Type 0
 PiecesMakeTable = (table : List Entry) →
     put_together (piece_count table) (λ place. piece place table) ≡ map addition table
+
+-- an empty table is one piece, 1,024 entries are one and 1,025 two, of which the second has one
+abbrev pub PiecesAreCounted : Type 0
+PiecesAreCounted = (entry : Entry) → (piece_count [] ≡ 1)
+    × (piece_count (replicate 1024 entry) ≡ 1)
+    × (piece_count (replicate 1025 entry) ≡ 2)
+    × (piece 1 (replicate 1025 entry) ≡ addition entry ∷ [])
 
 -- each saying agrees with its commit
 abbrev pub SayingsAgree : Type 0
