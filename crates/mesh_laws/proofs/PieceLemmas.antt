@@ -5,7 +5,7 @@ use Rattle.std.specs.List.{range_with_len}
 use Rattle.mesh_base.specs.declared.client.Entry.{Entry}
 use Rattle.mesh_model.specs.Tables.Changes.{addition}
 use Rattle.mesh_laws.specs.Machine.Pieces.{piece_size, piece_count, places}
-use Rattle.mesh_laws.specs.Machine.MachineLaws.{PiecesAreCounted, PiecesMakeTable}
+use Rattle.mesh_laws.specs.Machine.MachineLaws.{PiecesAreCounted, PiecesMakeTable, SmallTablesAreOnePiece}
 
 -- pieces of one size that follow one another are one piece
 joined : {X : Type 0} (size : ℕ) (xs : List X) (first count : ℕ) → flat_map (λ i. take size (drop (i * size) xs)) (range_with_len first count) ≡ take (count * size) (drop (first * size) xs)
@@ -39,3 +39,7 @@ pieces_make_table t =
 pub pieces_are_counted : PiecesAreCounted
 unfolding piece_size piece_count
 pieces_are_counted entry = (refl, refl, refl, refl)
+
+pub small_tables_are_one_piece : SmallTablesAreOnePiece
+unfolding piece_size piece_count
+small_tables_are_one_piece t small = (omega arith, ap (map addition) (take_all 1024 t small))

@@ -1,12 +1,13 @@
 //! What stays true of the table machine of an originator, whatever moves are made, while no two of
 //! its commits are an alias.
 
-ghost use Rattle.mesh_laws.specs.Machine.MachineLaws.{AgreedHoldTheTold, HeldAreCommits, PiecesAreCounted, PiecesMakeTable, SayingsAgree, ToldAreCommits};
+ghost use Rattle.mesh_laws.specs.Machine.MachineLaws.{AgreedHoldTheTold, HeldAreCommits, PiecesAreCounted, PiecesMakeTable, SayingsAgree, SmallTablesAreOnePiece, ToldAreCommits};
 ghost use Rattle.mesh_laws.specs.Machine.Misled.{IsMisled};
 
 /// The pieces of a table, put together, are the table.
 pub fn pieces_make_their_table()
     ensures whole { PiecesMakeTable }
+    ensures small { SmallTablesAreOnePiece }
     ensures counted { PiecesAreCounted }
 {}
 

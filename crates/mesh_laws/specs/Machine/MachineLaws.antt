@@ -1,6 +1,6 @@
 -- What stays true of the table machine whatever moves are made, while no two commits are an alias.
 -- The main word is `HeldAreCommits`.
-use Rattle.std.specs.Prelude.{◌≡◌, ℕ, List, [], ◌∷◌, map, replicate, Some}
+use Rattle.std.specs.Prelude.{◌≡◌, ℕ, ◌≤◌, List, [], ◌∷◌, length, map, replicate, Some}
 use Rattle.mesh_base.specs.declared.client.Entry.{Entry}
 use Rattle.mesh_model.specs.Tables.Changes.{addition}
 use Rattle.mesh_laws.specs.Machine.Pieces.{piece, piece_count, put_together}
@@ -12,6 +12,11 @@ use Rattle.mesh_laws.specs.Machine.Agreement.{HasNoAlias, AreOf, Agrees, IsAgree
 abbrev pub PiecesMakeTable : Type 0
 PiecesMakeTable = (table : List Entry) →
     put_together (piece_count table) (λ place. piece place table) ≡ map addition table
+
+-- a table of at most 1,024 entries is one piece
+abbrev pub SmallTablesAreOnePiece : Type 0
+SmallTablesAreOnePiece = (table : List Entry) → length table ≤ 1024 →
+    (piece_count table ≡ 1) × (piece 0 table ≡ map addition table)
 
 -- an empty table is one piece, 1,024 entries are one and 1,025 two, of which the second has one
 abbrev pub PiecesAreCounted : Type 0
