@@ -6,6 +6,18 @@ use Rattle.std.specs.List.{slice_split, list_all}
 use Rattle.hex.specs.Hex.{hex_digit_value, lower_digits}
 use Rattle.mesh_base.specs.declared.address.Mac.{Mac}
 
+-- the bytes of an address
+abbrev pub mac_size : ℕ
+mac_size = 6
+
+-- the greatest value of a byte
+abbrev pub last_byte : ℕ
+last_byte = 255
+
+-- the values of a hex digit
+abbrev pub hex_base : ℕ
+hex_base = 16
+
 -- the character between two pairs
 abbrev pub colon : ℕ
 colon = 58
@@ -21,7 +33,7 @@ abbrev pub byte_of_pair : List ℕ → Option ℕ
 byte_of_pair [] = None
 byte_of_pair (high ∷ []) = None
 byte_of_pair (high ∷ low ∷ []) =
-    option_both (λ h l. 16 * h + l) (hex_digit_value high) (hex_digit_value low)
+    option_both (λ h l. hex_base * h + l) (hex_digit_value high) (hex_digit_value low)
 byte_of_pair (high ∷ low ∷ more ∷ rest) = None
 
 -- the bytes that pairs of hex digits stand for, or none where one of them is no such pair
@@ -30,9 +42,9 @@ bytes_of_pairs [] = Some []
 bytes_of_pairs (pair ∷ pairs) =
     option_both (λ byte bytes. byte ∷ bytes) (byte_of_pair pair) (bytes_of_pairs pairs)
 
--- six bytes as an address
+-- bytes, as many as an address has, as one
 abbrev pub mac_of_bytes : List ℕ → Option Mac
-mac_of_bytes bytes = if length bytes == 6 then Some (record { 0 = bytes }) else None
+mac_of_bytes bytes = if length bytes == mac_size then Some (record { 0 = bytes }) else None
 
 -- the address that a text spells
 abbrev pub mac_of_text : List ℕ → Option Mac
@@ -41,7 +53,8 @@ mac_of_text text =
 
 -- a byte as two hex digits in lower case
 abbrev pub hex_of_byte : ℕ → List ℕ
-hex_of_byte byte = slice_index lower_digits (byte / 16) ∷ slice_index lower_digits (byte % 16) ∷ []
+hex_of_byte byte =
+    slice_index lower_digits (byte / hex_base) ∷ slice_index lower_digits (byte % hex_base) ∷ []
 
 -- bytes as pairs of hex digits joined by colons
 abbrev pub pairs_text : List ℕ → List ℕ
@@ -61,9 +74,9 @@ is_group mac = slice_index mac.0 0 % 2 == 1
 abbrev pub is_zero : Mac → Bool
 is_zero mac = list_all (λ byte. byte == 0) mac.0
 
--- whether every byte of an address is 255: it is that of all stations
+-- whether an address is that of all stations: every bit of it is set
 abbrev pub is_broadcast : Mac → Bool
-is_broadcast mac = list_all (λ byte. byte == 255) mac.0
+is_broadcast mac = list_all (λ byte. byte == last_byte) mac.0
 
 -- whether an address is one station's
 abbrev pub is_unicast : Mac → Bool

@@ -12,6 +12,10 @@ last_count = 2 ^ 64 - 1
 abbrev pub one_more : ℕ → ℕ
 one_more count = min (count + 1) last_count
 
+-- a call that met a fault counted one more
+abbrev pub CountsOne : ℕ → ℕ → Type 0
+CountsOne old new = new ≡ one_more old
+
 -- the count rose, or stood at its last value and still does
 abbrev pub Rose : ℕ → ℕ → Type 0
 Rose old new = (old < new) ⊎ ((old ≡ last_count) × (new ≡ last_count))
@@ -20,3 +24,8 @@ Rose old new = (old < new) ⊎ ((old ≡ last_count) × (new ≡ last_count))
 abbrev pub HasOpenCause : ℕ → ℕ → OpenErr → Type 0
 HasOpenCause old new Failed = Rose old new
 HasOpenCause old new Memory = Unit {0}
+
+-- what an open that failed counted: one more for a fault, and none for want of memory
+abbrev pub CountsOpen : ℕ → ℕ → OpenErr → Type 0
+CountsOpen old new Failed = CountsOne old new
+CountsOpen old new Memory = new ≡ old

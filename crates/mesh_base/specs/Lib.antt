@@ -1,8 +1,8 @@
 -- The words that the contracts of this crate cite, in reading order.
 pub mod Address
+pub mod Vlan
 pub mod KeyOrder
 pub mod Faults
+pub mod Pieces
 pub mod Writes
-pub mod CallPlan
-pub mod Memory
-pub mod Real
+pub mod Inner

@@ -1,4 +1,4 @@
-ghost use Rattle.std.specs.Prelude.{◌≡◌};
+ghost use Rattle.std.specs.Prelude.{◌≡◌, true};
 ghost use Rattle.mesh_base.specs.Address.{mac_of_text, is_broadcast, is_group, is_zero};
 
 use hex::FromHex;
@@ -66,3 +66,9 @@ impl Mac {
         self.0.iter().all(|byte| *byte == 255)
     }
 }
+
+/// A law: the addresses of all stations and of none are those of the definitions.
+pub fn named_addresses_are_those_of_the_definitions()
+    ensures broadcast { is_broadcast Mac.BROADCAST ≡ true }
+    ensures zero { is_zero Mac.ZERO ≡ true }
+{}

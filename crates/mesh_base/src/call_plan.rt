@@ -14,7 +14,7 @@ pub struct CallPlan {
 }
 
 impl CallPlan {
-    ghost use Rattle.mesh_base.specs.CallPlan.{IsFailing, IsFreshPlan, MakesCall};
+    ghost use Rattle.mesh_base.specs.Inner.CallPlan.{IsFailing, IsFreshPlan, MakesCall};
 
     /// The plan before the first call.
     pub fn new(alloc: Global, piece: usize, fails: &[u64]) -> Result<CallPlan, NoMemory>

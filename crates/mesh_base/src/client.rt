@@ -1,5 +1,6 @@
 ghost use Rattle.std.specs.Prelude.{◌≡◌};
 ghost use Rattle.mesh_base.specs.KeyOrder.{key_order};
+ghost use Rattle.mesh_base.specs.Vlan.{untagged, tagged_bit};
 ghost use Rattle.mesh_base.specs.declared.client.Key.{Key};
 
 use crate::address::Mac;
@@ -17,6 +18,12 @@ impl Vid {
     /// The bit of the wire number that says that the VLAN is tagged.
     pub const TAGGED: u16 = 0x8000;
 }
+
+/// A law: the numbers that a wire number begins with are those of the definitions.
+pub fn wire_numbers_are_those_of_the_definitions()
+    ensures untagged { Vid.UNTAGGED.0 ≡ untagged }
+    ensures tagged { Vid.TAGGED ≡ tagged_bit }
+{}
 
 /// A client's address in a VLAN. Keys are ordered by the address bytes, then by the wire number.
 #[derive(Clone, Copy, Debug, PartialEq, Eq, PartialOrd, Ord, Hash)]

@@ -1,5 +1,5 @@
 ghost use Rattle.std.specs.Prelude.{◌≡◌};
-ghost use Rattle.mesh_base.specs.Faults.{Rose, one_more};
+ghost use Rattle.mesh_base.specs.Faults.{Rose, CountsOne};
 
 use crate::failure::Failed;
 
@@ -11,7 +11,7 @@ impl FaultCount {
     /// Counts a fault, and gives what the call that met it answers.
     pub fn raise(&mut self) -> Failed
         ensures rose { Rose self.old.0 self.new.0 }
-        ensures value { self.new.0 ≡ one_more self.old.0 }
+        ensures counted { CountsOne self.old.0 self.new.0 }
     {
         self.0 = self.0.saturating_add(1);
         Failed

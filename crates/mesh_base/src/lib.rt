@@ -1,7 +1,8 @@
 //! The values that every layer of batmesh speaks of, and its doors to the outside.
 //!
-//! `Mac`, `Vid`, `Key` and `Entry` name clients and nodes; `Bytes` holds bytes of its own; `Intake`
-//! and `Sink` are what the program reads from and writes to, in memory or for real.
+//! `Mac`, `Vid`, `Key` and `Entry` name clients and nodes; `Bytes` holds bytes of its own; `Event` is
+//! what happens in a run and is printed; `Intake` and `Sink` are what the program reads from and
+//! writes to, in memory or for real.
 
 #![tactic(auto)]
 
@@ -9,6 +10,7 @@ pub mod address;
 pub mod byte_list;
 mod call_plan;
 pub mod client;
+pub mod event;
 pub mod failure;
 mod fault_count;
 pub mod memory_intake;
@@ -20,6 +22,7 @@ pub mod transfer;
 pub use address::Mac;
 pub use byte_list::Bytes;
 pub use client::{Entry, Key, Millis, Vid};
+pub use event::{Event, LossReason, Reason};
 pub use failure::{Failed, NoMemory, OpenErr};
 pub use memory_intake::MemIntake;
 pub use memory_sink::MemSink;

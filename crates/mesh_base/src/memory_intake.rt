@@ -2,7 +2,7 @@ ghost use Rattle.std.specs.Prelude.{◌≡◌, ℕ, ◌<◌, ◌≤◌, ◌↔�
 ghost use Rattle.std.specs.Option.{option_copied};
 ghost use Rattle.std.specs.Io.{ReadsAtMost};
 ghost use Rattle.std.specs.Io.KnownBytes.{Keeps, ReadConsumes};
-ghost use Rattle.mesh_base.specs.Faults.{Rose, HasOpenCause};
+ghost use Rattle.mesh_base.specs.Faults.{Rose, HasOpenCause, CountsOne};
 
 use crate::call_plan::CallPlan;
 use crate::failure::{Failed, NoMemory, OpenErr};
@@ -10,8 +10,8 @@ use crate::fault_count::FaultCount;
 use crate::outside::{Intake, PIECE_LIMIT};
 use std::alloc::Global;
 
-/// An input in memory, which has the same bytes under each name. Before it is opened, nothing is
-/// left.
+/// An input in memory, which has the same bytes under each name. Before it is opened, all of them
+/// are left.
 #[derive(Debug, Drop)]
 pub struct MemIntake {
     bytes: Vec<u8>,
@@ -23,8 +23,8 @@ pub struct MemIntake {
 }
 
 impl MemIntake {
-    ghost use Rattle.mesh_base.specs.CallPlan.{IsFreshPlan};
-    ghost use Rattle.mesh_base.specs.Memory.{intake_plan};
+    ghost use Rattle.mesh_base.specs.Inner.CallPlan.{IsFreshPlan};
+    ghost use Rattle.mesh_base.specs.Inner.Memory.{intake_plan};
 
     /// An input of these bytes, which gives at most `piece` of them at a read and fails at the
     /// calls of these numbers: reads and opens are counted together, from 1.
@@ -37,14 +37,15 @@ impl MemIntake {
         requires { 0 < piece }
         ensures named { IfOk result (λ intake. (name : Option (List ℕ)) →
             ⟦<MemIntake as Intake>⟧.named intake name ≡ Some bytes.now) }
-        ensures left { IfOk result (λ intake. ⟦<MemIntake as Intake>⟧.left intake ≡ Some []) }
+        ensures left { IfOk result (λ intake.
+            ⟦<MemIntake as Intake>⟧.left intake ≡ Some bytes.now) }
         ensures faults { IfOk result (λ intake. ⟦<MemIntake as Intake>⟧.faults intake ≡ 0) }
         ensures plan { IfOk result (λ intake. IsFreshPlan piece fails.now (intake_plan intake)) }
     {
         let bytes = Vec::from_slice(alloc, bytes)?;
         let plan = CallPlan::new(alloc, piece, fails)?;
         Ok(MemIntake {
-            given: bytes.len(),
+            given: 0,
             bytes,
             plan,
             faults: FaultCount(0),
@@ -60,7 +61,7 @@ impl MemIntake {
 }
 
 impl Intake for MemIntake {
-    ghost use Rattle.mesh_base.specs.Memory.{known_bytes, known_left, intake_faults, given_count, CallsInput};
+    ghost use Rattle.mesh_base.specs.Inner.Memory.{known_bytes, known_left, intake_faults, given_count, CallsInput};
 
     ghost left = { known_left };
 
@@ -78,6 +79,10 @@ impl Intake for MemIntake {
         // Exactly the planned calls fail.
         ensures failed { IfErr result (λ error. error ≡ OpenErr.Failed) }
         ensures call { CallsInput (is_err result) self.old self.new }
+
+        // A fault counts one more, and nothing else does.
+        ensures counted { OnErr result (CountsOne (intake_faults self.old) (intake_faults self.new)) }
+        ensures calm { OnOk result (intake_faults self.new ≡ intake_faults self.old) }
     {
         if self.plan.next_fails() {
             return Err(OpenErr::from(self.faults.raise()));
@@ -97,6 +102,10 @@ impl Intake for MemIntake {
         // Exactly the planned calls fail.
         ensures given { IfOk result (λ count. count ≡ given_count self.old (length buf.old)) }
         ensures call { CallsInput (is_err result) self.old self.new }
+
+        // A fault counts one more, and nothing else does.
+        ensures counted { OnErr result (CountsOne (intake_faults self.old) (intake_faults self.new)) }
+        ensures calm { OnOk result (intake_faults self.new ≡ intake_faults self.old) }
     {
         if self.plan.next_fails() {
             return Err(self.faults.raise());

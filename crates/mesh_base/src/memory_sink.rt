@@ -1,7 +1,7 @@
-ghost use Rattle.std.specs.Prelude.{◌≡◌, ◌<◌, ◌≤◌, ◌↔◌, ◌⊎◌, [], length, IfOk, OnErr, IsErr, vec_capacity};
+ghost use Rattle.std.specs.Prelude.{◌≡◌, ◌<◌, ◌≤◌, ◌↔◌, ◌⊎◌, [], length, IfOk, OnOk, OnErr, IsErr, vec_capacity};
 ghost use Rattle.std.specs.Io.{WritesAtMost};
 ghost use Rattle.std.specs.Io.KnownBytes.{WriteAppends};
-ghost use Rattle.mesh_base.specs.Faults.{Rose};
+ghost use Rattle.mesh_base.specs.Faults.{Rose, CountsOne};
 
 use crate::call_plan::CallPlan;
 use crate::failure::{Failed, NoMemory};
@@ -22,8 +22,8 @@ pub struct MemSink {
 }
 
 impl MemSink {
-    ghost use Rattle.mesh_base.specs.CallPlan.{IsFreshPlan};
-    ghost use Rattle.mesh_base.specs.Memory.{sink_plan, whole_room};
+    ghost use Rattle.mesh_base.specs.Inner.CallPlan.{IsFreshPlan};
+    ghost use Rattle.mesh_base.specs.Inner.Memory.{sink_plan, whole_room};
 
     /// An output with `room` for bytes, which takes at most `piece` of them at a write and fails at
     /// the writes of these numbers, from 1. A write of some bytes is a fault too where no room is
@@ -61,8 +61,8 @@ impl MemSink {
 }
 
 impl Sink for MemSink {
-    ghost use Rattle.mesh_base.specs.CallPlan.{IsFailing};
-    ghost use Rattle.mesh_base.specs.Memory.{known_taken, sink_faults, sink_plan, taken_count, CallsOutput, IsFullFor};
+    ghost use Rattle.mesh_base.specs.Inner.CallPlan.{IsFailing};
+    ghost use Rattle.mesh_base.specs.Inner.Memory.{known_taken, sink_faults, sink_plan, taken_count, CallsOutput, IsFullFor};
 
     ghost taken = { known_taken };
 
@@ -80,6 +80,10 @@ impl Sink for MemSink {
             (IsFailing (sink_plan self.new) ⊎ IsFullFor self.old buf.now) }
         ensures given { IfOk result (λ count. count ≡ taken_count self.old (length buf.now)) }
         ensures call { CallsOutput self.old self.new }
+
+        // A fault counts one more, and nothing else does.
+        ensures counted { OnErr result (CountsOne (sink_faults self.old) (sink_faults self.new)) }
+        ensures calm { OnOk result (sink_faults self.new ≡ sink_faults self.old) }
     {
         let room = self.room - self.bytes.len();
         if self.plan.next_fails() || (room == 0 && !buf.is_empty()) {

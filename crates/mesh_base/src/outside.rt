@@ -3,11 +3,17 @@ ghost use Rattle.std.specs.Option.{option_copied};
 ghost use Rattle.std.specs.Io.{ReadsAtMost, WritesAtMost};
 ghost use Rattle.std.specs.Io.KnownBytes.{Keeps, ReadConsumes, WriteAppends};
 ghost use Rattle.mesh_base.specs.Faults.{Rose, HasOpenCause};
+ghost use Rattle.mesh_base.specs.Pieces.{piece_limit};
 
 use crate::failure::{Failed, OpenErr};
 
 /// The most bytes that one read asks for.
 pub const PIECE_LIMIT: usize = 4096;
+
+/// A law: the most bytes that one read asks for are those of the definitions.
+pub fn piece_limit_is_that_of_the_definitions()
+    ensures { PIECE_LIMIT ≡ piece_limit }
+{}
 
 /// What the program reads from.
 ///

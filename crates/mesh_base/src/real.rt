@@ -2,8 +2,8 @@ ghost use Rattle.std.specs.Prelude.{◌≡◌, ◌<◌, ◌≤◌, length, take,
 ghost use Rattle.std.specs.Option.{option_copied};
 ghost use Rattle.std.specs.Io.{ReadsAtMost, WritesAtMost};
 ghost use Rattle.std.specs.Io.KnownBytes.{Appends, ReadConsumes};
-ghost use Rattle.mesh_base.specs.Faults.{Rose, HasOpenCause};
-ghost use Rattle.mesh_base.specs.Real.{source_left, IsOpenAt};
+ghost use Rattle.mesh_base.specs.Faults.{Rose, HasOpenCause, CountsOne, CountsOpen};
+ghost use Rattle.mesh_base.specs.Inner.Real.{source_left, IsOpenAt};
 
 use crate::failure::{Failed, OpenErr};
 use crate::fault_count::FaultCount;
@@ -56,6 +56,10 @@ impl<R: Files + Input + Drop> Intake for RealIntake<R> {
         ensures count { self.old.faults.0 ≤ self.new.faults.0 }
         ensures source { OnOk result (IsOpenAt (option_copied name.entry) self.new.source) }
         ensures stays { OnErr result (self.new.source ≡ self.old.source) }
+
+        // A fault counts one more, and nothing else does.
+        ensures counted { IfErr result (CountsOpen self.old.faults.0 self.new.faults.0) }
+        ensures calm { OnOk result (self.new.faults.0 ≡ self.old.faults.0) }
     {
         let Some(name) = name else {
             self.source = Source::Standard(self.runtime.reader());
@@ -80,6 +84,10 @@ impl<R: Files + Input + Drop> Intake for RealIntake<R> {
         ensures passes { ReadConsumes
             (source_left R.Reader.remaining R.File.remaining self.old.source)
             (source_left R.Reader.remaining R.File.remaining self.new.source) result buf.new }
+
+        // A fault counts one more, and nothing else does.
+        ensures counted { OnErr result (CountsOne self.old.faults.0 self.new.faults.0) }
+        ensures calm { OnOk result (self.new.faults.0 ≡ self.old.faults.0) }
     {
         let answer = match &mut self.source {
             Source::Nothing => Ok(0),
@@ -127,6 +135,10 @@ impl<W: Write> Sink for RealSink<W> {
         ensures count { self.old.faults.0 ≤ self.new.faults.0 }
         ensures passes { IfOk result (λ count. Appends
             (W.contents self.old.writer) (W.contents self.new.writer) (take count buf.now)) }
+
+        // A fault counts one more, and nothing else does.
+        ensures counted { OnErr result (CountsOne self.old.faults.0 self.new.faults.0) }
+        ensures calm { OnOk result (self.new.faults.0 ≡ self.old.faults.0) }
     {
         match self.writer.write(buf) {
             Ok(count) if (count > 0 || buf.is_empty()) && self.writer.flush().is_ok() => Ok(count),

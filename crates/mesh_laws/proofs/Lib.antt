@@ -6,6 +6,7 @@ pub mod UnfinishedLemmas
 pub mod KeyLists
 pub mod PresentLemmas
 pub mod HeaderLemmas
+pub mod ReadingLemmas
 pub mod FirstPacketLemmas
 pub mod DecodeLemmas
 pub mod KeyTables
@@ -17,3 +18,14 @@ pub mod PieceLemmas
 pub mod MachineInvariant
 pub mod MachineLemmas
 pub mod MisledWorld
+pub mod Schedule
+pub mod Lines
+pub mod KeyTables
+pub mod TableSums
+pub mod AnnouncedSums
+pub mod TableChanges
+pub mod NumberLemmas
+pub mod FoundLemmas
+pub mod FrameLemmas
+pub mod BadLineLemmas
+pub mod CauseLemmas

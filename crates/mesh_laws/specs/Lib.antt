@@ -2,7 +2,12 @@
 pub mod Cuts
 pub mod Halting
 pub mod RunLaws
+pub mod Causes
 pub mod PacketLaws
 pub mod PresentLaws
+pub mod Soundness
+pub mod HappeningLaws
+pub mod MeshLaws
+pub mod LineLaws
 pub mod TableLaws
 pub mod Machine

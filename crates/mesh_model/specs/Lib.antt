@@ -1,7 +1,10 @@
 -- The definitions, in rooms. A room imports only from the rooms before it and from itself.
-pub mod Scenario
 pub mod Packets
+pub mod Scenario
 pub mod Clients
 pub mod Tables
 pub mod Text
+pub mod Acts
+pub mod Net
 pub mod Run
+pub mod NetRun

@@ -1,6 +1,12 @@
--- Packets and containers in bytes. The main words are `IsPacket`, the grammar of packets, in
--- Layout, `first_packet`, the same computed, in FirstPacket, and `containers_of`, in Containers.
+-- Packets and containers in bytes. The main words are `shapes`, the table of packets, in Shapes,
+-- `IsPacket`, the grammar of packets, in Layout, `first_packet`, the same computed, in FirstPacket,
+-- `containers_of`, in Containers, `content_of`, in Contents, and `link_frame`, in LinkFrame.
+pub mod Numbers
+pub mod Shapes
 pub mod Layout
 pub mod FirstPacket
 pub mod Containers
 pub mod Bodies
+pub mod BodySpellings
+pub mod Contents
+pub mod LinkFrame

@@ -29,6 +29,12 @@ pub enum Refusal {
     NameTaken,
     /// `address taken`: an earlier line gave the address.
     AddressTaken,
+    /// `same node`: a link leads from a node to itself.
+    SameNode,
+    /// `link taken`: an earlier line gave the link.
+    LinkTaken,
+    /// `no such frame`: no link frame of this number was sent.
+    NoSuchFrame,
 }
 
 /// A quantity with a limit, by the name that is printed.
@@ -38,6 +44,20 @@ pub enum LimitName {
     Line,
     /// `input`: 67,108,864 bytes of input.
     Input,
+    /// `nodes`: 64 nodes.
+    Nodes,
+    /// `links`: 512 links.
+    Links,
+    /// `clients`: 1,024 clients present at a node, joined groups included.
+    Clients,
+    /// `vlans`: 16 VLANs with clients present at a node.
+    Vlans,
+    /// `frames`: 4,194,304 frames sent.
+    Frames,
+    /// `frame-bytes`: 536,870,912 bytes of frames sent.
+    FrameBytes,
+    /// `clock`: a moment of 1,099,511,627,776 milliseconds.
+    Clock,
 }
 
 /// What ends a run before the end of its input.

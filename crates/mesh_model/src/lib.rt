@@ -6,15 +6,23 @@
 
 #![tactic(auto)]
 
+pub mod act;
 pub mod ending;
+pub mod frame_choice;
+pub mod happening;
 pub mod line_form;
+pub mod link_frame;
 pub mod name_list;
 pub mod packet;
 pub mod table_change;
 pub mod table_row;
 
+pub use act::Act;
 pub use ending::{LimitName, Refusal, Stop};
+pub use frame_choice::FrameChoice;
+pub use happening::{Class, Happening};
 pub use line_form::{AlfredMode, Algorithm, Command, Policy, Table};
+pub use link_frame::{Ending, NoPacket, TvlvErr};
 pub use name_list::NameList;
 pub use packet::Head;
 pub use table_change::Change;

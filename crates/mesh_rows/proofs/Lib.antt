@@ -1,4 +1,5 @@
 -- How the definitions compute on scenarios and bytes that are written out.
 pub mod OnLiterals
 pub mod DecodeOnLiterals
+pub mod NetOnLiterals
 pub mod TablesOnLiterals

@@ -1,4 +1,7 @@
--- What is said of a worked scenario, of bytes that are decoded, and of small tables.
+-- What is said of a worked scenario, of bytes that are decoded, of a scenario with links, and of
+-- small tables.
 pub mod Rows
 pub mod DecodeRows
+pub mod NetRows
+pub mod NetLines
 pub mod TableRows

@@ -90,3 +90,24 @@ pub fn bytes_behind_a_packet_are_the_rest()
     ensures { Prints (codes "030f02000000000a00000009000001f4" ++ codes "00010203")
         (codes "packet elp orig=02:00:00:00:00:0a seq=9 interval=500" ∷ codes "rest 4" ∷ []) }
 {}
+
+/// Each other kind of packet has its line, the tail as `data` or `tvlv`, or none.
+pub fn each_kind_has_its_line()
+    ensures bcast { Prints (codes "010f32000000000702000000000b" ++ codes "6869")
+        (codes "packet bcast ttl=50 seq=7 orig=02:00:00:00:00:0b data=2" ∷ []) }
+    ensures ogm2 { Prints
+        (codes "040f32800000010202000000000b0004000186a0" ++ codes "02010000")
+        ((codes "packet ogm2 ttl=50 flags=80 seq=258 orig=02:00:00:00:00:0b tvlv=4 tp=100000")
+        ∷ codes "tvlv 2 version=1 len=0" ∷ []) }
+    ensures unicast { Prints (codes "400f310302000000000b" ++ codes "aabbcc")
+        (codes "packet unicast ttl=49 ttvn=3 dst=02:00:00:00:00:0b data=3" ∷ []) }
+    ensures frag { Prints (codes "410f322a02000000000b02000000000a00030578" ++ codes "ff")
+        ((codes "packet frag ttl=50 no=2 prio=5 dst=02:00:00:00:00:0b "
+        ++ codes "orig=02:00:00:00:00:0a seq=3 total=1400 data=1") ∷ []) }
+    ensures unicast4 { Prints (codes "420f320002000000000b02000000000a0200" ++ codes "aabb")
+        ((codes "packet unicast4 ttl=50 ttvn=0 dst=02:00:00:00:00:0b "
+        ++ codes "src=02:00:00:00:00:0a sub=2 data=2") ∷ []) }
+    ensures icmp { Prints (codes "430f320802000000000b02000000000a01000201")
+        ((codes "packet icmp ttl=50 msg=8 dst=02:00:00:00:00:0b "
+        ++ codes "orig=02:00:00:00:00:0a uid=1 seq=513") ∷ []) }
+{}

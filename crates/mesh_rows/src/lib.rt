@@ -5,5 +5,6 @@
 #![tactic(auto)]
 
 pub mod decode_rows;
+pub mod net_rows;
 pub mod rows;
 pub mod table_rows;

@@ -26,6 +26,9 @@ fn refusal_words(refusal: Refusal) -> &'static [u8]
         Refusal::WrongKind => b"wrong kind",
         Refusal::NameTaken => b"name taken",
         Refusal::AddressTaken => b"address taken",
+        Refusal::SameNode => b"same node",
+        Refusal::LinkTaken => b"link taken",
+        Refusal::NoSuchFrame => b"no such frame",
     }
 }
 
@@ -36,6 +39,13 @@ fn limit_words(name: LimitName) -> &'static [u8]
     match name {
         LimitName::Line => b"line",
         LimitName::Input => b"input",
+        LimitName::Nodes => b"nodes",
+        LimitName::Links => b"links",
+        LimitName::Clients => b"clients",
+        LimitName::Vlans => b"vlans",
+        LimitName::Frames => b"frames",
+        LimitName::FrameBytes => b"frame-bytes",
+        LimitName::Clock => b"clock",
     }
 }
 

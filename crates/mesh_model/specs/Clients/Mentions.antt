@@ -6,7 +6,7 @@ use Rattle.std.specs.Prelude.{ℕ, Bool, false, List, [], ◌∷◌, ◌++◌, i
 use Rattle.mesh_base.specs.declared.address.Mac.{Mac}
 use Rattle.mesh_base.specs.declared.client.Key.{Key}
 use Rattle.mesh_base.specs.declared.client.Vid.{Vid}
-use Rattle.mesh_model.specs.Clients.Log.{Given, Frame, Gone, Join, Leave, Arp, Dhcp, Wifi, Log}
+use Rattle.mesh_model.specs.Clients.Log.{Given, Tick, LinkFrame, Frame, Gone, Join, Leave, Arp, Dhcp, Wifi, Log}
 
 -- what a mention says of its key
 pub data News : Type 0 where
@@ -28,8 +28,15 @@ wifi_flag = 16
 
 -- the marking of sightings after an input, from the marking before it
 abbrev pub wifi_after : Given → Bool → Bool
+wifi_after (Tick index) before = before
+wifi_after (LinkFrame number from throughput bytes) before = before
+wifi_after (Frame src dst vid text) before = before
+wifi_after (Gone key) before = before
+wifi_after (Join key) before = before
+wifi_after (Leave key) before = before
+wifi_after (Arp mac own_ip asked_ip vid) before = before
+wifi_after (Dhcp key text) before = before
 wifi_after (Wifi on) before = on
-wifi_after given before = before
 
 -- whether the last setting of a log marks sightings as wireless
 abbrev pub is_wifi_on : Log → Bool
@@ -46,6 +53,8 @@ key_of mac vid = record { mac = mac; vid = vid }
 
 -- the mentions that an input right after a log makes, with their news
 abbrev pub mentions_by : Log → ℕ → Given → List Mention
+mentions_by older moment (Tick index) = []
+mentions_by older moment (LinkFrame number from throughput bytes) = []
 mentions_by older moment (Frame src dst vid text) =
     record { moment = moment; key = key_of src vid; news = sighted_after older } ∷ []
 mentions_by older moment (Gone key) = record { moment = moment; key = key; news = Departed } ∷ []

@@ -2,12 +2,13 @@
 -- Numbers have their higher byte first. Reserved bytes are written 0 and ignored when read.
 -- Bytes behind a body's fields are ignored, and so is a last record that isn't whole.
 -- The main words are `tt_of_body`, `roaming_of_body`, `gateway_of_body` and `multicast_of_body`,
--- which are none where a body is too short, and `tt_text` and its kin, which spell a body.
-use Rattle.std.specs.Prelude.{ℕ, zero, suc, ◌+◌, ◌*◌, ◌/◌, ◌==◌, nat_lt, if◌then◌else◌, Bool, List, [], ◌∷◌, ◌++◌, length, take, drop, map, flat_map, slice_index, bit_and, bit_or, Option, Some, None}
-use Rattle.byteorder.specs.Endian.{big_bytes, big_number}
+-- which are none where a body is too short.
+use Rattle.std.specs.Prelude.{ℕ, zero, suc, ◌+◌, ◌*◌, ◌/◌, ◌==◌, nat_lt, if◌then◌else◌, Bool, List, [], ◌∷◌, length, take, drop, map, slice_index, bit_and, bit_or, Option, Some, None}
+use Rattle.byteorder.specs.Endian.{big_number}
 use Rattle.mesh_base.specs.declared.client.Vid.{Vid}
 use Rattle.mesh_base.specs.declared.client.Key.{Key}
 use Rattle.mesh_base.specs.declared.client.Entry.{Entry}
+use Rattle.mesh_model.specs.Packets.Numbers.{del_flag, wifi_flag, isolated_flag}
 
 -- a VLAN of a translation table, and the checksum of its clients
 pub record VlanSum : Type 0 where
@@ -31,13 +32,9 @@ pub record Bandwidth : Type 0 where
   pub download : ℕ
   pub upload : ℕ
 
--- the record flag that says that a client is gone
-abbrev pub del_flag : ℕ
-del_flag = 1
-
--- the record flags that a client keeps: WIFI, bit 4, and ISOLATED, bit 5
+-- of the flags of a record those that its client keeps
 abbrev pub client_flags : ℕ → ℕ
-client_flags flags = bit_and flags 48
+client_flags flags = bit_and flags (bit_or wifi_flag isolated_flag)
 
 -- the client of a record, with the flags that it keeps
 abbrev pub entry_of_change : TtChange → Entry
@@ -81,65 +78,61 @@ vlan_of_bytes bytes = record {
 abbrev pub change_of_bytes : List ℕ → TtChange
 change_of_bytes bytes = record { flags = slice_index bytes 0; key = key_of_bytes (drop 4 bytes) }
 
+-- the bytes of a client, a VLAN and a record
+abbrev pub key_size : ℕ
+key_size = 8
+
+abbrev pub vlan_size : ℕ
+vlan_size = 8
+
+abbrev pub change_size : ℕ
+change_size = 12
+
+-- the bytes of a translation table before its VLANs
+abbrev pub tt_head_size : ℕ
+tt_head_size = 4
+
 -- the number of VLANs that a translation table tells; a byte that isn't there counts as 0
 abbrev pub told_vlans : List ℕ → ℕ
 told_vlans body = big_number 2 (drop 2 body)
 
--- the least length of the body of a translation table: 4, and 8 for each VLAN that it tells
-abbrev pub tt_size : List ℕ → ℕ
-tt_size body = 4 + 8 * told_vlans body
+-- the bytes of the VLANs that a translation table tells
+abbrev pub vlans_size : List ℕ → ℕ
+vlans_size body = vlan_size * told_vlans body
 
--- a body that is long enough: flags 1, version 1, number of VLANs 2, VLANs, records
-abbrev pub tt_data : List ℕ → TtData
-tt_data body = record {
+-- a body that is long enough, whose head has this size and begins: flags 1, version 1, number of
+-- VLANs 2; behind the head come the VLANs, then the records
+abbrev pub tt_data : ℕ → List ℕ → TtData
+tt_data head body = record {
   flags = slice_index body 0;
   ttvn = slice_index body 1;
-  vlans = map vlan_of_bytes (whole_pieces 8 (take (8 * told_vlans body) (drop 4 body)));
-  changes = map change_of_bytes (whole_pieces 12 (drop (tt_size body) body));
+  vlans = map vlan_of_bytes (whole_pieces vlan_size (take (vlans_size body) (drop head body)));
+  changes = map change_of_bytes (whole_pieces change_size (drop (head + vlans_size body) body));
 }
 
--- what the body of a translation table tells
-abbrev pub tt_of_body : List ℕ → Option TtData
-tt_of_body body = if nat_lt (length body) (tt_size body) then None else Some (tt_data body)
+-- what the body of a translation table tells, whose head has this size
+abbrev pub tt_of_body : ℕ → List ℕ → Option TtData
+tt_of_body head body =
+    if nat_lt (length body) (head + vlans_size body) then None else Some (tt_data head body)
 
 -- the client that a roaming advertisement tells: client 8
 abbrev pub roaming_of_body : List ℕ → Option Key
-roaming_of_body body = if nat_lt (length body) 8 then None else Some (key_of_bytes body)
+roaming_of_body body = if nat_lt (length body) key_size then None else Some (key_of_bytes body)
+
+-- the least body of a gateway
+abbrev pub gateway_size : ℕ
+gateway_size = 8
 
 -- what a gateway tells: download 4, upload 4
 abbrev pub gateway_of_body : List ℕ → Option Bandwidth
-gateway_of_body body = if nat_lt (length body) 8 then None
+gateway_of_body body = if nat_lt (length body) gateway_size then None
     else Some (record { download = big_number 4 body; upload = big_number 4 (drop 4 body) })
+
+-- the least body of multicast flags
+abbrev pub multicast_size : ℕ
+multicast_size = 4
 
 -- the multicast flags that a node tells: flags 1, reserved 3
 abbrev pub multicast_of_body : List ℕ → Option ℕ
-multicast_of_body body = if nat_lt (length body) 4 then None else Some (slice_index body 0)
-
--- how a client is spelled, which is the body of a roaming advertisement
-abbrev pub key_text : Key → List ℕ
-key_text key = key.mac.0 ++ big_bytes 2 key.vid.0
-
--- how the head of a translation table is spelled
-abbrev pub tt_head_text : ℕ → ℕ → ℕ → List ℕ
-tt_head_text flags ttvn vlans = flags ∷ ttvn ∷ big_bytes 2 vlans
-
--- how a VLAN is spelled
-abbrev pub vlan_text : VlanSum → List ℕ
-vlan_text vlan = big_bytes 4 vlan.sum ++ big_bytes 2 vlan.vid.0 ++ 0 ∷ 0 ∷ []
-
--- how a record is spelled
-abbrev pub change_text : TtChange → List ℕ
-change_text change = change.flags ∷ 0 ∷ 0 ∷ 0 ∷ key_text change.key
-
--- how the body of a translation table is spelled: its head, the VLANs, the records
-abbrev pub tt_text : TtData → List ℕ
-tt_text table = tt_head_text table.flags table.ttvn (length table.vlans)
-    ++ flat_map vlan_text table.vlans ++ flat_map change_text table.changes
-
--- how the body of a gateway is spelled
-abbrev pub gateway_text : Bandwidth → List ℕ
-gateway_text bandwidth = big_bytes 4 bandwidth.download ++ big_bytes 4 bandwidth.upload
-
--- how the body of a multicast container is spelled
-abbrev pub multicast_text : ℕ → List ℕ
-multicast_text flags = flags ∷ 0 ∷ 0 ∷ 0 ∷ []
+multicast_of_body body =
+    if nat_lt (length body) multicast_size then None else Some (slice_index body 0)

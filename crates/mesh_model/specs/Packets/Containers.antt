@@ -26,23 +26,23 @@ abbrev pub FitsLength : Container → Type 0
 FitsLength container = length container.body < 2 ^ 16
 
 -- how a container is spelled
-abbrev pub container_text : Container → List ℕ
-container_text container =
+abbrev pub container_spelling : Container → List ℕ
+container_spelling container =
     container.kind ∷ container.version ∷ big_bytes 2 (length container.body) ++ container.body
 
 -- how containers are spelled, one after the other
-abbrev pub containers_text : List Container → List ℕ
-containers_text containers = flat_map container_text containers
+abbrev pub containers_spelling : List Container → List ℕ
+containers_spelling containers = flat_map container_spelling containers
 
 -- bytes that begin no whole container
 abbrev pub BeginsNone : List ℕ → Type 0
 BeginsNone bytes = (container : Container) (more : List ℕ) → FitsLength container
-    → bytes ≢ container_text container ++ more
+    → bytes ≢ container_spelling container ++ more
 
 -- the bytes are these containers, one after the other, and then a rest that begins no whole one
 pub record AreContainers (bytes : List ℕ) (containers : List Container) (rest : List ℕ)
     : Type 0 where
-  pub spelled : bytes ≡ containers_text containers ++ rest
+  pub spelled : bytes ≡ containers_spelling containers ++ rest
   pub each : All FitsLength containers
   pub cut : BeginsNone rest
 
@@ -81,4 +81,4 @@ containers_of bytes = first_containers (length bytes) bytes
 
 -- what is left behind the containers of bytes
 abbrev pub rest_of : List ℕ → List ℕ
-rest_of bytes = drop (length (containers_text (containers_of bytes))) bytes
+rest_of bytes = drop (length (containers_spelling (containers_of bytes))) bytes

@@ -8,6 +8,7 @@ use Rattle.std.specs.Int.{from_be_bytes, w32}
 use Rattle.std.specs.List.{list_all, slice_split}
 use Rattle.std.specs.Result.{result_ok}
 use Rattle.hex.specs.Hex.{decode_of}
+use Rattle.mesh_model.specs.Packets.Numbers.{tagged_bit}
 use Rattle.mesh_base.specs.Address.{option_both}
 use Rattle.mesh_base.specs.declared.client.Vid.{Vid}
 
@@ -46,7 +47,7 @@ number_of (first ∷ rest) =
 -- the wire number of a tagged VLAN, from its number 1 to 4094
 abbrev pub tagged : ℕ → Option Vid
 tagged number =
-    if nat_le 1 number && nat_le number 4094 then Some (record { 0 = 32768 + number }) else None
+    if nat_le 1 number && nat_le number 4094 then Some (record { 0 = tagged_bit + number }) else None
 
 -- the VLAN that a word names
 abbrev pub vid_of : List ℕ → Option Vid

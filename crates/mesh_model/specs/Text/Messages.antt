@@ -4,9 +4,9 @@
 -- `halt_text`.
 use Rattle.std.specs.Prelude.{ℕ, List, [], ◌∷◌, ◌++◌, codes, decimal}
 use Rattle.mesh_model.specs.declared.ending.LimitName.{LimitName}
-use Rattle.mesh_model.specs.declared.ending.LimitName.TheVariants.{Line, Input}
+use Rattle.mesh_model.specs.declared.ending.LimitName.TheVariants.{Line, Input, Nodes, Links, Clients, Vlans, Frames, FrameBytes, Clock}
 use Rattle.mesh_model.specs.declared.ending.Refusal.{Refusal}
-use Rattle.mesh_model.specs.declared.ending.Refusal.TheVariants.{BadUtf8, UnknownCommand, MissingWord, BadName, BadMac, BadNumber, OutOfRange, ExtraWord, NotBuilt, UnknownName, WrongKind, NameTaken, AddressTaken}
+use Rattle.mesh_model.specs.declared.ending.Refusal.TheVariants.{BadUtf8, UnknownCommand, MissingWord, BadName, BadMac, BadNumber, OutOfRange, ExtraWord, NotBuilt, UnknownName, WrongKind, NameTaken, AddressTaken, SameNode, LinkTaken, NoSuchFrame}
 use Rattle.mesh_model.specs.declared.ending.Stop.{Stop}
 use Rattle.mesh_model.specs.declared.ending.Stop.TheVariants.{Refused, Limit}
 use Rattle.mesh_model.specs.Scenario.Lines.{newline}
@@ -27,11 +27,21 @@ refusal_words UnknownName = codes "unknown name"
 refusal_words WrongKind = codes "wrong kind"
 refusal_words NameTaken = codes "name taken"
 refusal_words AddressTaken = codes "address taken"
+refusal_words SameNode = codes "same node"
+refusal_words LinkTaken = codes "link taken"
+refusal_words NoSuchFrame = codes "no such frame"
 
 -- the name of a limit
 abbrev pub limit_words : LimitName → List ℕ
 limit_words Line = codes "line"
 limit_words Input = codes "input"
+limit_words Nodes = codes "nodes"
+limit_words Links = codes "links"
+limit_words Clients = codes "clients"
+limit_words Vlans = codes "vlans"
+limit_words Frames = codes "frames"
+limit_words FrameBytes = codes "frame-bytes"
+limit_words Clock = codes "clock"
 
 -- the words of a stop
 abbrev pub stop_words : Stop → List ℕ

@@ -5,11 +5,11 @@
 use Rattle.std.specs.Prelude.{ℕ, ◌-◌, ◌/◌, ◌%◌, ◌==◌, nat_le, List, [], ◌∷◌, ◌++◌, length, flat_map, codes, decimal, Option, Some, None, if◌then◌else◌}
 use Rattle.byteorder.specs.Endian.{big_bytes}
 use Rattle.hex.specs.Hex.{encode_lower}
-use Rattle.mesh_base.specs.Address.{mac_text}
 use Rattle.mesh_base.specs.declared.client.Vid.{Vid}
 use Rattle.mesh_model.specs.declared.table_row.LocalRow.{LocalRow}
 use Rattle.mesh_model.specs.Packets.Bodies.{VlanSum}
-use Rattle.mesh_model.specs.Scenario.Lines.{newline}
+use Rattle.mesh_model.specs.Packets.Numbers.{tagged_bit, wifi_flag, isolated_flag}
+use Rattle.mesh_model.specs.Text.PacketLines.{line_of, named_number, named_address}
 
 -- a node's local table: its name, the byte and the sums of its last commit, and its present clients
 pub record LocalTable : Type 0 where
@@ -23,16 +23,17 @@ pub record LocalTable : Type 0 where
 unfoldable pub vid_text : Vid → List ℕ
 vid_text vid =
     if vid.0 == 0 then codes "-"
-    else if nat_le 32768 vid.0 then decimal (vid.0 - 32768)
+    else if nat_le tagged_bit vid.0 then decimal (vid.0 - tagged_bit)
     else codes "raw:" ++ decimal vid.0
 
 -- a letter where a flag is set, else `-`
-abbrev pub flag_text : ℕ → ℕ → ℕ → ℕ
-flag_text flags flag letter = if flags / flag % 2 == 1 then letter else 45
+abbrev pub flag_text : ℕ → ℕ → List ℕ → List ℕ
+flag_text flags flag letter = if flags / flag % 2 == 1 then letter else codes "-"
 
 -- the flags of an entry: `w` for WIFI, `i` for ISOLATED
 unfoldable pub flags_text : ℕ → List ℕ
-flags_text flags = flag_text flags 16 119 ∷ flag_text flags 32 105 ∷ []
+flags_text flags =
+    flag_text flags wifi_flag (codes "w") ++ flag_text flags isolated_flag (codes "i")
 
 -- an age, or `-` for none
 unfoldable pub age_text : Option ℕ → List ℕ
@@ -45,20 +46,20 @@ sum_text sum = encode_lower (big_bytes 4 sum)
 
 -- the line of a VLAN of the last commit
 unfoldable pub vlan_line : VlanSum → List ℕ
-vlan_line vlan =
-    codes "vlan " ++ vid_text vlan.vid ++ codes " sum=" ++ sum_text vlan.sum ++ newline ∷ []
+vlan_line vlan = line_of
+    (codes "vlan " ∷ vid_text vlan.vid ∷ codes " sum=" ∷ sum_text vlan.sum ∷ [])
 
 -- the line of a present client
 unfoldable pub local_line : LocalRow → List ℕ
-local_line row =
-    codes "c " ++ mac_text row.entry.key.mac ++ codes " " ++ vid_text row.entry.key.vid ++ codes " "
-    ++ flags_text row.entry.flags ++ codes " age=" ++ age_text row.age ++ newline ∷ []
+local_line row = line_of
+    (named_address (codes "c ") row.entry.key.mac ∷ codes " " ∷ vid_text row.entry.key.vid
+    ∷ codes " " ∷ flags_text row.entry.flags ∷ codes " age=" ∷ age_text row.age ∷ [])
 
 -- the first line of a local table
 unfoldable pub local_header : List ℕ → ℕ → ℕ → List ℕ
-local_header name version clients =
-    codes "tl " ++ name ++ codes " version=" ++ decimal version
-    ++ codes " clients=" ++ decimal clients ++ newline ∷ []
+local_header name version clients = line_of
+    (codes "tl " ∷ name ∷ named_number (codes " version=") version
+    ∷ named_number (codes " clients=") clients ∷ [])
 
 -- a local table as it is printed
 abbrev pub table_text : LocalTable → List ℕ

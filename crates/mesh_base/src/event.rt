@@ -1,0 +1,73 @@
+use crate::address::Mac;
+use crate::byte_list::Bytes;
+use crate::client::{Millis, Vid};
+
+/// Why a frame for a client goes to the node that it goes to.
+#[derive(Clone, Copy, Debug, PartialEq, Eq)]
+pub enum Reason {
+    /// `roam`: a mark says that the client moved there.
+    Roam,
+    /// `table`: the node's table names the client, and agrees with what the node announced.
+    Table,
+    /// `old`: the node's table names the client, and doesn't agree with what the node announced.
+    Old,
+    /// `gw`: the node is the chosen gateway.
+    Gw,
+    /// `mc`: the node receives the group.
+    Mc,
+    /// `alfred`: a message of the fact store.
+    Alfred,
+    /// `fwd`: the frame is passed on.
+    Fwd,
+}
+
+/// Why a client frame is lost.
+#[derive(Clone, Copy, Debug, PartialEq, Eq)]
+pub enum LossReason {
+    /// `unknown`: no node is known to have the client.
+    Unknown,
+    /// `ttl`: no hop is left.
+    Ttl,
+    /// `noroute`: no neighbour leads there.
+    NoRoute,
+}
+
+/// What happens in a run and has a line of its own. Nodes are named by their addresses.
+#[derive(Debug, Drop)]
+pub enum Event {
+    /// `fN T A>B KIND HEX`: a link frame is sent. A reason stands exactly with a packet of kind
+    /// unicast.
+    FrameSent {
+        number: u32,
+        moment: Millis,
+        from: Mac,
+        to: Mac,
+        reason: Option<Reason>,
+        bytes: Bytes,
+    },
+    /// `recv T NODE VID SRC DST TEXT`: a client frame reaches the clients of a node.
+    Received {
+        moment: Millis,
+        node: Mac,
+        vid: Vid,
+        src: Mac,
+        dst: Mac,
+        text: Bytes,
+    },
+    /// `lost T NODE VID SRC DST R`: a client frame is lost at a node.
+    Lost {
+        moment: Millis,
+        node: Mac,
+        vid: Vid,
+        src: Mac,
+        dst: Mac,
+        reason: LossReason,
+    },
+    /// `alias NODE K J`: commit K of a node differs from commit J, under the same version and
+    /// checksums.
+    Alias {
+        node: Mac,
+        commit: u64,
+        earlier: u64,
+    },
+}

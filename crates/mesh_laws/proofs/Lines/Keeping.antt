@@ -1,0 +1,73 @@
+-- Commands lead to states that are reached, and nothing is due between them.
+use Rattle.std.proofs.Common.{◌≡◌, ℕ, ◌+◌, ◌<◌, ◌≤◌, ◌⊎◌, inl, inr, [], ◌∷◌, ◌++◌, length, slice_get, Some, sym, ap, ◌∙◌, subst, arith}
+use Rattle.mesh_model.specs.declared.frame_choice.FrameChoice.{FrameChoice}
+use Rattle.mesh_model.specs.declared.happening.Happening.{Happening}
+use Rattle.mesh_model.specs.declared.line_form.Command.{Command}
+use Rattle.mesh_model.specs.Net.Mesh.{NodeLog, NetLink, Mesh, Setup}
+use Rattle.mesh_model.specs.Net.Next.{Has}
+use Rattle.mesh_model.specs.NetRun.State.{Printed, State, first_state}
+use Rattle.mesh_model.specs.NetRun.Outcome.{Outcome, reached}
+use Rattle.mesh_model.specs.NetRun.Passing.{gone_on}
+use Rattle.mesh_model.specs.NetRun.Shown.{after_print}
+use Rattle.mesh_model.specs.NetRun.Steps.{with_node, with_link}
+use Rattle.mesh_laws.specs.LineLaws.{IsReached, CanPass, HasDelay}
+use Rattle.mesh_laws.specs.Soundness.{FitsPlaces, GivesItsBytes, KeepsBytes}
+use Rattle.mesh_laws.proofs.Schedule.Members.{get_last}
+use Rattle.mesh_laws.proofs.Schedule.Steps.{Effect, delivered_effect, no_ticks, tickless}
+use Rattle.mesh_laws.proofs.Schedule.Sound.{lines_keep_sound}
+use Rattle.mesh_laws.proofs.Schedule.Kept.{bytes_after}
+use Rattle.mesh_laws.proofs.Schedule.Added.{empty_bytes, empty_sound, links_sound, nodes_sound}
+use Rattle.mesh_laws.proofs.Lines.Reached.{runs_are_reached}
+use Rattle.mesh_laws.proofs.Lines.Ways.{Led, ended, printed, stayed, noded, linked, given, again, passed}
+
+pub first_is_reached : (choice : FrameChoice) → IsReached (first_state choice)
+first_is_reached choice = record { sound = empty_sound; bytes = empty_bytes; past = omega arith; low = omega arith }
+
+printing_reached : (state : State) (more : Printed) → IsReached state → IsReached (after_print state more)
+printing_reached state more r = record { sound = r.sound; bytes = r.bytes; past = r.past; low = r.low }
+
+-- a new node was given no frame
+node_bytes : (mesh : Mesh) (new : NodeLog) → new.log ≡ [] → KeepsBytes mesh → KeepsBytes (record mesh { nodes = mesh.nodes ++ new ∷ [] })
+node_bytes mesh new empty kept place node found entry has = either (get_last mesh.nodes new place node found)
+  where
+    either : (slice_get mesh.nodes place ≡ Some node) ⊎ (node ≡ new) → GivesItsBytes mesh.frames entry.given
+    either (inl old) = kept place node old entry has
+    either (inr e) = absurd (subst (λ l. Has l entry) (ap (λ (n : NodeLog). n.log) e ∙ empty) has)
+
+node_reached : (state : State) (node : NodeLog) → node.log ≡ [] → node.made ≡ state.clock → length state.mesh.nodes < 64 → IsReached state → IsReached (with_node state node)
+node_reached state node new made few r =
+    let past = r.past in
+    record {
+      sound = nodes_sound state.mesh node r.sound new (omega (arith, past, made)) (omega (arith, few));
+      bytes = node_bytes state.mesh node new r.bytes;
+      past = r.past;
+      low = r.low;
+    }
+
+link_reached : (state : State) (link : NetLink) → 1 ≤ link.delay → IsReached state → IsReached (with_link state link)
+link_reached state link delay r = record { sound = links_sound state.mesh link r.sound delay; bytes = r.bytes; past = r.past; low = r.low }
+
+-- an input that is no tick, at the clock
+effect_reached : (setup : Setup) (state : State) (after : Mesh) → FitsPlaces setup → Effect setup no_ticks state.clock state.mesh after → IsReached state → IsReached (gone_on state state.clock after)
+effect_reached setup state after fits effect r = record {
+  sound = lines_keep_sound setup state.mesh state.clock after fits r.sound effect;
+  bytes = bytes_after setup no_ticks state.clock state.mesh after r.bytes effect.nodes effect.adds;
+  past = subst (λ (h : Happening). h.moment ≤ state.clock) (sym effect.last) r.past;
+  low = r.low;
+}
+
+pub can_pass : (setup : Setup) (time : ℕ) (state : State) → FitsPlaces setup → IsReached state → state.clock + time ≤ 1099511627776 → CanPass setup (state.clock + time) state
+can_pass setup time state fits r low = record { fits = fits; is_reached = r; begins = omega arith; ends = low }
+
+pub outcome_reached : (setup : Setup) (state : State) (command : Command) (outcome : Outcome) → FitsPlaces setup → IsReached state → HasDelay command → Led setup state command outcome → IsReached (reached outcome)
+outcome_reached setup state command outcome fits r delay (ended stop e) = subst (λ o. IsReached (reached o)) (sym e) r
+outcome_reached setup state command outcome fits r delay (stayed e) = subst (λ o. IsReached (reached o)) (sym e) r
+outcome_reached setup state command outcome fits r delay (printed more e) = subst (λ o. IsReached (reached o)) (sym e) (printing_reached state more r)
+outcome_reached setup state command outcome fits r delay (noded node new made few e) = subst (λ o. IsReached (reached o)) (sym e) (node_reached state node new made few r)
+outcome_reached setup state command outcome fits r delay (linked link has e) = subst (λ o. IsReached (reached o)) (sym e) (link_reached state link (has delay) r)
+outcome_reached setup state command outcome fits r delay (given place input after none gives g e) = subst (λ o. IsReached (reached o)) (sym e)
+    (effect_reached setup state after fits (tickless setup state.mesh place state.clock 0 input after none gives g) r)
+outcome_reached setup state command outcome fits r delay (again place after g e) = subst (λ o. IsReached (reached o)) (sym e)
+    (effect_reached setup state after fits (delivered_effect setup state.mesh place state.clock after g) r)
+outcome_reached setup state command outcome fits r delay (passed time run low e) = subst (λ o. IsReached (reached o)) (sym e)
+    (runs_are_reached setup (state.clock + time) state (can_pass setup time state fits r low))

@@ -1,0 +1,122 @@
+-- The few ways in which a command may end.
+use Rattle.std.proofs.Common.{option_map, ◌≡◌, ℕ, ◌+◌, ◌-◌, ◌<◌, ◌≤◌, Bool, true, false, cond, nat_lt, nat_le, List, [], length, Option, Some, None, Ok, Err, refl}
+use Rattle.std.specs.Option.{option_map_or}
+use Rattle.std.proofs.lemmas.Bool.{ltb-false, leb-false}
+use Rattle.mesh_base.specs.Address.{is_broadcast}
+use Rattle.mesh_model.specs.declared.ending.LimitName.TheVariants.{Nodes, Links, Clock}
+use Rattle.mesh_model.specs.declared.ending.Refusal.{Refusal}
+use Rattle.mesh_model.specs.declared.ending.Stop.{Stop}
+use Rattle.mesh_model.specs.declared.ending.Stop.TheVariants.{Refused, Limit}
+use Rattle.mesh_model.specs.declared.line_form.Command.{Command}
+use Rattle.mesh_model.specs.declared.line_form.Command.TheVariants.{Nothing, Algo, Node, Link, Lan, Frame, Gone, Join, Leave, Arp, Dhcp, Wifi, GwOff, GwServer, GwClient, Mcast, Dat, Alfred, Put, Get, Ping, Trace, Run, Deliver, Show, Decode}
+use Rattle.mesh_model.specs.Clients.Log.{Given}
+use Rattle.mesh_model.specs.Clients.Log.{Frame as FrameGiven}
+use Rattle.mesh_model.specs.Net.Mesh.{NodeLog, NetLink, Mesh, Setup}
+use Rattle.mesh_model.specs.Net.Sending.{Attempt}
+use Rattle.mesh_model.specs.Net.Inputs.{given_to}
+use Rattle.mesh_model.specs.Net.Due.{ticks_by}
+use Rattle.mesh_model.specs.Net.Limits.{nodes_limit, links_limit, clock_limit}
+use Rattle.mesh_model.specs.Net.Runs.{delivered}
+use Rattle.mesh_model.specs.NetRun.State.{Printed, Decoded, State, node_named, place_of}
+use Rattle.mesh_model.specs.NetRun.Outcome.{Outcome, Goes, Ends}
+use Rattle.mesh_model.specs.NetRun.Passing.{gone_on, run_until, after_attempt}
+use Rattle.mesh_model.specs.NetRun.Shown.{after_print, shown}
+use Rattle.mesh_model.specs.NetRun.Steps.{Step, at_node, new_node, with_node, with_link, link_step, input_step, show_step, step_of}
+use Rattle.mesh_model.specs.NetRun.Rules.{first_refused_rule, unless_refused, after_step, carried_out}
+use Rattle.mesh_laws.specs.LineLaws.{HasDelay}
+use Rattle.mesh_laws.specs.Soundness.{GivesItsBytes}
+
+-- the ways of a command's outcome
+pub data Led (setup : Setup) (state : State) (command : Command) (outcome : Outcome) : Type 0 where
+  ended : (stop : Stop) → outcome ≡ Ends state stop → Led setup state command outcome
+  printed : (more : Printed) → outcome ≡ Goes (after_print state more) → Led setup state command outcome
+  stayed : outcome ≡ Goes state → Led setup state command outcome
+  noded : (node : NodeLog) → node.log ≡ [] → node.made ≡ state.clock → length state.mesh.nodes < nodes_limit → outcome ≡ Goes (with_node state node) → Led setup state command outcome
+  linked : (link : NetLink) → (HasDelay command → 1 ≤ link.delay) → outcome ≡ Goes (with_link state link) → Led setup state command outcome
+  given : (place : ℕ) (given : Given) (after : Mesh) → ticks_by given ≡ 0 → GivesItsBytes state.mesh.frames given → given_to setup place state.clock 0 given state.mesh ≡ Ok after
+      → outcome ≡ Goes (gone_on state state.clock after) → Led setup state command outcome
+  again : (place : ℕ) (after : Mesh) → delivered setup place state.clock state.mesh ≡ Ok after → outcome ≡ Goes (gone_on state state.clock after) → Led setup state command outcome
+  passed : (time : ℕ) → command ≡ Run time → state.clock + time ≤ clock_limit → outcome ≡ run_until setup (state.clock + time) state → Led setup state command outcome
+
+node_led : (setup : Setup) (state : State) (command : Command) (node : NodeLog) → node.log ≡ [] → node.made ≡ state.clock → (full : Bool) → nat_le nodes_limit (length state.mesh.nodes) ≡ full
+    → Led setup state command (cond full (Ends state (Limit Nodes)) (Goes (with_node state node)))
+node_led setup state command node new made true e = ended (Limit Nodes) refl
+node_led setup state command node new made false e = noded node new made (leb-false nodes_limit (length state.mesh.nodes) e) refl
+
+link_led : (setup : Setup) (state : State) (command : Command) (link : NetLink) → (HasDelay command → 1 ≤ link.delay) → (full : Bool) → Led setup state command (cond full (Ends state (Limit Links)) (Goes (with_link state link)))
+link_led setup state command link delay true = ended (Limit Links) refl
+link_led setup state command link delay false = linked link delay refl
+
+input_led : (setup : Setup) (state : State) (command : Command) (place : ℕ) (input : Given) → ticks_by input ≡ 0 → GivesItsBytes state.mesh.frames input → (attempt : Attempt) → given_to setup place state.clock 0 input state.mesh ≡ attempt
+    → Led setup state command (after_attempt state attempt)
+input_led setup state command place input none gives (Ok after) e = given place input after none gives e refl
+input_led setup state command place input none gives (Err limit) e = ended (Limit limit) refl
+
+again_led : (setup : Setup) (state : State) (command : Command) (place : ℕ) (attempt : Attempt) → delivered setup place state.clock state.mesh ≡ attempt → Led setup state command (after_attempt state attempt)
+again_led setup state command place (Ok after) e = again place after e refl
+again_led setup state command place (Err limit) e = ended (Limit limit) refl
+
+time_led : (setup : Setup) (state : State) (time : ℕ) (past : Bool) → nat_lt clock_limit (state.clock + time) ≡ past
+    → Led setup state (Run time) (cond past (Ends state (Limit Clock)) (run_until setup (state.clock + time) state))
+time_led setup state time true e = ended (Limit Clock) refl
+time_led setup state time false e = passed time refl (ltb-false clock_limit (state.clock + time) e) refl
+
+-- a step at the node of a name, or at none
+at_led : (setup : Setup) (state : State) (command : Command) (step : ℕ → Step) (o : Option ℕ) → ((place : ℕ) → Led setup state command (step place state))
+    → Led setup state command (option_map_or (λ place. step place state) o (Goes state))
+at_led setup state command step None all = stayed refl
+at_led setup state command step (Some place) all = all place
+
+show_led : (setup : Setup) (state : State) (command : Command) (print : ℕ → NodeLog → Printed) (o : Option NodeLog)
+    → Led setup state command (option_map_or (λ node. Goes (after_print state (print state.clock node))) o (Goes state))
+show_led setup state command print None = stayed refl
+show_led setup state command print (Some node) = printed (print state.clock node) refl
+
+shown_led : (setup : Setup) (state : State) (command : Command) (name : List ℕ) (o : Option (ℕ → NodeLog → Printed)) → Led setup state command (after_step state (option_map (show_step name) o))
+shown_led setup state command name None = stayed refl
+shown_led setup state command name (Some print) = show_led setup state command print (node_named state name)
+
+frame_led : (setup : Setup) (state : State) (command : Command) (place : List ℕ) (input : Given) → ticks_by input ≡ 0 → GivesItsBytes state.mesh.frames input → (to_all : Bool)
+    → Led setup state command (after_step state (cond to_all (Some (at_node place (input_step setup input))) None))
+frame_led setup state command place input none gives true = at_led setup state command (input_step setup input) (place_of state place)
+    (λ p. input_led setup state command p input none gives (given_to setup p state.clock 0 input state.mesh) refl)
+frame_led setup state command place input none gives false = stayed refl
+
+pub command_led : (setup : Setup) (state : State) (command : Command) → Led setup state command (after_step state (step_of setup command))
+command_led setup state Nothing = stayed refl
+command_led setup state (Algo algorithm) = stayed refl
+command_led setup state (Node name mac) = node_led setup state (Node name mac) (new_node name mac state.clock) refl refl (nat_le nodes_limit (length state.mesh.nodes)) refl
+command_led setup state (Link from to delay pattern throughput) =
+    let link : ℕ → ℕ → NetLink = λ start end. record { from = start; to = end; delay = delay; pattern = pattern; throughput = throughput } in
+    at_led setup state (Link from to delay pattern throughput) (λ start. at_node to (λ end. link_step (link start end))) (place_of state from) (λ start.
+    at_led setup state (Link from to delay pattern throughput) (λ end. link_step (link start end)) (place_of state to) (λ end.
+    link_led setup state (Link from to delay pattern throughput) (link start end) (λ has. has from to pattern delay throughput refl) (nat_le links_limit (length state.mesh.links))))
+command_led setup state (Lan name gateways) = stayed refl
+command_led setup state (Frame place src dst vid text) = frame_led setup state (Frame place src dst vid text) place (FrameGiven src dst vid text) refl tt (is_broadcast dst)
+command_led setup state (Gone place key) = stayed refl
+command_led setup state (Join node key) = stayed refl
+command_led setup state (Leave node key) = stayed refl
+command_led setup state (Arp node mac own asked vid) = stayed refl
+command_led setup state (Dhcp node key text) = stayed refl
+command_led setup state (Wifi node on) = stayed refl
+command_led setup state (GwOff node) = stayed refl
+command_led setup state (GwServer node down up) = stayed refl
+command_led setup state (GwClient node policy) = stayed refl
+command_led setup state (Mcast node flags) = stayed refl
+command_led setup state (Dat node on) = stayed refl
+command_led setup state (Alfred node mode) = stayed refl
+command_led setup state (Put node type_no version text) = stayed refl
+command_led setup state (Get node type_no) = stayed refl
+command_led setup state (Ping node target) = stayed refl
+command_led setup state (Trace node target) = stayed refl
+command_led setup state (Run time) = time_led setup state time (nat_lt clock_limit (state.clock + time)) refl
+command_led setup state (Deliver number) = again_led setup state (Deliver number) (number - 1) (delivered setup (number - 1) state.clock state.mesh) refl
+command_led setup state (Show node table) = shown_led setup state (Show node table) node (shown table)
+command_led setup state (Decode bytes) = printed (Decoded bytes) refl
+
+refused_led : (setup : Setup) (state : State) (command : Command) (outcome : Outcome) (refusal : Option Refusal) → Led setup state command outcome → Led setup state command (unless_refused state refusal outcome)
+refused_led setup state command outcome (Some refusal) l = ended (Refused refusal) refl
+refused_led setup state command outcome None l = l
+
+pub led : (setup : Setup) (state : State) (command : Command) → Led setup state command (carried_out setup state command)
+led setup state command = refused_led setup state command (after_step state (step_of setup command)) (first_refused_rule state command) (command_led setup state command)

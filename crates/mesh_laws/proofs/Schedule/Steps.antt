@@ -1,0 +1,224 @@
+-- What carrying a happening out leaves.
+use Rattle.std.proofs.Common.{◌≡◌, ℕ, zero, suc, ◌+◌, ◌-◌, ◌⊎◌, inl, inr, true, false, cond, nat_eq, List, [], ◌∷◌, ◌++◌, length, slice_get, Option, Some, None, Ok, refl, sym, ap, ◌∙◌, subst, arith}
+use Rattle.std.proofs.lemmas.Bool.{eq-eqb, ne_eqb}
+use Rattle.mesh_model.specs.declared.ending.LimitName.{LimitName}
+use Rattle.mesh_model.specs.declared.happening.Class.{Class}
+use Rattle.mesh_model.specs.declared.happening.Class.TheVariants.{LinkDelivery, NodeTick}
+use Rattle.mesh_model.specs.declared.happening.Happening.{Happening}
+use Rattle.mesh_model.specs.Clients.Log.{Given, Tick, LinkFrame, Frame, Gone, Join, Leave, Arp, Dhcp, Wifi, LogEntry}
+use Rattle.mesh_model.specs.Net.Mesh.{NetLink, SentFrame, NodeLog, Mesh, Setup, address_at}
+use Rattle.mesh_model.specs.Net.Sending.{Attempt, Actor, after_acts}
+use Rattle.mesh_model.specs.Net.Inputs.{noting, noted_at, noted, with_entry, entry_of, unless_passed, given_node, given_to}
+use Rattle.mesh_model.specs.Net.Due.{ticks_by, ticks_in}
+use Rattle.mesh_model.specs.Net.Next.{Has}
+use Rattle.mesh_model.specs.Net.Runs.{throughput_between, frame_over, frame_given, delivered, tick_given, effect, with_last, after_happening}
+use Rattle.mesh_model.specs.NetRun.State.{names_of}
+use Rattle.mesh_laws.specs.Soundness.{GivesItsBytes}
+use Rattle.mesh_laws.proofs.Schedule.Members.{one_some}
+use Rattle.mesh_laws.proofs.Schedule.Sends.{as_ok, ok_one, on_ok_ok, Adds, adds_nothing, acts_send}
+
+-- ---- what becomes of the nodes
+pub get_front : {X : Type 0} (xs ys : List X) (i : ℕ) (x : X) → slice_get xs i ≡ Some x → slice_get (xs ++ ys) i ≡ Some x
+get_front [] ys i x e = cc
+get_front (z ∷ zs) ys zero x e = e
+get_front (z ∷ zs) ys (suc i) x e = get_front zs ys i x e
+
+pub gave_later : (before more : List SentFrame) (given : Given) → GivesItsBytes before given → GivesItsBytes (before ++ more) given
+gave_later before more (Tick index) g = tt
+gave_later before more (LinkFrame number from throughput bytes) g = (g.0, get_front before more (number - 1) g.0 g.1, g.2)
+gave_later before more (Frame src dst vid text) g = tt
+gave_later before more (Gone key) g = tt
+gave_later before more (Join key) g = tt
+gave_later before more (Leave key) g = tt
+gave_later before more (Arp mac own_ip asked_ip vid) g = tt
+gave_later before more (Dhcp key text) g = tt
+gave_later before more (Wifi on) g = tt
+
+-- a node after it had so many more ticks, and was given frames with the bytes of these
+pub record Grew (frames : List SentFrame) (extra : ℕ) (node after : NodeLog) : Type 0 where
+  pub made : after.made ≡ node.made
+  pub ticks : ticks_in after.log ≡ extra + ticks_in node.log
+  pub entries : (e : LogEntry) → Has after.log e → Has node.log e ⊎ GivesItsBytes frames e.given
+
+pub record Was (nodes : List NodeLog) (frames : List SentFrame) (extra place : ℕ) (after : NodeLog) : Type 0 where
+  pub node : NodeLog
+  pub found : slice_get nodes place ≡ Some node
+  pub grew : Grew frames extra node after
+
+-- what an input, or several, leave; `extra` says how many ticks the node at a place had
+pub record Effect (setup : Setup) (extra : ℕ → ℕ) (now : ℕ) (mesh after : Mesh) : Type 0 where
+  pub nodes : (place : ℕ) (node : NodeLog) → slice_get after.nodes place ≡ Some node → Was mesh.nodes after.frames (extra place) place node
+  pub count : length after.nodes ≡ length mesh.nodes
+  pub names : names_of after.nodes ≡ names_of mesh.nodes
+  pub last : after.last ≡ mesh.last
+  pub adds : Adds setup now mesh after
+
+no_extra : (n extra : ℕ) → extra ≡ 0 → n ≡ extra + n
+no_extra n extra e = omega (arith, e)
+
+no_effect : (setup : Setup) (extra : ℕ → ℕ) (now : ℕ) (mesh after : Mesh) → ((place : ℕ) (node : NodeLog) → slice_get mesh.nodes place ≡ Some node → extra place ≡ 0) → as_ok mesh ≡ as_ok after → Effect setup extra now mesh after
+no_effect setup extra now mesh after none e = subst (Effect setup extra now mesh) (ok_one mesh after e) (record {
+  nodes = λ place node found. record { node = node; found = found; grew = record { made = refl; ticks = no_extra (ticks_in node.log) (extra place) (none place node found); entries = λ e h. inl h } };
+  count = refl;
+  names = refl;
+  last = refl;
+  adds = adds_nothing setup now mesh mesh refl refl refl;
+})
+
+-- the node at a place after another or itself noted an entry
+data Renewed (at : ℕ) (entry : LogEntry) (place : ℕ) (node after : NodeLog) : Type 0 where
+  other : (at ≡ place → ⊥) → after ≡ node → Renewed at entry place node after
+  itself : at ≡ place → after ≡ noting entry node → Renewed at entry place node after
+
+renewed_next : (at : ℕ) (entry : LogEntry) (place : ℕ) (node after : NodeLog) → Renewed at entry place node after → Renewed (suc at) entry (suc place) node after
+renewed_next at entry place node after (other d e) = other (λ q. d (omega (arith, q))) e
+renewed_next at entry place node after (itself p e) = itself (ap suc p) e
+
+abbrev Before1 : ℕ → LogEntry → List NodeLog → ℕ → NodeLog → Type 0
+Before1 at entry nodes place after = (node : NodeLog) × (slice_get nodes place ≡ Some node) × Renewed at entry place node after
+
+renewed : (at : ℕ) (entry : LogEntry) (nodes : List NodeLog) (place : ℕ) (after : NodeLog) → slice_get (noted_at at entry nodes) place ≡ Some after → Before1 at entry nodes place after
+renewed at entry [] place after e = cc
+renewed zero entry (node ∷ rest) zero after e = (node, refl, itself refl (sym (one_some (noting entry node) after e)))
+renewed zero entry (node ∷ rest) (suc place) after e = (after, e, other (λ q. omega (arith, q)) refl)
+renewed (suc at) entry (node ∷ rest) zero after e = (node, refl, other (λ q. omega (arith, q)) (sym (one_some node after e)))
+renewed (suc at) entry (node ∷ rest) (suc place) after e =
+    let w = renewed at entry rest place after e in
+    (w.0, w.1, renewed_next at entry place w.0 after w.2)
+
+length_noted : (at : ℕ) (entry : LogEntry) (nodes : List NodeLog) → length (noted_at at entry nodes) ≡ length nodes
+length_noted at entry [] = refl
+length_noted zero entry (node ∷ rest) = refl
+length_noted (suc at) entry (node ∷ rest) = ap suc (length_noted at entry rest)
+
+names_noted : (at : ℕ) (entry : LogEntry) (nodes : List NodeLog) → names_of (noted_at at entry nodes) ≡ names_of nodes
+names_noted at entry [] = refl
+names_noted zero entry (node ∷ rest) = refl
+names_noted (suc at) entry (node ∷ rest) = ap (λ ns. record { mac = node.mac; name = node.name } ∷ ns) (names_noted at entry rest)
+
+-- what an entry at a place adds to the ticks of the node at another
+abbrev pub at_place : ℕ → ℕ → ℕ → ℕ
+at_place at more place = cond (nat_eq at place) more 0
+
+grew_from : (frames : List SentFrame) (at : ℕ) (entry : LogEntry) (place : ℕ) (node after : NodeLog) → GivesItsBytes frames entry.given → Renewed at entry place node after → Grew frames (at_place at (ticks_by entry.given) place) node after
+grew_from frames at entry place node after g (other d e) = record {
+  made = ap (λ (x : NodeLog). x.made) e;
+  ticks = ap (λ (x : NodeLog). ticks_in x.log) e ∙ no_extra (ticks_in node.log) (at_place at (ticks_by entry.given) place) (ap (λ b. cond b (ticks_by entry.given) 0) (ne_eqb at place d));
+  entries = λ x h. inl (subst (λ (n : NodeLog). Has n.log x) e h);
+}
+grew_from frames at entry place node after g (itself p e) = record {
+  made = ap (λ (x : NodeLog). x.made) e;
+  ticks = ap (λ (x : NodeLog). ticks_in x.log) e ∙ ap (λ b. cond b (ticks_by entry.given) 0 + ticks_in node.log) (sym (eq-eqb at place p));
+  entries = λ x h. either x (subst (λ (n : NodeLog). Has n.log x) e h);
+}
+  where
+    either : (x : LogEntry) → (x ≡ entry) ⊎ Has node.log x → Has node.log x ⊎ GivesItsBytes frames x.given
+    either x (inl same) = inr (subst (λ (y : LogEntry). GivesItsBytes frames y.given) (sym same) g)
+    either x (inr h) = inl h
+
+entry_effect : (setup : Setup) (mesh : Mesh) (actor : Actor) (entry : LogEntry) (after : Mesh) → GivesItsBytes mesh.frames entry.given → with_entry setup actor entry mesh ≡ Ok after → Effect setup (at_place actor.place (ticks_by entry.given)) actor.now mesh after
+entry_effect setup mesh actor entry after g e =
+    let p = on_ok_ok (noted actor.place entry) (after_acts setup actor entry.acts mesh) after e in
+    let sends = acts_send setup actor entry.acts mesh p.0 p.1 in
+    let gave : GivesItsBytes p.0.frames entry.given = subst (λ fs. GivesItsBytes fs entry.given) (sym sends.adds.frames) (gave_later mesh.frames sends.adds.more entry.given g) in
+    subst (Effect setup (at_place actor.place (ticks_by entry.given)) actor.now mesh) (ok_one (record p.0 { nodes = noted_at actor.place entry p.0.nodes }) after p.2) (record {
+      nodes = λ place n found.
+          let w = renewed actor.place entry mesh.nodes place n (subst (λ ns. slice_get (noted_at actor.place entry ns) place ≡ Some n) sends.nodes found) in
+          record { node = w.0; found = w.1; grew = grew_from p.0.frames actor.place entry place w.0 n gave w.2 };
+      count = length_noted actor.place entry p.0.nodes ∙ ap length sends.nodes;
+      names = names_noted actor.place entry p.0.nodes ∙ ap names_of sends.nodes;
+      last = sends.last;
+      adds = record { links = sends.adds.links; more = sends.adds.more; frames = sends.adds.frames; sent = sends.adds.sent; on_links = sends.adds.on_links; more_events = sends.adds.more_events; events = sends.adds.events; few = sends.adds.few };
+    })
+
+-- a step after which there is a mesh passed no limit before it
+not_passed : (o : Option LimitName) (step : Attempt) (after : Mesh) → unless_passed o step ≡ Ok after → step ≡ Ok after
+not_passed None step after e = e
+not_passed (Some limit) step after e = cc
+
+none_some : (node : NodeLog) (o : Option NodeLog) → o ≡ None → o ≡ Some node → ⊥
+none_some node None a b = cc
+none_some node (Some x) a b = cc
+
+-- where there is no node, none has a tick
+none_extra : (mesh : Mesh) (at more place : ℕ) (node : NodeLog) → slice_get mesh.nodes at ≡ None → slice_get mesh.nodes place ≡ Some node → at_place at more place ≡ 0
+none_extra mesh at more place node none found =
+    ap (λ b. cond b more 0) (ne_eqb at place (λ e. none_some node (slice_get mesh.nodes place) (subst (λ i. slice_get mesh.nodes i ≡ None) e none) found))
+
+node_effect : (setup : Setup) (mesh : Mesh) (node now root : ℕ) (given : Given) (o : Option NodeLog) (after : Mesh) → slice_get mesh.nodes node ≡ o → GivesItsBytes mesh.frames given → given_node setup node now root given o mesh ≡ Ok after → Effect setup (at_place node (ticks_by given)) now mesh after
+node_effect setup mesh node now root given None after found g e = no_effect setup (at_place node (ticks_by given)) now mesh after (λ place n f. none_extra mesh node (ticks_by given) place n found f) e
+node_effect setup mesh node now root given (Some n) after found g e =
+    let actor : Actor = record { place = node; mac = n.mac; now = now; root = root } in
+    let entry : LogEntry = entry_of setup n now given in
+    entry_effect setup mesh actor entry after g (not_passed (setup.client_limit n.log now given) (with_entry setup actor entry mesh) after e)
+
+pub given_effect : (setup : Setup) (mesh : Mesh) (node now root : ℕ) (given : Given) (after : Mesh) → GivesItsBytes mesh.frames given → given_to setup node now root given mesh ≡ Ok after → Effect setup (at_place node (ticks_by given)) now mesh after
+given_effect setup mesh node now root given after g e = node_effect setup mesh node now root given (slice_get mesh.nodes node) after refl g e
+
+-- what has no tick
+abbrev pub no_ticks : ℕ → ℕ
+no_ticks place = 0
+
+same_extra : (setup : Setup) (a b : ℕ → ℕ) (now : ℕ) (mesh after : Mesh) → ((place : ℕ) → a place ≡ b place) → Effect setup a now mesh after → Effect setup b now mesh after
+same_extra setup a b now mesh after same e = record {
+  nodes = λ place node found. let w = e.nodes place node found in record { node = w.node; found = w.found; grew = subst (λ k. Grew after.frames k w.node node) (same place) w.grew };
+  count = e.count;
+  names = e.names;
+  last = e.last;
+  adds = e.adds;
+}
+
+at_none : (at place : ℕ) → at_place at 0 place ≡ 0
+at_none at place = elim (nat_eq at place) as (λ b. ◌≡◌ {A = ℕ} (cond b 0 0) 0) [ true ↦ refl | false ↦ refl ]
+
+pub tickless : (setup : Setup) (mesh : Mesh) (node now root : ℕ) (given : Given) (after : Mesh) → ticks_by given ≡ 0 → GivesItsBytes mesh.frames given → given_to setup node now root given mesh ≡ Ok after → Effect setup no_ticks now mesh after
+tickless setup mesh node now root given after z g e =
+    same_extra setup (at_place node (ticks_by given)) no_ticks now mesh after (λ place. ap (λ k. at_place node k place) z ∙ at_none node place) (given_effect setup mesh node now root given after g e)
+
+-- ---- the two kinds of happenings
+link_effect : (setup : Setup) (mesh : Mesh) (place now : ℕ) (frame : SentFrame) (o : Option NetLink) (after : Mesh) → slice_get mesh.frames place ≡ Some frame → frame_over setup place now frame o mesh ≡ Ok after → Effect setup no_ticks now mesh after
+link_effect setup mesh place now frame None after found e = no_effect setup no_ticks now mesh after (λ p n f. refl) e
+link_effect setup mesh place now frame (Some link) after found e =
+    let place_is : suc place - 1 ≡ place = omega arith in
+    tickless setup mesh link.to now frame.root (LinkFrame (suc place) (address_at link.from mesh.nodes) (throughput_between link.to link.from mesh.links) frame.bytes) after refl
+    (frame, subst (λ i. slice_get mesh.frames i ≡ Some frame) (sym place_is) found, refl) e
+
+frame_effect : (setup : Setup) (mesh : Mesh) (place now : ℕ) (o : Option SentFrame) (after : Mesh) → slice_get mesh.frames place ≡ o → frame_given setup place now o mesh ≡ Ok after → Effect setup no_ticks now mesh after
+frame_effect setup mesh place now None after found e = no_effect setup no_ticks now mesh after (λ p n f. refl) e
+frame_effect setup mesh place now (Some frame) after found e = link_effect setup mesh place now frame (slice_get mesh.links frame.link) after found e
+
+pub delivered_effect : (setup : Setup) (mesh : Mesh) (place now : ℕ) (after : Mesh) → delivered setup place now mesh ≡ Ok after → Effect setup no_ticks now mesh after
+delivered_effect setup mesh place now after e = frame_effect setup mesh place now (slice_get mesh.frames place) after refl e
+
+tick_effect : (setup : Setup) (mesh : Mesh) (place now : ℕ) (o : Option NodeLog) (after : Mesh) → slice_get mesh.nodes place ≡ o → tick_given setup place now o mesh ≡ Ok after → Effect setup (at_place place 1) now mesh after
+tick_effect setup mesh place now None after found e = no_effect setup (at_place place 1) now mesh after (λ p n f. none_extra mesh place 1 p n found f) e
+tick_effect setup mesh place now (Some node) after found e = given_effect setup mesh place now (suc (ticks_in node.log)) (Tick (suc (ticks_in node.log))) after tt e
+
+-- how many ticks a happening is to the node at a place
+abbrev pub ticks_of : Class → ℕ → ℕ → ℕ
+ticks_of LinkDelivery at place = 0
+ticks_of NodeTick at place = at_place at 1 place
+
+effect_is : (setup : Setup) (mesh : Mesh) (class : Class) (place now : ℕ) (after : Mesh) → effect setup class place now mesh ≡ Ok after → Effect setup (ticks_of class place) now mesh after
+effect_is setup mesh LinkDelivery place now after e = delivered_effect setup mesh place now after e
+effect_is setup mesh NodeTick place now after e = tick_effect setup mesh place now (slice_get mesh.nodes place) after refl e
+
+-- what carrying a happening out leaves
+pub record HasStepped (setup : Setup) (mesh : Mesh) (h : Happening) (after : Mesh) : Type 0 where
+  pub nodes : (place : ℕ) (node : NodeLog) → slice_get after.nodes place ≡ Some node → Was mesh.nodes after.frames (ticks_of h.class h.place place) place node
+  pub count : length after.nodes ≡ length mesh.nodes
+  pub names : names_of after.nodes ≡ names_of mesh.nodes
+  pub adds : Adds setup h.moment mesh after
+  pub last : after.last ≡ h
+
+pub step_is : (setup : Setup) (mesh : Mesh) (h : Happening) (after : Mesh) → after_happening setup h mesh ≡ Ok after → HasStepped setup mesh h after
+step_is setup mesh h after e =
+    let p = on_ok_ok (with_last h) (effect setup h.class h.place h.moment mesh) after e in
+    let x = effect_is setup mesh h.class h.place h.moment p.0 p.1 in
+    subst (HasStepped setup mesh h) (ok_one (record p.0 { last = h }) after p.2) (record {
+      nodes = x.nodes;
+      count = x.count;
+      names = x.names;
+      adds = record { links = x.adds.links; more = x.adds.more; frames = x.adds.frames; sent = x.adds.sent; on_links = x.adds.on_links; more_events = x.adds.more_events; events = x.adds.events; few = x.adds.few };
+      last = refl;
+    })

@@ -1,0 +1,110 @@
+-- Laws of the states that lines lead to. A run may be cut at a moment, and behind its first
+-- happening; its end is where the clock stands. What is printed only grows. A line that is refused
+-- changes nothing, and neither does one that passes a limit, unless it is a run. What holds of all
+-- states that are reached is kept by each command, and nothing is due between lines.
+use Rattle.std.specs.Prelude.{◌≡◌, ℕ, ◌≤◌, ◌⊎◌, List, ◌++◌, Some}
+use Rattle.mesh_model.specs.declared.ending.Refusal.{Refusal}
+use Rattle.mesh_model.specs.declared.ending.Stop.{Stop}
+use Rattle.mesh_model.specs.declared.ending.Stop.TheVariants.{Refused}
+use Rattle.mesh_model.specs.declared.frame_choice.FrameChoice.{FrameChoice}
+use Rattle.mesh_model.specs.declared.line_form.Command.{Command}
+use Rattle.mesh_model.specs.declared.line_form.Command.TheVariants.{Link, Run}
+use Rattle.mesh_model.specs.Net.Limits.{clock_limit}
+use Rattle.mesh_model.specs.Net.Mesh.{Setup}
+use Rattle.mesh_model.specs.Net.Next.{IsQuiet}
+use Rattle.mesh_model.specs.NetRun.State.{Printed, State, first_state, text_of}
+use Rattle.mesh_model.specs.NetRun.Outcome.{Goes, Ends, reached, and_then}
+use Rattle.mesh_model.specs.NetRun.Passing.{run_until, one_happening}
+use Rattle.mesh_model.specs.NetRun.Rules.{carried_out, first_refused_rule}
+use Rattle.mesh_laws.specs.Soundness.{FitsPlaces, IsSound, KeepsBytes}
+
+-- what holds of every state that is reached
+pub record IsReached (state : State) : Type 0 where
+  pub sound : IsSound state.mesh
+  pub bytes : KeepsBytes state.mesh
+  pub past : state.mesh.last.moment ≤ state.clock
+  pub low : state.clock ≤ clock_limit
+
+-- a run of a state until a moment
+pub record CanPass (setup : Setup) (t : ℕ) (state : State) : Type 0 where
+  pub fits : FitsPlaces setup
+  pub is_reached : IsReached state
+  pub begins : state.clock ≤ t
+  pub ends : t ≤ clock_limit
+
+-- a run until a later moment is the run until an earlier one, and then that until the later
+abbrev pub GoesOn : Type 0
+GoesOn = (setup : Setup) (first last : ℕ) (state : State) → CanPass setup first state →
+    first ≤ last → last ≤ clock_limit →
+    run_until setup last state ≡ and_then (run_until setup first state) (run_until setup last)
+
+-- a run is its first happening, and then the run
+abbrev pub GoesByHappenings : Type 0
+GoesByHappenings = (setup : Setup) (t : ℕ) (state : State) → CanPass setup t state →
+    run_until setup t state ≡ and_then (one_happening setup t state) (run_until setup t)
+
+-- the clock stands at the end of a run that no limit ends
+abbrev pub ClockStandsAtTheEnd : Type 0
+ClockStandsAtTheEnd = (setup : Setup) (t : ℕ) (state after : State) →
+    run_until setup t state ≡ Goes after → after.clock ≡ t
+
+-- a run leads to a state that is reached, also where a limit ends it
+abbrev pub RunsAreReached : Type 0
+RunsAreReached = (setup : Setup) (t : ℕ) (state : State) → CanPass setup t state →
+    IsReached (reached (run_until setup t state))
+
+-- so does its first happening
+abbrev pub HappeningsAreReached : Type 0
+HappeningsAreReached = (setup : Setup) (t : ℕ) (state : State) → CanPass setup t state →
+    IsReached (reached (one_happening setup t state))
+
+-- what was printed before a command stays, and more may follow it
+abbrev pub PrintedGrows : Type 0
+PrintedGrows = (setup : Setup) (state : State) (command : Command) →
+    (more : List Printed)
+    × ((reached (carried_out setup state command)).printed ≡ state.printed ++ more)
+
+-- and so the text of it
+abbrev pub TextGrows : Type 0
+TextGrows = (setup : Setup) (state : State) (command : Command) → (more : List ℕ)
+    × (text_of (reached (carried_out setup state command)) ≡ text_of state ++ more)
+
+-- a command that breaks a rule changes nothing
+abbrev pub RefusedChangesNothing : Type 0
+RefusedChangesNothing = (setup : Setup) (state : State) (command : Command) (refusal : Refusal) →
+    first_refused_rule state command ≡ Some refusal →
+    carried_out setup state command ≡ Ends state (Refused refusal)
+
+-- whether a command lets time pass
+abbrev pub IsRun : Command → Type 0
+IsRun command = (time : ℕ) × (command ≡ Run time)
+
+-- a command that ends the run changes nothing, unless time passes
+abbrev pub EndsChangeNothing : Type 0
+EndsChangeNothing = (setup : Setup) (state after : State) (command : Command) (stop : Stop) →
+    carried_out setup state command ≡ Ends after stop → IsRun command ⊎ (after ≡ state)
+
+-- a link has a delay, as those that are read have
+abbrev pub HasDelay : Command → Type 0
+HasDelay command = (from to pattern : List ℕ) (delay throughput : ℕ) →
+    command ≡ Link from to delay pattern throughput → 1 ≤ delay
+
+-- the state before the first line is reached
+abbrev pub FirstIsReached : Type 0
+FirstIsReached = (choice : FrameChoice) → IsReached (first_state choice)
+
+-- a command leads from one state that is reached to another, also where it ends the run
+abbrev pub CommandsAreReached : Type 0
+CommandsAreReached = (setup : Setup) (state : State) (command : Command) →
+    FitsPlaces setup → IsReached state → HasDelay command →
+    IsReached (reached (carried_out setup state command))
+
+-- nothing is due at the clock
+abbrev pub IsQuietNow : State → Type 0
+IsQuietNow state = IsQuiet state.clock state.mesh
+
+-- behind a command that goes on nothing is due, if nothing was before it
+abbrev pub NothingIsDueBetweenLines : Type 0
+NothingIsDueBetweenLines = (setup : Setup) (state after : State) (command : Command) →
+    FitsPlaces setup → IsReached state → HasDelay command →
+    carried_out setup state command ≡ Goes after → IsQuietNow state → IsQuietNow after

@@ -1,0 +1,38 @@
+//! What holds of the states that lines lead to, as long as the net is carried out beside the plain
+//! run of the program.
+
+ghost use Rattle.mesh_laws.specs.LineLaws.{ClockStandsAtTheEnd, CommandsAreReached, EndsChangeNothing, FirstIsReached, GoesByHappenings, GoesOn, HappeningsAreReached, NothingIsDueBetweenLines, PrintedGrows, RefusedChangesNothing, RunsAreReached, TextGrows};
+
+/// A run of a state may be cut at a moment, and behind its first happening; what it prints is the
+/// same.
+pub fn a_run_may_be_cut()
+    ensures slices { GoesOn }
+    ensures happenings { GoesByHappenings }
+{}
+
+/// The clock stands at the end of a run, and nothing is due there.
+pub fn the_clock_stands_at_the_end()
+    ensures clock { ClockStandsAtTheEnd }
+    ensures quiet { NothingIsDueBetweenLines }
+{}
+
+/// What holds of all states that are reached.
+pub fn lines_lead_to_what_is_reached()
+    ensures first { FirstIsReached }
+    ensures runs { RunsAreReached }
+    ensures happenings { HappeningsAreReached }
+    ensures commands { CommandsAreReached }
+{}
+
+/// What is printed stays, and more may follow it.
+pub fn what_is_printed_grows()
+    ensures printed { PrintedGrows }
+    ensures text { TextGrows }
+{}
+
+/// A line that is refused, or that passes a limit, changes nothing; a run stops before the happening
+/// that would pass one.
+pub fn a_refused_line_changes_nothing()
+    ensures refused { RefusedChangesNothing }
+    ensures ends { EndsChangeNothing }
+{}

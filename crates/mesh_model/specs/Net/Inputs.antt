@@ -1,0 +1,49 @@
+-- A node is given something: its acts are carried out, and it notes the input with them in its log.
+-- An input whose clients pass a limit passes it before any act. The main word is `given_to`.
+use Rattle.std.specs.Prelude.{ℕ, zero, suc, List, [], ◌∷◌, slice_get, Option, Some, None, Ok, Err}
+use Rattle.mesh_model.specs.declared.ending.LimitName.{LimitName}
+use Rattle.mesh_model.specs.Clients.Log.{Given, LogEntry}
+use Rattle.mesh_model.specs.Net.Mesh.{NodeLog, Mesh, Setup}
+use Rattle.mesh_model.specs.Net.Sending.{Attempt, on_ok, Actor, after_acts}
+
+-- a node that notes an entry
+abbrev pub noting : LogEntry → NodeLog → NodeLog
+noting entry node = record node { log = entry ∷ node.log }
+
+-- the nodes, of which the one at a place notes an entry
+abbrev pub noted_at : ℕ → LogEntry → List NodeLog → List NodeLog
+noted_at place entry [] = []
+noted_at zero entry (node ∷ rest) = noting entry node ∷ rest
+noted_at (suc place) entry (node ∷ rest) = node ∷ noted_at place entry rest
+
+-- the mesh, of which the node at a place notes an entry
+abbrev pub noted : ℕ → LogEntry → Mesh → Attempt
+noted place entry mesh = Ok (record mesh { nodes = noted_at place entry mesh.nodes })
+
+-- the mesh after a node's acts, and with its entry
+abbrev pub with_entry : Setup → Actor → LogEntry → Mesh → Attempt
+with_entry setup actor entry mesh =
+    on_ok (noted actor.place entry) (after_acts setup actor entry.acts mesh)
+
+-- the entry of an input at a node
+abbrev pub entry_of : Setup → NodeLog → ℕ → Given → LogEntry
+entry_of setup node now given =
+    record { moment = now; given = given; acts = setup.acts node.mac node.log now given }
+
+-- a step, unless its input passes a limit
+abbrev pub unless_passed : Option LimitName → Attempt → Attempt
+unless_passed None step = step
+unless_passed (Some limit) step = Err limit
+
+-- the mesh after the node that stands at a place is given something
+abbrev pub given_node : Setup → ℕ → ℕ → ℕ → Given → Option NodeLog → Mesh → Attempt
+given_node setup place now root given None mesh = Ok mesh
+given_node setup place now root given (Some node) mesh =
+    unless_passed (setup.client_limit node.log now given)
+    (with_entry setup (record { place = place; mac = node.mac; now = now; root = root })
+    (entry_of setup node now given) mesh)
+
+-- the mesh after the node at a place is given something at a moment; what it sends has this root
+abbrev pub given_to : Setup → ℕ → ℕ → ℕ → Given → Mesh → Attempt
+given_to setup place now root given mesh =
+    given_node setup place now root given (slice_get mesh.nodes place) mesh

@@ -1,0 +1,36 @@
+-- The limits of a net, and what every scenario's mesh is run with. There are at most 64 nodes, 512
+-- links, 4,194,304 frames that were sent, 536,870,912 bytes of them, and 1,099,511,627,776
+-- milliseconds. The main word is `scenario_setup`.
+use Rattle.std.specs.Prelude.{ℕ}
+use Rattle.mesh_model.specs.Acts.Choosing.{acts_of}
+use Rattle.mesh_model.specs.Clients.Limits.{passed_limit}
+use Rattle.mesh_model.specs.Net.Mesh.{Setup}
+
+-- the most nodes
+abbrev pub nodes_limit : ℕ
+nodes_limit = 64
+
+-- the most links
+abbrev pub links_limit : ℕ
+links_limit = 512
+
+-- the most frames
+abbrev pub frames_limit : ℕ
+frames_limit = 4194304
+
+-- the most bytes of frames
+abbrev pub frame_bytes_limit : ℕ
+frame_bytes_limit = 536870912
+
+-- the last moment, in milliseconds
+abbrev pub clock_limit : ℕ
+clock_limit = 1099511627776
+
+-- what a scenario's mesh is run with
+abbrev pub scenario_setup : Setup
+scenario_setup = record {
+  acts = acts_of;
+  client_limit = passed_limit;
+  frames_limit = frames_limit;
+  bytes_limit = frame_bytes_limit;
+}

@@ -1,0 +1,74 @@
+-- The state of a mesh. A node keeps its log alone; a link carries frames one way; a frame stays for
+-- ever, and its number is its place in the order of sending, from 1. The main word is `Mesh`.
+use Rattle.std.specs.Prelude.{ℕ, Bool, List, [], bytes_eq, replicate, slice_get, Option}
+use Rattle.std.specs.Option.{option_map_or}
+use Rattle.mesh_base.specs.declared.address.Mac.{Mac}
+use Rattle.mesh_base.specs.declared.event.Event.{Event}
+use Rattle.mesh_model.specs.declared.act.Act.{Act}
+use Rattle.mesh_model.specs.declared.ending.LimitName.{LimitName}
+use Rattle.mesh_model.specs.declared.happening.Class.TheVariants.{LinkDelivery}
+use Rattle.mesh_model.specs.declared.happening.Happening.{Happening}
+use Rattle.mesh_model.specs.Clients.Log.{Given, Log}
+
+-- a node: its name, its address, the moment of its line, and its log
+pub record NodeLog : Type 0 where
+  pub name : List ℕ
+  pub mac : Mac
+  pub made : ℕ
+  pub log : Log
+
+-- a link from the node at one place to the node at another: its delay in milliseconds, the marks of
+-- its pattern, and its throughput in units of 100 kbit/s
+pub record NetLink : Type 0 where
+  pub from : ℕ
+  pub to : ℕ
+  pub delay : ℕ
+  pub pattern : List ℕ
+  pub throughput : ℕ
+
+-- a link frame: the place of its link, how many frames the link carried before, the moment of
+-- sending, the bytes, and the root that its sender handed on: the tick of the originator by which
+-- the bytes came to be
+pub record SentFrame : Type 0 where
+  pub link : ℕ
+  pub turn : ℕ
+  pub moment : ℕ
+  pub bytes : List ℕ
+  pub root : ℕ
+
+-- nodes and links in the order of their lines, link frames and events in that of their coming, and
+-- the last happening that was carried out
+pub record Mesh : Type 0 where
+  pub nodes : List NodeLog
+  pub links : List NetLink
+  pub frames : List SentFrame
+  pub events : List Event
+  pub last : Happening
+
+-- before the first line; nothing happens at the moment 0
+abbrev pub empty_mesh : Mesh
+empty_mesh = record {
+  nodes = [];
+  links = [];
+  frames = [];
+  events = [];
+  last = record { moment = 0; class = LinkDelivery; place = 0 };
+}
+
+-- what a mesh is run with: the acts of a node with this address and log that is given something at
+-- a moment, the limit that the clients of an input pass, and how many frames, and bytes of frames,
+-- may be sent
+pub record Setup : Type 0 where
+  pub acts : Mac → Log → ℕ → Given → List Act
+  pub client_limit : Log → ℕ → Given → Option LimitName
+  pub frames_limit : ℕ
+  pub bytes_limit : ℕ
+
+-- whether a node has this address
+abbrev pub has_address : Mac → NodeLog → Bool
+has_address mac node = bytes_eq node.mac.0 mac.0
+
+-- the address of the node at a place; that of no station where there is none
+abbrev pub address_at : ℕ → List NodeLog → Mac
+address_at place nodes =
+    option_map_or (λ node. node.mac) (slice_get nodes place) (record { 0 = replicate 6 0 })

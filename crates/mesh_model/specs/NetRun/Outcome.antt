@@ -1,0 +1,19 @@
+-- What a line leaves: the state that was reached and, where it ended the run there, the stop. What
+-- the first part of a run prints is printed, also where a limit ends it. The main word is `Outcome`.
+use Rattle.mesh_model.specs.declared.ending.Stop.{Stop}
+use Rattle.mesh_model.specs.NetRun.State.{State}
+
+-- the run goes on from a state, or ends at one
+pub data Outcome : Type 0 where
+  Goes : State → Outcome
+  Ends : State → Stop → Outcome
+
+-- the state that was reached
+abbrev pub reached : Outcome → State
+reached (Goes state) = state
+reached (Ends state stop) = state
+
+-- an outcome, and what follows it where it goes on
+abbrev pub and_then : Outcome → (State → Outcome) → Outcome
+and_then (Goes state) next = next state
+and_then (Ends state stop) next = Ends state stop

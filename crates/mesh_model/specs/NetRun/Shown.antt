@@ -1,0 +1,35 @@
+-- What a line prints at once: the table of a node that is shown, at a moment. The main word is
+-- `shown`.
+use Rattle.std.specs.Prelude.{ℕ, [], ◌∷◌, ◌++◌, Option, Some, None}
+use Rattle.mesh_model.specs.declared.line_form.Table.{Table}
+use Rattle.mesh_model.specs.declared.line_form.Table.TheVariants.{Originators, Neighbors, Locals, Globals, Claims, Gateways, Groups, Addresses, Facts}
+use Rattle.mesh_model.specs.Clients.Mentions.{mentions}
+use Rattle.mesh_model.specs.Clients.Present.{present_clients}
+use Rattle.mesh_model.specs.Net.Mesh.{NodeLog}
+use Rattle.mesh_model.specs.NetRun.State.{Printed, LocalsShown, State}
+use Rattle.mesh_model.specs.Text.Tables.{LocalTable}
+
+-- the state after one more thing is printed
+abbrev pub after_print : State → Printed → State
+after_print state printed = record state { printed = state.printed ++ printed ∷ [] }
+
+-- the local table of a node at a moment, before any commit
+abbrev pub local_table : ℕ → NodeLog → LocalTable
+local_table now node = record {
+  name = node.name;
+  version = 0;
+  sums = [];
+  rows = present_clients now (mentions node.log);
+}
+
+-- what is printed of a node at a moment, for each table that is shown
+abbrev pub shown : Table → Option (ℕ → NodeLog → Printed)
+shown Originators = None
+shown Neighbors = None
+shown Locals = Some (λ now node. LocalsShown (local_table now node))
+shown Globals = None
+shown Claims = None
+shown Gateways = None
+shown Groups = None
+shown Addresses = None
+shown Facts = None

@@ -1,0 +1,55 @@
+-- The state of a scenario's run: the mesh, the clock, which link frames are printed, and what is
+-- printed so far. An event is kept with the names that the nodes have when it comes. The main words
+-- are `State` and `text_of`.
+use Rattle.std.specs.Prelude.{ℕ, Bool, List, [], flat_map, map, bytes_eq, position, slice_get, Option, option_and_then}
+use Rattle.mesh_base.specs.declared.event.Event.{Event}
+use Rattle.mesh_model.specs.declared.frame_choice.FrameChoice.{FrameChoice}
+use Rattle.mesh_model.specs.Net.Mesh.{NodeLog, Mesh, empty_mesh}
+use Rattle.mesh_model.specs.Text.Decode.{decode_text}
+use Rattle.mesh_model.specs.Text.Events.{NodeName, event_text}
+use Rattle.mesh_model.specs.Text.Tables.{LocalTable, table_text}
+
+-- what a run prints: a table that is shown, the packets in bytes that are decoded, or an event, by
+-- names of nodes
+pub data Printed : Type 0 where
+  LocalsShown : LocalTable → Printed
+  Decoded : List ℕ → Printed
+  Happened : List NodeName → Event → Printed
+
+-- the mesh, the clock in milliseconds, the choice of frames, and what was printed so far
+pub record State : Type 0 where
+  pub mesh : Mesh
+  pub clock : ℕ
+  pub choice : FrameChoice
+  pub printed : List Printed
+
+-- before the first line
+abbrev pub first_state : FrameChoice → State
+first_state choice =
+    record { mesh = empty_mesh; clock = 0; choice = choice; printed = [] }
+
+-- whether a node has this name
+abbrev pub is_named : List ℕ → NodeLog → Bool
+is_named name node = bytes_eq node.name name
+
+-- the place of the node of this name
+abbrev pub place_of : State → List ℕ → Option ℕ
+place_of state name = position (is_named name) state.mesh.nodes
+
+-- the node of this name
+abbrev pub node_named : State → List ℕ → Option NodeLog
+node_named state name = option_and_then (slice_get state.mesh.nodes) (place_of state name)
+
+-- the names of nodes
+abbrev pub names_of : List NodeLog → List NodeName
+names_of nodes = map (λ (node : NodeLog). record { mac = node.mac; name = node.name }) nodes
+
+-- the text of what is printed at once
+abbrev pub printed_text : FrameChoice → Printed → List ℕ
+printed_text choice (LocalsShown table) = table_text table
+printed_text choice (Decoded bytes) = decode_text bytes
+printed_text choice (Happened names event) = event_text choice names event
+
+-- the text of all that was printed
+abbrev pub text_of : State → List ℕ
+text_of state = flat_map (printed_text state.choice) state.printed

@@ -1,0 +1,109 @@
+-- The lines of events, each ending with a newline. `fN T A>B KIND HEX` is a link frame with its
+-- number, the moment of sending, the sender and the receiver, the kind of its packet, and its
+-- bytes; a reason stands as `by=R` before the bytes. `recv T NODE VID SRC DST TEXT` is a client
+-- frame that reached the clients of a node, `lost T NODE VID SRC DST R` one that was lost, and
+-- `alias NODE K J` a commit that announces what an earlier one announced. An address that no node
+-- has is printed itself. A choice hides link frames by their kind: `ogm` shows iv_ogm, ogm2 and
+-- elp, `client` unicast, unicast4 and bcast. The main word is `event_text`.
+use Rattle.std.specs.Prelude.{ℕ, ◌==◌, Bool, true, false, List, [], ◌∷◌, ◌++◌, find, codes, decimal, bytes_eq, slice_index_or, Option, Some, None, if◌then◌else◌}
+use Rattle.std.specs.List.{list_any}
+use Rattle.std.specs.Option.{option_map_or}
+use Rattle.hex.specs.Hex.{encode_lower}
+use Rattle.mesh_base.specs.Address.{mac_text}
+use Rattle.mesh_base.specs.declared.address.Mac.{Mac}
+use Rattle.mesh_base.specs.declared.client.Vid.{Vid}
+use Rattle.mesh_base.specs.declared.event.Event.{Event}
+use Rattle.mesh_base.specs.declared.event.Event.TheVariants.{FrameSent, Received, Lost, Alias}
+use Rattle.mesh_base.specs.declared.event.LossReason.{LossReason}
+use Rattle.mesh_base.specs.declared.event.LossReason.TheVariants.{Unknown, Ttl, NoRoute}
+use Rattle.mesh_base.specs.declared.event.Reason.{Reason}
+use Rattle.mesh_base.specs.declared.event.Reason.TheVariants.{Roam, Table, Old, Gw, Mc, Alfred, Fwd}
+use Rattle.mesh_model.specs.declared.frame_choice.FrameChoice.{FrameChoice}
+use Rattle.mesh_model.specs.declared.frame_choice.FrameChoice.TheVariants.{Hidden, All, Client, Ogm}
+use Rattle.mesh_model.specs.Packets.Numbers.{iv_ogm_type, bcast_type, elp_type, ogm2_type, unicast_type, unicast4_type}
+use Rattle.mesh_model.specs.Packets.Shapes.{Shape, shape_of_type}
+use Rattle.mesh_model.specs.Scenario.Lines.{newline}
+use Rattle.mesh_model.specs.Text.Tables.{vid_text}
+
+-- an address with the name of its node
+pub record NodeName : Type 0 where
+  pub mac : Mac
+  pub name : List ℕ
+
+-- the first node name of this address, or the address
+abbrev pub name_text : List NodeName → Mac → List ℕ
+name_text names mac = option_map_or (λ (known : NodeName). known.name)
+    (find (λ known. bytes_eq known.mac.0 mac.0) names) (mac_text mac)
+
+-- the type byte of a frame; 255, which is no kind's, where it has none
+abbrev pub type_byte : List ℕ → ℕ
+type_byte bytes = slice_index_or bytes 0 255
+
+-- the word of a frame's kind, or `-` for none
+abbrev pub kind_word : List ℕ → List ℕ
+kind_word bytes =
+    option_map_or (λ (shape : Shape). shape.word) (shape_of_type (type_byte bytes)) (codes "-")
+
+-- whether a frame's type byte is one of these
+abbrev pub is_of_type : List ℕ → List ℕ → Bool
+is_of_type types bytes = list_any (λ kind. kind == type_byte bytes) types
+
+-- whether a link frame is printed
+abbrev pub shows : FrameChoice → List ℕ → Bool
+shows Hidden bytes = false
+shows All bytes = true
+shows Client bytes = is_of_type (bcast_type ∷ unicast_type ∷ unicast4_type ∷ []) bytes
+shows Ogm bytes = is_of_type (iv_ogm_type ∷ elp_type ∷ ogm2_type ∷ []) bytes
+
+-- whether an event is printed
+abbrev pub is_shown : FrameChoice → Event → Bool
+is_shown choice (FrameSent number moment from to reason bytes) = shows choice bytes
+is_shown choice (Received moment node vid src dst text) = true
+is_shown choice (Lost moment node vid src dst reason) = true
+is_shown choice (Alias node commit earlier) = true
+
+-- the word of a reason
+abbrev pub reason_word : Reason → List ℕ
+reason_word Roam = codes "roam"
+reason_word Table = codes "table"
+reason_word Old = codes "old"
+reason_word Gw = codes "gw"
+reason_word Mc = codes "mc"
+reason_word Alfred = codes "alfred"
+reason_word Fwd = codes "fwd"
+
+-- a reason as it stands before the bytes, where there is one
+abbrev pub by_text : Option Reason → List ℕ
+by_text None = []
+by_text (Some reason) = codes " by=" ++ reason_word reason
+
+-- the word of a loss
+abbrev pub loss_word : LossReason → List ℕ
+loss_word Unknown = codes "unknown"
+loss_word Ttl = codes "ttl"
+loss_word NoRoute = codes "noroute"
+
+-- what `recv` and `lost` say of a client frame: moment, node, VLAN, source and destination
+abbrev pub client_frame_text : List NodeName → ℕ → Mac → Vid → Mac → Mac → List ℕ
+client_frame_text names moment node vid src dst =
+    decimal moment ++ codes " " ++ name_text names node ++ codes " " ++ vid_text vid ++ codes " "
+    ++ mac_text src ++ codes " " ++ mac_text dst ++ codes " "
+
+-- the line of an event
+unfoldable pub event_line : List NodeName → Event → List ℕ
+event_line names (FrameSent number moment from to reason bytes) =
+    codes "f" ++ decimal number ++ codes " " ++ decimal moment ++ codes " "
+    ++ name_text names from ++ codes ">" ++ name_text names to ++ codes " " ++ kind_word bytes
+    ++ by_text reason ++ codes " " ++ encode_lower bytes ++ newline ∷ []
+event_line names (Received moment node vid src dst text) =
+    codes "recv " ++ client_frame_text names moment node vid src dst ++ text ++ newline ∷ []
+event_line names (Lost moment node vid src dst reason) =
+    codes "lost " ++ client_frame_text names moment node vid src dst ++ loss_word reason
+    ++ newline ∷ []
+event_line names (Alias node commit earlier) =
+    codes "alias " ++ name_text names node ++ codes " " ++ decimal commit ++ codes " "
+    ++ decimal earlier ++ newline ∷ []
+
+-- an event as it is printed, where the choice shows it
+abbrev pub event_text : FrameChoice → List NodeName → Event → List ℕ
+event_text choice names event = if is_shown choice event then event_line names event else []

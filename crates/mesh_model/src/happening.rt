@@ -1,0 +1,20 @@
+use mesh_base::Millis;
+
+/// What a happening is, in the order of those of one moment.
+#[derive(Clone, Copy, Debug, PartialEq, Eq, PartialOrd, Ord)]
+pub enum Class {
+    /// A link frame is delivered.
+    LinkDelivery,
+    /// A node ticks.
+    NodeTick,
+}
+
+/// What happens at a moment: a delivery of the link frame at a place in the order of sending, or a
+/// tick of the node at a place in the order of the nodes; both from 0. Happenings are ordered by
+/// moment, then class, then place.
+#[derive(Clone, Copy, Debug, PartialEq, Eq, PartialOrd, Ord)]
+pub struct Happening {
+    pub moment: Millis,
+    pub class: Class,
+    pub place: u32,
+}

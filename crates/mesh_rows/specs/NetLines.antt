@@ -1,0 +1,64 @@
+-- Lines of worked scenarios with links, and what stands in them.
+use Rattle.std.specs.Prelude.{ℕ, Bool, zero, suc, List, [], ◌∷◌, ◌++◌, replicate, codes, decimal, Option, Some, is_some}
+use Rattle.mesh_base.specs.Address.{hex_of_byte}
+use Rattle.mesh_base.specs.declared.address.Mac.{Mac}
+use Rattle.mesh_model.specs.declared.ending.LimitName.{LimitName}
+use Rattle.mesh_model.specs.declared.frame_choice.FrameChoice.TheVariants.{Hidden}
+use Rattle.mesh_model.specs.declared.table_row.LocalRow.{LocalRow}
+use Rattle.mesh_model.specs.Clients.Limits.{limit_beside}
+use Rattle.mesh_model.specs.Net.Mesh.{NetLink, empty_mesh}
+use Rattle.mesh_model.specs.NetRun.State.{first_state}
+use Rattle.mesh_model.specs.NetRun.Steps.{link_step}
+use Rattle.mesh_rows.specs.NetRows.{stop_of}
+
+-- the lines of two nodes with a link each way
+abbrev pub duo : List (List ℕ)
+duo =
+    codes "node A 02:00:00:00:00:0a" ∷ codes "node B 02:00:00:00:00:0b" ∷ codes "link A B"
+    ∷ codes "link B A" ∷ []
+
+-- the line of a node's own originator message: `fN T A>B`, its number and the last digit of the
+-- node's address
+abbrev pub message_line : List ℕ → List ℕ → List ℕ → List ℕ
+message_line sent number digit =
+    sent ++ codes " iv_ogm 000f32000000000" ++ number ++ codes "02000000000" ++ digit
+    ++ codes "02000000000" ++ digit ++ codes "00ff000c" ++ codes "020100000401000401000000"
+
+-- the address of a node by the last byte
+abbrev pub node_mac : ℕ → Mac
+node_mac last = record { 0 = 2 ∷ 0 ∷ 0 ∷ 0 ∷ 0 ∷ last ∷ [] }
+
+-- a link
+abbrev pub some_link : NetLink
+some_link = record { from = 0; to = 1; delay = 1; pattern = codes "."; throughput = 10 }
+
+-- a client that is present
+abbrev pub some_row : LocalRow
+some_row = record {
+  entry = record { key = record { mac = node_mac 1; vid = record { 0 = 0 } }; flags = 0 };
+  age = Some 0;
+}
+
+-- the lines of so many nodes
+abbrev pub many_nodes : ℕ → List (List ℕ)
+many_nodes zero = []
+many_nodes (suc more) =
+    many_nodes more
+    ++ (codes "node N" ++ decimal more ++ codes " 02:00:00:00:00:" ++ hex_of_byte more) ∷ []
+
+-- the lines of clients in so many VLANs at the node A
+abbrev pub many_vlans : ℕ → List (List ℕ)
+many_vlans zero = []
+many_vlans (suc more) =
+    many_vlans more
+    ++ (codes "frame A 02:00:00:00:01:01 ff:ff:ff:ff:ff:ff " ++ decimal (suc more) ++ codes " x")
+    ∷ []
+
+-- whether no link may be added to so many
+abbrev pub is_full_after : ℕ → Bool
+is_full_after count = is_some (stop_of (link_step some_link
+    (record (first_state Hidden) { mesh = record empty_mesh { links = replicate count some_link } })))
+
+-- the limit that a client passes beside so many
+abbrev pub limit_after : ℕ → Option LimitName
+limit_after count = limit_beside (replicate count some_row) (record { 0 = 0 })
