@@ -20,10 +20,6 @@ pub mod MachineLemmas
 pub mod MisledWorld
 pub mod Schedule
 pub mod Lines
-pub mod KeyTables
-pub mod TableSums
-pub mod AnnouncedSums
-pub mod TableChanges
 pub mod NumberLemmas
 pub mod FoundLemmas
 pub mod FrameLemmas
