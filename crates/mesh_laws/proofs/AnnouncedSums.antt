@@ -8,8 +8,8 @@ use Rattle.std.proofs.lemmas.Map.Lookups.{exact_unsigned}
 use Rattle.mesh_base.specs.declared.client.Entry.{Entry}
 use Rattle.mesh_base.specs.declared.client.Vid.{Vid}
 use Rattle.mesh_model.specs.Packets.Bodies.{VlanSum}
-use Rattle.mesh_model.specs.Tables.Sums.{checksums, entry_sum, entries_in, is_in_vlan, xor_of, insert_vlan, vlans_of, sums_of}
-use Rattle.mesh_laws.specs.TableLaws.{AnnouncesChecksums, AnnouncesNoneOfEmpty, sum_at}
+use Rattle.mesh_model.specs.Tables.Sums.{checksums, entry_sum, entries_in, is_in_vlan, xor_of, insert_vlan, vlans_of, sums_of, sum_at}
+use Rattle.mesh_laws.specs.TableLaws.{AnnouncesChecksums, AnnouncesNoneOfEmpty}
 
 -- whether a VLAN is among some
 is_named : Vid → List Vid → Bool

@@ -61,7 +61,7 @@ has_filtered p (f ∷ t) e = go (same_entry e f) refl (p f) refl (has_filtered p
     go false s false c ih = ih
 
 -- an entry of a table has a key that is above those below the table
-below_entry : (k : Key) (t : List Entry) (e : Entry) → IsBelow k t → has_entry t e ≡ true → key_order k e.key ≡ Less
+pub below_entry : (k : Key) (t : List Entry) (e : Entry) → IsBelow k t → has_entry t e ≡ true → key_order k e.key ≡ Less
 below_entry k [] e b h = absurd (false≢true h)
 below_entry k (f ∷ t) e b h = go (same_entry e f) refl h (below_entry k t e b.1)
   where
@@ -70,7 +70,7 @@ below_entry k (f ∷ t) e b h = go (same_entry e f) refl h (below_entry k t e b.
     go false s h ih = ih h
 
 -- a table has no entry of a key below it
-none_below : (t : List Entry) (e : Entry) → IsBelow e.key t → has_entry t e ≡ false
+pub none_below : (t : List Entry) (e : Entry) → IsBelow e.key t → has_entry t e ≡ false
 none_below t e b = go (has_entry t e) refl
   where
     go : (x : Bool) → has_entry t e ≡ x → x ≡ false

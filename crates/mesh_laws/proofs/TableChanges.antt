@@ -18,10 +18,10 @@ use Rattle.mesh_laws.proofs.PresentLemmas.{key_total}
 
 -- ---- changes above a table's first entry
 -- a key is below each key that changes name
-abbrev IsBelowChanges : Key → List Change → Type 0
+abbrev pub IsBelowChanges : Key → List Change → Type 0
 IsBelowChanges k cs = AllByRecursion (λ y. key_order k y ≡ Less) (changed_keys cs)
 
-one_above : (e : Entry) (c : Change) (t : List Entry) → key_order e.key c.entry.key ≡ Less → change_one c (e ∷ t) ≡ option_map (λ u. e ∷ u) (change_one c t)
+pub one_above : (e : Entry) (c : Change) (t : List Entry) → key_order e.key c.entry.key ≡ Less → change_one c (e ∷ t) ≡ option_map (λ u. e ∷ u) (change_one c t)
 one_above e c t below = go c.del
   where
     above : key_order c.entry.key e.key ≡ Greater
@@ -31,7 +31,7 @@ one_above e c t below = go c.del
     go true = ap (λ r. match_ordering r None (cond (c.entry.flags == e.flags) (Some t) None) (option_map (λ u. e ∷ u) (without_entry c.entry t))) above
     go false = ap (λ r. match_ordering r (Some (c.entry ∷ e ∷ t)) None (option_map (λ u. e ∷ u) (with_entry c.entry t))) above
 
-each_above : (e : Entry) (cs : List Change) (t u : List Entry) → IsBelowChanges e.key cs → change_each cs t ≡ Ok u → change_each cs (e ∷ t) ≡ Ok (e ∷ u)
+pub each_above : (e : Entry) (cs : List Change) (t u : List Entry) → IsBelowChanges e.key cs → change_each cs t ≡ Ok u → change_each cs (e ∷ t) ≡ Ok (e ∷ u)
 each_above e [] t u below h =
     let same : t ≡ u = cc in
     ap (λ x. Ok (e ∷ x)) same
@@ -41,7 +41,7 @@ each_above e (c ∷ cs) t u below h = go (change_one c t) refl h (λ w. each_abo
     go None p h ih = cc
     go (Some w) p h ih = ap (λ o. and_then (change_each cs) (ok_or o c)) (one_above e c t below.0 ∙ ap (option_map (λ x. e ∷ x)) p) ∙ ih w h
 
-each_append : (cs ds : List Change) (t u : List Entry) → change_each cs t ≡ Ok u → change_each (cs ++ ds) t ≡ change_each ds u
+pub each_append : (cs ds : List Change) (t u : List Entry) → change_each cs t ≡ Ok u → change_each (cs ++ ds) t ≡ change_each ds u
 each_append [] ds t u h =
     let same : t ≡ u = cc in
     ap (change_each ds) same
@@ -52,12 +52,12 @@ each_append (c ∷ cs) ds t u h = go (change_one c t) h (λ w. each_append cs ds
     go (Some w) h ih = ih w h
 
 -- ---- deletions and additions
-first_taken : (e : Entry) (t : List Entry) → without_entry e (e ∷ t) ≡ Some t
+pub first_taken : (e : Entry) (t : List Entry) → without_entry e (e ∷ t) ≡ Some t
 first_taken e t =
     ap₂ (λ r b. match_ordering r None (cond b (Some t) None) (option_map (λ u. e ∷ u) (without_entry e t)))
     (tied_itself key_total e.key) (eq-eqb e.flags e.flags refl)
 
-first_put : (e : Entry) (t : List Entry) → IsBelow e.key t → with_entry e t ≡ Some (e ∷ t)
+pub first_put : (e : Entry) (t : List Entry) → IsBelow e.key t → with_entry e t ≡ Some (e ∷ t)
 first_put e [] below = refl
 first_put e (f ∷ t) below = ap (λ r. match_ordering r (Some (e ∷ f ∷ t)) None (option_map (λ u. f ∷ u) (with_entry e t))) below.0
 

@@ -16,10 +16,10 @@ use Rattle.mesh_laws.specs.TableLaws.{XorsChecksums, HadEqualChecksums}
 use Rattle.mesh_laws.proofs.KeyTables.{equal_entries}
 
 -- ---- what an entry brings
-share : Entry → Vid → ℕ
+pub share : Entry → Vid → ℕ
 share e v = cond (is_in_vlan v e) (entry_sum e) 0
 
-sums_cons : (e : Entry) (t : List Entry) (v : Vid) → checksums (e ∷ t) v ≡ bit_xor (share e v) (checksums t v)
+pub sums_cons : (e : Entry) (t : List Entry) (v : Vid) → checksums (e ∷ t) v ≡ bit_xor (share e v) (checksums t v)
 unfolding share
 sums_cons e t v =
     elim (is_in_vlan v e) as (λ b. xor_of (map entry_sum (cond b (e ∷ filter (is_in_vlan v) t) (filter (is_in_vlan v) t))) ≡ bit_xor (cond b (entry_sum e) 0) (checksums t v)) [
@@ -30,7 +30,7 @@ sums_cons e t v =
 swapped : (a b c : ℕ) → bit_xor a (bit_xor b c) ≡ bit_xor b (bit_xor a c)
 swapped a b c = sym (xor_assoc a b c) ∙ ap (λ x. bit_xor x c) (xor_comm a b) ∙ xor_assoc b a c
 
-without_sums : (e : Entry) (t u : List Entry) (v : Vid) → without_entry e t ≡ Some u → checksums t v ≡ bit_xor (share e v) (checksums u v)
+pub without_sums : (e : Entry) (t u : List Entry) (v : Vid) → without_entry e t ≡ Some u → checksums t v ≡ bit_xor (share e v) (checksums u v)
 without_sums e [] u v h = cc
 without_sums e (f ∷ t) u v h = go (key_order e.key f.key) refl (e.flags == f.flags) refl (without_entry e t) (λ w. without_sums e t w v) h
   where
@@ -46,7 +46,7 @@ without_sums e (f ∷ t) u v h = go (key_order e.key f.key) refl (e.flags == f.f
         sums_cons f t v ∙ ap (bit_xor (share f v)) (ih w refl) ∙ swapped (share f v) (share e v) (checksums w v)
         ∙ ap (bit_xor (share e v)) (sym (sums_cons f w v)) ∙ ap (λ x. bit_xor (share e v) (checksums x v)) same
 
-with_sums : (e : Entry) (t u : List Entry) (v : Vid) → with_entry e t ≡ Some u → checksums u v ≡ bit_xor (share e v) (checksums t v)
+pub with_sums : (e : Entry) (t u : List Entry) (v : Vid) → with_entry e t ≡ Some u → checksums u v ≡ bit_xor (share e v) (checksums t v)
 with_sums e [] u v h =
     let same : u ≡ e ∷ [] = cc in
     ap (λ x. checksums x v) same ∙ sums_cons e [] v
@@ -63,7 +63,7 @@ with_sums e (f ∷ t) u v h = go (key_order e.key f.key) (with_entry e t) (λ w.
         ap (λ x. checksums x v) same ∙ sums_cons f w v ∙ ap (bit_xor (share f v)) (ih w refl) ∙ swapped (share f v) (share e v) (checksums t v)
         ∙ ap (bit_xor (share e v)) (sym (sums_cons f t v))
 
-change_sums : (t u : List Entry) (c : Change) (v : Vid) → change_one c t ≡ Some u → checksums u v ≡ bit_xor (share c.entry v) (checksums t v)
+pub change_sums : (t u : List Entry) (c : Change) (v : Vid) → change_one c t ≡ Some u → checksums u v ≡ bit_xor (share c.entry v) (checksums t v)
 change_sums t u c v h = go c.del h
   where
     go : (b : Bool) → cond b (without_entry c.entry t) (with_entry c.entry t) ≡ Some u → checksums u v ≡ bit_xor (share c.entry v) (checksums t v)
@@ -71,10 +71,10 @@ change_sums t u c v h = go c.del h
     go false h = with_sums c.entry t u v h
 
 -- ---- what a list of changes brings
-brought : List Change → Vid → ℕ
+pub brought : List Change → Vid → ℕ
 brought cs v = checksums (changed_entries cs) v
 
-each_sums : (t u : List Entry) (cs : List Change) (v : Vid) → change_each cs t ≡ Ok u → checksums u v ≡ bit_xor (checksums t v) (brought cs v)
+pub each_sums : (t u : List Entry) (cs : List Change) (v : Vid) → change_each cs t ≡ Ok u → checksums u v ≡ bit_xor (checksums t v) (brought cs v)
 unfolding brought
 each_sums t u [] v h =
     let same : u ≡ t = cc in

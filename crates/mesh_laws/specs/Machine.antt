@@ -7,3 +7,4 @@ pub mod World
 pub mod Moves
 pub mod Agreement
 pub mod MachineLaws
+pub mod Misled

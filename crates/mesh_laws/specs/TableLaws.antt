@@ -1,17 +1,16 @@
 -- Laws of tables of clients, over the order of keys: what changes do to checksums, that a changeset
 -- leads from one table to the other, and that a table in key order is determined by its entries.
 -- The main word is `XorsChecksums`.
-use Rattle.std.specs.Prelude.{◌≡◌, ◌↔◌, ℕ, ◌==◌, if◌then◌else◌, List, [], ◌∷◌, map, Ok, bit_xor}
+use Rattle.std.specs.Prelude.{◌≡◌, ◌↔◌, List, [], map, Ok, bit_xor}
 use Rattle.std.specs.List.Sorted.{IsStrictlySortedBy}
 use Rattle.mesh_base.specs.KeyOrder.{key_order}
 use Rattle.mesh_base.specs.declared.client.Entry.{Entry}
 use Rattle.mesh_base.specs.declared.client.Key.{Key}
 use Rattle.mesh_base.specs.declared.client.Vid.{Vid}
-use Rattle.mesh_model.specs.Packets.Bodies.{VlanSum}
 use Rattle.mesh_model.specs.declared.table_change.Change.{Change}
 use Rattle.mesh_model.specs.Tables.Changes.{IsInKeyOrder, has_entry, addition, changeset, changed_entries}
 use Rattle.mesh_model.specs.Tables.Strict.{apply_strictly, deletions, additions}
-use Rattle.mesh_model.specs.Tables.Sums.{checksums, sums_of}
+use Rattle.mesh_model.specs.Tables.Sums.{checksums, sum_at, sums_of}
 
 -- where changes apply strictly, a VLAN's checksum is afterwards what it was before, xor that of the
 -- changes' entries
@@ -26,6 +25,11 @@ abbrev pub HadEqualChecksums : Type 0
 HadEqualChecksums = (one other one_after other_after : List Entry) (changes : List Change) →
     apply_strictly one changes ≡ Ok one_after → apply_strictly other changes ≡ Ok other_after →
     checksums one_after ≡ checksums other_after → checksums one ≡ checksums other
+
+-- where changes apply strictly to a table in key order, the table afterwards is in key order too
+abbrev pub KeepsKeyOrder : Type 0
+KeepsKeyOrder = (before after : List Entry) (changes : List Change) → IsInKeyOrder before →
+    apply_strictly before changes ≡ Ok after → IsInKeyOrder after
 
 -- the changeset from a table to another applies strictly to the one and makes the other
 abbrev pub ChangesetLeads : Type 0
@@ -51,11 +55,6 @@ IsDeterminedByEntries = (one other : List Entry) → IsInKeyOrder one → IsInKe
 abbrev pub AdditionsMakeTable : Type 0
 AdditionsMakeTable = (table : List Entry) → IsInKeyOrder table →
     apply_strictly [] (map addition table) ≡ Ok table
-
--- the sum that announced VLANs name for a VLAN, 0 where they don't name it
-abbrev pub sum_at : List VlanSum → Vid → ℕ
-sum_at [] vid = 0
-sum_at (first ∷ rest) vid = if vid.0 == first.vid.0 then first.sum else sum_at rest vid
 
 -- the announced sums of a table are its checksums, for every VLAN
 abbrev pub AnnouncesChecksums : Type 0

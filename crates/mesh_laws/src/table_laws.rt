@@ -1,6 +1,6 @@
 //! What holds of tables of clients, over the order of keys.
 
-ghost use Rattle.mesh_laws.specs.TableLaws.{AdditionsMakeTable, AnnouncesChecksums, AnnouncesNoneOfEmpty, ChangesetLeads, HadEqualChecksums, IsDeterminedByEntries, NamesKeysOnce, XorsChecksums};
+ghost use Rattle.mesh_laws.specs.TableLaws.{AdditionsMakeTable, AnnouncesChecksums, AnnouncesNoneOfEmpty, ChangesetLeads, HadEqualChecksums, IsDeterminedByEntries, KeepsKeyOrder, NamesKeysOnce, XorsChecksums};
 
 /// Changes that apply strictly move each VLAN's checksum by the sums of their entries.
 pub fn changes_xor_the_checksums()
@@ -10,6 +10,11 @@ pub fn changes_xor_the_checksums()
 /// Changes that apply strictly to two tables with equal checksums afterwards had equal ones before.
 pub fn equal_checksums_were_equal()
     ensures { HadEqualChecksums }
+{}
+
+/// Changes that apply strictly leave a table in key order.
+pub fn changes_keep_the_key_order()
+    ensures { KeepsKeyOrder }
 {}
 
 /// The changeset from one table to another leads there, and each of its halves names a key once.

@@ -10,8 +10,7 @@ use Rattle.mesh_model.specs.Packets.Bodies.{VlanSum}
 use Rattle.mesh_model.specs.declared.table_change.Change.{Change}
 use Rattle.mesh_model.specs.Tables.Changes.{IsInKeyOrder, changeset}
 use Rattle.mesh_model.specs.Tables.Strict.{apply_strictly}
-use Rattle.mesh_model.specs.Tables.Sums.{checksums, sums_of}
-use Rattle.mesh_laws.specs.TableLaws.{sum_at}
+use Rattle.mesh_model.specs.Tables.Sums.{checksums, sums_of, sum_at}
 use Rattle.mesh_laws.specs.Machine.Pieces.{piece, piece_count, put_together}
 use Rattle.mesh_laws.specs.Machine.World.{Version, Saying, Announcement, Differences, Piece, Told, Node, World, WasSaid, silent_node, with_commit, with_saying, with_node}
 
@@ -61,34 +60,43 @@ abbrev pub agreed_node : Told → List Entry → Node
 agreed_node told table =
     record { told = Some told; held = Some (record { byte = told.byte; table = table }) }
 
--- one move
+-- one move: nothing is asked of the originator but what its commits and sayings are made of, and of
+-- a node but what it needs to take something
 pub data Move : World → World → Type 0 where
+  -- any table, in key order, under any byte is the next commit
   commits : (w : World) (version : Version) →
       version.byte < 256 →
       IsInKeyOrder version.table →
       Move w (with_commit version w)
+  -- the last commit is announced, with its changes or with none
   announces : (w : World) (last : Version) (older : List Version) (changes : List Change) →
       w.commits ≡ last ∷ older →
       (changes ≡ []) ⊎ AreLastChanges (last ∷ older) changes →
       Move w (with_saying (announcement_of (length older) last changes) w)
+  -- an answer carries the last commit's changes
   answers_changes : (w : World) (last : Version) (older : List Version) (changes : List Change) →
       w.commits ≡ last ∷ older →
       AreLastChanges (last ∷ older) changes →
       Move w (with_saying (differences_to last changes) w)
+  -- a piece of a full answer carries the last commit
   answers_piece : (w : World) (last : Version) (older : List Version) (place : ℕ) →
       w.commits ≡ last ∷ older →
       place < piece_count last.table →
       Move w (with_saying (piece_of last place) w)
+  -- a node passes on a piece of what it holds
   passes : (w : World) (m : ℕ) (held : Version) (place : ℕ) →
       (w.nodes m).held ≡ Some held →
       place < piece_count held.table →
       Move w (with_saying (piece_of held place) w)
+  -- a node is told what was ever announced; where no VLAN is named it holds the empty table
   is_told : (w : World) (m number byte : ℕ) (sums : List VlanSum) (changes : List Change) →
       WasSaid w.said (Announcement number byte sums changes) →
       Move w (with_node m (record {
         told = Some (record { number = number; byte = byte; sums = sums });
         held = held_when_told byte sums (w.nodes m).held;
       }) w)
+  -- a node takes changes that were ever said under the told byte and sums: the byte is next after
+  -- the held one, the changes apply strictly, and the result has the told sums
   takes_changes : (w : World) (m : ℕ) (told : Told) (held : Version) (sums : List VlanSum)
       (changes : List Change) (table : List Entry) →
       (w.nodes m).told ≡ Some told →
@@ -99,6 +107,9 @@ pub data Move : World → World → Type 0 where
       apply_strictly held.table changes ≡ Ok table →
       checksums table ≡ sum_at told.sums →
       Move w (with_node m (agreed_node told table) w)
+  -- a node takes pieces 0 to n - 1 of n, n at least 1, that were ever said under the told byte and
+  -- sums: in order they are additions that apply strictly to the empty table, and the result has
+  -- the told sums
   takes_full : (w : World) (m : ℕ) (told : Told) (count : ℕ) (pieces : ℕ → List Change)
       (table : List Entry) →
       (w.nodes m).told ≡ Some told →
@@ -108,6 +119,7 @@ pub data Move : World → World → Type 0 where
       apply_strictly [] (put_together count pieces) ≡ Ok table →
       checksums table ≡ sum_at told.sums →
       Move w (with_node m (agreed_node told table) w)
+  -- a node forgets what it was told and what it holds
   drops : (w : World) (m : ℕ) → Move w (with_node m silent_node w)
 
 -- any number of moves

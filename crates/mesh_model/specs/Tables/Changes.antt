@@ -2,17 +2,23 @@
 -- one, as deletions in key order, then the entries of the new one that aren't in the old one, as
 -- additions in key order. A client whose flags alone changed is in both. The main word is
 -- `changeset`; a table stands in key order where `IsInKeyOrder`.
-use Rattle.std.specs.Prelude.{◌==◌, ◌&&◌, Bool, true, false, not, List, ◌++◌, map, filter}
+use Rattle.std.specs.Prelude.{◌==◌, ◌&&◌, Bool, true, false, not, ℕ, List, ◌++◌, map, filter, find, Option, option_map}
 use Rattle.std.specs.List.{list_any}
 use Rattle.std.specs.List.Sorted.{IsStrictlySortedBy}
 use Rattle.mesh_base.specs.KeyOrder.{key_order}
 use Rattle.mesh_base.specs.declared.client.Entry.{Entry}
+use Rattle.mesh_base.specs.declared.client.Key.{Key}
 use Rattle.mesh_model.specs.Clients.Present.{same_key}
 use Rattle.mesh_model.specs.declared.table_change.Change.{Change}
 
 -- entries stand in key order, each key once
 abbrev pub IsInKeyOrder : List Entry → Type 0
 IsInKeyOrder entries = IsStrictlySortedBy key_order (map (λ entry. entry.key) entries)
+
+-- the flags of a key in a table, where the key is there
+abbrev pub flags_at : List Entry → Key → Option ℕ
+flags_at table key =
+    option_map (λ entry. entry.flags) (find (λ entry. same_key key entry.key) table)
 
 -- whether two entries are one: key and flags
 abbrev pub same_entry : Entry → Entry → Bool

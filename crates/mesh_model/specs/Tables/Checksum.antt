@@ -5,13 +5,13 @@ use Rattle.std.specs.Prelude.{ℕ, ◌/◌, ◌%◌, ◌==◌, if◌then◌else�
 use Rattle.std.specs.Fn.{iterate}
 use Rattle.std.specs.List.{fold}
 
--- the polynomial, reflected: 0x82f63b78
+-- the polynomial, reflected
 abbrev pub crc_polynomial : ℕ
-crc_polynomial = 2197175160
+crc_polynomial = 0x82f63b78
 
 -- the register with all 32 bits set
 abbrev pub all_ones : ℕ
-all_ones = 4294967295
+all_ones = 0xffffffff
 
 -- the register after its lowest bit went out
 abbrev pub after_bit : ℕ → ℕ

@@ -2,7 +2,7 @@
 -- VLAN, and 0 where it has none. The sum of an entry is the CRC32C of nine bytes: the wire number of
 -- the VLAN in two bytes, the higher first, the flags that count, and the address.
 -- The main word is `checksums`; `sums_of` lists those of the VLANs that have entries.
-use Rattle.std.specs.Prelude.{ℕ, ◌==◌, Bool, List, [], ◌∷◌, ◌++◌, map, filter, bit_xor}
+use Rattle.std.specs.Prelude.{ℕ, ◌==◌, Bool, List, [], ◌∷◌, ◌++◌, map, filter, bit_xor, if◌then◌else◌}
 use Rattle.std.specs.Int.{bytes_high_first}
 use Rattle.std.specs.Ordering.{nat_cmp, match_ordering}
 use Rattle.mesh_base.specs.declared.client.Entry.{Entry}
@@ -51,3 +51,15 @@ vlans_of (entry ∷ table) = insert_vlan entry.key.vid (vlans_of table)
 -- the VLANs that have entries, each with its checksum, by wire number
 abbrev pub sums_of : List Entry → List VlanSum
 sums_of table = map (λ vid. record { vid = vid; sum = checksums table vid }) (vlans_of table)
+
+-- the checksum of a VLAN in a list of sums, 0 where the VLAN isn't named
+abbrev pub sum_at : List VlanSum → Vid → ℕ
+sum_at [] vid = 0
+sum_at (first ∷ rest) vid = if vid.0 == first.vid.0 then first.sum else sum_at rest vid
+
+-- a list of sums by wire number, with the checksum of a VLAN set
+abbrev pub with_sum : VlanSum → List VlanSum → List VlanSum
+with_sum given [] = given ∷ []
+with_sum given (first ∷ rest) =
+    match_ordering (nat_cmp given.vid.0 first.vid.0) (given ∷ first ∷ rest) (given ∷ rest)
+    (first ∷ with_sum given rest)
