@@ -8,7 +8,6 @@ pub mod PresentLemmas
 pub mod HeaderLemmas
 pub mod ReadingLemmas
 pub mod FirstPacketLemmas
-pub mod DecodeLemmas
 pub mod KeyTables
 pub mod KeptOrder
 pub mod TableSums
