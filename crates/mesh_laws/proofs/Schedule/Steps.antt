@@ -150,7 +150,7 @@ node_effect setup mesh node now root given None after found g e = no_effect setu
 node_effect setup mesh node now root given (Some n) after found g e =
     let actor : Actor = record { place = node; mac = n.mac; now = now; root = root } in
     let entry : LogEntry = entry_of setup n now given in
-    entry_effect setup mesh actor entry after g (not_passed (setup.client_limit n.log now given) (with_entry setup actor entry mesh) after e)
+    entry_effect setup mesh actor entry after g (not_passed (setup.client_limit n.mac n.log now given) (with_entry setup actor entry mesh) after e)
 
 pub given_effect : (setup : Setup) (mesh : Mesh) (node now root : ℕ) (given : Given) (after : Mesh) → GivesItsBytes mesh.frames given → given_to setup node now root given mesh ≡ Ok after → Effect setup (at_place node (ticks_by given)) now mesh after
 given_effect setup mesh node now root given after g e = node_effect setup mesh node now root given (slice_get mesh.nodes node) after refl g e

@@ -4,6 +4,7 @@
 use Rattle.std.specs.Prelude.{ℕ, ◌==◌, ◌&&◌, nat_lt, nat_le, Bool, true, false, List, [], ◌∷◌, ◌++◌, length, map, Option, Some, None, is_none, if◌then◌else◌}
 use Rattle.std.specs.List.{list_any}
 use Rattle.std.specs.Option.{option_or}
+use Rattle.mesh_base.specs.declared.address.Mac.{Mac}
 use Rattle.mesh_base.specs.declared.client.Vid.{Vid}
 use Rattle.mesh_model.specs.declared.ending.LimitName.{LimitName}
 use Rattle.mesh_model.specs.declared.ending.LimitName.TheVariants.{Clients, Vlans}
@@ -66,6 +67,6 @@ limit_of_mentions older [] = None
 limit_of_mentions older (mention ∷ rest) =
     option_or (limit_of_mention older mention) (limit_of_mentions older rest)
 
--- the limit that an input at a moment, right after a log, passes
-abbrev pub passed_limit : Log → ℕ → Given → Option LimitName
-passed_limit log now given = limit_of_mentions (mentions log) (mentions_by log now given)
+-- the limit that an input at a moment, right after the log of the node of an address, passes
+abbrev pub passed_limit : Mac → Log → ℕ → Given → Option LimitName
+passed_limit me log now given = limit_of_mentions (mentions log) (mentions_by log now given)

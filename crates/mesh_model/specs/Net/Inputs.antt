@@ -39,7 +39,7 @@ unless_passed (Some limit) step = Err limit
 abbrev pub given_node : Setup → ℕ → ℕ → ℕ → Given → Option NodeLog → Mesh → Attempt
 given_node setup place now root given None mesh = Ok mesh
 given_node setup place now root given (Some node) mesh =
-    unless_passed (setup.client_limit node.log now given)
+    unless_passed (setup.client_limit node.mac node.log now given)
     (with_entry setup (record { place = place; mac = node.mac; now = now; root = root })
     (entry_of setup node now given) mesh)
 

@@ -56,11 +56,11 @@ empty_mesh = record {
 }
 
 -- what a mesh is run with: the acts of a node with this address and log that is given something at
--- a moment, the limit that the clients of an input pass, and how many frames, and bytes of frames,
--- may be sent
+-- a moment, the limit that its clients then pass, and how many frames, and bytes of frames, may be
+-- sent
 pub record Setup : Type 0 where
   pub acts : Mac → Log → ℕ → Given → List Act
-  pub client_limit : Log → ℕ → Given → Option LimitName
+  pub client_limit : Mac → Log → ℕ → Given → Option LimitName
   pub frames_limit : ℕ
   pub bytes_limit : ℕ
 
