@@ -37,14 +37,13 @@ impl<'a> Intake for Watching<'a> {
         if self.written.get() != lines.saturating_mul(SHORT_PRINTED.len()) {
             self.is_late = true;
         }
-        let mut count = 0;
-        for place in buf.iter_mut() {
-            if self.given < GIVEN {
-                *place = SHORT[self.given % SHORT.len()];
-                self.given += 1;
-                count += 1;
-            }
+        let count = buf.len().min(GIVEN.saturating_sub(self.given));
+        let mut offset = self.given;
+        for place in buf[..count].iter_mut() {
+            *place = SHORT[offset % SHORT.len()];
+            offset = offset.wrapping_add(1);
         }
+        self.given = offset;
         Ok(count)
     }
 }
