@@ -1,10 +1,11 @@
 -- Lemmas on lines and on how far an input was read.
 use Rattle.std.proofs.Common.{◌≡◌, ℕ, ◌+◌, ◌-◌, ◌≤◌, ◌==◌, Bool, true, false, if◌then◌else◌, List, [], ◌∷◌, ◌++◌, length, take, length-append, length-take, refl, sym, ap, ◌∙◌, append_assoc, append-nil, arith}
 use Rattle.std.specs.List.{concat, onto_first}
-use Rattle.std.specs.Prelude.{filter}
+use Rattle.std.specs.Prelude.{filter, not}
 use Rattle.std.proofs.lemmas.List.{take_at}
 use Rattle.std.proofs.lemmas.List.Elements.{filter-append}
 use Rattle.mesh_laws.specs.Cuts.{IsUnbroken, IsLine, AreLines, IsCut}
+use Rattle.mesh_model.specs.Run.Halting.{unfinished_line}
 use Rattle.mesh_model.specs.Scenario.Lines.{newline, lines_of, is_complete, complete_lines, before_newline, without_carriage_return, content}
 
 -- the line that bytes without a newline are
@@ -71,6 +72,23 @@ complete_lines-cut bytes lines rest cut =
     ∙ filter-append is_complete lines (open_line rest)
     ∙ ap (λ more. filter is_complete lines ++ more) (filter-open_line rest cut.unbroken)
     ∙ append-nil (filter is_complete lines) ∙ filter-lines lines cut.whole
+
+filter-unfinished_lines : (lines : List (List ℕ)) → AreLines lines → filter (λ line. not (is_complete line)) lines ≡ []
+filter-unfinished_lines [] are = refl
+filter-unfinished_lines (line ∷ lines) are = rw (is_complete-IsLine line are.0) (filter-unfinished_lines lines are.1)
+
+unfinished-open_line : (text : List ℕ) → IsUnbroken text → concat (filter (λ line. not (is_complete line)) (open_line text)) ≡ text
+unfinished-open_line [] h = refl
+unfinished-open_line (b ∷ bs) h = rw (is_complete-unbroken (b ∷ bs) h) (append-nil (b ∷ bs))
+
+-- the unfinished line of bytes is what stands behind the cut
+pub unfinished_line-cut : (bytes : List ℕ) (lines : List (List ℕ)) (rest : List ℕ) → IsCut bytes lines rest → unfinished_line bytes ≡ rest
+unfinished_line-cut bytes lines rest cut =
+    let unfinished = filter (λ line. not (is_complete line)) in
+    ap concat
+    (ap unfinished (lines_of-cut_end bytes lines rest cut) ∙ filter-append (λ line. not (is_complete line)) lines (open_line rest)
+    ∙ ap (λ front. front ++ unfinished (open_line rest)) (filter-unfinished_lines lines cut.whole))
+    ∙ unfinished-open_line rest cut.unbroken
 
 -- ---- reading on
 

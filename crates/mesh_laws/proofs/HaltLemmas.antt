@@ -1,10 +1,10 @@
 -- Lemmas on where a run halts: what a line's outcome is by its length, and where an input's run halts
 -- after lines that were carried out.
-use Rattle.std.proofs.Common.{◌≡◌, ℕ, ◌+◌, ◌-◌, ◌<◌, ◌≤◌, true, false, List, [], ◌∷◌, ◌++◌, length, get_or, Option, Some, None, Result, Ok, Err, refl, sym, ap, ap₂, ◌∙◌, subst, length-append, arith}
+use Rattle.std.proofs.Common.{◌≡◌, ℕ, ◌+◌, ◌-◌, ◌<◌, ◌≤◌, true, false, List, [], ◌∷◌, ◌++◌, length, get_or, Option, Some, None, refl, sym, ap, ap₂, ◌∙◌, subst, length-append, arith}
 use Rattle.std.specs.Prelude.{nat_lt, nat_le}
 use Rattle.std.specs.List.{concat}
 use Rattle.std.proofs.lemmas.List.{get_or_at}
-use Rattle.mesh_laws.specs.Halting.{halting_byte, halting_place, numbered_line}
+use Rattle.mesh_model.specs.Run.Halting.{halting_byte, halting_place, numbered_line}
 use Rattle.std.proofs.lemmas.Bool.Decides.{nat_tests}
 use Rattle.mesh_model.specs.declared.ending.LimitName.TheVariants.{Line, Input}
 use Rattle.mesh_model.specs.declared.ending.Stop.{Stop}
@@ -13,6 +13,7 @@ use Rattle.mesh_model.specs.Scenario.Commands.{command_of_line}
 use Rattle.mesh_laws.specs.Cuts.{IsCut}
 use Rattle.mesh_model.specs.Scenario.Lines.{line_limit, input_limit, lines_of, before_newline, content}
 use Rattle.mesh_model.specs.Scenario.Halt.{Halt}
+use Rattle.mesh_model.specs.Run.Outcome.{Outcome, Goes, Ends}
 use Rattle.mesh_model.specs.Run.PlainRun.{Run, start, after_line, after_lines, after_outcome, after_reading, line_outcome, passes_line, plain_run}
 use Rattle.mesh_model.specs.Run.State.{State}
 use Rattle.mesh_laws.proofs.CutLemmas.{lines_of-cut}
@@ -41,29 +42,29 @@ line_outcome-read state before line short within =
 
 -- a line that is too long, of which the byte past the limit stands at most right past the input's limit
 pub line_outcome-long : (state : State) (before : ℕ) (line : List ℕ) → line_limit < length (before_newline line) → before + line_limit ≤ input_limit
-    → line_outcome state before line ≡ Err (Limit Line)
+    → line_outcome state before line ≡ Ends state (Limit Line)
 unfolding line_outcome
 line_outcome-long state before line long within =
     rw (ltb-from_lt line_limit (length (before_newline line)) long, leb-from_le (before + line_limit) input_limit within) refl
 
 -- a line that isn't too long, or whose byte past the limit comes later, and that passes the input's limit
 pub line_outcome-input : (state : State) (before : ℕ) (line : List ℕ) → passes_line before line ≡ false → input_limit < before + length line
-    → line_outcome state before line ≡ Err (Limit Input)
+    → line_outcome state before line ≡ Ends state (Limit Input)
 unfolding line_outcome
 line_outcome-input state before line not_long past = rw (not_long, ltb-from_lt input_limit (before + length line) past) refl
 
 -- ---- a run with a line
 
-pub after_line-going : (run : Run) (line : List ℕ) (outcome : Result State Stop) → run.halt ≡ None → line_outcome run.state run.bytes line ≡ outcome
+pub after_line-going : (run : Run) (line : List ℕ) (outcome : Outcome) → run.halt ≡ None → line_outcome run.state run.bytes line ≡ outcome
     → after_line run line ≡ after_outcome run line outcome
 after_line-going run line outcome going is = rw (going, is) refl
 
 -- where a line halts the run, so it stays
-pub after_lines-halts : (run : Run) (line : List ℕ) (rest : List (List ℕ)) (stop : Stop) → run.halt ≡ None → line_outcome run.state run.bytes line ≡ Err stop
-    → after_lines run (line ∷ rest) ≡ record run { halt = Some (record { line = run.lines + 1; stop = stop }) }
-after_lines-halts run line rest stop going is =
-    let halted = after_line-going run line (Err stop) going is in
-    ap (λ r. after_lines r rest) halted ∙ after_lines-halted (after_outcome run line (Err stop)) rest refl
+pub after_lines-halts : (run : Run) (line : List ℕ) (rest : List (List ℕ)) (after : State) (stop : Stop) → run.halt ≡ None → line_outcome run.state run.bytes line ≡ Ends after stop
+    → after_lines run (line ∷ rest) ≡ record run { state = after; halt = Some (record { line = run.lines + 1; stop = stop }) }
+after_lines-halts run line rest after stop going is =
+    let halted = after_line-going run line (Ends after stop) going is in
+    ap (λ r. after_lines r rest) halted ∙ after_lines-halted (after_outcome run line (Ends after stop)) rest refl
 
 -- ---- the run of an input that was cut
 
@@ -83,16 +84,16 @@ pub record Counts (run after : Run) (lines : List (List ℕ)) : Type 0 where
 some_is_none : {A : Type 0} (x : A) (o : Option A) → o ≡ Some x → o ≡ None → ⊥
 some_is_none x o p q = let h : Some x ≡ None = sym p ∙ q in cc
 
-counts_by : (run : Run) (line : List ℕ) (lines : List (List ℕ)) (outcome : Result State Stop)
+counts_by : (run : Run) (line : List ℕ) (lines : List (List ℕ)) (outcome : Outcome)
     → (after_lines (after_outcome run line outcome) lines).halt ≡ None
     → ((next : Run) → next.halt ≡ None → (after_lines next lines).halt ≡ None → Counts next (after_lines next lines) lines)
     → Counts run (after_lines (after_outcome run line outcome) lines) (line ∷ lines)
-counts_by run line lines (Err stop) going later =
-    let halted = after_outcome run line (Err stop) in
+counts_by run line lines (Ends after stop) going later =
+    let halted = after_outcome run line (Ends after stop) in
     let stays = ap (λ (r : Run). r.halt) (after_lines-halted halted lines refl) in
     absurd (some_is_none (record { line = run.lines + 1; stop = stop }) (after_lines halted lines).halt stays going)
-counts_by run line lines (Ok state) going later =
-    let counts = later (after_outcome run line (Ok state)) refl going in
+counts_by run line lines (Goes state) going later =
+    let counts = later (after_outcome run line (Goes state)) refl going in
     record {
       bytes = counts.bytes ∙ omega (arith, length-append line (concat lines));
       lines_are = counts.lines_are ∙ omega arith;
@@ -110,19 +111,19 @@ after_lines-counts run (line ∷ lines) begun going =
 -- ---- where the run of an input halts
 
 -- the run of an input halts at the line that follows these, for this cause
-pub record HaltsAfter (input : List ℕ) (lines : List (List ℕ)) (line : List ℕ) (stop : Stop) : Type 0 where
-  pub run_is : plain_run input ≡ record (after_lines start lines) { halt = Some (record { line = (after_lines start lines).lines + 1; stop = stop }) }
+pub record HaltsAfter (input : List ℕ) (lines : List (List ℕ)) (line : List ℕ) (after : State) (stop : Stop) : Type 0 where
+  pub run_is : plain_run input ≡ record (after_lines start lines) { state = after; halt = Some (record { line = (after_lines start lines).lines + 1; stop = stop }) }
   pub place : halting_byte input (record { line = (after_lines start lines).lines + 1; stop = stop }) ≡ halting_place (after_lines start lines).bytes line stop
 
-pub halts_after : (input : List ℕ) (lines : List (List ℕ)) (line : List ℕ) (later : List (List ℕ)) (stop : Stop)
+pub halts_after : (input : List ℕ) (lines : List (List ℕ)) (line : List ℕ) (later : List (List ℕ)) (after : State) (stop : Stop)
     → lines_of input ≡ lines ++ line ∷ later → (after_lines start lines).halt ≡ None
-    → line_outcome (after_lines start lines).state (after_lines start lines).bytes line ≡ Err stop → HaltsAfter input lines line stop
+    → line_outcome (after_lines start lines).state (after_lines start lines).bytes line ≡ Ends after stop → HaltsAfter input lines line after stop
 unfolding plain_run
-halts_after input lines line later stop are going is =
+halts_after input lines line later after stop are going is =
     let run = after_lines start lines in
     let halt : Halt = record { line = run.lines + 1; stop = stop } in
     let counts = after_lines-counts start lines refl going in
-    let run_is = ap (after_lines start) are ∙ after_lines-append start lines (line ∷ later) ∙ after_lines-halts run line later stop going is in
+    let run_is = ap (after_lines start) are ∙ after_lines-append start lines (line ∷ later) ∙ after_lines-halts run line later after stop going is in
     let at : run.lines + 1 - 1 ≡ length lines = omega (arith, counts.lines_are) in
     let numbered : numbered_line input (run.lines + 1) ≡ line =
     ap (λ ls. get_or ls (run.lines + 1 - 1) []) are ∙ get_or_at lines line later [] (run.lines + 1 - 1) (sym at) in

@@ -1,6 +1,6 @@
 -- Lemmas on an unfinished line: the three ways in which it halts the run, and what becomes of it when
 -- it ends.
-use Rattle.std.proofs.Common.{◌≡◌, ℕ, ◌+◌, ◌<◌, ◌≤◌, false, ◌⊎◌, inl, inr, List, [], ◌∷◌, ◌++◌, length, None, Ok, Err, refl, ap, ◌∙◌, append_assoc, length-append, arith}
+use Rattle.std.proofs.Common.{◌≡◌, ℕ, ◌+◌, ◌<◌, ◌≤◌, false, ◌⊎◌, inl, inr, List, [], ◌∷◌, ◌++◌, length, None, refl, ap, ◌∙◌, append_assoc, length-append, arith}
 use Rattle.std.specs.Prelude.{nat_lt, nat_le}
 use Rattle.std.specs.List.{concat}
 use Rattle.std.proofs.lemmas.Bool.{and_left, and_right}
@@ -10,8 +10,9 @@ use Rattle.mesh_model.specs.declared.ending.Stop.TheVariants.{Limit}
 use Rattle.mesh_model.specs.Scenario.Commands.{command_of_line}
 use Rattle.mesh_laws.specs.Cuts.{IsUnbroken, IsCut}
 use Rattle.mesh_model.specs.Scenario.Lines.{newline, line_limit, input_limit, lines_of, before_newline, without_carriage_return}
-use Rattle.mesh_model.specs.Run.PlainRun.{start, after_lines, after_outcome, after_reading, line_outcome, passes_line}
-use Rattle.mesh_model.specs.Run.State.{State}
+use Rattle.mesh_model.specs.Run.Outcome.{Outcome, Goes, Ends, reached}
+use Rattle.mesh_model.specs.Run.PlainRun.{Run, output, start, after_lines, after_outcome, after_reading, line_outcome, passes_line}
+use Rattle.mesh_model.specs.Run.State.{State, text_of}
 use Rattle.mesh_laws.proofs.CutLemmas.{before_newline-line, before_newline-unbroken, content-line, content-unbroken, length-before_newline, join_first, lines_of-cut, lines_of-first, lines_of-line, lines_of-unbroken_then}
 use Rattle.mesh_laws.proofs.RunLemmas.{after_lines-append}
 use Rattle.mesh_laws.proofs.HaltLemmas.{ltb-from_le, leb-from_lt, line_outcome-read, line_outcome-long, line_outcome-input, after_line-going, after_lines-counts, halts_after, HaltsAfter}
@@ -52,12 +53,12 @@ first_line (b ∷ bs) (next ∷ more) h some = first_line_joined (b ∷ bs) next
 -- the unfinished line is too long
 pub halts_long : (read : List ℕ) (lines : List (List ℕ)) (rest more : List ℕ) → IsCut read lines rest → (after_lines start lines).halt ≡ None
     → line_limit < length rest → (after_lines start lines).bytes + line_limit ≤ input_limit
-    → (line : List ℕ) × HaltsAfter (read ++ more) lines line (Limit Line)
+    → (line : List ℕ) × HaltsAfter (read ++ more) lines line (after_lines start lines).state (Limit Line)
 halts_long read lines rest more cut going long within =
     let first = first_line rest more cut.unbroken (omega (arith, long)) in
     let run = after_lines start lines in (
       first.line,
-      halts_after (read ++ more) lines first.line first.later (Limit Line)
+      halts_after (read ++ more) lines first.line first.later run.state (Limit Line)
           (lines_of-cut read lines rest more cut ∙ ap (λ next. lines ++ next) first.lines_are) going
           (line_outcome-long run.state run.bytes first.line (omega (arith, long, first.long)) within),
     )
@@ -72,20 +73,20 @@ cut-length read lines rest cut going =
 halts_input_at : (read : List ℕ) (lines : List (List ℕ)) (rest later_bytes : List ℕ) (b : ℕ) (more : List ℕ) (later : List (List ℕ))
     → IsCut read lines rest → (after_lines start lines).halt ≡ None → length read ≡ input_limit
     → lines_of (b ∷ more) ≡ (b ∷ later_bytes) ∷ later → passes_line (after_lines start lines).bytes (rest ++ b ∷ later_bytes) ≡ false
-    → HaltsAfter (read ++ b ∷ more) lines (rest ++ b ∷ later_bytes) (Limit Input)
+    → HaltsAfter (read ++ b ∷ more) lines (rest ++ b ∷ later_bytes) (after_lines start lines).state (Limit Input)
 halts_input_at read lines rest later_bytes b more later cut going full are not_long =
     let run = after_lines start lines in
     let joined = lines_of-unbroken_then rest (b ∷ more) cut.unbroken ∙ ap (join_first rest) are in
     let before = cut-length read lines rest cut going in
     let past : input_limit < run.bytes + length (rest ++ b ∷ later_bytes) = omega (arith, length-append rest (b ∷ later_bytes), before, full) in
-    halts_after (read ++ b ∷ more) lines (rest ++ b ∷ later_bytes) later (Limit Input)
+    halts_after (read ++ b ∷ more) lines (rest ++ b ∷ later_bytes) later run.state (Limit Input)
     (lines_of-cut read lines rest (b ∷ more) cut ∙ ap (λ next. lines ++ next) joined) going
     (line_outcome-input run.state run.bytes (rest ++ b ∷ later_bytes) not_long past)
 
 -- a byte past the input's limit ends an unfinished line that isn't too long with it
 pub halts_input : (read : List ℕ) (lines : List (List ℕ)) (rest : List ℕ) (b : ℕ) (more : List ℕ) → IsCut read lines rest → (after_lines start lines).halt ≡ None
     → length read ≡ input_limit → length rest ≤ line_limit → (length rest < line_limit) ⊎ (b ≡ newline)
-    → (line : List ℕ) × HaltsAfter (read ++ b ∷ more) lines line (Limit Input)
+    → (line : List ℕ) × HaltsAfter (read ++ b ∷ more) lines line (after_lines start lines).state (Limit Input)
 halts_input read lines rest b more cut going full short (inl less) =
     let run = after_lines start lines in
     let first = lines_of-first b more in
@@ -125,18 +126,23 @@ line_outcome-last state before rest unbroken short within =
     ∙ ap (λ said. after_reading state (command_of_line said)) (content-unbroken rest unbroken)
 
 -- an unfinished line is refused when its newline came
-pub halts_newline : (read : List ℕ) (lines : List (List ℕ)) (rest more : List ℕ) (stop : Stop) → IsCut read lines rest → (after_lines start lines).halt ≡ None
-    → line_outcome (after_lines start lines).state (after_lines start lines).bytes (rest ++ newline ∷ []) ≡ Err stop
-    → HaltsAfter ((read ++ newline ∷ []) ++ more) lines (rest ++ newline ∷ []) stop
-halts_newline read lines rest more stop cut going is =
+pub halts_newline : (read : List ℕ) (lines : List (List ℕ)) (rest more : List ℕ) (after : State) (stop : Stop) → IsCut read lines rest → (after_lines start lines).halt ≡ None
+    → line_outcome (after_lines start lines).state (after_lines start lines).bytes (rest ++ newline ∷ []) ≡ Ends after stop
+    → HaltsAfter ((read ++ newline ∷ []) ++ more) lines (rest ++ newline ∷ []) after stop
+halts_newline read lines rest more after stop cut going is =
     let line = rest ++ newline ∷ [] in
-    halts_after ((read ++ newline ∷ []) ++ more) lines line (lines_of more) stop
+    halts_after ((read ++ newline ∷ []) ++ more) lines line (lines_of more) after stop
     (ap lines_of (append_assoc read (newline ∷ []) more) ∙ lines_of-cut read lines rest (newline ∷ more) cut
     ∙ ap (λ next. lines ++ next) (lines_of-line rest more cut.unbroken)) going is
 
+-- what a run prints after a line is what the state reached prints
+pub output-after_outcome : (run : Run) (line : List ℕ) (outcome : Outcome) → output (after_outcome run line outcome) ≡ text_of (reached outcome)
+output-after_outcome run line (Goes state) = refl
+output-after_outcome run line (Ends state stop) = refl
+
 -- the run with an unfinished line that its newline ended
-pub after_lines-newline : (lines : List (List ℕ)) (line : List ℕ) (state : State) → (after_lines start lines).halt ≡ None
-    → line_outcome (after_lines start lines).state (after_lines start lines).bytes line ≡ Ok state
-    → after_lines start (lines ++ line ∷ []) ≡ after_outcome (after_lines start lines) line (Ok state)
-after_lines-newline lines line state going is =
-    after_lines-append start lines (line ∷ []) ∙ after_line-going (after_lines start lines) line (Ok state) going is
+pub after_lines-newline : (lines : List (List ℕ)) (line : List ℕ) (outcome : Outcome) → (after_lines start lines).halt ≡ None
+    → line_outcome (after_lines start lines).state (after_lines start lines).bytes line ≡ outcome
+    → after_lines start (lines ++ line ∷ []) ≡ after_outcome (after_lines start lines) line outcome
+after_lines-newline lines line outcome going is =
+    after_lines-append start lines (line ∷ []) ∙ after_line-going (after_lines start lines) line outcome going is

@@ -1,7 +1,6 @@
 -- Lemmas on the end of an input: its last line, and the byte past its limit.
-use Rattle.std.proofs.Common.{◌≡◌, ℕ, ◌+◌, ◌<◌, ◌≤◌, ◌==◌, ◌⊎◌, false, List, [], ◌∷◌, ◌++◌, length, Option, Ok, refl, sym, ap, ◌∙◌, subst, append_assoc, append-nil, length-append, arith}
+use Rattle.std.proofs.Common.{◌≡◌, ℕ, ◌+◌, ◌<◌, ◌≤◌, ◌==◌, ◌⊎◌, false, List, [], ◌∷◌, ◌++◌, length, Option, refl, sym, ap, ◌∙◌, subst, append_assoc, length-append, arith}
 use Rattle.std.specs.Io.KnownBytes.{Appends}
-use Rattle.std.proofs.KnownBytes.{Appends-trans, Appends-kept}
 use Rattle.std.proofs.lemmas.Bool.Decides.{nat_tests}
 use Rattle.mesh_base.specs.Writes.{AppendsFront}
 use Rattle.mesh_model.specs.declared.ending.LimitName.TheVariants.{Line, Input}
@@ -9,19 +8,22 @@ use Rattle.mesh_model.specs.declared.ending.Stop.{Stop}
 use Rattle.mesh_model.specs.declared.ending.Stop.TheVariants.{Refused, Limit}
 use Rattle.mesh_model.specs.Scenario.Commands.{command_of_line}
 use Rattle.mesh_model.specs.Scenario.Lines.{newline}
-use Rattle.mesh_model.specs.Run.PlainRun.{Run, start, after_lines, after_reading, plain_run, output}
-use Rattle.mesh_laws.specs.Halting.{halting_place}
+use Rattle.mesh_model.specs.Run.Halting.{halting_place}
+use Rattle.mesh_model.specs.Run.Outcome.{Goes, Outcome, reached}
+use Rattle.mesh_model.specs.Run.PlainRun.{Run, after_lines, after_outcome, after_reading, output, plain_run, start}
+use Rattle.mesh_model.specs.Run.State.{text_of}
+use Rattle.mesh_run.specs.Inner.Lines.{Carried, CarryFails}
+use Rattle.mesh_run.specs.Inner.Progress.{FailsIn, HaltsFrom, Stands}
+use Rattle.mesh_run.specs.Outcome.{AppendsLess, Finishes}
 use Rattle.mesh_laws.proofs.CutLemmas.{IsCut-more, lines_of-cut_end, open_line}
 use Rattle.mesh_laws.proofs.HaltLemmas.{after_line-going, halts_after}
-use Rattle.mesh_laws.proofs.UnfinishedLemmas.{cut-length, halts_input, halts_long, line_outcome-last}
+use Rattle.mesh_laws.proofs.UnfinishedLemmas.{output-after_outcome, cut-length, halts_input, halts_long, line_outcome-last}
 use Rattle.mesh_laws.proofs.RunLemmas.{after_lines-append}
 use Rattle.mesh_run.specs.declared.fault.Fault.{Fault}
 use Rattle.mesh_run.specs.declared.fault.Fault.TheVariants.{Halted, Read, Write, Memory}
 use Rattle.mesh_run.specs.declared.runner.Runner.{Runner}
 use Rattle.mesh_run.specs.declared.scene.Scene.{Scene}
-use Rattle.mesh_run.specs.Progress.{Carried, CarryFails, FailsAtEnd, Finishes, HaltsFrom, Stands}
-use Rattle.mesh_run.proofs.FaultLemmas.{front-after}
-use Rattle.mesh_run.proofs.ProgressLemmas.{HaltsFrom-after, front-cut}
+use Rattle.mesh_run.proofs.ProgressLemmas.{HaltsFrom-after}
 
 -- ---- the byte past the limit of the input
 
@@ -32,7 +34,7 @@ halts-past_input base now runner read b stands full short which more =
     let halts = halts_input read stands.lines runner.line.items b more stands.cut stands.going (stands.taken ∙ full) short which in
     let P : List ℕ → Type 0 = λ input. HaltsFrom base now (length read + 1) input (runner.lines + 1) (Limit Input) in
     subst P (sym (append_assoc read (b ∷ []) more))
-    (HaltsFrom-after base now (length read + 1) runner.lines (read ++ b ∷ more) stands.lines halts.0 (Limit Input) halts.1 stands.printed stands.lines_are
+    (HaltsFrom-after base now (length read + 1) runner.lines (read ++ b ∷ more) stands.lines halts.0 (after_lines start stands.lines).state (Limit Input) halts.1 stands.at.printed stands.lines_are
     (omega (arith, stands.taken, full)))
 
 pub halts-past_line : (base now : Option (List ℕ)) (runner : Runner) (read : List ℕ) (b : ℕ) → Stands base now runner read → runner.taken ≡ 67108864
@@ -45,7 +47,7 @@ halts-past_line base now runner read b stands full long other more =
     let cut = IsCut-more read stands.lines rest (b ∷ []) stands.cut (other, tt) in
     let halts = halts_long (read ++ b ∷ []) stands.lines (rest ++ b ∷ []) more cut stands.going
     (omega (arith, length-append rest (b ∷ []), long)) (omega (arith, before, stands.taken, full, long)) in
-    HaltsFrom-after base now (length read + 1) runner.lines ((read ++ b ∷ []) ++ more) stands.lines halts.0 (Limit Line) halts.1 stands.printed stands.lines_are
+    HaltsFrom-after base now (length read + 1) runner.lines ((read ++ b ∷ []) ++ more) stands.lines halts.0 run.state (Limit Line) halts.1 stands.at.printed stands.lines_are
     (omega (arith, before, long))
 
 -- ---- a last line without a newline
@@ -64,67 +66,73 @@ Finishes-empty base now runner read stands none =
     let run = after_lines start stands.lines in
     let run_is = plain_run-end base now runner read stands ∙ ap (λ rest. after_lines run (open_line rest)) none in
     let P : Run → Type 0 = λ r. Appends base now (output r) in
-    record { halt = ap (λ (r : Run). r.halt) run_is ∙ stands.going; printed = subst P (sym run_is) stands.printed }
+    record { halt = ap (λ (r : Run). r.halt) run_is ∙ stands.going; printed = subst P (sym run_is) stands.at.printed }
 
 open_line-some : (text : List ℕ) → 0 < length text → open_line text ≡ text ∷ []
 open_line-some [] some = absurd (omega (arith, some))
 open_line-some (b ∷ bs) some = refl
 
--- the unfinished line is carried out
-pub Finishes-last : (base old new : Option (List ℕ)) (runner : Runner) (scene : Scene) (read : List ℕ) → (stands : Stands base old runner read)
+-- the run of what was read, whose unfinished line has this outcome
+plain_run-last : (base old : Option (List ℕ)) (runner : Runner) (read : List ℕ) (outcome : Outcome) → (stands : Stands base old runner read)
     → length runner.line.items ≤ 4096 → 0 < length runner.line.items → runner.taken ≤ 67108864
-    → Carried (after_reading (after_lines start stands.lines).state (command_of_line runner.line.items)) (after_lines start stands.lines).state scene old new
-    → Finishes base new read
-Finishes-last base old new runner scene read stands short some within carried =
+    → after_reading (after_lines start stands.lines).state (command_of_line runner.line.items) ≡ outcome
+    → plain_run read ≡ after_outcome (after_lines start stands.lines) runner.line.items outcome
+plain_run-last base old runner read outcome stands short some within is =
     let rest = runner.line.items in
     let run = after_lines start stands.lines in
     let before = cut-length read stands.lines rest stands.cut stands.going in
-    let outcome = line_outcome-last run.state run.bytes rest stands.cut.unbroken short (omega (arith, before, stands.taken, within)) ∙ carried.carried in
-    let run_is = plain_run-end base old runner read stands ∙ ap (after_lines run) (open_line-some rest some)
-    ∙ after_line-going run rest (Ok carried.after) stands.going outcome in
+    let line = line_outcome-last run.state run.bytes rest stands.cut.unbroken short (omega (arith, before, stands.taken, within)) ∙ is in
+    plain_run-end base old runner read stands ∙ ap (after_lines run) (open_line-some rest some) ∙ after_line-going run rest outcome stands.going line
+
+-- the unfinished line is carried out
+pub Finishes-last : (base old new : Option (List ℕ)) (runner : Runner) (scene : Scene) (read : List ℕ) → (stands : Stands base old runner read)
+    → length runner.line.items ≤ 4096 → 0 < length runner.line.items → runner.taken ≤ 67108864
+    → Carried (after_reading (after_lines start stands.lines).state (command_of_line runner.line.items)) base new scene
+    → Finishes base new read
+Finishes-last base old new runner scene read stands short some within carried =
+    let run_is = plain_run-last base old runner read (Goes carried.after) stands short some within carried.carried in
     let T : List ℕ → Type 0 = λ text. Appends base new text in
-    record {
-      halt = ap (λ (r : Run). r.halt) run_is;
-      printed = subst T (sym (ap output run_is ∙ carried.text)) (Appends-trans base old new (output run) carried.printed stands.printed carried.taken);
-    }
+    record { halt = ap (λ (r : Run). r.halt) run_is; printed = subst T (sym (ap output run_is)) carried.stands.printed }
 
 halting_place-last : (before : ℕ) (rest : List ℕ) (stop : Stop) → length rest ≤ 4096 → before + length rest ≤ 67108864 → before + length rest ≤ halting_place before rest stop
 halting_place-last before rest (Refused refusal) short within = omega arith
 halting_place-last before rest (Limit Line) short within = omega (arith, short)
 halting_place-last before rest (Limit Input) short within = omega (arith, within)
 
--- the fault of the unfinished line
-pub FailsAtEnd-last : (base old new : Option (List ℕ)) (runner : Runner) (read : List ℕ) (fault : Fault) → (stands : Stands base old runner read)
+-- the run prints what the unfinished line leaves printed
+output-last : (base old : Option (List ℕ)) (runner : Runner) (read : List ℕ) → (stands : Stands base old runner read)
     → length runner.line.items ≤ 4096 → 0 < length runner.line.items → runner.taken ≤ 67108864
-    → CarryFails (after_reading (after_lines start stands.lines).state (command_of_line runner.line.items)) (after_lines start stands.lines).state old new (runner.lines + 1) fault
-    → FailsAtEnd base new read fault
-FailsAtEnd-last base old new runner read (Halted line stop) stands short some within h =
+    → output (plain_run read) ≡ text_of (reached (after_reading (after_lines start stands.lines).state (command_of_line runner.line.items)))
+output-last base old runner read stands short some within =
+    let run = after_lines start stands.lines in
+    let outcome = after_reading run.state (command_of_line runner.line.items) in
+    ap output (plain_run-last base old runner read outcome stands short some within refl) ∙ output-after_outcome run runner.line.items outcome
+
+-- the fault of the unfinished line
+pub FailsIn-last : (base old new : Option (List ℕ)) (runner : Runner) (read : List ℕ) (fault : Fault) → (stands : Stands base old runner read)
+    → length runner.line.items ≤ 4096 → 0 < length runner.line.items → runner.taken ≤ 67108864
+    → CarryFails (after_reading (after_lines start stands.lines).state (command_of_line runner.line.items)) base new (runner.lines + 1) fault
+    → FailsIn base new (length read) read fault
+FailsIn-last base old new runner read (Halted line stop) stands short some within h =
     let rest = runner.line.items in
     let run = after_lines start stands.lines in
     let before = cut-length read stands.lines rest stands.cut stands.going in
     let fits : run.bytes + length rest ≤ 67108864 = omega (arith, before, stands.taken, within) in
-    let outcome = line_outcome-last run.state run.bytes rest stands.cut.unbroken short fits ∙ h.refused in
+    let outcome = line_outcome-last run.state run.bytes rest stands.cut.unbroken short fits ∙ h.ended in
     let lines = lines_of-cut_end read stands.lines rest stands.cut ∙ ap (λ more. stands.lines ++ more) (open_line-some rest some) in
-    let halts = halts_after read stands.lines rest [] stop lines stands.going outcome in
+    let halts = halts_after read stands.lines rest [] h.after stop lines stands.going outcome in
     let late = halting_place-last run.bytes rest stop short fits in
     let P : ℕ → Type 0 = λ number. HaltsFrom base new (length read) read number stop in
     subst P (sym h.numbered)
-    (HaltsFrom-after base new (length read) runner.lines read stands.lines rest stop halts (Appends-kept base old new (output run) stands.printed h.kept) stands.lines_are
+    (HaltsFrom-after base new (length read) runner.lines read stands.lines rest h.after stop halts h.printed stands.lines_are
     (omega (arith, before, late)))
-FailsAtEnd-last base old new runner read Read stands short some within h = h
-FailsAtEnd-last base old new runner read Write stands short some within h =
-    let rest = runner.line.items in
-    let run = after_lines start stands.lines in
-    let before = cut-length read stands.lines rest stands.cut stands.going in
-    let outcome = line_outcome-last run.state run.bytes rest stands.cut.unbroken short (omega (arith, before, stands.taken, within)) ∙ h.carried in
-    let run_is = plain_run-end base old runner read stands ∙ ap (after_lines run) (open_line-some rest some)
-    ∙ after_line-going run rest (Ok h.after) stands.going outcome in
-    front-after base old new (output run) h.printed [] (output (plain_run read)) stands.printed h.taken
-    (ap output run_is ∙ h.text ∙ sym (append-nil (output run ++ h.printed)))
-FailsAtEnd-last base old new runner read Memory stands short some within h =
-    let F : List ℕ → Type 0 = λ input. AppendsFront base new (output (plain_run input)) in
-    subst F (append-nil read)
-    (front-cut base new read stands.lines runner.line.items [] stands.cut (Appends-kept base old new (output (after_lines start stands.lines)) stands.printed h))
+FailsIn-last base old new runner read Read stands short some within h = h
+FailsIn-last base old new runner read Write stands short some within h =
+    let P : List ℕ → Type 0 = λ text. AppendsLess base new text in
+    subst P (sym (output-last base old runner read stands short some within)) h
+FailsIn-last base old new runner read Memory stands short some within h =
+    let P : List ℕ → Type 0 = λ text. AppendsFront base new text in
+    subst P (sym (output-last base old runner read stands short some within)) h
 
 pub nil-from_length : (xs : List ℕ) → length xs ≡ 0 → xs ≡ []
 nil-from_length [] h = refl

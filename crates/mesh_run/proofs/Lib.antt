@@ -1,4 +1,5 @@
 -- What the proofs rest on.
+pub mod FrontLemmas
 pub mod ProgressLemmas
 pub mod FaultLemmas
 pub mod NodesLemmas

@@ -1,8 +1,6 @@
 -- Lemmas on how far a run has come.
-use Rattle.std.proofs.Common.{◌≡◌, ℕ, ◌+◌, ◌<◌, ◌≤◌, List, [], ◌∷◌, ◌++◌, length, take, Option, refl, sym, ap, ◌∙◌, subst, append_assoc, length-append, arith}
+use Rattle.std.proofs.Common.{◌≡◌, ℕ, ◌+◌, ◌<◌, ◌≤◌, List, [], ◌∷◌, ◌++◌, length, Option, sym, ap, ◌∙◌, subst, append_assoc, length-append, arith}
 use Rattle.std.specs.Io.KnownBytes.{Appends}
-use Rattle.std.proofs.KnownBytes.{Appends-trans}
-use Rattle.std.proofs.lemmas.List.{take_at}
 use Rattle.mesh_base.specs.Writes.{AppendsFront}
 use Rattle.mesh_model.specs.declared.ending.LimitName.TheVariants.{Line}
 use Rattle.mesh_model.specs.declared.ending.Stop.{Stop}
@@ -10,25 +8,27 @@ use Rattle.mesh_model.specs.declared.ending.Stop.TheVariants.{Limit}
 use Rattle.mesh_laws.specs.Cuts.{IsUnbroken, IsCut}
 use Rattle.mesh_model.specs.Scenario.Commands.{command_of_line}
 use Rattle.mesh_model.specs.Scenario.Lines.{newline, lines_of, without_carriage_return}
-use Rattle.mesh_model.specs.Run.State.{State}
-use Rattle.mesh_model.specs.Run.PlainRun.{Run, start, after_lines, after_reading, plain_run, output}
-use Rattle.mesh_laws.specs.Halting.{halting_place}
+use Rattle.mesh_model.specs.Run.Halting.{halting_place}
+use Rattle.mesh_model.specs.Run.Outcome.{Goes, reached}
+use Rattle.mesh_model.specs.Run.PlainRun.{Run, after_lines, after_reading, output, plain_run, start}
+use Rattle.mesh_model.specs.Run.State.{State, text_of}
+use Rattle.mesh_run.specs.Inner.Lines.{Carried, StandsAt}
+use Rattle.mesh_run.specs.Inner.Progress.{Fails, FailsIn, HaltsFrom, Stands}
 use Rattle.mesh_laws.proofs.CutLemmas.{IsCut-more, IsCut-newline}
 use Rattle.mesh_laws.proofs.HaltLemmas.{HaltsAfter, plain_run-cut}
+use Rattle.mesh_run.proofs.FrontLemmas.{front-appends}
 use Rattle.mesh_laws.proofs.UnfinishedLemmas.{after_lines-newline, cut-length, halts_long, line_outcome-newline}
 use Rattle.mesh_laws.proofs.RunLemmas.{after_lines-grows}
 use Rattle.mesh_run.specs.declared.fault.Fault.{Fault}
 use Rattle.mesh_run.specs.declared.fault.Fault.TheVariants.{Halted, Read, Write, Memory}
 use Rattle.mesh_run.specs.declared.runner.Runner.{Runner}
 use Rattle.mesh_run.specs.declared.scene.Scene.{Scene}
-use Rattle.mesh_run.specs.Progress.{Carried, Fails, HaltsFrom, Stands}
-use Rattle.mesh_run.specs.Scene.{SceneStands}
 
 -- a run that halts after these lines, whose text out took
-pub HaltsFrom-after : (base now : Option (List ℕ)) (least number : ℕ) (input : List ℕ) (lines : List (List ℕ)) (line : List ℕ) (stop : Stop)
-    → HaltsAfter input lines line stop → Appends base now (output (after_lines start lines)) → (after_lines start lines).lines ≡ number
+pub HaltsFrom-after : (base now : Option (List ℕ)) (least number : ℕ) (input : List ℕ) (lines : List (List ℕ)) (line : List ℕ) (reached : State) (stop : Stop)
+    → HaltsAfter input lines line reached stop → Appends base now (text_of reached) → (after_lines start lines).lines ≡ number
     → least ≤ halting_place (after_lines start lines).bytes line stop → HaltsFrom base now least input (number + 1) stop
-HaltsFrom-after base now least number input lines line stop after printed counted late =
+HaltsFrom-after base now least number input lines line reached stop after printed counted late =
     let run = after_lines start lines in
     let P : ℕ → Type 0 = λ n. HaltsFrom base now least input (n + 1) stop in
     let Q : List ℕ → Type 0 = λ text. Appends base now text in
@@ -39,13 +39,6 @@ HaltsFrom-after base now least number input lines line stop after printed counte
       late = subst L (sym after.place) late;
     })
 
--- a front and more is a front of all
-front-appends : (base now : Option (List ℕ)) (first all more : List ℕ) → Appends base now first → all ≡ first ++ more → AppendsFront base now all
-front-appends base now first all more printed is =
-    let Q : List ℕ → Type 0 = λ text. Appends base now text in
-    let taken : take (length first) all ≡ first = ap (take (length first)) is ∙ take_at first more (length first) refl in
-    (length first, omega (arith, ap length is, length-append first more), subst Q (sym taken) printed)
-
 -- what was printed is a front of what the run of any longer input prints
 pub front-cut : (base now : Option (List ℕ)) (read : List ℕ) (lines : List (List ℕ)) (rest more : List ℕ) → IsCut read lines rest
     → Appends base now (output (after_lines start lines)) → AppendsFront base now (output (plain_run (read ++ more)))
@@ -54,23 +47,21 @@ front-cut base now read lines rest more cut printed =
     front-appends base now (output (after_lines start lines)) (output (plain_run (read ++ more))) grown.0 printed
     (ap output (plain_run-cut read lines rest more cut) ∙ grown.1)
 
+-- a halt at a later byte comes at an earlier one at least
+FailsIn-earlier : (base now : Option (List ℕ)) (least earlier : ℕ) (input : List ℕ) (fault : Fault) → earlier ≤ least
+    → FailsIn base now least input fault → FailsIn base now earlier input fault
+FailsIn-earlier base now least earlier input (Halted line stop) le h = record { halt = h.halt; printed = h.printed; late = omega (arith, le, h.late) }
+FailsIn-earlier base now least earlier input Read le h = h
+FailsIn-earlier base now least earlier input Write le h = h
+FailsIn-earlier base now least earlier input Memory le h = h
+
 -- a fault stays one when more was read
 pub Fails-later : (base now : Option (List ℕ)) (least earlier : ℕ) (read all tail : List ℕ) (fault : Fault) → earlier ≤ least → all ≡ read ++ tail
     → Fails base now least read fault → Fails base now earlier all fault
-Fails-later base now least earlier read all tail (Halted line stop) le is h = λ more.
+Fails-later base now least earlier read all tail fault le is h = λ more.
     let same : read ++ (tail ++ more) ≡ all ++ more = sym (append_assoc read tail more) ∙ ap (λ r. r ++ more) (sym is) in
-    let halts = h (tail ++ more) in
-    let P : List ℕ → Type 0 = λ input. HaltsFrom base now earlier input line stop in
-    subst P same (record { halt = halts.halt; printed = halts.printed; late = omega (arith, le, halts.late) })
-Fails-later base now least earlier read all tail Read le is h = h
-Fails-later base now least earlier read all tail Write le is h = λ more.
-    let same : read ++ (tail ++ more) ≡ all ++ more = sym (append_assoc read tail more) ∙ ap (λ r. r ++ more) (sym is) in
-    let P : List ℕ → Type 0 = λ input. AppendsFront base now (output (plain_run input)) in
-    subst P same (h (tail ++ more))
-Fails-later base now least earlier read all tail Memory le is h = λ more.
-    let same : read ++ (tail ++ more) ≡ all ++ more = sym (append_assoc read tail more) ∙ ap (λ r. r ++ more) (sym is) in
-    let P : List ℕ → Type 0 = λ input. AppendsFront base now (output (plain_run input)) in
-    subst P same (h (tail ++ more))
+    let P : List ℕ → Type 0 = λ input. FailsIn base now earlier input fault in
+    subst P same (FailsIn-earlier base now least earlier (read ++ (tail ++ more)) fault le (h (tail ++ more)))
 
 -- an unfinished line that gets too long halts the run
 pub halts-hold : (base now : Option (List ℕ)) (runner : Runner) (read text : List ℕ) → IsUnbroken text → Stands base now runner read
@@ -85,7 +76,7 @@ halts-hold base now runner read text unbroken stands short long within more =
     let too_long : 4096 < length (rest ++ text) = omega (arith, length-append rest text, long) in
     let room : run.bytes + 4096 ≤ 67108864 = omega (arith, before, length-append read text, stands.taken, within, too_long) in
     let halts = halts_long (read ++ text) stands.lines (rest ++ text) more cut stands.going too_long room in
-    HaltsFrom-after base now (length read + 1) runner.lines ((read ++ text) ++ more) stands.lines halts.0 (Limit Line) halts.1 stands.printed stands.lines_are
+    HaltsFrom-after base now (length read + 1) runner.lines ((read ++ text) ++ more) stands.lines halts.0 run.state (Limit Line) halts.1 stands.at.printed stands.lines_are
     (omega (arith, at, short))
 
 -- a runner that has more of the unfinished line
@@ -94,39 +85,34 @@ pub Stands-more : (base now : Option (List ℕ)) (old new : Runner) (read text :
     → Stands base now new (read ++ text)
 Stands-more base now old new read text unbroken stands line scene lines taken =
     let C : List ℕ → Type 0 = λ rest. IsCut (read ++ text) stands.lines rest in
-    let S : Scene → Type 0 = λ s. SceneStands s (after_lines start stands.lines).state in
+    let S : Scene → Type 0 = λ s. StandsAt base now s (after_lines start stands.lines).state in
     record {
       lines = stands.lines;
       cut = subst C (sym line) (IsCut-more read stands.lines old.line.items text stands.cut unbroken);
       going = stands.going;
-      scene = subst S (sym scene) stands.scene;
+      at = subst S (sym scene) stands.at;
       lines_are = stands.lines_are ∙ sym lines;
       taken = length-append read text ∙ ap (λ n. n + length text) stands.taken ∙ sym taken;
-      printed = stands.printed;
     }
 
 -- a runner whose unfinished line was ended and carried out
-pub Stands-newline : (base old_taken new_taken : Option (List ℕ)) (old new : Runner) (read : List ℕ) → Stands base old_taken old read
+pub Stands-newline : (base old_taken new_taken : Option (List ℕ)) (old new : Runner) (read : List ℕ) → (stands : Stands base old_taken old read)
     → length old.line.items ≤ 4096 → old.taken < 67108864
-    → ((state : State) → SceneStands old.scene state →
-    Carried (after_reading state (command_of_line (without_carriage_return old.line.items))) state new.scene old_taken new_taken)
+    → Carried (after_reading (after_lines start stands.lines).state (command_of_line (without_carriage_return old.line.items))) base new_taken new.scene
     → new.line.items ≡ [] → new.lines ≡ old.lines + 1 → new.taken ≡ old.taken + 1 → Stands base new_taken new (read ++ newline ∷ [])
-Stands-newline base old_taken new_taken old new read stands short within each line lines taken =
+Stands-newline base old_taken new_taken old new read stands short within carried line lines taken =
     let rest = old.line.items in
     let run = after_lines start stands.lines in
-    let carried = each run.state stands.scene in
     let before = cut-length read stands.lines rest stands.cut stands.going in
     let outcome = line_outcome-newline run.state run.bytes rest short (omega (arith, before, stands.taken, within)) ∙ carried.carried in
-    let next = after_lines-newline stands.lines (rest ++ newline ∷ []) carried.after stands.going outcome in
+    let next = after_lines-newline stands.lines (rest ++ newline ∷ []) (Goes carried.after) stands.going outcome in
     let C : List ℕ → Type 0 = λ left. IsCut (read ++ newline ∷ []) (stands.lines ++ (rest ++ newline ∷ []) ∷ []) left in
-    let S : Run → Type 0 = λ r. SceneStands new.scene r.state in
-    let T : List ℕ → Type 0 = λ text. Appends base new_taken text in
+    let S : Run → Type 0 = λ r. StandsAt base new_taken new.scene r.state in
     record {
       lines = stands.lines ++ (rest ++ newline ∷ []) ∷ [];
       cut = subst C (sym line) (IsCut-newline read stands.lines rest stands.cut);
       going = ap (λ (r : Run). r.halt) next;
-      scene = subst S (sym next) carried.stands;
+      at = subst S (sym next) carried.stands;
       lines_are = ap (λ (r : Run). r.lines) next ∙ ap (λ n. n + 1) stands.lines_are ∙ sym lines;
       taken = length-append read (newline ∷ []) ∙ ap (λ n. n + 1) stands.taken ∙ sym taken;
-      printed = subst T (sym (ap output next ∙ carried.text)) (Appends-trans base old_taken new_taken (output run) carried.printed stands.printed carried.taken);
     }

@@ -1,16 +1,17 @@
 -- Lemmas on the reading of a whole input.
-use Rattle.std.proofs.Common.{◌≡◌, ℕ, ◌+◌, ◌≤◌, List, [], ◌++◌, length, take, Option, Some, None, IfSome, sym, ap, subst, append-nil, length-append, arith}
+use Rattle.std.proofs.Common.{◌≡◌, ℕ, ◌+◌, ◌≤◌, List, [], ◌++◌, length, take, Option, Some, None, IfSome, refl, sym, ap, ◌∙◌, subst, append-nil, length-append, arith}
 use Rattle.std.specs.Io.KnownBytes.{Appends, Consumes, IsAtEnd}
 use Rattle.std.proofs.KnownBytes.{Consumes-trans}
 use Rattle.mesh_base.specs.Faults.{Rose}
-use Rattle.mesh_base.specs.Writes.{AppendsFront}
-use Rattle.mesh_model.specs.Run.PlainRun.{start, after_lines, plain_run, output}
-use Rattle.mesh_laws.proofs.CutLemmas.{complete_lines-cut}
+use Rattle.mesh_model.specs.Run.PlainRun.{after_lines, output, start}
+use Rattle.mesh_run.specs.Inner.Lines.{BlamesWrite}
+use Rattle.mesh_run.specs.Inner.Progress.{Fails, FailsIn, Stands}
+use Rattle.mesh_run.specs.Inner.Reading.{Blames, FailsNear, ReadFails}
+use Rattle.mesh_run.specs.Outcome.{PrintsRead}
+use Rattle.mesh_laws.proofs.CutLemmas.{complete_lines-cut, unfinished_line-cut}
 use Rattle.mesh_run.specs.declared.fault.Fault.{Fault}
 use Rattle.mesh_run.specs.declared.fault.Fault.TheVariants.{Halted, Read, Write, Memory}
 use Rattle.mesh_run.specs.declared.runner.Runner.{Runner}
-use Rattle.mesh_run.specs.Progress.{BlamesWrite, Fails, FailsAtEnd, HaltsFrom, Stands}
-use Rattle.mesh_run.specs.Reading.{Blames, PrintsComplete, ReadFails}
 
 pub Rose-after : (old mid new : ℕ) → old ≤ mid → Rose mid new → Rose old new
 Rose-after old mid new le rose = grind (arith, le, rose)
@@ -30,48 +31,54 @@ for-end : (left : Option (List ℕ)) (P : List ℕ → Type 0) → IsAtEnd left 
 for-end None P end h = tt
 for-end (Some rest) P end h = subst P (sym end) h
 
+-- a fault that isn't one of a read
+fails-near : (first left base now : Option (List ℕ)) (fault : Fault) → (fault ≡ Read → ⊥) → FailsNear first left base now fault → ReadFails first left base now fault
+fails-near first left base now (Halted line stop) other h = h
+fails-near first left base now Read other h = absurd (other refl)
+fails-near first left base now Write other h = h
+fails-near first left base now Memory other h = h
+
+reads-none : (base now : Option (List ℕ)) (least : ℕ) (input : List ℕ) (fault : Fault) → FailsIn base now least input fault → fault ≡ Read → ⊥
+reads-none base now least input fault h is = let P : Fault → Type 0 = λ f. FailsIn base now least input f in subst P is h
+
 -- a fault in a piece of at most 4,096 bytes
 pub ReadFails-piece : (first left base now : Option (List ℕ)) (read piece : List ℕ) (fault : Fault) → Consumes first left (read ++ piece) → length piece ≤ 4096
     → Fails base now (length read + 1) (read ++ piece) fault → ReadFails first left base now fault
-ReadFails-piece first left base now read piece (Halted line stop) took short h = record {
-  read = read ++ piece;
-  took = took;
-  least = length read + 1;
-  halts = for-rest left (λ rest. HaltsFrom base now (length read + 1) ((read ++ piece) ++ rest) line stop) h;
-  near = omega (arith, short, length-append read piece);
-}
-ReadFails-piece first left base now read piece Read took short h = absurd h
-ReadFails-piece first left base now read piece Write took short h =
-    record { read = read ++ piece; took = took; front = for-rest left (λ rest. AppendsFront base now (output (plain_run ((read ++ piece) ++ rest)))) h }
-ReadFails-piece first left base now read piece Memory took short h =
-    record { read = read ++ piece; took = took; front = for-rest left (λ rest. AppendsFront base now (output (plain_run ((read ++ piece) ++ rest)))) h }
+ReadFails-piece first left base now read piece fault took short h =
+    fails-near first left base now fault (reads-none base now (length read + 1) ((read ++ piece) ++ []) fault (h []))
+    (record {
+      read = read ++ piece;
+      took = took;
+      least = length read + 1;
+      fails = for-rest left (λ rest. FailsIn base now (length read + 1) ((read ++ piece) ++ rest) fault) h;
+      near = omega (arith, short, length-append read piece);
+    })
 
 -- a fault at the end of the input
 pub ReadFails-end : (first left base now : Option (List ℕ)) (read : List ℕ) (fault : Fault) → Consumes first left read → IsAtEnd left
-    → FailsAtEnd base now read fault → ReadFails first left base now fault
-ReadFails-end first left base now read (Halted line stop) took end h =
-    let P : List ℕ → Type 0 = λ rest. HaltsFrom base now (length read) (read ++ rest) line stop in
-    let Q : List ℕ → Type 0 = λ input. HaltsFrom base now (length read) input line stop in
-    record { read = read; took = took; least = length read; halts = for-end left P end (subst Q (sym (append-nil read)) h); near = omega arith }
-ReadFails-end first left base now read Read took end h = absurd h
-ReadFails-end first left base now read Write took end h =
-    let P : List ℕ → Type 0 = λ rest. AppendsFront base now (output (plain_run (read ++ rest))) in
-    let Q : List ℕ → Type 0 = λ input. AppendsFront base now (output (plain_run input)) in
-    record { read = read; took = took; front = for-end left P end (subst Q (sym (append-nil read)) h) }
-ReadFails-end first left base now read Memory took end h =
-    let P : List ℕ → Type 0 = λ rest. AppendsFront base now (output (plain_run (read ++ rest))) in
-    let Q : List ℕ → Type 0 = λ input. AppendsFront base now (output (plain_run input)) in
-    record { read = read; took = took; front = for-end left P end (subst Q (sym (append-nil read)) h) }
+    → FailsIn base now (length read) read fault → ReadFails first left base now fault
+ReadFails-end first left base now read fault took end h =
+    let P : List ℕ → Type 0 = λ rest. FailsIn base now (length read) (read ++ rest) fault in
+    let Q : List ℕ → Type 0 = λ input. FailsIn base now (length read) input fault in
+    fails-near first left base now fault (reads-none base now (length read) read fault h)
+    (record { read = read; took = took; least = length read; fails = for-end left P end (subst Q (sym (append-nil read)) h); near = omega arith })
 
--- a fault of a read: the lines that had come are printed
-pub PrintsComplete-from : (first left base now : Option (List ℕ)) (runner : Runner) (read : List ℕ) → Consumes first left read → Stands base now runner read
-    → PrintsComplete first left base now
-PrintsComplete-from first left base now runner read took stands =
+-- a fault of a read: the lines that had come are printed, and the run goes on
+pub PrintsRead-from : (first left base now : Option (List ℕ)) (runner : Runner) (read : List ℕ) → Consumes first left read → Stands base now runner read
+    → length runner.line.items ≤ 4096 → runner.taken ≤ 67108864 → PrintsRead base now first left
+PrintsRead-from first left base now runner read took stands short within =
     let Q : List ℕ → Type 0 = λ text. Appends base now text in
+    let rest = runner.line.items in
+    let lines_are = complete_lines-cut read stands.lines rest stands.cut in
     record {
       read = read;
       took = took;
-      printed = subst Q (sym (ap (λ lines. output (after_lines start lines)) (complete_lines-cut read stands.lines runner.line.items stands.cut))) stands.printed;
+      goes_on = record {
+        going = ap (λ lines. (after_lines start lines).halt) lines_are ∙ stands.going;
+        short = omega (arith, short, ap length (unfinished_line-cut read stands.lines rest stands.cut));
+        within = omega (arith, within, stands.taken);
+      };
+      printed = subst Q (sym (ap (λ lines. output (after_lines start lines)) lines_are)) stands.at.printed;
     }
 
 -- a read of no bytes takes none

@@ -1,5 +1,3 @@
--- The words of this crate's contracts, in reading order.
-pub mod Scene
-pub mod Progress
-pub mod Reading
+-- The words of this crate's contracts. What the contract of `batmesh` cites is in Outcome.
 pub mod Outcome
+pub mod Inner

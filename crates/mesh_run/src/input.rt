@@ -1,8 +1,8 @@
 ghost use Rattle.std.specs.Prelude.{ℕ, List, [], Option, None, IfSome, OnOk, IfErr};
 ghost use Rattle.std.specs.Io.KnownBytes.{IsAtEnd};
-ghost use Rattle.mesh_run.specs.Outcome.{RunFails};
-ghost use Rattle.mesh_run.specs.Progress.{Finishes, Stands};
-ghost use Rattle.mesh_run.specs.Reading.{CountsFaults};
+ghost use Rattle.mesh_run.specs.Inner.Progress.{Stands};
+ghost use Rattle.mesh_run.specs.Inner.Reading.{CountsFaults, RunFails};
+ghost use Rattle.mesh_run.specs.Outcome.{Finishes};
 
 use crate::fault::Fault;
 use crate::reader::read_all;

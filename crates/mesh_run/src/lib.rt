@@ -8,6 +8,7 @@ mod input;
 mod local_table;
 mod node;
 mod program;
+mod putting;
 mod reader;
 mod reading;
 mod report;

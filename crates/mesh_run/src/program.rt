@@ -2,8 +2,9 @@ ghost use Rattle.std.specs.Prelude.{◌≡◌, ◌<◌, ◌⊎◌, ◌↔◌, []
 ghost use Rattle.std.specs.Io.KnownBytes.{IsAtEnd};
 ghost use Rattle.mesh_base.specs.Faults.{Rose};
 ghost use Rattle.mesh_model.specs.Run.PlainRun.{plain_run};
-ghost use Rattle.mesh_run.specs.Outcome.{IsLimited, IsRefused, IsStatusOr, PrintsFrontOf, PrintsTaken, TellsStatus, fault_status, plain_status};
-ghost use Rattle.mesh_run.specs.Progress.{Finishes};
+ghost use Rattle.mesh_model.specs.Run.Statuses.{IsStatus, finished_status, limited_status, memory_status, plain_status, read_fault_status, refused_status, usage_status, write_fault_status};
+ghost use Rattle.mesh_run.specs.Inner.Reading.{fault_status};
+ghost use Rattle.mesh_run.specs.Outcome.{Finishes, IsLimited, IsRefused, IsStatusOr, PrintsFrontOf, PrintsLessOf, PrintsTaken, TellsStatus};
 
 use crate::fault::Fault;
 use crate::input::run_input;
@@ -54,29 +55,36 @@ pub fn batmesh<I: Intake, K: Sink, E: Sink>(
     out: &mut K,
     err: &mut E,
 ) -> u8
+    ensures status { IsStatus result }
+
     // Where the input is told, out took the whole text of its plain run.
-    ensures finished { result ≡ FINISHED → IfSome (I.named intake.old None)
+    ensures finished { result ≡ finished_status → IfSome (I.named intake.old None)
         (Finishes (K.taken out.old) (K.taken out.new)) }
-    ensures at_end { result ≡ FINISHED → IsAtEnd (I.left intake.new) }
+    ensures at_end { result ≡ finished_status → IsAtEnd (I.left intake.new) }
 
     // The plain run halts at a line, out took what it prints up to there, and reading stopped near
     // it.
-    ensures refused { result ≡ REFUSED → IfSome (I.named intake.old None)
+    ensures refused { result ≡ refused_status → IfSome (I.named intake.old None)
         (IsRefused (K.taken out.old) (K.taken out.new) (I.left intake.new)) }
-    ensures limited { result ≡ LIMITED → IfSome (I.named intake.old None)
+    ensures limited { result ≡ limited_status → IfSome (I.named intake.old None)
         (IsLimited (K.taken out.old) (K.taken out.new) (I.left intake.new)) }
 
     // Any word is one too many, and then nothing is opened, read or written to out.
-    ensures usage { (result ≡ USAGE) ↔ (0 < length words.now) }
-    ensures untouched { result ≡ USAGE → (intake.new ≡ intake.old) × (out.new ≡ out.old) }
+    ensures usage { (result ≡ usage_status) ↔ (0 < length words.now) }
+    ensures untouched { result ≡ usage_status → (intake.new ≡ intake.old) × (out.new ≡ out.old) }
 
-    // A fault is blamed only on a count that rose; the lines that had come were printed.
-    ensures read_fault { result ≡ READ_FAULT → Rose (I.faults intake.old) (I.faults intake.new) }
-    ensures taken { result ≡ READ_FAULT → IfSome (I.named intake.old None)
+    // A fault is blamed only on a count that rose. Where a read failed, the lines that had come were
+    // printed and the run was still going; where a write did, less than the whole was taken.
+    ensures read_fault { result ≡ read_fault_status →
+        Rose (I.faults intake.old) (I.faults intake.new) }
+    ensures taken { result ≡ read_fault_status → IfSome (I.named intake.old None)
         (PrintsTaken (K.taken out.old) (K.taken out.new) (I.left intake.old) (I.left intake.new)) }
-    ensures write_fault { result ≡ WRITE_FAULT → Rose (K.faults out.old) (K.faults out.new) }
-    ensures front { (result ≡ WRITE_FAULT) ⊎ (result ≡ OUT_OF_MEMORY) →
-        IfSome (I.named intake.old None) (PrintsFrontOf (K.taken out.old) (K.taken out.new)) }
+    ensures write_fault { result ≡ write_fault_status →
+        Rose (K.faults out.old) (K.faults out.new) }
+    ensures less { result ≡ write_fault_status → IfSome (I.named intake.old None)
+        (PrintsLessOf (K.taken out.old) (K.taken out.new)) }
+    ensures front { result ≡ memory_status → IfSome (I.named intake.old None)
+        (PrintsFrontOf (K.taken out.old) (K.taken out.new)) }
 
     // Faults and want of memory aside, the status is that of the plain run.
     ensures complete { words.now ≡ [] → IfSome (I.named intake.old None) (λ input.
@@ -85,7 +93,7 @@ pub fn batmesh<I: Intake, K: Sink, E: Sink>(
     // A fault of err changes no status.
     ensures told { (Rose (E.faults err.old) (E.faults err.new) → ⊥) →
         TellsStatus result (I.named intake.old None) (E.taken err.old) (E.taken err.new) }
-    ensures silent { result ≡ FINISHED → err.new ≡ err.old }
+    ensures silent { result ≡ finished_status → err.new ≡ err.old }
 {
     if !words.is_empty() {
         return match write_all(err, b"batmesh: usage\n") {

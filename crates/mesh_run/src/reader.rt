@@ -1,6 +1,6 @@
 ghost use Rattle.std.specs.Prelude.{◌≡◌, ℕ, List, [], Option, OnOk, IfErr};
-ghost use Rattle.mesh_run.specs.Progress.{Stands};
-ghost use Rattle.mesh_run.specs.Reading.{CountsFaults, ReadFails, ReadsAll};
+ghost use Rattle.mesh_run.specs.Inner.Progress.{Stands};
+ghost use Rattle.mesh_run.specs.Inner.Reading.{CountsFaults, ReadFails, ReadsAll};
 
 use crate::fault::Fault;
 use crate::runner::Runner;

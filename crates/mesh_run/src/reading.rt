@@ -1,7 +1,9 @@
 ghost use Rattle.std.specs.Prelude.{◌≡◌, ℕ, ◌+◌, ◌<◌, ◌≤◌, List, [], ◌∷◌, ◌++◌, length, Option, OnOk, IfErr};
 ghost use Rattle.mesh_laws.specs.Cuts.{IsUnbroken};
 ghost use Rattle.mesh_model.specs.Scenario.Lines.{input_limit, newline, without_carriage_return};
-ghost use Rattle.mesh_run.specs.Progress.{BlamesWrite, CountsWrites, Fails, FailsAtEnd, FailsOn, Finishes, ReadsOn, Stands};
+ghost use Rattle.mesh_run.specs.Inner.Lines.{BlamesWrite, CountsWrites};
+ghost use Rattle.mesh_run.specs.Inner.Progress.{Fails, FailsIn, FailsOn, ReadsOn, Stands};
+ghost use Rattle.mesh_run.specs.Outcome.{Finishes};
 
 use crate::carrying::carry_line;
 use crate::fault::Fault;
@@ -139,7 +141,7 @@ impl Runner {
             OnOk result (Finishes base (K.taken out.new) read) }
         ensures failed { (base : Option (List ℕ)) (read : List ℕ) →
             Stands base (K.taken out.old) self read →
-            IfErr result (FailsAtEnd base (K.taken out.new) read) }
+            IfErr result (FailsIn base (K.taken out.new) (length read) read) }
         ensures faults { CountsWrites (K.faults out.old) (K.faults out.new) result }
     {
         if self.line.is_empty() {

@@ -1,7 +1,7 @@
 ghost use Rattle.std.specs.Prelude.{◌≡◌, ◌≤◌, OnOk, OnErr};
 ghost use Rattle.std.specs.Io.KnownBytes.{Appends};
 ghost use Rattle.mesh_base.specs.Faults.{Rose};
-ghost use Rattle.mesh_run.specs.Outcome.{fault_text};
+ghost use Rattle.mesh_run.specs.Inner.Reading.{fault_text};
 ghost use Rattle.mesh_model.specs.Text.Messages.{halt_text, limit_words, refusal_words, stop_words};
 
 use crate::fault::Fault;

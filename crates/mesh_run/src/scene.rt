@@ -2,16 +2,16 @@ ghost use Rattle.std.specs.Prelude.{◌≡◌, ℕ, true, List, [], ◌++◌, ve
 ghost use Rattle.std.specs.List.{list_any};
 ghost use Rattle.mesh_base.specs.Address.{is_broadcast};
 ghost use Rattle.mesh_base.specs.declared.address.Mac.{Mac};
-ghost use Rattle.mesh_model.specs.Run.Outcome.{carried_out};
+ghost use Rattle.mesh_model.specs.Run.PlainRun.{after_reading};
+ghost use Rattle.mesh_model.specs.Run.Rules.{carried_out};
+ghost use Rattle.mesh_model.specs.Run.State.{no_nodes};
+ghost use Rattle.mesh_run.specs.Inner.Scene.{CarriesFrom, FailsFrom, HasReadingCause, SceneStands, is_at, is_called};
 ghost use Rattle.mesh_model.specs.Scenario.Commands.{command_of_line};
 ghost use Rattle.mesh_model.specs.Text.Decode.{decode_text as decoded};
 ghost use Rattle.mesh_model.specs.Clients.Mentions.{Mention};
-ghost use Rattle.mesh_model.specs.Run.PlainRun.{after_reading};
 ghost use Rattle.mesh_model.specs.Clients.Present.{present_clients};
 ghost use Rattle.mesh_model.specs.Scenario.Readings.{Reading};
-ghost use Rattle.mesh_model.specs.Run.State.{State, no_nodes};
 ghost use Rattle.mesh_model.specs.Text.Tables.{LocalTable, table_text};
-ghost use Rattle.mesh_run.specs.Scene.{CarriesFrom, FailsFrom, HasReadingCause, SceneStands, is_at, is_called};
 ghost use Rattle.mesh_scenario.specs.LineErr.{Refuses};
 ghost use Rattle.tt_local.specs.Locals.{StandsFor};
 
@@ -45,7 +45,8 @@ fn refused(refusal: Refusal) -> LineFault
 
 /// The fault of a line that isn't read.
 fn line_fault(error: LineErr) -> LineFault
-    ensures { (reading : Reading) → Refuses reading error → HasReadingCause reading result }
+    ensures cause { (reading : Reading) → Refuses reading error → HasReadingCause reading result }
+    ensures memory { result ≡ LineFault.Memory → error ≡ LineErr.Memory }
 {
     match error {
         LineErr::TooLong => LineFault::Stopped(Stop::Limit(LimitName::Line)),
@@ -61,24 +62,23 @@ fn line_fault(error: LineErr) -> LineFault
     }
 }
 
-/// Appends the local table of the node of this name, before any commit.
+/// Appends the local table of a node, before any commit.
 fn show_locals(
     alloc: Global,
-    locals: &Locals,
+    node: &SceneNode,
     now: Millis,
-    name: &[u8],
     text: &mut Vec<u8>,
 ) -> Result<(), NoMemory>
-    ensures { (mentions : List Mention) → StandsFor locals.now mentions →
+    ensures { (mentions : List Mention) → StandsFor node.now.locals mentions →
         OnOk result (text.new.items ≡ text.old.items ++ table_text (record {
-          name = name.now;
+          name = node.now.name;
           version = 0;
           sums = [];
           rows = present_clients now mentions;
         })) }
 {
-    let rows = locals.rows(alloc, now)?;
-    put_local_table(text, name, FIRST_VERSION, rows.as_slice())?;
+    let rows = node.locals.rows(alloc, now)?;
+    put_local_table(text, node.name.as_slice(), FIRST_VERSION, rows.as_slice())?;
     Ok(())
 }
 
@@ -162,12 +162,29 @@ impl Scene {
                 vid,
                 text: _text,
             } => self.take_frame(place.as_slice(), Key { mac: src, vid }, dst)?,
-            Command::Show {
-                node,
-                table: Table::Locals,
-            } => self.show(node.as_slice(), text)?,
+            Command::Show { node, table } => self.show(node.as_slice(), table, text)?,
             Command::Decode { bytes } => decode(bytes.as_slice(), text)?,
-            _other => return Err(refused(Refusal::NotBuilt)),
+            Command::Algo(_)
+            | Command::Link { .. }
+            | Command::Lan { .. }
+            | Command::Gone { .. }
+            | Command::Join { .. }
+            | Command::Leave { .. }
+            | Command::Arp { .. }
+            | Command::Dhcp { .. }
+            | Command::Wifi { .. }
+            | Command::GwOff { .. }
+            | Command::GwServer { .. }
+            | Command::GwClient { .. }
+            | Command::Mcast { .. }
+            | Command::Dat { .. }
+            | Command::Alfred { .. }
+            | Command::Put { .. }
+            | Command::Get { .. }
+            | Command::Ping { .. }
+            | Command::Trace { .. }
+            | Command::Run { .. }
+            | Command::Deliver { .. } => return Err(refused(Refusal::NotBuilt)),
         }
         Ok(())
     }
@@ -226,8 +243,30 @@ impl Scene {
         }
     }
 
+    /// `show NODE T`: the table of local clients is built.
+    fn show(&self, name: &[u8], table: Table, text: &mut Vec<u8>) -> Result<(), LineFault>
+        requires { text.old.items ≡ [] }
+        ensures ok { CarriesFrom self.now self.now
+            (λ state. carried_out state (Command.Show name.now table)) text.new.items result }
+        ensures refused { FailsFrom self.now
+            (λ state. carried_out state (Command.Show name.now table)) result }
+    {
+        match table {
+            Table::Locals => self.show_clients(name, text)?,
+            Table::Originators
+            | Table::Neighbors
+            | Table::Globals
+            | Table::Claims
+            | Table::Gateways
+            | Table::Groups
+            | Table::Addresses
+            | Table::Facts => return Err(refused(Refusal::NotBuilt)),
+        }
+        Ok(())
+    }
+
     /// `show NODE tl`
-    fn show(&self, name: &[u8], text: &mut Vec<u8>) -> Result<(), LineFault>
+    fn show_clients(&self, name: &[u8], text: &mut Vec<u8>) -> Result<(), LineFault>
         requires { text.old.items ≡ [] }
         ensures ok { CarriesFrom self.now self.now
             (λ state. carried_out state (Command.Show name.now Table.Locals)) text.new.items result }
@@ -238,7 +277,7 @@ impl Scene {
             return Err(refused(Refusal::UnknownName));
         };
         let node = &self.nodes[place];
-        match show_locals(self.alloc, &node.locals, self.clock, name, text) {
+        match show_locals(self.alloc, node, self.clock, text) {
             Ok(()) => Ok(()),
             Err(NoMemory) => Err(LineFault::Memory),
         }

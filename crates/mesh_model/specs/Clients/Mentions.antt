@@ -51,22 +51,27 @@ sighted_after older = Sighted (if is_wifi_on older then wifi_flag else 0)
 abbrev pub key_of : Mac → Vid → Key
 key_of mac vid = record { mac = mac; vid = vid }
 
--- the mentions that an input right after a log makes, with their news
-abbrev pub mentions_by : Log → ℕ → Given → List Mention
-mentions_by older moment (Tick index) = []
-mentions_by older moment (LinkFrame number from throughput bytes) = []
-mentions_by older moment (Frame src dst vid text) =
+-- the mentions that an input right after a log makes at the node of an address, with their news
+abbrev pub mentions_by : Mac → Log → ℕ → Given → List Mention
+mentions_by me older moment (Tick index) = []
+mentions_by me older moment (LinkFrame number from throughput bytes) = []
+mentions_by me older moment (Frame src dst vid text) =
     record { moment = moment; key = key_of src vid; news = sighted_after older } ∷ []
-mentions_by older moment (Gone key) = record { moment = moment; key = key; news = Departed } ∷ []
-mentions_by older moment (Join key) = record { moment = moment; key = key; news = Joined } ∷ []
-mentions_by older moment (Leave key) = record { moment = moment; key = key; news = Left } ∷ []
-mentions_by older moment (Arp mac own_ip asked_ip vid) =
+mentions_by me older moment (Gone key) = record { moment = moment; key = key; news = Departed } ∷ []
+mentions_by me older moment (Join key) = record { moment = moment; key = key; news = Joined } ∷ []
+mentions_by me older moment (Leave key) = record { moment = moment; key = key; news = Left } ∷ []
+mentions_by me older moment (Arp mac own_ip asked_ip vid) =
     record { moment = moment; key = key_of mac vid; news = sighted_after older } ∷ []
-mentions_by older moment (Dhcp key text) =
+mentions_by me older moment (Dhcp key text) =
     record { moment = moment; key = key; news = sighted_after older } ∷ []
-mentions_by older moment (Wifi on) = []
+mentions_by me older moment (Wifi on) = []
 
--- the mentions in a log, newest first
-abbrev pub mentions : Log → List Mention
-mentions [] = []
-mentions (entry ∷ older) = mentions_by older entry.moment entry.given ++ mentions older
+-- the mentions after an input, from the log and the mentions before it
+abbrev pub next_mentions : Mac → Log → List Mention → ℕ → Given → List Mention
+next_mentions me older before moment given = mentions_by me older moment given ++ before
+
+-- the mentions in the log of the node of an address, newest first
+abbrev pub mentions : Mac → Log → List Mention
+mentions me [] = []
+mentions me (entry ∷ older) =
+    next_mentions me older (mentions me older) entry.moment entry.given

@@ -3,16 +3,16 @@
 -- `line` is reached at the byte past 4,096 before a line's newline, `input` at the byte past
 -- 67,108,864 of the input, whichever comes first; where one byte is both, it is `line`. The main
 -- words are `plain_run` and `output`.
-use Rattle.std.specs.Prelude.{ℕ, ◌+◌, ◌&&◌, nat_lt, nat_le, Bool, List, length, fold, Option, Some, None, is_some, Result, Ok, Err, if◌then◌else◌}
+use Rattle.std.specs.Prelude.{ℕ, ◌+◌, ◌&&◌, nat_lt, nat_le, Bool, List, length, fold, Option, Some, None, is_some, Ok, Err, if◌then◌else◌}
 use Rattle.mesh_model.specs.declared.ending.LimitName.TheVariants.{Line, Input}
-use Rattle.mesh_model.specs.declared.ending.Stop.{Stop}
 use Rattle.mesh_model.specs.declared.ending.Stop.TheVariants.{Limit}
-use Rattle.mesh_model.specs.Run.Outcome.{carried_out}
 use Rattle.mesh_model.specs.Scenario.Commands.{command_of_line}
 use Rattle.mesh_model.specs.Scenario.Halt.{Halt}
 use Rattle.mesh_model.specs.Scenario.Lines.{line_limit, input_limit, lines_of, before_newline, content}
 use Rattle.mesh_model.specs.Scenario.Readings.{Reading}
-use Rattle.mesh_model.specs.Run.State.{State, no_nodes, events_text}
+use Rattle.mesh_model.specs.Run.Outcome.{Outcome, Goes, Ends}
+use Rattle.mesh_model.specs.Run.Rules.{carried_out}
+use Rattle.mesh_model.specs.Run.State.{State, no_nodes, text_of}
 
 -- a run so far: its state, how many lines and bytes were carried out, and where it halted
 pub record Run : Type 0 where
@@ -35,24 +35,24 @@ passes_line before line =
 abbrev pub passes_input : ℕ → List ℕ → Bool
 passes_input before line = nat_lt input_limit (before + length line)
 
--- the state after a line that was read
-abbrev pub after_reading : State → Reading → Result State Stop
+-- the outcome of a line that was read
+abbrev pub after_reading : State → Reading → Outcome
 after_reading state (Ok command) = carried_out state command
-after_reading state (Err stop) = Err stop
+after_reading state (Err stop) = Ends state stop
 
--- the state after a line that follows so many bytes, or what ends the run there
-unfoldable pub line_outcome : State → ℕ → List ℕ → Result State Stop
+-- the outcome of a line that follows so many bytes
+unfoldable pub line_outcome : State → ℕ → List ℕ → Outcome
 line_outcome state before line =
-    if passes_line before line then Err (Limit Line)
-    else if passes_input before line then Err (Limit Input)
+    if passes_line before line then Ends state (Limit Line)
+    else if passes_input before line then Ends state (Limit Input)
     else after_reading state (command_of_line (content line))
 
 -- the run after a line with this outcome
-abbrev pub after_outcome : Run → List ℕ → Result State Stop → Run
-after_outcome run line (Ok state) =
+abbrev pub after_outcome : Run → List ℕ → Outcome → Run
+after_outcome run line (Goes state) =
     record { state = state; lines = run.lines + 1; bytes = run.bytes + length line; halt = None }
-after_outcome run line (Err stop) =
-    record run { halt = Some (record { line = run.lines + 1; stop = stop }) }
+after_outcome run line (Ends state stop) =
+    record run { state = state; halt = Some (record { line = run.lines + 1; stop = stop }) }
 
 -- the run after one more line; a run that halted stays as it is
 abbrev pub after_line : Run → List ℕ → Run
@@ -69,4 +69,4 @@ plain_run input = after_lines start (lines_of input)
 
 -- what a run prints
 abbrev pub output : Run → List ℕ
-output run = events_text run.state
+output run = text_of run.state

@@ -1,8 +1,7 @@
 -- The state of a plain run. A node keeps its log alone; the clock stands at a moment in
--- milliseconds; the events are what the run prints, in order. The main words are `State` and
--- `events_text`.
-use Rattle.std.specs.Prelude.{ℕ, Bool, List, [], find, flat_map, bytes_eq, Option}
-use Rattle.std.specs.Option.{option_map_or}
+-- milliseconds; what was printed stands in order. A node is found by its place, which counts from 0
+-- in the order of the nodes' lines. The main words are `State` and `text_of`.
+use Rattle.std.specs.Prelude.{ℕ, Bool, List, [], flat_map, position, slice_get, bytes_eq, Option, option_and_then}
 use Rattle.mesh_base.specs.declared.address.Mac.{Mac}
 use Rattle.mesh_model.specs.Clients.Log.{Log}
 use Rattle.mesh_model.specs.Text.Decode.{decode_text}
@@ -14,20 +13,20 @@ pub record NodeLog : Type 0 where
   pub mac : Mac
   pub log : Log
 
--- what a run prints
-pub data Event : Type 0 where
-  LocalsShown : LocalTable → Event
-  Decoded : List ℕ → Event
+-- what a run prints: a table that is shown, or the packets in bytes that are decoded
+pub data Printed : Type 0 where
+  LocalsShown : LocalTable → Printed
+  Decoded : List ℕ → Printed
 
--- the nodes in the order of their lines, the clock, and the events so far
+-- the nodes in the order of their lines, the clock, and what was printed so far
 pub record State : Type 0 where
   pub nodes : List NodeLog
   pub clock : ℕ
-  pub events : List Event
+  pub printed : List Printed
 
 -- before the first line
 abbrev pub no_nodes : State
-no_nodes = record { nodes = []; clock = 0; events = [] }
+no_nodes = record { nodes = []; clock = 0; printed = [] }
 
 -- whether a node has this name
 abbrev pub is_named : List ℕ → NodeLog → Bool
@@ -37,19 +36,19 @@ is_named name node = bytes_eq node.name name
 abbrev pub has_address : Mac → NodeLog → Bool
 has_address mac node = bytes_eq node.mac.0 mac.0
 
+-- the place of the node of this name
+abbrev pub place_of : State → List ℕ → Option ℕ
+place_of state name = position (is_named name) state.nodes
+
 -- the node of this name
-abbrev pub node_named : List ℕ → List NodeLog → Option NodeLog
-node_named name nodes = find (is_named name) nodes
+abbrev pub node_named : State → List ℕ → Option NodeLog
+node_named state name = option_and_then (slice_get state.nodes) (place_of state name)
 
--- the log of the node of this name
-abbrev pub log_of : List ℕ → List NodeLog → Log
-log_of name nodes = option_map_or (λ node. node.log) (node_named name nodes) []
+-- the text of what is printed at once
+abbrev pub printed_text : Printed → List ℕ
+printed_text (LocalsShown table) = table_text table
+printed_text (Decoded bytes) = decode_text bytes
 
--- an event as it is printed
-abbrev pub event_text : Event → List ℕ
-event_text (LocalsShown table) = table_text table
-event_text (Decoded bytes) = decode_text bytes
-
--- what the events of a state print
-abbrev pub events_text : State → List ℕ
-events_text state = flat_map event_text state.events
+-- the text of all that was printed
+abbrev pub text_of : State → List ℕ
+text_of state = flat_map printed_text state.printed

@@ -1,15 +1,16 @@
 use Rattle.std.proofs.Common.{◌++◌, take, arith, rules}
 use Rattle.std.proofs.KnownBytes.{Consumes-kept, Consumes-trans}
 use Rattle.std.proofs.lemmas.Result.{err_from_is_err_and}
-use Rattle.mesh_run.proofs.ReadLemmas.{Consumes-none, PrintsComplete-from, ReadFails-end, ReadFails-piece}
+use Rattle.mesh_run.proofs.ReadLemmas.{Consumes-none, PrintsRead-from, ReadFails-end, ReadFails-piece}
 use Rattle.mesh_run.proofs.reader.read_all.Goals as goal
 
 pub returns-in-Err-clause-failed : goal.returns-in-Err-clause-failed
 returns-in-Err-clause-failed g c = λ base stands.
     let loop = c.pieces.invariant in
     let left = g.I.Intake.left c.pieces.intake in
-    PrintsComplete-from (g.I.Intake.left c.args.intake.now) (g.I.Intake.left c.read.new.self) base (g.K.Sink.taken c.pieces.out) c.pieces.runner loop.read
+    PrintsRead-from (g.I.Intake.left c.args.intake.now) (g.I.Intake.left c.read.new.self) base (g.K.Sink.taken c.pieces.out) c.pieces.runner loop.read
     (Consumes-kept (g.I.Intake.left c.args.intake.now) left (g.I.Intake.left c.read.new.self) loop.read loop.took c.in-Err.ensures.bytes) (loop.stands base stands)
+    (omega (arith, c.pieces.runner.line.ok.0, c.pieces.runner.short)) c.pieces.runner.within
 
 pub pieces-preserved : goal.pieces-preserved
 pieces-preserved g c =

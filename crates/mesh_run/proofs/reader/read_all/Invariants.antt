@@ -1,6 +1,6 @@
 use Rattle.std.proofs.Common.{ℕ, ◌-◌, ◌≤◌, List, [], Option}
 use Rattle.std.specs.Io.KnownBytes.{Consumes}
-use Rattle.mesh_run.specs.Progress.{Stands}
+use Rattle.mesh_run.specs.Inner.Progress.{Stands}
 use Rattle.mesh_run.proofs.reader.read_all.Given as goal
 
 abbrev pub invariant-pieces : goal.invariant-pieces

@@ -2,8 +2,8 @@ use Rattle.std.proofs.Common.{◌≡◌, ℕ, ◌+◌, List, ap, arith, refl, su
 use Rattle.std.proofs.lemmas.Result.{err_from_is_err_and}
 use Rattle.mesh_model.specs.Scenario.Commands.{command_of_line}
 use Rattle.mesh_model.specs.Scenario.Lines.{without_carriage_return}
-use Rattle.mesh_model.specs.Run.PlainRun.{start, after_lines, after_reading}
-use Rattle.mesh_run.specs.Progress.{Carried, CarryFails}
+use Rattle.mesh_model.specs.Run.PlainRun.{after_lines, after_reading, start}
+use Rattle.mesh_run.specs.Inner.Lines.{Carried, CarryFails}
 use Rattle.mesh_run.proofs.FaultLemmas.{Fails-newline}
 use Rattle.mesh_run.proofs.ProgressLemmas.{Stands-newline}
 use Rattle.mesh_run.proofs.runner.Runner.end_line.Goals as goal
@@ -16,21 +16,20 @@ returns-in_err-carry_line-clause-failed g c = λ base read stands.
     let said : c.without_return-line.result.now ≡ without_carriage_return runner.line.items =
     c.without_return-line.ensures ∙ ap without_carriage_return c.as_slice.ensures.value in
     let P : List ℕ → Type 0 = λ line.
-    CarryFails (after_reading state (command_of_line line)) state (g.K.Sink.taken c.args.out.now) (g.K.Sink.taken c.carry_line.new.out) (runner.lines + 1) c.in_err-carry_line.field-0.0 in
+    CarryFails (after_reading state (command_of_line line)) base (g.K.Sink.taken c.carry_line.new.out) (runner.lines + 1) c.in_err-carry_line.field-0.0 in
     rw (p.1, p.2)
     (Fails-newline base (g.K.Sink.taken c.args.out.now) (g.K.Sink.taken c.carry_line.new.out) runner read c.in_err-carry_line.field-0.0 stands
     (omega (arith, runner.line.ok.0, runner.short)) c.requires.within
-    (subst P said (c.in_err-carry_line.ensures.failed state stands.scene)))
+    (subst P said (c.in_err-carry_line.ensures.failed base state stands.at)))
 
 pub returns-clause-ok : goal.returns-clause-ok
 returns-clause-ok g c = λ base read stands.
     let runner = c.args.self.now in
     let said : c.without_return-line.result.now ≡ without_carriage_return runner.line.items =
     c.without_return-line.ensures ∙ ap without_carriage_return c.as_slice.ensures.value in
+    let state = (after_lines start stands.lines).state in
+    let P : List ℕ → Type 0 = λ line. Carried (after_reading state (command_of_line line)) base (g.K.Sink.taken c.carry_line.new.out) c.carry_line.new.scene in
     Stands-newline base (g.K.Sink.taken c.args.out.now) (g.K.Sink.taken c.carry_line.new.out) runner _ read stands
     (omega (arith, runner.line.ok.0, runner.short)) c.requires.within
-    (λ state scene.
-    let P : List ℕ → Type 0 = λ line.
-    Carried (after_reading state (command_of_line line)) state c.carry_line.new.scene (g.K.Sink.taken c.args.out.now) (g.K.Sink.taken c.carry_line.new.out) in
-    subst P said (c.in_ok-carry_line.ensures.ok state scene))
+    (subst P said (c.in_ok-carry_line.ensures.ok base state stands.at))
     c.clear.ensures.items refl refl

@@ -2,9 +2,9 @@ use Rattle.std.proofs.Common.{◌≡◌, ◌≢◌, ℕ, ◌+◌, List, vec_len,
 use Rattle.std.proofs.lemmas.Bool.{eqb-true, eqb-false}
 use Rattle.std.proofs.lemmas.Result.{err_from_is_err_and}
 use Rattle.mesh_model.specs.Scenario.Commands.{command_of_line}
-use Rattle.mesh_model.specs.Run.PlainRun.{start, after_lines, after_reading}
-use Rattle.mesh_run.specs.Progress.{Carried, CarryFails}
-use Rattle.mesh_run.proofs.EndLemmas.{FailsAtEnd-last, Finishes-empty, Finishes-last, nil-from_length}
+use Rattle.mesh_model.specs.Run.PlainRun.{after_lines, after_reading, start}
+use Rattle.mesh_run.specs.Inner.Lines.{Carried, CarryFails}
+use Rattle.mesh_run.proofs.EndLemmas.{FailsIn-last, Finishes-empty, Finishes-last, nil-from_length}
 use Rattle.mesh_run.proofs.runner.Runner.finish.Goals as goal
 
 pub returns-then-is_empty-clause-ok : goal.returns-then-is_empty-clause-ok
@@ -21,11 +21,11 @@ returns-in_err-carry_line-clause-failed g c = λ base read stands.
     let new = g.K.Sink.taken c.carry_line.new.out in
     let state = (after_lines start stands.lines).state in
     let some : vec_len runner.line ≢ 0 = eqb-false (vec_len runner.line) 0 (sym c.is_empty.ensures ∙ c.if-is_empty.false) in
-    let P : List ℕ → Type 0 = λ line. CarryFails (after_reading state (command_of_line line)) state old new (runner.lines + 1) c.in_err-carry_line.field-0.0 in
+    let P : List ℕ → Type 0 = λ line. CarryFails (after_reading state (command_of_line line)) base new (runner.lines + 1) c.in_err-carry_line.field-0.0 in
     rw (p.1, p.2)
-    (FailsAtEnd-last base old new runner read c.in_err-carry_line.field-0.0 stands (omega (arith, runner.line.ok.0, runner.short))
+    (FailsIn-last base old new runner read c.in_err-carry_line.field-0.0 stands (omega (arith, runner.line.ok.0, runner.short))
     (omega (arith, runner.line.ok.0, some)) runner.within
-    (subst P c.as_slice-line.ensures.value (c.in_err-carry_line.ensures.failed state stands.scene)))
+    (subst P c.as_slice-line.ensures.value (c.in_err-carry_line.ensures.failed base state stands.at)))
 
 pub returns-clause-ok : goal.returns-clause-ok
 returns-clause-ok g c = λ base read stands.
@@ -34,7 +34,7 @@ returns-clause-ok g c = λ base read stands.
     let new = g.K.Sink.taken c.carry_line.new.out in
     let state = (after_lines start stands.lines).state in
     let some : vec_len runner.line ≢ 0 = eqb-false (vec_len runner.line) 0 (sym c.is_empty.ensures ∙ c.if-is_empty.false) in
-    let P : List ℕ → Type 0 = λ line. Carried (after_reading state (command_of_line line)) state c.carry_line.new.scene old new in
+    let P : List ℕ → Type 0 = λ line. Carried (after_reading state (command_of_line line)) base new c.carry_line.new.scene in
     Finishes-last base old new runner c.carry_line.new.scene read stands (omega (arith, runner.line.ok.0, runner.short))
     (omega (arith, runner.line.ok.0, some)) runner.within
-    (subst P c.as_slice-line.ensures.value (c.in_ok-carry_line.ensures.ok state stands.scene))
+    (subst P c.as_slice-line.ensures.value (c.in_ok-carry_line.ensures.ok base state stands.at))

@@ -13,7 +13,7 @@ returns-then-text-len-clause-failed c = λ now unbroken base read stands.
 
 pub returns-then-is_err-clause-failed : goal.returns-then-is_err-clause-failed
 returns-then-is_err-clause-failed c = λ now unbroken base read stands more.
-    front-cut base now _ stands.lines _ more (IsCut-more _ _ _ _ stands.cut unbroken) stands.printed
+    front-cut base now _ stands.lines _ more (IsCut-more _ _ _ _ stands.cut unbroken) stands.at.printed
 
 pub returns-clause-ok : goal.returns-clause-ok
 returns-clause-ok c = λ now unbroken base read stands.

@@ -1,5 +1,5 @@
 use Rattle.std.proofs.Common.{◌≡◌, ℕ, ◌+◌, ◌≤◌, List, ◌++◌, length, Option}
-use Rattle.mesh_run.specs.Progress.{Stands}
+use Rattle.mesh_run.specs.Inner.Progress.{Stands}
 use Rattle.mesh_run.proofs.runner.Runner.take_lines.Given as goal
 
 abbrev pub invariant-loop-end : goal.invariant-loop-end

@@ -1,8 +1,7 @@
 use Rattle.std.proofs.Common.{sym, ◌∙◌, refl, subst}
 use Rattle.mesh_run.specs.declared.node.SceneNode.{SceneNode}
-use Rattle.mesh_run.specs.Scene.{NodeStands}
-use Rattle.mesh_run.proofs.NodesLemmas.{unknown_at}
-use Rattle.mesh_run.proofs.SceneLemmas.{Carries-see, NodeStands-see, carried-frame_unknown}
+use Rattle.mesh_run.specs.Inner.Scene.{NodeStands}
+use Rattle.mesh_run.proofs.SceneLemmas.{Carries-see, NodeStands-see, carried-frame_unknown, unplaced}
 use Rattle.mesh_run.proofs.scene.Scene.see.Goals as goal
 
 pub returns-in_default-clause-refused : goal.returns-in_default-clause-refused
@@ -10,7 +9,7 @@ returns-in_default-clause-refused c = λ dst text all state stands.
     let name = c.args.place.now in
     rw c.refused.ensures
     (carried-frame_unknown state name c.args.source.mac dst c.args.source.vid text all
-    (unknown_at name c.args.self.now.nodes.items state.nodes stands.nodes (sym c.place_of.ensures ∙ c.in_default.is)))
+    (unplaced state c.args.self.now name stands (sym c.place_of.ensures ∙ c.in_default.is)))
 
 pub returns-in-Ok-clause-ok : goal.returns-in-Ok-clause-ok
 returns-in-Ok-clause-ok c = λ dst text all state stands.

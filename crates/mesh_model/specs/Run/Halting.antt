@@ -1,13 +1,15 @@
 -- How far an input must have come for its run to halt: for a refused line the line's last byte, for
 -- the limit `line` the byte past 4,096 of the line, for `input` the byte past 67,108,864 of the
--- input, for each other limit the last byte of its line. The main word is `halting_byte`.
-use Rattle.std.specs.Prelude.{ℕ, ◌+◌, ◌-◌, List, [], length, slice_index_or}
+-- input, for each other limit the last byte of its line. What has come goes on where its lines were
+-- carried out and no limit is passed. The main words are `halting_byte` and `GoesOn`.
+use Rattle.std.specs.Prelude.{◌≡◌, ℕ, ◌+◌, ◌-◌, ◌≤◌, not, List, [], length, filter, slice_index_or, None}
+use Rattle.std.specs.List.{concat}
 use Rattle.mesh_model.specs.declared.ending.LimitName.TheVariants.{Line, Input, Nodes, Links, Clients, Vlans, Frames, FrameBytes, Clock}
 use Rattle.mesh_model.specs.declared.ending.Stop.{Stop}
 use Rattle.mesh_model.specs.declared.ending.Stop.TheVariants.{Refused, Limit}
-use Rattle.mesh_model.specs.Scenario.Lines.{line_limit, input_limit, lines_of}
+use Rattle.mesh_model.specs.Scenario.Lines.{line_limit, input_limit, lines_of, is_complete, complete_lines}
 use Rattle.mesh_model.specs.Scenario.Halt.{Halt}
-use Rattle.mesh_model.specs.Run.PlainRun.{plain_run}
+use Rattle.mesh_model.specs.Run.PlainRun.{start, after_lines, plain_run}
 
 -- how many bytes end at the one that makes a line halt the run, where so many stand before the line
 abbrev pub halting_place : ℕ → List ℕ → Stop → ℕ
@@ -30,3 +32,13 @@ numbered_line input number = slice_index_or (lines_of input) (number - 1) []
 abbrev pub halting_byte : List ℕ → Halt → ℕ
 halting_byte input halt =
     halting_place (plain_run input).bytes (numbered_line input halt.line) halt.stop
+
+-- what has come of a line whose newline hasn't
+abbrev pub unfinished_line : List ℕ → List ℕ
+unfinished_line bytes = concat (filter (λ line. not (is_complete line)) (lines_of bytes))
+
+-- no line of what has come halts the run, and neither does what has come of the next one
+pub record GoesOn (bytes : List ℕ) : Type 0 where
+  pub going : (after_lines start (complete_lines bytes)).halt ≡ None
+  pub short : length (unfinished_line bytes) ≤ line_limit
+  pub within : length bytes ≤ input_limit

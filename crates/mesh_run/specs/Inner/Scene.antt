@@ -1,11 +1,11 @@
 -- What a scene of nodes stands for: a state of the plain run, node by node. The main words are
 -- `SceneStands`, and for a call on a scene `CarriesFrom` and `FailsFrom`.
-use Rattle.std.specs.Prelude.{◌≡◌, ℕ, List, [], ◌∷◌, ◌++◌, Result, Ok, Err, OnOk, IfErr, bytes_eq, Bool, false}
-use Rattle.mesh_model.specs.declared.ending.Stop.{Stop}
+use Rattle.std.specs.Prelude.{◌≡◌, ℕ, List, [], ◌∷◌, ◌++◌, Result, Err, OnOk, IfErr, bytes_eq, Bool, false}
 use Rattle.mesh_base.specs.declared.address.Mac.{Mac}
 use Rattle.mesh_model.specs.Scenario.Readings.{Reading}
 use Rattle.mesh_model.specs.Clients.Mentions.{is_wifi_on, mentions}
-use Rattle.mesh_model.specs.Run.State.{NodeLog, State, events_text}
+use Rattle.mesh_model.specs.Run.Outcome.{Outcome, Goes, Ends}
+use Rattle.mesh_model.specs.Run.State.{NodeLog, State, text_of}
 use Rattle.mesh_run.specs.declared.fault.LineFault.{LineFault}
 use Rattle.mesh_run.specs.declared.fault.LineFault.TheVariants.{Stopped, Memory}
 use Rattle.mesh_run.specs.declared.node.SceneNode.{SceneNode}
@@ -17,7 +17,7 @@ use Rattle.tt_local.specs.Locals.{StandsFor}
 pub record NodeStands (node : SceneNode) (kept : NodeLog) : Type 0 where
   pub name : node.name ≡ kept.name
   pub mac : node.mac ≡ kept.mac
-  pub locals : StandsFor node.locals (mentions kept.log)
+  pub locals : StandsFor node.locals (mentions kept.mac kept.log)
   pub unmarked : is_wifi_on kept.log ≡ false
 
 -- each node stands for the one at its place
@@ -41,17 +41,17 @@ abbrev pub is_at : Mac → SceneNode → Bool
 is_at mac node = bytes_eq node.mac.0 mac.0
 
 -- a line that is carried out: the state after it, for which the scene stands, and what it printed
-pub record Carries (wanted : Result State Stop) (before : State) (scene : Scene)
+pub record Carries (outcome : Outcome) (before : State) (scene : Scene)
     (printed : List ℕ) : Type 0 where
   pub after : State
-  pub carried : wanted ≡ Ok after
+  pub carried : outcome ≡ Goes after
   pub stands : SceneStands scene after
-  pub text : events_text after ≡ events_text before ++ printed
+  pub text : text_of after ≡ text_of before ++ printed
 
--- the cause of a line's fault: want of memory is free
-abbrev pub HasLineCause : Result State Stop → LineFault → Type 0
-HasLineCause wanted (Stopped stop) = wanted ≡ Err stop
-HasLineCause wanted Memory = Unit {0}
+-- the cause of a line's fault, which changes no state: want of memory is free
+abbrev pub HasLineCause : State → Outcome → LineFault → Type 0
+HasLineCause before outcome (Stopped stop) = outcome ≡ Ends before stop
+HasLineCause before outcome Memory = Unit {0}
 
 -- the cause of the fault of a line that isn't read
 abbrev pub HasReadingCause : Reading → LineFault → Type 0
@@ -59,12 +59,12 @@ HasReadingCause reading (Stopped stop) = reading ≡ Err stop
 HasReadingCause reading Memory = Unit {0}
 
 -- from each state that the scene stood for, a call carries out what has this outcome, and prints
-abbrev pub CarriesFrom : (old new : Scene) → (State → Result State Stop) → List ℕ
+abbrev pub CarriesFrom : (old new : Scene) → (State → Outcome) → List ℕ
     → Result (Unit {0}) LineFault → Type 0
 CarriesFrom old new outcome printed result =
     (state : State) → SceneStands old state → OnOk result (Carries (outcome state) state new printed)
 
 -- from each state that the scene stood for, a call's fault has its cause in this outcome
-abbrev pub FailsFrom : Scene → (State → Result State Stop) → Result (Unit {0}) LineFault → Type 0
+abbrev pub FailsFrom : Scene → (State → Outcome) → Result (Unit {0}) LineFault → Type 0
 FailsFrom old outcome result =
-    (state : State) → SceneStands old state → IfErr result (HasLineCause (outcome state))
+    (state : State) → SceneStands old state → IfErr result (HasLineCause state (outcome state))

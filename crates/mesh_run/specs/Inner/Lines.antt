@@ -1,0 +1,72 @@
+-- What one line leaves, since out held what it held at some moment before: where the run stands
+-- after it, or the cause of the fault at which it broke off; and the counts of faults. The main
+-- words are `CarriesOn` and `BreaksOff`.
+use Rattle.std.specs.Prelude.{◌≡◌, ℕ, ◌≤◌, List, Option, Result, OnOk, IfErr}
+use Rattle.std.specs.Io.KnownBytes.{Appends}
+use Rattle.mesh_base.specs.Faults.{Rose}
+use Rattle.mesh_base.specs.Writes.{AppendsFront}
+use Rattle.mesh_model.specs.declared.ending.Stop.{Stop}
+use Rattle.mesh_model.specs.Run.Outcome.{Outcome, Goes, Ends, reached}
+use Rattle.mesh_model.specs.Run.State.{State, text_of}
+use Rattle.mesh_run.specs.Inner.Scene.{SceneStands}
+use Rattle.mesh_run.specs.Outcome.{AppendsLess}
+use Rattle.mesh_run.specs.declared.fault.Fault.{Fault}
+use Rattle.mesh_run.specs.declared.fault.Fault.TheVariants.{Halted, Read, Write, Memory}
+use Rattle.mesh_run.specs.declared.scene.Scene.{Scene}
+
+-- ---- one line
+
+-- the scene stands for a state, and out took what that state has printed since it held base
+pub record StandsAt (base now : Option (List ℕ)) (scene : Scene) (state : State) : Type 0 where
+  pub scene_is : SceneStands scene state
+  pub printed : Appends base now (text_of state)
+
+-- a line after which the run goes on: where it stands
+pub record Carried (outcome : Outcome) (base now : Option (List ℕ)) (scene : Scene) : Type 0 where
+  pub after : State
+  pub carried : outcome ≡ Goes after
+  pub stands : StandsAt base now scene after
+
+-- a line that ends the run: out took what is printed up to there
+pub record HaltsLine (outcome : Outcome) (base now : Option (List ℕ)) (number line : ℕ)
+    (stop : Stop) : Type 0 where
+  pub after : State
+  pub ended : outcome ≡ Ends after stop
+  pub numbered : line ≡ number
+  pub printed : Appends base now (text_of after)
+
+-- the cause of a fault while a line is carried out, which reads nothing
+abbrev pub CarryFails : Outcome → (base now : Option (List ℕ)) → ℕ → Fault → Type 0
+CarryFails outcome base now number (Halted line stop) =
+    HaltsLine outcome base now number line stop
+CarryFails outcome base now number Read = ⊥
+CarryFails outcome base now number Write = AppendsLess base now (text_of (reached outcome))
+CarryFails outcome base now number Memory = AppendsFront base now (text_of (reached outcome))
+
+-- from each state at which the scene stood, a call comes to the one that has this outcome
+abbrev pub CarriesOn : (old new : Option (List ℕ)) → (before after : Scene) → (State → Outcome)
+    → Result (Unit {0}) Fault → Type 0
+CarriesOn old new before after outcome result =
+    (base : Option (List ℕ)) (state : State) → StandsAt base old before state
+    → OnOk result (Carried (outcome state) base new after)
+
+-- from each state at which the scene stood, a call's fault has its cause in this outcome
+abbrev pub BreaksOff : (old new : Option (List ℕ)) → Scene → (State → Outcome) → ℕ
+    → Result (Unit {0}) Fault → Type 0
+BreaksOff old new before outcome number result =
+    (base : Option (List ℕ)) (state : State) → StandsAt base old before state
+    → IfErr result (CarryFails (outcome state) base new number)
+
+-- ---- counts of faults
+
+-- a fault of writing is blamed only where the sink's count rose, and nothing was read
+abbrev pub BlamesWrite : ℕ → ℕ → Fault → Type 0
+BlamesWrite old new (Halted line stop) = Unit {0}
+BlamesWrite old new Read = ⊥
+BlamesWrite old new Write = Rose old new
+BlamesWrite old new Memory = Unit {0}
+
+-- what a call does to a sink's count of faults
+pub record CountsWrites {A : Type 0} (old new : ℕ) (result : Result A Fault) : Type 0 where
+  pub kept : old ≤ new
+  pub cause : IfErr result (BlamesWrite old new)
