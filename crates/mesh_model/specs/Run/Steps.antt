@@ -8,6 +8,7 @@ use Rattle.mesh_model.specs.declared.line_form.Command.{Command}
 use Rattle.mesh_model.specs.declared.line_form.Command.TheVariants.{Nothing, Algo, Node, Link, Lan, Frame, Gone, Join, Leave, Arp, Dhcp, Wifi, GwOff, GwServer, GwClient, Mcast, Dat, Alfred, Put, Get, Ping, Trace, Run, Deliver, Show, Decode}
 use Rattle.mesh_model.specs.declared.line_form.Table.{Table}
 use Rattle.mesh_model.specs.declared.line_form.Table.TheVariants.{Originators, Neighbors, Locals, Globals, Claims, Gateways, Groups, Addresses, Facts}
+use Rattle.mesh_model.specs.Acts.Choosing.{acts_of}
 use Rattle.mesh_model.specs.Clients.Log.{Given}
 use Rattle.mesh_model.specs.Clients.Log.{Frame as GivenFrame}
 use Rattle.mesh_model.specs.Clients.Mentions.{mentions}
@@ -29,8 +30,10 @@ with_node state node = record state { nodes = state.nodes ++ node ∷ [] }
 
 -- the node after an input at a moment
 abbrev pub with_input : ℕ → Given → NodeLog → NodeLog
-with_input now given node =
-    record node { log = record { moment = now; given = given } ∷ node.log }
+with_input now given node = record node {
+  log = record { moment = now; given = given; acts = acts_of node.mac node.log now given }
+      ∷ node.log;
+}
 
 -- the nodes, of which the one at a place changes
 abbrev pub changed_at : ℕ → (NodeLog → NodeLog) → List NodeLog → List NodeLog
