@@ -1,3 +1,4 @@
--- How the definitions compute on scenarios and bytes that are written out.
+-- How the definitions compute on scenarios, bytes and lines that are written out.
 pub mod OnLiterals
 pub mod DecodeOnLiterals
+pub mod LineOnLiterals
