@@ -112,13 +112,13 @@ NodeStands-see old new kept now key dst text stands name mac noted =
 pub Carries-show : (state : State) (scene : Scene) (name : List ℕ) (i : ℕ) (d : SceneNode) (printed : List ℕ)
     → SceneStands scene state → position (is_called name) scene.nodes.items ≡ Some i
     → ((ms : List Mention) → StandsFor (get_or scene.nodes.items i d).locals ms
-    → printed ≡ table_text (record { name = name; version = 0; sums = []; rows = present_clients scene.clock ms }))
+    → printed ≡ table_text (record { name = name; version = 0; sums = []; rows = present_clients ms scene.clock }))
     → Carries (carried_out state (Show name Locals)) state scene printed
 Carries-show state scene name i d printed stands is prints =
     let there = found_at name scene.nodes.items state.nodes d i stands.nodes is in
     let log = there.node.log in
     let logged : log_of name state.nodes ≡ log = rw there.named refl in
-    let table : ℕ → Log → LocalTable = λ now l. record { name = name; version = 0; sums = []; rows = present_clients now (mentions l) } in
+    let table : ℕ → Log → LocalTable = λ now l. record { name = name; version = 0; sums = []; rows = present_clients (mentions l) now } in
     let text : printed ≡ table_text (local_table name state) =
     prints (mentions log) there.stands.locals ∙ ap (λ now. table_text (table now log)) stands.clock
     ∙ ap (λ l. table_text (table state.clock l)) (sym logged) in

@@ -74,7 +74,7 @@ fn show_locals(
           name = name.now;
           version = 0;
           sums = [];
-          rows = present_clients now mentions;
+          rows = present_clients mentions now;
         })) }
 {
     let rows = locals.rows(alloc, now)?;

@@ -43,7 +43,7 @@ impl Locals {
             let mention : Mention = record { moment = now; key = key; news = Sighted flags } in
             OnOk result (StandsFor self.new (mention ∷ mentions)) }
         ensures newly { IfOk result (λ newly. (mentions : List Mention) →
-            StandsFor self.old mentions → IsTrue newly ↔ IsNone (present_row now mentions key)) }
+            StandsFor self.old mentions → IsTrue newly ↔ IsNone (present_row mentions now key)) }
         ensures err { OnErr result (self.new ≡ self.old) }
     {
         let newly = self.row(now, key).is_none();
@@ -55,7 +55,7 @@ impl Locals {
     // The row of a client, where it is present.
     fn row(&self, now: Millis, key: Key) -> Option<LocalRow>
         ensures { (mentions : List Mention) → StandsFor self.now mentions →
-            result ≡ present_row now mentions key }
+            result ≡ present_row mentions now key }
     {
         self.sightings.get(&key)?.row(now, key)
     }
@@ -63,7 +63,7 @@ impl Locals {
     /// The flags of a client, where it is present.
     pub fn present(&self, now: Millis, key: Key) -> Option<u8>
         ensures { (mentions : List Mention) → StandsFor self.now mentions →
-            result ≡ option_map (λ row. row.entry.flags) (present_row now mentions key) }
+            result ≡ option_map (λ row. row.entry.flags) (present_row mentions now key) }
     {
         self.row(now, key).map(|row| row.entry.flags)
     }
@@ -71,9 +71,9 @@ impl Locals {
     /// The present client at this place in key order, from 0, with its age.
     pub fn row_at(&self, now: Millis, i: usize) -> Option<LocalRow>
         ensures at_place { (mentions : List Mention) → StandsFor self.now mentions →
-            result ≡ slice_get (present_clients now mentions) i }
+            result ≡ slice_get (present_clients mentions now) i }
         ensures past_end { (mentions : List Mention) → StandsFor self.now mentions →
-            IsNone result ↔ (length (present_clients now mentions) ≤ i) }
+            IsNone result ↔ (length (present_clients mentions now) ≤ i) }
     {
         self.sightings
             .iter()
@@ -84,7 +84,7 @@ impl Locals {
     /// The present clients in key order, with their ages.
     pub fn rows(&self, alloc: Global, now: Millis) -> Result<Vec<LocalRow>, NoMemory>
         ensures { IfOk result (λ rows. (mentions : List Mention) → StandsFor self.now mentions →
-            rows.items ≡ present_clients now mentions) }
+            rows.items ≡ present_clients mentions now) }
     {
         let rows = self
             .sightings

@@ -42,7 +42,7 @@ local_table name state = record {
   name = name;
   version = 0;
   sums = [];
-  rows = present_clients state.clock (mentions (log_of name state.nodes));
+  rows = present_clients (mentions (log_of name state.nodes)) state.clock;
 }
 
 -- the events of a table that is shown

@@ -18,4 +18,4 @@ returns-clause-at_place c =
 pub returns-clause-past_end : goal.returns-clause-past_end
 returns-clause-past_end c =
     λ mentions stands.
-    none_past_end (present_clients c.args.now mentions) c.args.i c.nth.result (returns-clause-at_place c mentions stands)
+    none_past_end (present_clients mentions c.args.now) c.args.i c.nth.result (returns-clause-at_place c mentions stands)
