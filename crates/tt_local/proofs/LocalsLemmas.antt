@@ -1,5 +1,5 @@
 -- What a list of sightings by key says of the present clients, and how a new sighting changes it.
-use Rattle.std.proofs.Common.{filter_map, ◌≡◌, ◌↔◌, ◌≤◌, IsNone, length, slice_get, arith, ℕ, ◌-◌, true, false, cond, not, ◌&&◌, List, ◌∷◌, [], find, IfSome, Option, Some, None, option_and_then, refl, sym, ap, ◌∙◌}
+use Rattle.std.proofs.Common.{filter_map, ◌≡◌, ◌↔◌, ◌≤◌, IsNone, length, slice_get, arith, ℕ, ◌-◌, true, false, cond, not, ◌&&◌, List, ◌∷◌, [], find, IfSome, Option, Some, None, option_and_then, refl, sym, ap, subst, ◌∙◌}
 use Rattle.std.specs.List.Sorted.{IsStrictlySortedBy}
 use Rattle.std.specs.Map.{keys_of, lookup}
 use Rattle.std.specs.Option.{option_or}
@@ -58,6 +58,12 @@ rows_kept entries mentions stands now =
     (sorted_filter key_order (λ (e : Key × Sighting). e.0) (λ (r : LocalRow). r.entry.key) row keeps entries stands.ordered)
     (λ q. item_at_filter key_order (λ (e : Key × Sighting). e.0) (λ (r : LocalRow). r.entry.key) row keeps key_exact q entries stands.ordered
     ∙ row_from_item now q entries ∙ row_kept entries mentions stands now q)
+
+-- no sightings are those of a node without mentions
+pub StandsFor-empty : (entries : List (Key × Sighting)) → entries ≡ [] → StandsFor entries []
+unfolding IsStrictlySortedBy
+StandsFor-empty entries is = subst (λ es. StandsFor es []) (sym is)
+    (record { kept = λ key. refl; ordered = tt; no_groups = λ key. refl })
 
 -- a sighting takes the place of what its key had
 pub sighted : (entries after : List (Key × Sighting)) (mentions : List Mention) (now : ℕ) (key : Key) (flags : ℕ)

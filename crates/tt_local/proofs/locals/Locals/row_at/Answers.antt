@@ -4,7 +4,7 @@ use Rattle.std.proofs.lemmas.Iterator.Consumers.{YieldsList-from_filter_map, Yie
 use Rattle.mesh_model.specs.Clients.Present.{present_clients}
 use Rattle.tt_local.specs.Locals.{sighting_row}
 use Rattle.tt_local.proofs.LocalsLemmas.{none_past_end, rows_kept}
-use Rattle.tt_local.proofs.clients.Locals.row_at.Goals as goal
+use Rattle.tt_local.proofs.locals.Locals.row_at.Goals as goal
 
 pub returns-clause-at_place : goal.returns-clause-at_place
 returns-clause-at_place c =

@@ -1,20 +1,21 @@
 ghost use Rattle.std.specs.Prelude.{◌≡◌, ◌≤◌, ◌↔◌, List, [], ◌∷◌, length, slice_get, option_map, IfOk, OnOk, OnErr, IsTrue, IsNone};
+ghost use Rattle.std.specs.Map.{lookup};
 ghost use Rattle.mesh_model.specs.Clients.Mentions.{Mention, Sighted};
-ghost use Rattle.mesh_model.specs.Clients.Present.{present_clients, present_row};
+ghost use Rattle.mesh_model.specs.Clients.Present.{present_clients, present_row, same_key};
 ghost use Rattle.tt_local.specs.Locals.{StandsFor};
 
 use crate::failure::LocalErr;
 use crate::sighting::Sighting;
+use indexmap::IndexMap;
 use mesh_base::{Key, Millis, NoMemory};
 use mesh_model::LocalRow;
 use std::alloc::Global;
-use std::collections::BTreeMap;
 use std::marker::Model;
 
-/// The local clients of a node, each by its last sighting.
+/// The local clients of a node, each by its last sighting, in key order.
 #[derive(Debug, Drop)]
 pub struct Locals {
-    sightings: BTreeMap<Key, Sighting>,
+    sightings: IndexMap<Key, Sighting>,
 }
 
 impl Model for Locals {
@@ -33,7 +34,7 @@ impl Locals {
         ensures { StandsFor result [] }
     {
         Locals {
-            sightings: BTreeMap::new(alloc),
+            sightings: IndexMap::new(alloc),
         }
     }
 
@@ -48,8 +49,15 @@ impl Locals {
     {
         let newly = self.row(now, key).is_none();
         let sighting = Sighting { flags, moment: now };
-        self.sightings.insert(key, sighting)?;
+        self.sightings.insert_sorted(key, sighting)?;
         Ok(newly)
+    }
+
+    // The last sighting of a client.
+    fn sighting(&self, key: Key) -> Option<Sighting>
+        ensures { result ≡ lookup (same_key key) self.now }
+    {
+        self.sightings.get(&key).copied()
     }
 
     // The row of a client, where it is present.
@@ -57,7 +65,7 @@ impl Locals {
         ensures { (mentions : List Mention) → StandsFor self.now mentions →
             result ≡ present_row mentions now key }
     {
-        self.sightings.get(&key)?.row(now, key)
+        self.sighting(key)?.row(now, key)
     }
 
     /// The flags of a client, where it is present.

@@ -4,7 +4,7 @@ use Rattle.std.proofs.lemmas.Iterator.Consumers.{YieldsList-from_filter_map, Yie
 use Rattle.std.proofs.lemmas.Result.{IfOk-at_ok}
 use Rattle.tt_local.specs.Locals.{sighting_row}
 use Rattle.tt_local.proofs.LocalsLemmas.{rows_kept}
-use Rattle.tt_local.proofs.clients.Locals.rows.Goals as goal
+use Rattle.tt_local.proofs.locals.Locals.rows.Goals as goal
 
 pub returns : goal.returns
 returns c =
