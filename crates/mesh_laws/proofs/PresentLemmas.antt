@@ -116,33 +116,33 @@ either_some P None p h k = k
 either_some P (Some x) p h k = h
 
 -- a key's row is of the key
-pub row_of_key : (now : ℕ) (mentions : List Mention) (q : Key) → IfSome (present_row now mentions q) (λ row. row.entry.key ≡ q)
+pub row_of_key : (now : ℕ) (mentions : List Mention) (q : Key) → IfSome (present_row mentions now q) (λ row. row.entry.key ≡ q)
 row_of_key now mentions q = either_some (λ (row : LocalRow). row.entry.key ≡ q)
-    (option_and_then (row_by now) (last_membership q mentions)) (option_and_then (row_by now) (last_mention q mentions))
+    (option_and_then (row_by now) (last_membership mentions q)) (option_and_then (row_by now) (last_mention mentions q))
     (row_of_mention now q (λ m. is_membership m.news) _ (found_passes _ mentions))
     (row_of_mention now q (λ m. not (is_membership m.news)) _ (found_passes _ mentions))
 
-row_where_mentioned : (now : ℕ) (mentions : List Mention) (q : Key) → option_and_then (present_row now mentions) (cond (list_any (λ m. same_key q m.key) mentions) (Some q) None) ≡ present_row now mentions q
+row_where_mentioned : (now : ℕ) (mentions : List Mention) (q : Key) → option_and_then (present_row mentions now) (cond (list_any (λ m. same_key q m.key) mentions) (Some q) None) ≡ present_row mentions now q
 row_where_mentioned now mentions q =
-    elim (list_any (λ m. same_key q m.key) mentions) as (λ b. list_any (λ m. same_key q m.key) mentions ≡ b → option_and_then (present_row now mentions) (cond b (Some q) None) ≡ present_row now mentions q) [
+    elim (list_any (λ m. same_key q m.key) mentions) as (λ b. list_any (λ m. same_key q m.key) mentions ≡ b → option_and_then (present_row mentions now) (cond b (Some q) None) ≡ present_row mentions now q) [
       | true ↦ λ e. refl
-      | false ↦ λ e. sym (ap (λ o. option_or (option_and_then (row_by now) o) (option_and_then (row_by now) (last_mention q mentions))) (none_unmentioned q (λ m. is_membership m.news) mentions e)
+      | false ↦ λ e. sym (ap (λ o. option_or (option_and_then (row_by now) o) (option_and_then (row_by now) (last_mention mentions q))) (none_unmentioned q (λ m. is_membership m.news) mentions e)
           ∙ ap (option_and_then (row_by now)) (none_unmentioned q (λ m. not (is_membership m.news)) mentions e))
     ] refl
 
 -- ---- the list of them
 pub present_at : HasTheRowOfEachKey
 present_at now mentions q =
-    item_at_filter key_order (λ (k : Key). k) (λ (row : LocalRow). row.entry.key) (present_row now mentions) (row_of_key now mentions) key_exact q (mentioned_keys mentions) (subst (IsStrictlySortedBy key_order) (sym (map-id _)) (sorted_mentioned mentions))
-    ∙ ap (option_and_then (present_row now mentions)) (find_same same_decides q (mentioned_keys mentions) ∙ ap (λ b. cond b (Some q) None) (has_mentioned q mentions))
+    item_at_filter key_order (λ (k : Key). k) (λ (row : LocalRow). row.entry.key) (present_row mentions now) (row_of_key now mentions) key_exact q (mentioned_keys mentions) (subst (IsStrictlySortedBy key_order) (sym (map-id _)) (sorted_mentioned mentions))
+    ∙ ap (option_and_then (present_row mentions now)) (find_same same_decides q (mentioned_keys mentions) ∙ ap (λ b. cond b (Some q) None) (has_mentioned q mentions))
     ∙ row_where_mentioned now mentions q
 
 pub sorted_present : IsInKeyOrder
-sorted_present now mentions = sorted_filter key_order (λ (k : Key). k) (λ (row : LocalRow). row.entry.key) (present_row now mentions) (row_of_key now mentions) (mentioned_keys mentions) (subst (IsStrictlySortedBy key_order) (sym (map-id _)) (sorted_mentioned mentions))
+sorted_present now mentions = sorted_filter key_order (λ (k : Key). k) (λ (row : LocalRow). row.entry.key) (present_row mentions now) (row_of_key now mentions) (mentioned_keys mentions) (subst (IsStrictlySortedBy key_order) (sym (map-id _)) (sorted_mentioned mentions))
 
 -- rows in key order that give each key's row are the present clients
-pub present_from_rows : (now : ℕ) (mentions : List Mention) (rows : List LocalRow) → IsStrictlySortedBy key_order (map (λ row. row.entry.key) rows) → ((q : Key) → find (λ row. same_key q row.entry.key) rows ≡ present_row now mentions q) → rows ≡ present_clients now mentions
-present_from_rows now mentions rows sorted same = same_items key_order (λ (row : LocalRow). row.entry.key) key_total key_exact rows (present_clients now mentions) sorted (sorted_present now mentions) (λ q. same q ∙ sym (present_at now mentions q))
+pub present_from_rows : (now : ℕ) (mentions : List Mention) (rows : List LocalRow) → IsStrictlySortedBy key_order (map (λ row. row.entry.key) rows) → ((q : Key) → find (λ row. same_key q row.entry.key) rows ≡ present_row mentions now q) → rows ≡ present_clients mentions now
+present_from_rows now mentions rows sorted same = same_items key_order (λ (row : LocalRow). row.entry.key) key_total key_exact rows (present_clients mentions now) sorted (sorted_present now mentions) (λ q. same q ∙ sym (present_at now mentions q))
 
 -- ---- older mentions
 found_kept : (p : Mention → Bool) (newer older : List Mention) → IsSome (find p newer) → find p (newer ++ older) ≡ find p newer

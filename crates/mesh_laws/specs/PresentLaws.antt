@@ -16,27 +16,27 @@ row_in rows key = find (λ row. same_key key row.entry.key) rows
 -- the list has of each key the row that its last mention and its last membership decide
 abbrev pub HasTheRowOfEachKey : Type 0
 HasTheRowOfEachKey = (now : ℕ) → (mentions : List Mention) → (key : Key) →
-    row_in (present_clients now mentions) key ≡ present_row now mentions key
+    row_in (present_clients mentions now) key ≡ present_row mentions now key
 
 -- a key's last mention stays what it is, whatever was said before
 abbrev pub KeepsLastMention : Type 0
 KeepsLastMention = (newer older : List Mention) → (key : Key) →
-    IsSome (last_mention key newer) →
-    last_mention key (newer ++ older) ≡ last_mention key newer
+    IsSome (last_mention newer key) →
+    last_mention (newer ++ older) key ≡ last_mention newer key
 
 -- a key's last membership stays what it is, whatever was said before
 abbrev pub KeepsLastMembership : Type 0
 KeepsLastMembership = (newer older : List Mention) → (key : Key) →
-    IsSome (last_membership key newer) →
-    last_membership key (newer ++ older) ≡ last_membership key newer
+    IsSome (last_membership newer key) →
+    last_membership (newer ++ older) key ≡ last_membership newer key
 
 -- a key's row stays what it is, whatever was said before, where both are told
 abbrev pub KeepsRow : Type 0
 KeepsRow = (now : ℕ) → (newer older : List Mention) → (key : Key) →
-    IsSome (last_mention key newer) → IsSome (last_membership key newer) →
-    present_row now (newer ++ older) key ≡ present_row now newer key
+    IsSome (last_mention newer key) → IsSome (last_membership newer key) →
+    present_row (newer ++ older) now key ≡ present_row newer now key
 
 -- the present clients stand in key order, each key once
 abbrev pub IsInKeyOrder : Type 0
 IsInKeyOrder = (now : ℕ) → (mentions : List Mention) →
-    IsStrictlySortedBy key_order (map (λ row. row.entry.key) (present_clients now mentions))
+    IsStrictlySortedBy key_order (map (λ row. row.entry.key) (present_clients mentions now))

@@ -7,6 +7,8 @@ pub mod Fields
 pub mod Readings
 pub mod LinkOptions
 pub mod NetForms
-pub mod NodeForms
+pub mod ClientForms
+pub mod SettingForms
+pub mod AlfredForms
 pub mod Commands
 pub mod Halt

@@ -1,5 +1,6 @@
--- How the definitions compute on scenarios and bytes that are written out.
+-- How the definitions compute on scenarios, bytes and lines that are written out.
 pub mod OnLiterals
 pub mod DecodeOnLiterals
 pub mod NetOnLiterals
 pub mod TablesOnLiterals
+pub mod LineOnLiterals

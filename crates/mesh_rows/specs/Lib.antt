@@ -5,3 +5,7 @@ pub mod DecodeRows
 pub mod NetRows
 pub mod NetLines
 pub mod TableRows
+-- What is said of a worked scenario, of bytes that are decoded, and of a single line.
+pub mod Rows
+pub mod DecodeRows
+pub mod LineRows

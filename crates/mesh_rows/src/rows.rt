@@ -2,6 +2,7 @@
 
 ghost use Rattle.std.specs.Prelude.{◌≡◌, ℕ, List, [], ◌∷◌, ◌++◌, codes, None, Some, replicate};
 ghost use Rattle.mesh_model.specs.Text.Messages.{halt_text};
+ghost use Rattle.mesh_model.specs.Scenario.Commands.{hash};
 ghost use Rattle.mesh_rows.specs.Rows.{lines, one_client, one_row, HaltsAt, RunsToItsEnd};
 ghost use Rattle.mesh_model.specs.declared.ending.LimitName.TheVariants.{Line};
 ghost use Rattle.mesh_model.specs.declared.ending.Refusal.TheVariants.{AddressTaken, BadMac, MissingWord, NameTaken, NotBuilt, UnknownName};
@@ -35,12 +36,12 @@ pub fn an_unknown_name_is_refused()
 
 /// A line of 4,096 bytes is within the limit.
 pub fn a_comment_may_have_4096_bytes()
-    ensures { RunsToItsEnd (replicate 4096 35) [] }
+    ensures { RunsToItsEnd (replicate 4096 hash) [] }
 {}
 
 /// A line of 4,097 bytes isn't.
 pub fn a_comment_of_4097_bytes_passes_the_limit()
-    ensures halts { HaltsAt (replicate 4097 35) [] 1 (Limit Line) }
+    ensures halts { HaltsAt (replicate 4097 hash) [] 1 (Limit Line) }
     ensures told { halt_text (record { line = 1; stop = Limit Line })
         ≡ lines (codes "batmesh: line 1: limit line" ∷ []) }
 {}

@@ -120,12 +120,12 @@ NodeStands-see old new kept now key dst text stands name mac noted =
 pub Carries-show : (state : State) (scene : Scene) (name : List ℕ) (i : ℕ) (d : SceneNode) (printed : List ℕ)
     → SceneStands scene state → position (is_called name) scene.nodes.items ≡ Some i
     → ((ms : List Mention) → StandsFor (get_or scene.nodes.items i d).locals ms
-    → printed ≡ table_text (record { name = (get_or scene.nodes.items i d).name; version = 0; sums = []; rows = present_clients scene.clock ms }))
+    → printed ≡ table_text (record { name = (get_or scene.nodes.items i d).name; version = 0; sums = []; rows = present_clients ms scene.clock }))
     → Carries (carried_out state (Show name Locals)) state scene printed
 Carries-show state scene name i d printed stands is prints =
     let there = found scene.nodes.items state.nodes d i stands.nodes (place_within name scene.nodes.items i is) in
     let ms = mentions there.node.mac there.node.log in
-    let table : List ℕ → ℕ → LocalTable = λ n now. record { name = n; version = 0; sums = []; rows = present_clients now ms } in
+    let table : List ℕ → ℕ → LocalTable = λ n now. record { name = n; version = 0; sums = []; rows = present_clients ms now } in
     let text : printed ≡ table_text (local_table state.clock there.node) =
     prints ms there.stands.locals ∙ ap₂ (λ (n : List ℕ) (now : ℕ). table_text (table n now)) there.stands.name stands.clock in
     record {

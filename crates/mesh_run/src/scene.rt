@@ -74,7 +74,7 @@ fn show_locals(
           name = node.now.name;
           version = 0;
           sums = [];
-          rows = present_clients now mentions;
+          rows = present_clients mentions now;
         })) }
 {
     let rows = node.locals.rows(alloc, now)?;

@@ -7,7 +7,7 @@ use Rattle.std.proofs.lemmas.Bool.{ltb-false, ltb-true, ne_eqb}
 use Rattle.std.proofs.lemmas.List.Splits.{slice_split_first, length-slice_split}
 use Rattle.mesh_base.specs.Address.{option_both}
 use Rattle.mesh_model.specs.Scenario.Terms.{octet, octets_of, number_of, ip_of, ip_of_octets}
-use Rattle.mesh_scenario.specs.Reads.{is_dot}
+use Rattle.mesh_scenario.specs.Inner.Taking.{is_dot}
 use Rattle.mesh_scenario.proofs.WordsLemmas.{slice_from}
 
 joined_length : (x : Option ℕ) (y : Option (List ℕ)) (n : ℕ) → IfSome y (λ ns. length ns ≡ n)
@@ -43,22 +43,22 @@ ip_of-long word a b c d rest is =
 abbrev found_dot : List ℕ → Option ℕ
 found_dot text = cond (ltb (position_or_len is_dot text) (length text)) (Some (position_or_len is_dot text)) None
 
-split_at_by : (b : Bool) (text : List ℕ) (place : ℕ) → ltb (position_or_len is_dot text) (length text) ≡ b
-    → Some place ≡ cond b (Some (position_or_len is_dot text)) None
+split_at_by : (b : Bool) (text : List ℕ) (offset : ℕ) → ltb (position_or_len is_dot text) (length text) ≡ b
+    → Some offset ≡ cond b (Some (position_or_len is_dot text)) None
     → slice_split is_dot text
-    ≡ take place text ∷ slice_split is_dot (take (length text - (place + 1)) (drop (place + 1) text))
-split_at_by true text place e found =
-    let same : place ≡ position_or_len is_dot text = cc in
+    ≡ take offset text ∷ slice_split is_dot (take (length text - (offset + 1)) (drop (offset + 1) text))
+split_at_by true text offset e found =
+    let same : offset ≡ position_or_len is_dot text = cc in
     slice_split_first is_dot text 0 (ltb-true _ _ e)
     ∙ ap (λ p. take p text ∷ slice_split is_dot (drop (p + 1) text)) (sym same)
-    ∙ ap (λ rest. take place text ∷ slice_split is_dot rest) (sym (slice_from text (place + 1)))
-split_at_by false text place e found = cc
+    ∙ ap (λ rest. take offset text ∷ slice_split is_dot rest) (sym (slice_from text (offset + 1)))
+split_at_by false text offset e found = cc
 
 -- a text that is split at its first dot
-pub slice_split-at : (text : List ℕ) (place : ℕ) → Some place ≡ found_dot text
+pub slice_split-at : (text : List ℕ) (offset : ℕ) → Some offset ≡ found_dot text
     → slice_split is_dot text
-    ≡ take place text ∷ slice_split is_dot (take (length text - (place + 1)) (drop (place + 1) text))
-slice_split-at text place found = split_at_by (ltb (position_or_len is_dot text) (length text)) text place refl found
+    ≡ take offset text ∷ slice_split is_dot (take (length text - (offset + 1)) (drop (offset + 1) text))
+slice_split-at text offset found = split_at_by (ltb (position_or_len is_dot text) (length text)) text offset refl found
 
 whole_by : (dots : Bool) (b : ℕ) (bs : List ℕ) (n : ℕ) (parts : List (List ℕ))
     → (length bs ≤ n → parts ≡ bs ∷ []) → length (b ∷ bs) ≤ cond (not dots) (1 + n) 0

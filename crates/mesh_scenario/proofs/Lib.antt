@@ -2,7 +2,7 @@
 pub mod GatewayLemmas
 pub mod IpLemmas
 pub mod OptionsLemmas
-pub mod RefusalLemmas
+pub mod RefusesLemmas
 pub mod TermsLemmas
-pub mod PlaceLemmas
+pub mod OffsetLemmas
 pub mod WordsLemmas

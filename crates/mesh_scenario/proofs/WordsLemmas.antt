@@ -6,8 +6,8 @@ use Rattle.std.proofs.lemmas.Bool.{not-true, eqb-true, eqb-false, ltb-false}
 use Rattle.std.proofs.lemmas.Grind.{common_steps}
 use Rattle.std.proofs.lemmas.List.{drop_more, length-drop}
 use Rattle.std.proofs.lemmas.List.Sums.{passes_at_first, prefix_len-le-length}
-use Rattle.mesh_scenario.specs.Reads.{is_in_word}
-use Rattle.mesh_model.specs.Scenario.Words.{Word, is_separator, word_at, word_tails, words_of}
+use Rattle.mesh_scenario.specs.Inner.Taking.{is_in_word}
+use Rattle.mesh_model.specs.Scenario.Words.{Word, is_separator, word_at, word_tails, line_words}
 
 -- the tails that begin a word, by whether the first byte is a separator
 abbrev tails_by : Bool → Bool → ℕ → List ℕ → List (List ℕ)
@@ -43,47 +43,47 @@ word_tails-pass [] = refl
 word_tails-pass (b ∷ bs) = pass_by (is_separator b) b bs (position_or_len is_separator bs) refl (word_tails-pass bs)
 
 -- a rest of a line that begins with a word has that word first, and then those behind it
-words_of-begin : (b : ℕ) (bs : List ℕ) → is_separator b ≡ false
-    → words_of (b ∷ bs) ≡ word_at (b ∷ bs) ∷ words_of (drop (position_or_len is_separator (b ∷ bs)) (b ∷ bs))
-words_of-begin b bs e =
+line_words-begin : (b : ℕ) (bs : List ℕ) → is_separator b ≡ false
+    → line_words (b ∷ bs) ≡ word_at (b ∷ bs) ∷ line_words (drop (position_or_len is_separator (b ∷ bs)) (b ∷ bs))
+line_words-begin b bs e =
     ap (λ s. map word_at (tails_by s false b bs)) e
     ∙ ap (λ tails. word_at (b ∷ bs) ∷ map word_at tails)
     (sym (ap (λ s. tails_by s true b bs) e) ∙ word_tails-pass (b ∷ bs))
 
 -- a line whose first word begins at n
-words_of-at : (line : List ℕ) (n : ℕ) → n ≡ position_or_len is_in_word line → n < length line
-    → words_of line ≡ word_at (drop n line) ∷ words_of (drop (position_or_len is_separator (drop n line)) (drop n line))
-words_of-at line n is below =
+line_words-at : (line : List ℕ) (n : ℕ) → n ≡ position_or_len is_in_word line → n < length line
+    → line_words line ≡ word_at (drop n line) ∷ line_words (drop (position_or_len is_separator (drop n line)) (drop n line))
+line_words-at line n is below =
     let first : ℕ = get_or line n 0 in
     let at : drop n line ≡ first ∷ drop (n + 1) line = drop_more line n 0 below in
     let in_word : is_in_word first ≡ true =
     ap (λ k. is_in_word (get_or line k 0)) is ∙ passes_at_first is_in_word line 0 (omega arith) in
     ap (map word_at) (word_tails-skip line ∙ ap (λ k. word_tails false (drop k line)) (sym is))
-    ∙ subst (λ text. words_of text ≡ word_at text ∷ words_of (drop (position_or_len is_separator text) text)) (sym at)
-    (words_of-begin first (drop (n + 1) line) (not-true (is_separator first) in_word))
+    ∙ subst (λ text. line_words text ≡ word_at text ∷ line_words (drop (position_or_len is_separator text) text)) (sym at)
+    (line_words-begin first (drop (n + 1) line) (not-true (is_separator first) in_word))
 
 -- the part of a line behind its first n bytes, as a slice of it
 pub slice_from : (line : List ℕ) (n : ℕ) → take (length line - n) (drop n line) ≡ drop n line
 slice_from line n = grind (arith, common_steps)
 
 -- the words of a line from its first word on
-pub words_of-some : (words : List Word) (line word rest : List ℕ) (n m : ℕ) → words ≡ words_of line
+pub line_words-some : (words : List Word) (line word rest : List ℕ) (n m : ℕ) → words ≡ line_words line
     → n ≡ position_or_len is_in_word line
     → let text = take (length line - n) (drop n line) in (length text == 0) ≡ false
     → m ≡ position_or_len is_separator text → word ≡ take m text → rest ≡ drop m text
-    → words ≡ record { word = word; text = text } ∷ words_of rest
-words_of-some words line word rest n m whole starts some ends front back =
+    → words ≡ record { word = word; text = text } ∷ line_words rest
+line_words-some words line word rest n m whole starts some ends front back =
     let text : List ℕ = take (length line - n) (drop n line) in
     let same : text ≡ drop n line = slice_from line n in
     let below : n < length line = omega (arith, eqb-false _ _ some, ap length same, length-drop n line) in
-    whole ∙ words_of-at line n starts below
-    ∙ ap (λ t. word_at t ∷ words_of (drop (position_or_len is_separator t) t)) (sym same)
+    whole ∙ line_words-at line n starts below
+    ∙ ap (λ t. word_at t ∷ line_words (drop (position_or_len is_separator t) t)) (sym same)
     ∙ cc
 
 -- a line without bytes of words
-pub words_of-none : (words : List Word) (line : List ℕ) (n : ℕ) → words ≡ words_of line
+pub line_words-none : (words : List Word) (line : List ℕ) (n : ℕ) → words ≡ line_words line
     → n ≡ position_or_len is_in_word line → (length (take (length line - n) (drop n line)) == 0) ≡ true → words ≡ []
-words_of-none words line n whole starts none =
+line_words-none words line n whole starts none =
     let below : length line ≤ n =
     omega (arith, eqb-true _ _ none, ap length (slice_from line n), length-drop n line) in
     whole ∙ ap (map word_at) (word_tails-skip line ∙ ap (λ k. word_tails false (drop k line)) (sym starts)

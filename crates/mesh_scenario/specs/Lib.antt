@@ -1,4 +1,3 @@
 -- The words that the contracts of this crate cite, in reading order.
 pub mod LineErr
-pub mod Reads
-pub mod Options
+pub mod Inner

@@ -1,7 +1,7 @@
 //! The forms of lines to alfred, the fact store.
 
 ghost use Rattle.std.specs.Prelude.{◌≡◌, Ok, IfOk, IfErr};
-ghost use Rattle.mesh_model.specs.Scenario.NodeForms.{read_mode, read_put, read_get, read_alfred_form, read_alfred};
+ghost use Rattle.mesh_model.specs.Scenario.AlfredForms.{read_mode, read_put, read_get, read_alfred_form, read_alfred};
 ghost use Rattle.mesh_scenario.specs.LineErr.{Refuses};
 
 use crate::line_err::LineErr;

@@ -1,7 +1,7 @@
 //! The forms of lines that tell of clients.
 
 ghost use Rattle.std.specs.Prelude.{◌≡◌, Ok, IfOk, IfErr};
-ghost use Rattle.mesh_model.specs.Scenario.NodeForms.{read_frame, read_gone, read_join, read_leave, read_arp, read_dhcp};
+ghost use Rattle.mesh_model.specs.Scenario.ClientForms.{read_frame, read_gone, read_join, read_leave, read_arp, read_dhcp};
 ghost use Rattle.mesh_scenario.specs.LineErr.{Refuses};
 
 use crate::line_err::LineErr;

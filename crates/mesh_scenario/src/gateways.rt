@@ -1,7 +1,7 @@
 //! The gateways of a `lan` line.
 
 ghost use Rattle.std.specs.Prelude.{◌≡◌, IfOk, IfErr};
-ghost use Rattle.mesh_scenario.specs.Reads.{GivesGateways, RefusesGateways};
+ghost use Rattle.mesh_scenario.specs.Inner.Taking.{GivesGateways, RefusesGateways};
 
 use crate::line_err::LineErr;
 use crate::terms::is_name;

@@ -3,7 +3,7 @@
 ghost use Rattle.std.specs.Prelude.{◌≡◌, ◌∷◌, [], IfSome, IfNone, option_and_then};
 ghost use Rattle.std.specs.List.{slice_split};
 ghost use Rattle.mesh_model.specs.Scenario.Terms.{number_of, octet, ip_of};
-ghost use Rattle.mesh_scenario.specs.Reads.{is_dot};
+ghost use Rattle.mesh_scenario.specs.Inner.Taking.{is_dot};
 
 use crate::terms::number;
 
@@ -13,18 +13,15 @@ fn at_dot(text: &[u8]) -> Option<(&[u8], &[u8])>
         slice_split is_dot text.now ≡ parts.0.now ∷ slice_split is_dot parts.1.now) }
     ensures none { IfNone result (slice_split is_dot text.now ≡ text.now ∷ []) }
 {
-    let place = text.iter().position(|byte| *byte == b'.')?;
-    Some((&text[..place], &text[place + 1..]))
+    let offset = text.iter().position(|byte| *byte == b'.')?;
+    Some((&text[..offset], &text[offset + 1..]))
 }
 
 /// The number 0 to 255 that a word of decimal digits spells.
 fn octet(word: &[u8]) -> Option<u8>
     ensures { result ≡ option_and_then octet (number_of word.now) }
 {
-    match number(word)? {
-        number @ 0..=255 => Some(number as u8),
-        _ => None,
-    }
+    u8::try_from(number(word)?).ok()
 }
 
 /// The IP address that a word spells: four numbers 0 to 255 joined by dots.

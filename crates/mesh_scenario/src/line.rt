@@ -1,7 +1,6 @@
 ghost use Rattle.std.specs.Prelude.{◌≡◌, Ok, IfOk, IfErr};
 ghost use Rattle.std.specs.Str.{is_utf8};
-ghost use Rattle.mesh_model.specs.Scenario.Commands.{command_of_line, command_of_words, is_comment, read_form};
-ghost use Rattle.mesh_model.specs.Scenario.NodeForms.{node_forms};
+ghost use Rattle.mesh_model.specs.Scenario.Commands.{command_of_line, command_of_words, is_comment, node_forms, read_form};
 ghost use Rattle.mesh_model.specs.Scenario.Readings.{listed_form};
 ghost use Rattle.mesh_model.specs.declared.ending.Refusal.TheVariants.{UnknownCommand};
 ghost use Rattle.mesh_scenario.specs.LineErr.{Refuses};

@@ -1,5 +1,4 @@
 ghost use Rattle.std.specs.Prelude.{◌≡◌};
-ghost use Rattle.mesh_scenario.specs.LineErr.{line_err_of};
 ghost use Rattle.mesh_scenario.specs.declared.line_err.LineErr.TheVariants.{Memory};
 
 use mesh_base::NoMemory;
@@ -38,33 +37,6 @@ pub enum LineErr {
     /// Memory ran out.
     #[error("out of memory")]
     Memory,
-}
-
-/// Why a word isn't what its form wants, each as the variant of `LineErr`.
-#[derive(Clone, Copy, Debug, PartialEq, Eq, Error)]
-#[error("a bad word")]
-pub enum WordErr {
-    MissingWord,
-    BadName,
-    BadMac,
-    BadNumber,
-    OutOfRange,
-    ExtraWord,
-}
-
-impl From<WordErr> for LineErr {
-    ghost from_gives = { λ fault error. error ≡ line_err_of fault };
-
-    fn from(fault: WordErr) -> LineErr {
-        match fault {
-            WordErr::MissingWord => LineErr::MissingWord,
-            WordErr::BadName => LineErr::BadName,
-            WordErr::BadMac => LineErr::BadMac,
-            WordErr::BadNumber => LineErr::BadNumber,
-            WordErr::OutOfRange => LineErr::OutOfRange,
-            WordErr::ExtraWord => LineErr::ExtraWord,
-        }
-    }
 }
 
 impl From<NoMemory> for LineErr {

@@ -2,13 +2,11 @@
 
 ghost use Rattle.std.specs.Prelude.{◌≡◌, ◌<◌, Ok, Err, IfOk, IfErr, option_map};
 ghost use Rattle.mesh_model.specs.Scenario.Fields.{number_limit};
-ghost use Rattle.mesh_model.specs.Scenario.LinkOptions.{no_options, are_all_given, options_beside, with_one_more, number_within, with_delay, with_pattern, with_throughput, with_option};
+ghost use Rattle.mesh_model.specs.Scenario.LinkOptions.{no_options, are_all_given, options_beside, options_of, with_one_more, number_within, with_delay, with_pattern, with_throughput, with_option};
 ghost use Rattle.mesh_model.specs.Scenario.Terms.{number_of};
-ghost use Rattle.mesh_scenario.specs.LineErr.{refusal_of};
-ghost use Rattle.mesh_scenario.specs.Options.{options_seen};
-ghost use Rattle.mesh_scenario.specs.Reads.{GivesOptions, FailsOptions};
+ghost use Rattle.mesh_scenario.specs.Inner.Options.{options_seen, FailsOptions};
 
-use crate::line_err::WordErr;
+use crate::line_err::LineErr;
 use crate::terms::{is_pattern, number_within};
 use crate::words::Words;
 use mesh_base::Millis;
@@ -101,26 +99,26 @@ impl<'a> LinkOptions<'a> {
     }
 
     /// The options with those of one more word.
-    fn one_more(self, word: &'a [u8]) -> Result<LinkOptions<'a>, WordErr>
+    fn one_more(self, word: &'a [u8]) -> Result<LinkOptions<'a>, LineErr>
         ensures ok { IfOk result (λ options.
             with_one_more (options_seen self.entry) word.now ≡ Ok (options_seen options)) }
-        ensures refused { IfErr result (λ fault.
-            with_one_more (options_seen self.entry) word.now ≡ Err (refusal_of fault)) }
+        ensures refused { IfErr result
+            (FailsOptions (with_one_more (options_seen self.entry) word.now)) }
     {
         if self.are_all_given() {
-            return Err(WordErr::ExtraWord);
+            return Err(LineErr::ExtraWord);
         }
-        self.with_option(word).ok_or(WordErr::BadNumber)
+        self.with_option(word).ok_or(LineErr::BadNumber)
     }
 }
 
 impl<'a> Words<'a> {
     /// Takes the other words as options beside those that are given.
-    fn options_beside(&mut self, given: LinkOptions<'a>) -> Result<LinkOptions<'a>, WordErr>
+    fn options_beside(&mut self, given: LinkOptions<'a>) -> Result<LinkOptions<'a>, LineErr>
         ensures ok { IfOk result (λ options.
             options_beside (options_seen given.entry) self.old ≡ Ok (options_seen options)) }
-        ensures refused { IfErr result (λ fault.
-            options_beside (options_seen given.entry) self.old ≡ Err (refusal_of fault)) }
+        ensures refused { IfErr result
+            (FailsOptions (options_beside (options_seen given.entry) self.old)) }
     {
         match self.next() {
             None => Ok(given),
@@ -132,9 +130,9 @@ impl<'a> Words<'a> {
     }
 
     /// Takes the other words as options.
-    pub fn options(&mut self) -> Result<LinkOptions<'a>, WordErr>
-        ensures ok { IfOk result (λ options. GivesOptions self.old (options_seen options)) }
-        ensures refused { IfErr result (FailsOptions self.old) }
+    pub fn options(&mut self) -> Result<LinkOptions<'a>, LineErr>
+        ensures ok { IfOk result (λ options. options_of self.old ≡ Ok (options_seen options)) }
+        ensures refused { IfErr result (FailsOptions (options_of self.old)) }
     {
         self.options_beside(LinkOptions::none())
     }

@@ -1,7 +1,7 @@
 //! The forms of lines that set how a node behaves.
 
 ghost use Rattle.std.specs.Prelude.{◌≡◌, Ok, IfOk, IfErr};
-ghost use Rattle.mesh_model.specs.Scenario.NodeForms.{read_wifi, read_server, read_late, read_policy, read_gateway, read_mcast, read_dat, read_setting, read_set};
+ghost use Rattle.mesh_model.specs.Scenario.SettingForms.{read_wifi, read_server, read_late, read_policy, read_gateway, read_mcast, read_dat, read_setting, read_set};
 ghost use Rattle.mesh_scenario.specs.LineErr.{Refuses};
 ghost use Rattle.mesh_model.specs.Scenario.Readings.{the_end};
 ghost use Rattle.mesh_model.specs.declared.line_form.Command.TheVariants.{GwOff, GwClient};
@@ -13,8 +13,8 @@ use mesh_model::{Command, Policy};
 use std::alloc::Global;
 
 /// The greatest throughput of a gateway, in units of 100 kbit/s.
-const THROUGHPUT_LIMIT: u64 = 4_294_967_295;
-/// The greatest lead that a client wants of another gateway.
+const GATEWAY_THROUGHPUT_LIMIT: u64 = 4_294_967_295;
+/// The greatest lead by which a later gateway is better.
 const LEAD_LIMIT: u64 = 255;
 /// The greatest multicast flags.
 const MCAST_LIMIT: u64 = 7;
@@ -35,8 +35,8 @@ fn read_server(alloc: Global, node: &[u8], words: &mut Words<'_>) -> Result<Comm
     ensures ok { IfOk result (λ command. read_server node.now words.old ≡ Ok command) }
     ensures refused { IfErr result (Refuses (read_server node.now words.old)) }
 {
-    let down = words.number(0, THROUGHPUT_LIMIT)?;
-    let up = words.number(0, THROUGHPUT_LIMIT)?;
+    let down = words.number(0, GATEWAY_THROUGHPUT_LIMIT)?;
+    let up = words.number(0, GATEWAY_THROUGHPUT_LIMIT)?;
     words.end()?;
     let node = Bytes::from_slice(alloc, node)?;
     Ok(Command::GwServer {

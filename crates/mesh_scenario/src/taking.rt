@@ -2,11 +2,11 @@
 
 ghost use Rattle.std.specs.Prelude.{◌≡◌, ◌<◌, ◌≤◌, IfOk, IfErr};
 ghost use Rattle.mesh_model.specs.Scenario.Fields.{word_field, name_field, unicast_field, target_field, group_field, vid_field, ip_field, hex_field, number_field, number_limit, frame_number_field, switch_field, algorithm_field, alfred_mode_field, table_field};
-ghost use Rattle.mesh_scenario.specs.Reads.{GivesField, FailsField, RefusesField, GivesText, FailsText, GivesTextUpTo, FailsTextUpTo, IsAtEnd, HasMore};
+ghost use Rattle.mesh_scenario.specs.Inner.Taking.{GivesField, FailsField, RefusesField, GivesText, FailsText, GivesTextUpTo, FailsTextUpTo, IsAtEnd, HasMore};
 
 use crate::hex_bytes::hex_bytes;
 use crate::ip::ip;
-use crate::line_err::{LineErr, WordErr};
+use crate::line_err::LineErr;
 use crate::words::Words;
 use crate::{listed, terms};
 use mesh_base::{Bytes, Mac, Vid};
@@ -15,85 +15,85 @@ use std::alloc::Global;
 
 impl<'a> Words<'a> {
     /// Takes a word as it stands.
-    pub fn word(&mut self) -> Result<&'a [u8], WordErr>
+    pub fn word(&mut self) -> Result<&'a [u8], LineErr>
         ensures ok { IfOk result (λ word. GivesField word_field self.old word.now self.new) }
         ensures refused { IfErr result (FailsField word_field self.old) }
     {
-        let found = self.next().ok_or(WordErr::MissingWord)?;
+        let found = self.next().ok_or(LineErr::MissingWord)?;
         Ok(found.word)
     }
 
     /// Takes a name.
-    pub fn name(&mut self) -> Result<&'a [u8], WordErr>
+    pub fn name(&mut self) -> Result<&'a [u8], LineErr>
         ensures ok { IfOk result (λ name. GivesField name_field self.old name.now self.new) }
         ensures refused { IfErr result (FailsField name_field self.old) }
     {
-        let found = self.next().ok_or(WordErr::MissingWord)?;
+        let found = self.next().ok_or(LineErr::MissingWord)?;
         if terms::is_name(found.word) {
             Ok(found.word)
         } else {
-            Err(WordErr::BadName)
+            Err(LineErr::BadName)
         }
     }
 
     /// Takes the address of one station.
-    pub fn unicast(&mut self) -> Result<Mac, WordErr>
+    pub fn unicast(&mut self) -> Result<Mac, LineErr>
         ensures ok { IfOk result (λ mac. GivesField unicast_field self.old mac self.new) }
         ensures refused { IfErr result (FailsField unicast_field self.old) }
     {
-        let found = self.next().ok_or(WordErr::MissingWord)?;
-        let mac = Mac::read(found.word).ok_or(WordErr::BadMac)?;
+        let found = self.next().ok_or(LineErr::MissingWord)?;
+        let mac = Mac::read(found.word).ok_or(LineErr::BadMac)?;
         if terms::is_unicast(mac) {
             Ok(mac)
         } else {
-            Err(WordErr::OutOfRange)
+            Err(LineErr::OutOfRange)
         }
     }
 
     /// Takes the address to which a frame goes.
-    pub fn target(&mut self) -> Result<Mac, WordErr>
+    pub fn target(&mut self) -> Result<Mac, LineErr>
         ensures ok { IfOk result (λ mac. GivesField target_field self.old mac self.new) }
         ensures refused { IfErr result (FailsField target_field self.old) }
     {
-        let found = self.next().ok_or(WordErr::MissingWord)?;
-        let mac = Mac::read(found.word).ok_or(WordErr::BadMac)?;
+        let found = self.next().ok_or(LineErr::MissingWord)?;
+        let mac = Mac::read(found.word).ok_or(LineErr::BadMac)?;
         if mac.is_zero() {
-            Err(WordErr::OutOfRange)
+            Err(LineErr::OutOfRange)
         } else {
             Ok(mac)
         }
     }
 
     /// Takes the address of a group other than all stations.
-    pub fn group(&mut self) -> Result<Mac, WordErr>
+    pub fn group(&mut self) -> Result<Mac, LineErr>
         ensures ok { IfOk result (λ mac. GivesField group_field self.old mac self.new) }
         ensures refused { IfErr result (FailsField group_field self.old) }
     {
-        let found = self.next().ok_or(WordErr::MissingWord)?;
-        let mac = Mac::read(found.word).ok_or(WordErr::BadMac)?;
+        let found = self.next().ok_or(LineErr::MissingWord)?;
+        let mac = Mac::read(found.word).ok_or(LineErr::BadMac)?;
         if terms::is_group(mac) {
             Ok(mac)
         } else {
-            Err(WordErr::OutOfRange)
+            Err(LineErr::OutOfRange)
         }
     }
 
     /// Takes a VLAN.
-    pub fn vid(&mut self) -> Result<Vid, WordErr>
+    pub fn vid(&mut self) -> Result<Vid, LineErr>
         ensures ok { IfOk result (λ vid. GivesField vid_field self.old vid self.new) }
         ensures refused { IfErr result (FailsField vid_field self.old) }
     {
-        let found = self.next().ok_or(WordErr::MissingWord)?;
-        terms::vid(found.word).ok_or(WordErr::BadNumber)
+        let found = self.next().ok_or(LineErr::MissingWord)?;
+        terms::vid(found.word).ok_or(LineErr::BadNumber)
     }
 
     /// Takes an IP address.
-    pub fn ip(&mut self) -> Result<u32, WordErr>
+    pub fn ip(&mut self) -> Result<u32, LineErr>
         ensures ok { IfOk result (λ address. GivesField ip_field self.old address self.new) }
         ensures refused { IfErr result (FailsField ip_field self.old) }
     {
-        let found = self.next().ok_or(WordErr::MissingWord)?;
-        ip(found.word).ok_or(WordErr::BadNumber)
+        let found = self.next().ok_or(LineErr::MissingWord)?;
+        ip(found.word).ok_or(LineErr::BadNumber)
     }
 
     /// Takes bytes in hex.
@@ -106,99 +106,99 @@ impl<'a> Words<'a> {
     }
 
     /// Takes a number in a range.
-    pub fn number(&mut self, least: u64, most: u64) -> Result<u64, WordErr>
+    pub fn number(&mut self, least: u64, most: u64) -> Result<u64, LineErr>
         requires { most < number_limit }
         ensures ok { IfOk result (λ number.
             GivesField (number_field least most) self.old number self.new) }
         ensures within { IfOk result (λ number. number ≤ most) }
         ensures refused { IfErr result (FailsField (number_field least most) self.old) }
     {
-        let found = self.next().ok_or(WordErr::MissingWord)?;
-        let number = terms::number(found.word).ok_or(WordErr::BadNumber)?;
+        let found = self.next().ok_or(LineErr::MissingWord)?;
+        let number = terms::number(found.word).ok_or(LineErr::BadNumber)?;
         if least <= number && number <= most {
             Ok(number)
         } else {
-            Err(WordErr::OutOfRange)
+            Err(LineErr::OutOfRange)
         }
     }
 
     /// Takes the number of a link frame; `u64::MAX` stands for all that are greater.
-    pub fn frame_number(&mut self) -> Result<u64, WordErr>
+    pub fn frame_number(&mut self) -> Result<u64, LineErr>
         ensures ok { IfOk result (λ number.
             GivesField frame_number_field self.old number self.new) }
         ensures refused { IfErr result (FailsField frame_number_field self.old) }
     {
-        let found = self.next().ok_or(WordErr::MissingWord)?;
-        terms::number(found.word).ok_or(WordErr::BadNumber)
+        let found = self.next().ok_or(LineErr::MissingWord)?;
+        terms::number(found.word).ok_or(LineErr::BadNumber)
     }
 
     /// Takes `on` or `off`.
-    pub fn switch(&mut self) -> Result<bool, WordErr>
+    pub fn switch(&mut self) -> Result<bool, LineErr>
         ensures ok { IfOk result (λ on. GivesField switch_field self.old on self.new) }
         ensures refused { IfErr result (FailsField switch_field self.old) }
     {
-        let found = self.next().ok_or(WordErr::MissingWord)?;
-        listed::switch(found.word).ok_or(WordErr::OutOfRange)
+        let found = self.next().ok_or(LineErr::MissingWord)?;
+        listed::switch(found.word).ok_or(LineErr::OutOfRange)
     }
 
     /// Takes the name of an algorithm.
-    pub fn algorithm(&mut self) -> Result<Algorithm, WordErr>
+    pub fn algorithm(&mut self) -> Result<Algorithm, LineErr>
         ensures ok { IfOk result (λ algorithm.
             GivesField algorithm_field self.old algorithm self.new) }
         ensures refused { IfErr result (FailsField algorithm_field self.old) }
     {
-        let found = self.next().ok_or(WordErr::MissingWord)?;
-        listed::algorithm(found.word).ok_or(WordErr::OutOfRange)
+        let found = self.next().ok_or(LineErr::MissingWord)?;
+        listed::algorithm(found.word).ok_or(LineErr::OutOfRange)
     }
 
     /// Takes a mode of alfred.
-    pub fn alfred_mode(&mut self) -> Result<AlfredMode, WordErr>
+    pub fn alfred_mode(&mut self) -> Result<AlfredMode, LineErr>
         ensures ok { IfOk result (λ mode. GivesField alfred_mode_field self.old mode self.new) }
         ensures refused { IfErr result (FailsField alfred_mode_field self.old) }
     {
-        let found = self.next().ok_or(WordErr::MissingWord)?;
-        listed::alfred_mode(found.word).ok_or(WordErr::OutOfRange)
+        let found = self.next().ok_or(LineErr::MissingWord)?;
+        listed::alfred_mode(found.word).ok_or(LineErr::OutOfRange)
     }
 
     /// Takes the name of a table.
-    pub fn table(&mut self) -> Result<Table, WordErr>
+    pub fn table(&mut self) -> Result<Table, LineErr>
         ensures ok { IfOk result (λ table. GivesField table_field self.old table self.new) }
         ensures refused { IfErr result (FailsField table_field self.old) }
     {
-        let found = self.next().ok_or(WordErr::MissingWord)?;
-        listed::table(found.word).ok_or(WordErr::OutOfRange)
+        let found = self.next().ok_or(LineErr::MissingWord)?;
+        listed::table(found.word).ok_or(LineErr::OutOfRange)
     }
 
     /// Takes the rest of the line.
-    pub fn text(&mut self) -> Result<&'a [u8], WordErr>
+    pub fn text(&mut self) -> Result<&'a [u8], LineErr>
         ensures ok { IfOk result (λ text. GivesText self.old text.now) }
         ensures refused { IfErr result (FailsText self.old) }
     {
-        let found = self.next().ok_or(WordErr::MissingWord)?;
+        let found = self.next().ok_or(LineErr::MissingWord)?;
         Ok(found.text)
     }
 
     /// Takes the rest of the line, of at most so many bytes.
-    pub fn text_up_to(&mut self, most: usize) -> Result<&'a [u8], WordErr>
+    pub fn text_up_to(&mut self, most: usize) -> Result<&'a [u8], LineErr>
         ensures ok { IfOk result (λ text. GivesTextUpTo most self.old text.now) }
         ensures refused { IfErr result (FailsTextUpTo most self.old) }
     {
-        let found = self.next().ok_or(WordErr::MissingWord)?;
+        let found = self.next().ok_or(LineErr::MissingWord)?;
         if found.text.len() <= most {
             Ok(found.text)
         } else {
-            Err(WordErr::OutOfRange)
+            Err(LineErr::OutOfRange)
         }
     }
 
     /// Sees that there are no more words.
-    pub fn end(&mut self) -> Result<(), WordErr>
+    pub fn end(&mut self) -> Result<(), LineErr>
         ensures ok { IfOk result (λ _. IsAtEnd self.old) }
         ensures refused { IfErr result (HasMore self.old) }
     {
         match self.next() {
             None => Ok(()),
-            Some(_) => Err(WordErr::ExtraWord),
+            Some(_) => Err(LineErr::ExtraWord),
         }
     }
 }

@@ -1,7 +1,7 @@
 //! What a single word may say.
 
 ghost use Rattle.std.specs.Prelude.{◌≡◌, ◌<◌, ◌≤◌, ◌&&◌, not, option_map, option_and_then, IfSome};
-ghost use Rattle.mesh_model.specs.Scenario.Terms.{is_letter, is_digit, is_name_character, is_name, number_of, vid_of, is_mark, is_pattern};
+ghost use Rattle.mesh_model.specs.Scenario.Terms.{is_name_character, is_name, number_of, vid_of, is_mark, is_pattern};
 ghost use Rattle.mesh_model.specs.Scenario.LinkOptions.{number_within};
 ghost use Rattle.mesh_base.specs.Address.{is_broadcast, is_group, is_unicast};
 ghost use Rattle.mesh_model.specs.Scenario.Fields.{kept_number, number_limit};
@@ -15,25 +15,11 @@ const VLAN_LIMIT: u64 = 4094;
 /// The most marks of a pattern.
 const PATTERN_LIMIT: usize = 64;
 
-/// Whether a character is an ASCII letter.
-fn is_letter(character: u8) -> bool
-    ensures { result ≡ is_letter character }
-{
-    matches!(character, b'a'..=b'z' | b'A'..=b'Z')
-}
-
-/// Whether a character is a decimal digit.
-fn is_digit(character: u8) -> bool
-    ensures { result ≡ is_digit character }
-{
-    matches!(character, b'0'..=b'9')
-}
-
 /// Whether a character may stand in a name.
 fn is_name_character(character: u8) -> bool
     ensures { result ≡ is_name_character character }
 {
-    is_letter(character) || is_digit(character) || character == b'_'
+    character.is_ascii_alphabetic() || character.is_ascii_digit() || character == b'_'
 }
 
 /// Whether a word is a name.
@@ -43,7 +29,7 @@ pub fn is_name(word: &[u8]) -> bool
     let [first, rest @ ..] = word else {
         return false;
     };
-    if !is_letter(*first) || word.len() > NAME_LIMIT {
+    if !first.is_ascii_alphabetic() || word.len() > NAME_LIMIT {
         return false;
     }
     rest.iter().all(|character| is_name_character(*character))
@@ -53,7 +39,7 @@ pub fn is_name(word: &[u8]) -> bool
 pub fn number(word: &[u8]) -> Option<u64>
     ensures { result ≡ option_map kept_number (number_of word.now) }
 {
-    if word.is_empty() || !word.iter().all(|digit| is_digit(*digit)) {
+    if word.is_empty() || !word.iter().all(|digit| digit.is_ascii_digit()) {
         return None;
     }
     let mut value: u64 = 0;

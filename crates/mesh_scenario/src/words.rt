@@ -1,7 +1,7 @@
 ghost use Rattle.std.specs.Prelude.{◌≡◌, ◌≤◌, ◌∷◌, [], length, IfSome, IfNone};
 ghost use Rattle.std.specs.List.{position_or_len};
-ghost use Rattle.mesh_model.specs.Scenario.Words.{words_of, is_separator};
-ghost use Rattle.mesh_scenario.specs.Reads.{word_found, is_in_word};
+ghost use Rattle.mesh_model.specs.Scenario.Words.{line_words, is_separator};
+ghost use Rattle.mesh_scenario.specs.Inner.Taking.{word_found, is_in_word};
 
 use memchr::memchr2;
 use std::marker::Model;
@@ -21,11 +21,11 @@ pub struct Words<'a> {
 
 impl<'a> Model for Words<'a> {
     ghost use Rattle.std.specs.Prelude.{List};
-    ghost use Rattle.mesh_model.specs.Scenario.Words.{Word, words_of};
+    ghost use Rattle.mesh_model.specs.Scenario.Words.{Word, line_words};
 
     ghost Value = { List Word };
 
-    ghost view = { λ w. words_of w.rest.now };
+    ghost view = { λ w. line_words w.rest.now };
 }
 
 /// Whether a byte stands between words.
@@ -56,7 +56,7 @@ fn word_length(text: &[u8]) -> usize
 impl<'a> Words<'a> {
     /// The words of this line.
     pub fn of(line: &'a [u8]) -> Words<'a>
-        ensures { result ≡ words_of line.now }
+        ensures { result ≡ line_words line.now }
     {
         Words { rest: line }
     }

@@ -1,2 +1,3 @@
 -- What the methods of `Locals` rest on.
+pub mod OrderedMapLemmas
 pub mod LocalsLemmas

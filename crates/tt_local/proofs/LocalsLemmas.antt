@@ -1,5 +1,5 @@
 -- What a list of sightings by key says of the present clients, and how a new sighting changes it.
-use Rattle.std.proofs.Common.{filter_map, ◌≡◌, ◌↔◌, ◌≤◌, IsNone, length, slice_get, arith, ℕ, ◌-◌, true, false, cond, not, ◌&&◌, List, ◌∷◌, [], find, IfSome, Option, Some, None, option_and_then, refl, sym, ap, ◌∙◌}
+use Rattle.std.proofs.Common.{filter_map, ◌≡◌, ◌↔◌, ◌≤◌, IsNone, length, slice_get, arith, ℕ, ◌-◌, true, false, cond, not, ◌&&◌, List, ◌∷◌, [], find, IfSome, Option, Some, None, option_and_then, refl, sym, ap, subst, ◌∙◌}
 use Rattle.std.specs.List.Sorted.{IsStrictlySortedBy}
 use Rattle.std.specs.Map.{keys_of, lookup}
 use Rattle.std.specs.Option.{option_or}
@@ -35,11 +35,11 @@ row_of_last now key (Some m) passes =
     row_of_sighted now key m.key m.moment m.news (equal_from_same key m.key parts.0) parts.1
 
 -- a key's sighting gives its row
-pub row_kept : (entries : List (Key × Sighting)) (mentions : List Mention) → StandsFor entries mentions → (now : ℕ) (key : Key) → option_and_then (sighting_row now key) (lookup (same_key key) entries) ≡ present_row now mentions key
+pub row_kept : (entries : List (Key × Sighting)) (mentions : List Mention) → StandsFor entries mentions → (now : ℕ) (key : Key) → option_and_then (sighting_row now key) (lookup (same_key key) entries) ≡ present_row mentions now key
 row_kept entries mentions stands now key =
     ap (option_and_then (sighting_row now key)) (stands.kept key)
-    ∙ row_of_last now key (last_mention key mentions) (found_passes _ mentions)
-    ∙ sym (ap (λ o. option_or (option_and_then (row_by now) o) (option_and_then (row_by now) (last_mention key mentions))) (stands.no_groups key))
+    ∙ row_of_last now key (last_mention mentions key) (found_passes _ mentions)
+    ∙ sym (ap (λ o. option_or (option_and_then (row_by now) o) (option_and_then (row_by now) (last_mention mentions key))) (stands.no_groups key))
 
 row_from_item : (now : ℕ) (q : Key) (entries : List (Key × Sighting)) → option_and_then (λ (e : Key × Sighting). sighting_row now e.0 e.1) (item_at key_order (λ (e : Key × Sighting). e.0) q entries) ≡ option_and_then (sighting_row now q) (lookup (same_key q) entries)
 row_from_item now q [] = refl
@@ -50,7 +50,7 @@ row_from_item now q (e ∷ es) =
     ] refl
 
 -- the rows of the sightings that count are the present clients
-pub rows_kept : (entries : List (Key × Sighting)) (mentions : List Mention) → StandsFor entries mentions → (now : ℕ) → sighting_rows now entries ≡ present_clients now mentions
+pub rows_kept : (entries : List (Key × Sighting)) (mentions : List Mention) → StandsFor entries mentions → (now : ℕ) → sighting_rows now entries ≡ present_clients mentions now
 rows_kept entries mentions stands now =
     let row = λ (e : Key × Sighting). sighting_row now e.0 e.1 in
     let keeps : (e : Key × Sighting) → IfSome (sighting_row now e.0 e.1) (λ r. r.entry.key ≡ e.0) = λ e. row_of_news e.0 (now - e.1.moment) (Sighted e.1.flags) in
@@ -59,6 +59,12 @@ rows_kept entries mentions stands now =
     (λ q. item_at_filter key_order (λ (e : Key × Sighting). e.0) (λ (r : LocalRow). r.entry.key) row keeps key_exact q entries stands.ordered
     ∙ row_from_item now q entries ∙ row_kept entries mentions stands now q)
 
+-- no sightings are those of a node without mentions
+pub StandsFor-empty : (entries : List (Key × Sighting)) → entries ≡ [] → StandsFor entries []
+unfolding IsStrictlySortedBy
+StandsFor-empty entries is = subst (λ es. StandsFor es []) (sym is)
+    (record { kept = λ key. refl; ordered = tt; no_groups = λ key. refl })
+
 -- a sighting takes the place of what its key had
 pub sighted : (entries after : List (Key × Sighting)) (mentions : List Mention) (now : ℕ) (key : Key) (flags : ℕ)
     → ((q : Key) → lookup (same_key q) after ≡ cond (same_key key q) (Some (record { flags = flags; moment = now })) (lookup (same_key q) entries))
@@ -66,7 +72,7 @@ pub sighted : (entries after : List (Key × Sighting)) (mentions : List Mention)
 sighted entries after mentions now key flags updates sorted stands = record {
   kept = λ q. updates q
       ∙ ap (λ b. cond b (Some (record { flags = flags; moment = now })) (lookup (same_key q) entries)) ((eq_by_cmp_equiv key_total).symm key q)
-      ∙ elim (same_key q key) as (λ b. cond b (Some (record { flags = flags; moment = now })) (lookup (same_key q) entries) ≡ option_and_then sighting_in (cond (b && true) (Some (record { moment = now; key = key; news = Sighted flags })) (last_mention q mentions))) [
+      ∙ elim (same_key q key) as (λ b. cond b (Some (record { flags = flags; moment = now })) (lookup (same_key q) entries) ≡ option_and_then sighting_in (cond (b && true) (Some (record { moment = now; key = key; news = Sighted flags })) (last_mention mentions q))) [
         | true ↦ refl
         | false ↦ stands.kept q
       ];

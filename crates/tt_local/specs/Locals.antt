@@ -31,8 +31,8 @@ sighting_row now key sighting = row_after key (now - sighting.moment) (Sighted s
 pub record StandsFor (entries : List (Key × Sighting)) (mentions : List Mention) : Type 0 where
   -- under each key is its last mention, where that is a sighting
   pub kept : (key : Key) →
-      lookup (same_key key) entries ≡ option_and_then sighting_in (last_mention key mentions)
+      lookup (same_key key) entries ≡ option_and_then sighting_in (last_mention mentions key)
   -- the keys ascend
   pub ordered : IsStrictlySortedBy key_order (keys_of entries)
   -- no group was joined or left
-  pub no_groups : (key : Key) → last_membership key mentions ≡ None
+  pub no_groups : (key : Key) → last_membership mentions key ≡ None

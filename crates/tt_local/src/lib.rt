@@ -2,12 +2,12 @@
 
 #![tactic(auto)]
 
-pub mod clients;
 pub mod failure;
+pub mod locals;
 mod sighting;
 
-pub use clients::Locals;
 pub use failure::LocalErr;
+pub use locals::Locals;
 pub use mesh_model::LocalRow;
 
 #[cfg(test)]

@@ -53,13 +53,13 @@ makes_present Left = false
 -- whether a mention right after these makes a key present that wasn't
 abbrev pub is_newly_present : List Mention → Mention → Bool
 is_newly_present older mention =
-    makes_present mention.news && is_none (present_row mention.moment older mention.key)
+    makes_present mention.news && is_none (present_row older mention.moment mention.key)
 
 -- the limit that a mention right after these passes
 abbrev pub limit_of_mention : List Mention → Mention → Option LimitName
 limit_of_mention older mention =
     if is_newly_present older mention
-    then limit_beside (present_clients mention.moment older) mention.key.vid else None
+    then limit_beside (present_clients older mention.moment) mention.key.vid else None
 
 -- the limit that the first mention to pass one passes
 abbrev pub limit_of_mentions : List Mention → List Mention → Option LimitName
@@ -69,4 +69,4 @@ limit_of_mentions older (mention ∷ rest) =
 
 -- the limit that an input at a moment, right after the log of the node of an address, passes
 abbrev pub passed_limit : Mac → Log → ℕ → Given → Option LimitName
-passed_limit me log now given = limit_of_mentions (mentions log) (mentions_by log now given)
+passed_limit me log now given = limit_of_mentions (mentions me log) (mentions_by me log now given)

@@ -28,12 +28,12 @@ is_membership Joined = true
 is_membership Left = true
 
 -- the last mention of a key, joining and leaving apart
-abbrev pub last_mention : Key → List Mention → Option Mention
-last_mention key mentions = find (λ m. same_key key m.key && not (is_membership m.news)) mentions
+abbrev pub last_mention : List Mention → Key → Option Mention
+last_mention mentions key = find (λ m. same_key key m.key && not (is_membership m.news)) mentions
 
 -- the last joining or leaving of a key
-abbrev pub last_membership : Key → List Mention → Option Mention
-last_membership key mentions = find (λ m. same_key key m.key && is_membership m.news) mentions
+abbrev pub last_membership : List Mention → Key → Option Mention
+last_membership mentions key = find (λ m. same_key key m.key && is_membership m.news) mentions
 
 -- the entry of a key with its flags
 abbrev pub entry_of : Key → ℕ → Entry
@@ -55,10 +55,10 @@ abbrev pub row_by : ℕ → Mention → Option LocalRow
 row_by now mention = row_after mention.key (now - mention.moment) mention.news
 
 -- a key's row at a moment, where it is present: as a joined group, or else as a client
-abbrev pub present_row : ℕ → List Mention → Key → Option LocalRow
-present_row now mentions key = option_or
-    (option_and_then (row_by now) (last_membership key mentions))
-    (option_and_then (row_by now) (last_mention key mentions))
+abbrev pub present_row : List Mention → ℕ → Key → Option LocalRow
+present_row mentions now key = option_or
+    (option_and_then (row_by now) (last_membership mentions key))
+    (option_and_then (row_by now) (last_mention mentions key))
 
 -- the keys of a list with one more, in key order and each once
 abbrev pub insert_key : Key → List Key → List Key
@@ -73,5 +73,5 @@ mentioned_keys [] = []
 mentioned_keys (m ∷ older) = insert_key m.key (mentioned_keys older)
 
 -- the present clients at a moment, in key order
-abbrev pub present_clients : ℕ → List Mention → List LocalRow
-present_clients now mentions = filter_map (present_row now mentions) (mentioned_keys mentions)
+abbrev pub present_clients : List Mention → ℕ → List LocalRow
+present_clients mentions now = filter_map (present_row mentions now) (mentioned_keys mentions)

@@ -19,7 +19,7 @@ local_table now node = record {
   name = node.name;
   version = 0;
   sums = [];
-  rows = present_clients now (mentions node.log);
+  rows = present_clients (mentions node.mac node.log) now;
 }
 
 -- what is printed of a node at a moment, for each table that is shown

@@ -62,7 +62,7 @@ local_table now node = record {
   name = node.name;
   version = 0;
   sums = [];
-  rows = present_clients now (mentions node.mac node.log);
+  rows = present_clients (mentions node.mac node.log) now;
 }
 
 -- what is printed of a node at a moment, for each table that is shown

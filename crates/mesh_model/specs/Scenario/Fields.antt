@@ -63,6 +63,10 @@ abbrev pub number_field : ℕ → ℕ → List ℕ → Result ℕ Refusal
 number_field least most word =
     passing (λ n. nat_le least n && nat_le n most) (ok_or (number_of word) BadNumber)
 
+-- a number up to another
+abbrev pub number_up_to : ℕ → List ℕ → Result ℕ Refusal
+number_up_to most = number_field 0 most
+
 -- the greatest number of 64 bits
 abbrev pub number_limit : ℕ
 number_limit = 2 ^ 64 - 1

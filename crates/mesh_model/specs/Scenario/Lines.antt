@@ -4,11 +4,11 @@
 use Rattle.std.specs.Prelude.{ℕ, ◌-◌, ◌==◌, Bool, false, List, [], ◌∷◌, length, take, drop, filter, bytes_eq, if◌then◌else◌}
 use Rattle.std.specs.List.{onto_first}
 
--- the byte that ends a line
+-- the code of the byte that ends a line
 abbrev pub newline : ℕ
 newline = 10
 
--- the byte that may stand before a newline and is dropped with it
+-- the code of the byte that may stand before a newline and is dropped with it
 abbrev pub carriage_return : ℕ
 carriage_return = 13
 

@@ -3,14 +3,42 @@
 -- option, an option that isn't of its form and one that is given twice are refused by `bad
 -- number`; behind three different options a further word is one too many. Where an option isn't
 -- given, D is 1, P is `.` and T is 10. The main words are `options_of` and `link_with`.
-use Rattle.std.specs.Prelude.{ℕ, ◌&&◌, nat_le, Bool, List, fold, codes, length, take, drop, bytes_eq, Option, Some, None, is_some, unwrap_or, option_map, option_and_then, ok_or, Result, Ok, Err, if◌then◌else◌}
+use Rattle.std.specs.Prelude.{ℕ, ◌&&◌, nat_le, Bool, List, [], ◌∷◌, fold, codes, length, take, drop, bytes_eq, Option, Some, None, is_some, unwrap_or, option_map, option_and_then, ok_or, Result, Ok, Err, if◌then◌else◌}
 use Rattle.mesh_model.specs.declared.ending.Refusal.{Refusal}
 use Rattle.mesh_model.specs.declared.ending.Refusal.TheVariants.{BadNumber, ExtraWord}
 use Rattle.mesh_model.specs.declared.line_form.Command.{Command}
 use Rattle.mesh_model.specs.declared.line_form.Command.TheVariants.{Link}
 use Rattle.mesh_model.specs.Scenario.Readings.{Reading, refused}
-use Rattle.mesh_model.specs.Scenario.Terms.{number_of, is_pattern}
+use Rattle.mesh_model.specs.Scenario.Terms.{number_of, once_mark, is_pattern}
 use Rattle.mesh_model.specs.Scenario.Words.{Word}
+
+-- the least delay, in milliseconds
+abbrev pub least_delay : ℕ
+least_delay = 1
+
+-- the greatest delay, in milliseconds
+abbrev pub delay_limit : ℕ
+delay_limit = 10000
+
+-- the least throughput, in units of 100 kbit/s
+abbrev pub least_throughput : ℕ
+least_throughput = 1
+
+-- the greatest throughput, in units of 100 kbit/s
+abbrev pub throughput_limit : ℕ
+throughput_limit = 1000000
+
+-- the delay where none is given
+abbrev pub default_delay : ℕ
+default_delay = 1
+
+-- the pattern where none is given: each frame is delivered once
+abbrev pub default_pattern : List ℕ
+default_pattern = once_mark ∷ []
+
+-- the throughput where none is given
+abbrev pub default_throughput : ℕ
+default_throughput = 10
 
 -- the options that are given
 pub record LinkOptions : Type 0 where
@@ -49,7 +77,7 @@ unless_given (Some given) read = None
 -- the options with a delay
 abbrev pub with_delay : LinkOptions → List ℕ → Option LinkOptions
 with_delay options word = option_map (λ delay. record options { delay = Some delay })
-    (unless_given options.delay (option_and_then (number_within 1 10000) (number_of word)))
+    (unless_given options.delay (option_and_then (number_within least_delay delay_limit) (number_of word)))
 
 -- the options with a pattern
 abbrev pub with_pattern : LinkOptions → List ℕ → Option LinkOptions
@@ -60,7 +88,8 @@ with_pattern options word = option_map (λ pattern. record options { pattern = S
 abbrev pub with_throughput : LinkOptions → List ℕ → Option LinkOptions
 with_throughput options word =
     option_map (λ throughput. record options { throughput = Some throughput })
-    (unless_given options.throughput (option_and_then (number_within 1 1000000) (number_of word)))
+    (unless_given options.throughput
+    (option_and_then (number_within least_throughput throughput_limit) (number_of word)))
 
 -- an option by what stands behind its name, where the word begins with that name
 abbrev pub when_named :
@@ -97,8 +126,9 @@ options_of words = options_beside no_options words
 -- the link with these options
 abbrev pub link_with : List ℕ → List ℕ → LinkOptions → Command
 link_with from to options =
-    Link from to (unwrap_or options.delay 1) (unwrap_or options.pattern (codes "."))
-    (unwrap_or options.throughput 10)
+    Link from to (unwrap_or options.delay default_delay)
+    (unwrap_or options.pattern default_pattern)
+    (unwrap_or options.throughput default_throughput)
 
 -- a command with the options that were read
 abbrev pub after_options : (LinkOptions → Command) → Result LinkOptions Refusal → Reading

@@ -28,7 +28,7 @@ read_link = a_field name_field (λ from. a_field name_field (λ to. the_options 
 abbrev pub gateway_limit : ℕ
 gateway_limit = 16
 
--- the other words as gateways: at least one name, and after sixteen of them none
+-- the other words as gateways: at least one name, and no more than so many
 abbrev pub the_gateways : (List (List ℕ) → Command) → List Word → Reading
 the_gateways command [] = refused MissingWord
 the_gateways command (first ∷ rest) =
@@ -50,13 +50,17 @@ abbrev pub read_traceroute : List Word → Reading
 read_traceroute =
     a_field name_field (λ node. a_field name_field (λ target. the_end (Trace node target)))
 
+-- the fewest milliseconds that a line lets pass
+abbrev pub least_time : ℕ
+least_time = 1
+
 -- the most milliseconds that a line lets pass
 abbrev pub time_limit : ℕ
 time_limit = 1099511627776
 
 -- run MS
 abbrev pub read_run : List Word → Reading
-read_run = a_field (number_field 1 time_limit) (λ time. the_end (Run time))
+read_run = a_field (number_field least_time time_limit) (λ time. the_end (Run time))
 
 -- deliver N
 abbrev pub read_deliver : List Word → Reading

@@ -4,25 +4,22 @@
 -- as pairs of hex digits, at least one; the pattern of a link has 1 to 64 of the marks `.`, `x`,
 -- `2` and `h`.
 use Rattle.std.specs.Prelude.{ℕ, ◌+◌, ◌-◌, ◌*◌, ◌==◌, ◌&&◌, ◌||◌, nat_lt, nat_le, Bool, false, List, [], ◌∷◌, length, fold, codes, bytes_eq, Option, Some, None, option_and_then, if◌then◌else◌}
+use Rattle.std.specs.Char.{is_ascii_alphabetic, is_ascii_digit}
 use Rattle.std.specs.Int.{from_be_bytes, w32}
 use Rattle.std.specs.List.{list_all, slice_split}
 use Rattle.std.specs.Result.{result_ok}
 use Rattle.hex.specs.Hex.{decode_of}
-use Rattle.mesh_model.specs.Packets.Numbers.{tagged_bit}
-use Rattle.mesh_base.specs.Address.{option_both}
+use Rattle.mesh_base.specs.Address.{last_byte, option_both}
+use Rattle.mesh_base.specs.Vlan.{first_vlan, last_vlan, tagged_bit, untagged}
 use Rattle.mesh_base.specs.declared.client.Vid.{Vid}
 
--- a to z, A to Z
-abbrev pub is_letter : ℕ → Bool
-is_letter c = (nat_le 97 c && nat_le c 122) || (nat_le 65 c && nat_le c 90)
-
--- 0 to 9
-abbrev pub is_digit : ℕ → Bool
-is_digit c = nat_le 48 c && nat_le c 57
+-- the code of `_`
+abbrev pub underscore : ℕ
+underscore = 95
 
 -- a letter, a digit or `_`
 abbrev pub is_name_character : ℕ → Bool
-is_name_character c = is_letter c || is_digit c || (c == 95)
+is_name_character c = is_ascii_alphabetic c || is_ascii_digit c || (c == underscore)
 
 -- the most characters of a name
 abbrev pub name_limit : ℕ
@@ -32,47 +29,60 @@ name_limit = 16
 abbrev pub is_name : List ℕ → Bool
 is_name [] = false
 is_name (first ∷ rest) =
-    is_letter first && list_all is_name_character rest && nat_le (length (first ∷ rest)) name_limit
+    is_ascii_alphabetic first && list_all is_name_character rest && nat_le (length (first ∷ rest)) name_limit
+
+-- the values of a decimal digit
+abbrev pub decimal_base : ℕ
+decimal_base = 10
+
+-- the code of the digit `0`
+abbrev pub digit_zero : ℕ
+digit_zero = 48
 
 -- the value of decimal digits
 abbrev pub digits_value : List ℕ → ℕ
-digits_value digits = fold (λ value digit. 10 * value + (digit - 48)) 0 digits
+digits_value digits = fold (λ value digit. decimal_base * value + (digit - digit_zero)) 0 digits
 
 -- the number that a word spells
 abbrev pub number_of : List ℕ → Option ℕ
 number_of [] = None
 number_of (first ∷ rest) =
-    if list_all is_digit (first ∷ rest) then Some (digits_value (first ∷ rest)) else None
+    if list_all is_ascii_digit (first ∷ rest) then Some (digits_value (first ∷ rest)) else None
 
--- the wire number of a tagged VLAN, from its number 1 to 4094
+-- the wire number of a tagged VLAN, from its number
 abbrev pub tagged : ℕ → Option Vid
 tagged number =
-    if nat_le 1 number && nat_le number 4094 then Some (record { 0 = tagged_bit + number }) else None
+    if nat_le first_vlan number && nat_le number last_vlan
+    then Some (record { 0 = tagged_bit + number }) else None
 
 -- the VLAN that a word names
 abbrev pub vid_of : List ℕ → Option Vid
 vid_of word =
-    if bytes_eq word (codes "-") then Some (record { 0 = 0 })
+    if bytes_eq word (codes "-") then Some (record { 0 = untagged })
     else option_and_then tagged (number_of word)
 
--- the character between two numbers of an IP address
+-- the code of the character between two numbers of an IP address: `.`
 abbrev pub dot : ℕ
 dot = 46
 
--- a number 0 to 255
-abbrev pub octet : ℕ → Option ℕ
-octet number = if nat_le number 255 then Some number else None
+-- the numbers of an IP address
+abbrev pub ip_size : ℕ
+ip_size = 4
 
--- the numbers that parts spell, each 0 to 255
+-- a number that a byte holds
+abbrev pub octet : ℕ → Option ℕ
+octet number = if nat_le number last_byte then Some number else None
+
+-- the numbers that parts spell, each of which a byte holds
 abbrev pub octets_of : List (List ℕ) → Option (List ℕ)
 octets_of [] = Some []
 octets_of (part ∷ parts) =
     option_both (λ number numbers. number ∷ numbers)
     (option_and_then octet (number_of part)) (octets_of parts)
 
--- four numbers as one of 32 bits, the first of them highest
+-- numbers, as many as an IP address has, as one of 32 bits, the first of them highest
 abbrev pub ip_of_octets : List ℕ → Option ℕ
-ip_of_octets numbers = if length numbers == 4 then Some (from_be_bytes w32 numbers) else None
+ip_of_octets numbers = if length numbers == ip_size then Some (from_be_bytes w32 numbers) else None
 
 -- the IP address that a word spells
 abbrev pub ip_of : List ℕ → Option ℕ
@@ -83,9 +93,25 @@ abbrev pub bytes_of_hex : List ℕ → Option (List ℕ)
 bytes_of_hex [] = None
 bytes_of_hex (first ∷ rest) = result_ok (decode_of (first ∷ rest))
 
+-- the mark of a frame that is delivered once: `.`
+abbrev pub once_mark : ℕ
+once_mark = 46
+
+-- the mark of a frame that is never delivered: `x`
+abbrev pub lost_mark : ℕ
+lost_mark = 120
+
+-- the mark of a frame that is delivered twice: `2`
+abbrev pub twice_mark : ℕ
+twice_mark = 50
+
+-- the mark of a frame that is held back: `h`
+abbrev pub held_mark : ℕ
+held_mark = 104
+
 -- a mark of a pattern: what becomes of a link's frame
 abbrev pub is_mark : ℕ → Bool
-is_mark c = (c == 46) || (c == 120) || (c == 50) || (c == 104)
+is_mark c = (c == once_mark) || (c == lost_mark) || (c == twice_mark) || (c == held_mark)
 
 -- the most marks of a pattern
 abbrev pub pattern_limit : ℕ

@@ -1,6 +1,6 @@
 use Rattle.std.proofs.lemmas.Result.{err_from_is_err_and}
 use Rattle.mesh_model.specs.declared.line_form.Command.TheVariants.{Lan}
-use Rattle.mesh_scenario.proofs.RefusalLemmas.{Refuses-same}
+use Rattle.mesh_scenario.proofs.RefusesLemmas.{Refuses-same}
 use Rattle.mesh_scenario.proofs.net_forms.read_lan.Goals as goal
 
 pub returns-in_err-gateways-clause-refused : goal.returns-in_err-gateways-clause-refused

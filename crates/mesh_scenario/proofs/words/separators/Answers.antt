@@ -1,7 +1,7 @@
 use Rattle.std.proofs.Common.{rules, tests, ◌∙◌}
 use Rattle.std.proofs.lemmas.Iterator.{YieldsList-from_slice}
 use Rattle.std.proofs.lemmas.Iterator.Search.{position_from_yields_List}
-use Rattle.mesh_scenario.specs.Reads.{is_in_word}
+use Rattle.mesh_scenario.specs.Inner.Taking.{is_in_word}
 use Rattle.mesh_scenario.proofs.WordsLemmas.{unwrap_or-position}
 use Rattle.mesh_scenario.proofs.words.separators.Goals as goal
 

@@ -1,5 +1,5 @@
 use Rattle.std.proofs.Common.{rules, arith, sym, ◌∙◌}
-use Rattle.mesh_scenario.specs.Reads.{word_found}
+use Rattle.mesh_scenario.specs.Inner.Taking.{word_found}
 use Rattle.mesh_scenario.proofs.GatewayLemmas.{AreTaken-more, the_gateways-extra, the_gateways-bad}
 use Rattle.mesh_scenario.proofs.words.Words.gateways.Goals as goal
 
