@@ -1,6 +1,5 @@
-pub mod Places
-pub mod Packets
-pub mod Same
+pub mod Behind
+pub mod Decoded
 pub mod Written
-pub mod Refusals
 pub mod Puts
+pub mod Taking

@@ -2,19 +2,22 @@
 -- can tell, or where a tail is given to a kind that has none. The main word is `HasObstacle`.
 use Rattle.std.specs.Prelude.{◌≡◌, ℕ, ◌<◌, List, length, ⊤}
 use Rattle.mesh_model.specs.declared.packet.Head.{Head}
-use Rattle.mesh_model.specs.Packets.Layout.{row_of}
-use Rattle.mesh_model.specs.Packets.Layout.TailKind.{containers, nothing}
+use Rattle.mesh_model.specs.Packets.Shapes.{shape_of}
+use Rattle.mesh_model.specs.Packets.Shapes.TailKind.{containers, nothing}
 use Rattle.mesh_codec.specs.declared.failure.CodecErr.{CodecErr}
 use Rattle.mesh_codec.specs.declared.failure.CodecErr.TheVariants.{Short, Version, Kind, Length, Long, Tail, Memory}
 
--- the containers are longer than two bytes can tell
+-- the greatest length of containers that two bytes tell
+abbrev pub longest_containers : ℕ
+longest_containers = 65535
+
+-- the containers are longer than a header can tell
 abbrev pub IsTooLong : Head → List ℕ → Type 0
-IsTooLong head tail =
-    ((row_of head (length tail)).tail ≡ containers) × (65535 < length tail)
+IsTooLong head tail = ((shape_of head).tail ≡ containers) × (longest_containers < length tail)
 
 -- there is a tail, and the kind has none
 abbrev pub HasStrayTail : Head → List ℕ → Type 0
-HasStrayTail head tail = ((row_of head (length tail)).tail ≡ nothing) × (0 < length tail)
+HasStrayTail head tail = ((shape_of head).tail ≡ nothing) × (0 < length tail)
 
 -- why a packet can't be written; want of memory may come at any
 abbrev pub HasObstacle : Head → List ℕ → CodecErr → Type 0

@@ -1,10 +1,11 @@
 -- Laws of the packet grammar: bytes begin with one packet at most, no two packets have one
 -- spelling, what was written is read again, and what was read can be written.
-use Rattle.std.specs.Prelude.{◌≡◌, ◌≢◌, ℕ, List, ◌++◌, length, Some}
+use Rattle.std.specs.Prelude.{◌≡◌, ◌≢◌, ℕ, List, ◌++◌, length}
 use Rattle.std.specs.List.{flat_map}
 use Rattle.mesh_model.specs.declared.packet.Head.{Head}
-use Rattle.mesh_model.specs.Packets.Layout.{row_of, header_of, header_size, field_bytes, spelling, HasSpelling, HasSmallPlace, IsPacket}
-use Rattle.mesh_model.specs.Packets.Layout.TailKind.{all_the_rest}
+use Rattle.mesh_model.specs.Packets.Shapes.{header_size, shape_of}
+use Rattle.mesh_model.specs.Packets.Shapes.TailKind.{all_the_rest}
+use Rattle.mesh_model.specs.Packets.Layout.{header_of, part_spelling, spelling, HasSpelling, FitsFragment, IsPacket}
 
 -- the bytes begin with one packet at most
 abbrev pub HasOneReading : Type 0
@@ -21,7 +22,7 @@ HasOneSpelling = (head other : Head) (tail others : List ℕ)
 -- a packet whose tail isn't all the rest is read again, whatever follows it
 abbrev pub IsReadBeforeMore : Type 0
 IsReadBeforeMore = (head : Head) (tail more : List ℕ)
-    → HasSpelling head tail → (row_of head (length tail)).tail ≢ all_the_rest
+    → HasSpelling head tail → (shape_of head).tail ≢ all_the_rest
     → IsPacket (spelling head tail ++ more) head tail (length (spelling head tail))
 
 -- a packet that stands alone is read again
@@ -32,10 +33,9 @@ IsReadAlone = (head : Head) (tail : List ℕ)
 -- a packet that was read can be written
 abbrev pub CanBeWritten : Type 0
 CanBeWritten = (bytes : List ℕ) (head : Head) (tail : List ℕ) (used : ℕ)
-    → IsPacket bytes head tail used → HasSpelling head tail × HasSmallPlace head
+    → IsPacket bytes head tail used → HasSpelling head tail × FitsFragment head
 
--- the table of sizes gives the length of each header
-abbrev pub HasTableSize : Type 0
-HasTableSize = (head : Head) (tail : List ℕ) → HasSpelling head tail
-    → header_size (row_of head (length tail)).kind
-    ≡ Some (length (flat_map field_bytes (header_of head (length tail))))
+-- a header is as long as its shape says
+abbrev pub HasShapeSize : Type 0
+HasShapeSize = (head : Head) (tail : List ℕ) → HasSpelling head tail
+    → length (flat_map part_spelling (header_of head (length tail))) ≡ header_size (shape_of head)

@@ -1,7 +1,7 @@
--- The words of the public contracts and the laws, then those of the steps of reading and writing.
+-- The words of the public contracts and the laws, and under `Inner` those of the steps of reading
+-- and writing.
 pub mod Decoding
 pub mod Encoding
+pub mod Frames
 pub mod Laws
-pub mod Kinds
-pub mod Reading
-pub mod Writing
+pub mod Inner

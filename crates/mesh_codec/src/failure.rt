@@ -1,6 +1,8 @@
 ghost use Rattle.std.specs.Prelude.{◌≡◌};
 ghost use Rattle.mesh_codec.specs.declared.failure.CodecErr.TheVariants.{Memory};
+ghost use Rattle.mesh_codec.specs.Decoding.{error_of};
 
+use mesh_model::NoPacket;
 use std::alloc::{AllocError, AllocFailed};
 use thiserror::Error;
 
@@ -28,6 +30,19 @@ pub enum CodecErr {
     Tail { len: usize },
     #[error("out of memory")]
     Memory,
+}
+
+impl From<NoPacket> for CodecErr {
+    ghost from_gives = { λ cause error. error ≡ error_of cause };
+
+    fn from(cause: NoPacket) -> CodecErr {
+        match cause {
+            NoPacket::Short { have, need } => CodecErr::Short { have, need },
+            NoPacket::Version { byte } => CodecErr::Version { byte },
+            NoPacket::Kind { byte } => CodecErr::Kind { byte },
+            NoPacket::Length { told, left } => CodecErr::Length { told, left },
+        }
+    }
 }
 
 impl From<AllocError> for CodecErr {

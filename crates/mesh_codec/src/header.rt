@@ -1,10 +1,10 @@
 //! The headers of the nine kinds: each reader takes the bytes after type and version.
 
-ghost use Rattle.mesh_codec.specs.Kinds.{HoldsFields};
-ghost use Rattle.mesh_codec.specs.Reading.{HasRead};
+ghost use Rattle.std.specs.Prelude.{◌≡◌, ◌≤◌, ◌+◌, ◌∷◌, length, sum_by, Err, IfOk, IfErr};
+ghost use Rattle.mesh_model.specs.Packets.Shapes.{field_size, iv_ogm, bcast, elp, ogm2, unicast, frag, unicast4, icmp, utvlv};
+ghost use Rattle.mesh_codec.specs.Inner.Reading.{HasRead};
 
-use crate::field::{address, after_reserved, fragment_place, number8, number16, number32};
-use crate::kind::Kind;
+use crate::cursor::Cursor;
 use mesh_model::Head;
 
 /// How far the tail of a packet goes.
@@ -26,18 +26,19 @@ pub struct Header<'a> {
     pub rest: &'a [u8],
 }
 
-fn iv_ogm(fields: &[u8]) -> Header<'_>
-    requires { HoldsFields Kind.IvOgm fields.now }
-    ensures { HasRead Kind.IvOgm fields.now result }
+pub fn iv_ogm(fields: &[u8]) -> Header<'_>
+    requires { sum_by field_size iv_ogm.fields ≤ length fields.now }
+    ensures { HasRead iv_ogm fields.now result }
 {
-    let (ttl, rest) = number8(fields);
-    let (flags, rest) = number8(rest);
-    let (seq, rest) = number32(rest);
-    let (orig, rest) = address(rest);
-    let (prev, rest) = address(rest);
-    let rest = after_reserved(rest, 1);
-    let (tq, rest) = number8(rest);
-    let (told, rest) = number16(rest);
+    let mut fields = Cursor::new(fields);
+    let ttl = fields.u8();
+    let flags = fields.u8();
+    let seq = fields.u32();
+    let orig = fields.mac();
+    let prev = fields.mac();
+    fields.skip(1);
+    let tq = fields.u8();
+    let told = fields.u16();
     let head = Head::IvOgm {
         ttl,
         flags,
@@ -49,33 +50,35 @@ fn iv_ogm(fields: &[u8]) -> Header<'_>
     Header {
         head,
         extent: Extent::Told(told),
-        rest,
+        rest: fields.left(),
     }
 }
 
-fn bcast(fields: &[u8]) -> Header<'_>
-    requires { HoldsFields Kind.Bcast fields.now }
-    ensures { HasRead Kind.Bcast fields.now result }
+pub fn bcast(fields: &[u8]) -> Header<'_>
+    requires { sum_by field_size bcast.fields ≤ length fields.now }
+    ensures { HasRead bcast fields.now result }
 {
-    let (ttl, rest) = number8(fields);
-    let rest = after_reserved(rest, 1);
-    let (seq, rest) = number32(rest);
-    let (orig, rest) = address(rest);
+    let mut fields = Cursor::new(fields);
+    let ttl = fields.u8();
+    fields.skip(1);
+    let seq = fields.u32();
+    let orig = fields.mac();
     let head = Head::Bcast { ttl, seq, orig };
     Header {
         head,
         extent: Extent::Rest,
-        rest,
+        rest: fields.left(),
     }
 }
 
-fn elp(fields: &[u8]) -> Header<'_>
-    requires { HoldsFields Kind.Elp fields.now }
-    ensures { HasRead Kind.Elp fields.now result }
+pub fn elp(fields: &[u8]) -> Header<'_>
+    requires { sum_by field_size elp.fields ≤ length fields.now }
+    ensures { HasRead elp fields.now result }
 {
-    let (orig, rest) = address(fields);
-    let (seq, rest) = number32(rest);
-    let (interval, rest) = number32(rest);
+    let mut fields = Cursor::new(fields);
+    let orig = fields.mac();
+    let seq = fields.u32();
+    let interval = fields.u32();
     let head = Head::Elp {
         orig,
         seq,
@@ -84,20 +87,21 @@ fn elp(fields: &[u8]) -> Header<'_>
     Header {
         head,
         extent: Extent::Nothing,
-        rest,
+        rest: fields.left(),
     }
 }
 
-fn ogm2(fields: &[u8]) -> Header<'_>
-    requires { HoldsFields Kind.Ogm2 fields.now }
-    ensures { HasRead Kind.Ogm2 fields.now result }
+pub fn ogm2(fields: &[u8]) -> Header<'_>
+    requires { sum_by field_size ogm2.fields ≤ length fields.now }
+    ensures { HasRead ogm2 fields.now result }
 {
-    let (ttl, rest) = number8(fields);
-    let (flags, rest) = number8(rest);
-    let (seq, rest) = number32(rest);
-    let (orig, rest) = address(rest);
-    let (told, rest) = number16(rest);
-    let (throughput, rest) = number32(rest);
+    let mut fields = Cursor::new(fields);
+    let ttl = fields.u8();
+    let flags = fields.u8();
+    let seq = fields.u32();
+    let orig = fields.mac();
+    let told = fields.u16();
+    let throughput = fields.u32();
     let head = Head::Ogm2 {
         ttl,
         flags,
@@ -108,39 +112,41 @@ fn ogm2(fields: &[u8]) -> Header<'_>
     Header {
         head,
         extent: Extent::Told(told),
-        rest,
+        rest: fields.left(),
     }
 }
 
-fn unicast(fields: &[u8]) -> Header<'_>
-    requires { HoldsFields Kind.Unicast fields.now }
-    ensures { HasRead Kind.Unicast fields.now result }
+pub fn unicast(fields: &[u8]) -> Header<'_>
+    requires { sum_by field_size unicast.fields ≤ length fields.now }
+    ensures { HasRead unicast fields.now result }
 {
-    let (ttl, rest) = number8(fields);
-    let (ttvn, rest) = number8(rest);
-    let (dst, rest) = address(rest);
+    let mut fields = Cursor::new(fields);
+    let ttl = fields.u8();
+    let ttvn = fields.u8();
+    let dst = fields.mac();
     let head = Head::Unicast { ttl, ttvn, dst };
     Header {
         head,
         extent: Extent::Rest,
-        rest,
+        rest: fields.left(),
     }
 }
 
-fn frag(fields: &[u8]) -> Header<'_>
-    requires { HoldsFields Kind.Frag fields.now }
-    ensures { HasRead Kind.Frag fields.now result }
+pub fn frag(fields: &[u8]) -> Header<'_>
+    requires { sum_by field_size frag.fields ≤ length fields.now }
+    ensures { HasRead frag fields.now result }
 {
-    let (ttl, rest) = number8(fields);
-    let ((number, priority), rest) = fragment_place(rest);
-    let (dst, rest) = address(rest);
-    let (orig, rest) = address(rest);
-    let (seq, rest) = number16(rest);
-    let (total, rest) = number16(rest);
+    let mut fields = Cursor::new(fields);
+    let ttl = fields.u8();
+    let fragment = fields.u8();
+    let dst = fields.mac();
+    let orig = fields.mac();
+    let seq = fields.u16();
+    let total = fields.u16();
     let head = Head::Frag {
         ttl,
-        number,
-        priority,
+        number: fragment >> 4,
+        priority: (fragment >> 1) & 7,
         dst,
         orig,
         seq,
@@ -149,20 +155,21 @@ fn frag(fields: &[u8]) -> Header<'_>
     Header {
         head,
         extent: Extent::Rest,
-        rest,
+        rest: fields.left(),
     }
 }
 
-fn unicast4(fields: &[u8]) -> Header<'_>
-    requires { HoldsFields Kind.Unicast4 fields.now }
-    ensures { HasRead Kind.Unicast4 fields.now result }
+pub fn unicast4(fields: &[u8]) -> Header<'_>
+    requires { sum_by field_size unicast4.fields ≤ length fields.now }
+    ensures { HasRead unicast4 fields.now result }
 {
-    let (ttl, rest) = number8(fields);
-    let (ttvn, rest) = number8(rest);
-    let (dst, rest) = address(rest);
-    let (src, rest) = address(rest);
-    let (subtype, rest) = number8(rest);
-    let rest = after_reserved(rest, 1);
+    let mut fields = Cursor::new(fields);
+    let ttl = fields.u8();
+    let ttvn = fields.u8();
+    let dst = fields.mac();
+    let src = fields.mac();
+    let subtype = fields.u8();
+    fields.skip(1);
     let head = Head::Unicast4 {
         ttl,
         ttvn,
@@ -173,21 +180,22 @@ fn unicast4(fields: &[u8]) -> Header<'_>
     Header {
         head,
         extent: Extent::Rest,
-        rest,
+        rest: fields.left(),
     }
 }
 
-fn icmp(fields: &[u8]) -> Header<'_>
-    requires { HoldsFields Kind.Icmp fields.now }
-    ensures { HasRead Kind.Icmp fields.now result }
+pub fn icmp(fields: &[u8]) -> Header<'_>
+    requires { sum_by field_size icmp.fields ≤ length fields.now }
+    ensures { HasRead icmp fields.now result }
 {
-    let (ttl, rest) = number8(fields);
-    let (msg, rest) = number8(rest);
-    let (dst, rest) = address(rest);
-    let (orig, rest) = address(rest);
-    let (uid, rest) = number8(rest);
-    let rest = after_reserved(rest, 1);
-    let (seq, rest) = number16(rest);
+    let mut fields = Cursor::new(fields);
+    let ttl = fields.u8();
+    let msg = fields.u8();
+    let dst = fields.mac();
+    let orig = fields.mac();
+    let uid = fields.u8();
+    fields.skip(1);
+    let seq = fields.u16();
     let head = Head::Icmp {
         ttl,
         msg,
@@ -199,42 +207,25 @@ fn icmp(fields: &[u8]) -> Header<'_>
     Header {
         head,
         extent: Extent::Nothing,
-        rest,
+        rest: fields.left(),
     }
 }
 
-fn utvlv(fields: &[u8]) -> Header<'_>
-    requires { HoldsFields Kind.Utvlv fields.now }
-    ensures { HasRead Kind.Utvlv fields.now result }
+pub fn utvlv(fields: &[u8]) -> Header<'_>
+    requires { sum_by field_size utvlv.fields ≤ length fields.now }
+    ensures { HasRead utvlv fields.now result }
 {
-    let (ttl, rest) = number8(fields);
-    let rest = after_reserved(rest, 1);
-    let (dst, rest) = address(rest);
-    let (src, rest) = address(rest);
-    let (told, rest) = number16(rest);
-    let rest = after_reserved(rest, 2);
+    let mut fields = Cursor::new(fields);
+    let ttl = fields.u8();
+    fields.skip(1);
+    let dst = fields.mac();
+    let src = fields.mac();
+    let told = fields.u16();
+    fields.skip(2);
     let head = Head::Utvlv { ttl, dst, src };
     Header {
         head,
         extent: Extent::Told(told),
-        rest,
-    }
-}
-
-/// The header of a kind.
-pub fn header_of(kind: Kind, fields: &[u8]) -> Header<'_>
-    requires { HoldsFields kind fields.now }
-    ensures { HasRead kind fields.now result }
-{
-    match kind {
-        Kind::IvOgm => iv_ogm(fields),
-        Kind::Bcast => bcast(fields),
-        Kind::Elp => elp(fields),
-        Kind::Ogm2 => ogm2(fields),
-        Kind::Unicast => unicast(fields),
-        Kind::Frag => frag(fields),
-        Kind::Unicast4 => unicast4(fields),
-        Kind::Icmp => icmp(fields),
-        Kind::Utvlv => utvlv(fields),
+        rest: fields.left(),
     }
 }

@@ -1,6 +1,6 @@
 //! Laws of the packet grammar, each proved as the contract of a function that does nothing.
 
-ghost use Rattle.mesh_codec.specs.Laws.{HasOneReading, HasOneSpelling, IsReadBeforeMore, IsReadAlone, CanBeWritten, HasTableSize};
+ghost use Rattle.mesh_codec.specs.Laws.{HasOneReading, HasOneSpelling, IsReadBeforeMore, IsReadAlone, CanBeWritten, HasShapeSize};
 
 /// Bytes begin with one packet at most.
 pub fn bytes_begin_with_one_packet()
@@ -27,7 +27,7 @@ pub fn a_read_packet_can_be_written()
     ensures { CanBeWritten }
 {}
 
-/// Each header is as long as the table of sizes says.
+/// Each header is as long as its shape says.
 pub fn a_header_has_its_size()
-    ensures { HasTableSize }
+    ensures { HasShapeSize }
 {}

@@ -2,20 +2,26 @@
 
 #![tactic(auto)]
 
+mod cursor;
+mod decoding;
 mod failure;
-mod field;
+mod first_packet;
 mod header;
-mod kind;
 pub mod laws;
+mod link_frame;
+mod numbers;
 mod put;
 mod put_header;
-mod reading;
 mod writing;
 
+pub use decoding::decode;
 pub use failure::CodecErr;
-pub use mesh_model::Head;
-pub use reading::decode;
+pub use first_packet::Packet;
+pub use link_frame::LinkFrame;
+pub use mesh_model::{Ending, Head, NoPacket, TvlvErr};
 pub use writing::encode;
 
+#[cfg(test)]
+mod link_frame_tests;
 #[cfg(test)]
 mod tests;

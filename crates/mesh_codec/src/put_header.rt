@@ -2,246 +2,223 @@
 
 ghost use Rattle.std.specs.Prelude.{◌≡◌, ℕ, ◌+◌, ◌≤◌};
 ghost use Rattle.std.specs.Vec.{vec_len};
-ghost use Rattle.mesh_model.specs.Packets.Layout.{header_of, HasSmallPlace};
-ghost use Rattle.mesh_codec.specs.Kinds.{header_bytes};
-ghost use Rattle.mesh_codec.specs.Writing.{HasRoom, PutsFields, IsOfKind, CanTell};
+ghost use Rattle.mesh_model.specs.declared.packet.Head.TheVariants.{IvOgm, Bcast, Elp, Ogm2, Unicast, Frag, Unicast4, Icmp, Utvlv};
+ghost use Rattle.mesh_model.specs.Packets.Layout.{header_of, FitsFragment, FitsFragmentByte};
+ghost use Rattle.mesh_codec.specs.Inner.Writing.{HasRoom, PutsParts, CanTell};
 
-use crate::kind::{
-    BCAST, ELP, FRAG, ICMP, IV_OGM, Kind, LONGEST_HEADER, OGM2, UNICAST, UNICAST4, UTVLV, VERSION,
+use crate::numbers::{
+    BCAST, BCAST_SIZE, ELP, ELP_SIZE, FRAG, FRAG_SIZE, ICMP, ICMP_SIZE, IV_OGM, IV_OGM_SIZE,
+    LONGEST_HEADER, OGM2, OGM2_SIZE, UNICAST, UNICAST_SIZE, UNICAST4, UNICAST4_SIZE, UTVLV,
+    UTVLV_SIZE, VERSION,
 };
-use crate::put::{
-    put_address, put_fragment_place, put_number8, put_number16, put_number32, put_reserved,
-};
+use crate::put::{put_fragment, put_mac, put_reserved, put_u8, put_u16, put_u32};
+use mesh_base::Mac;
 use mesh_model::Head;
 
-pub fn put_iv_ogm(out: &mut Vec<u8>, head: &Head, told: u16)
-    requires kind { IsOfKind Kind.IvOgm head.now }
-    requires room { HasRoom out.old (header_bytes Kind.IvOgm) }
-    ensures fields { PutsFields out.old (header_of head.now told) out.new }
-    ensures len { vec_len out.new ≡ vec_len out.old + header_bytes Kind.IvOgm }
+fn put_iv_ogm(
+    out: &mut Vec<u8>,
+    ttl: u8,
+    flags: u8,
+    seq: u32,
+    orig: Mac,
+    prev: Mac,
+    tq: u8,
+    told: u16,
+)
+    requires room { HasRoom out.old IV_OGM_SIZE }
+    ensures parts { PutsParts out.old (header_of (IvOgm ttl flags seq orig prev tq) told) out.new }
+    ensures len { vec_len out.new ≡ vec_len out.old + IV_OGM_SIZE }
 {
-    let Head::IvOgm {
-        ttl,
-        flags,
-        seq,
-        orig,
-        prev,
-        tq,
-    } = *head
-    else {
-        unreachable!()
-    };
-    put_number8(out, IV_OGM);
-    put_number8(out, VERSION);
-    put_number8(out, ttl);
-    put_number8(out, flags);
-    put_number32(out, seq);
-    put_address(out, orig);
-    put_address(out, prev);
+    put_u8(out, IV_OGM);
+    put_u8(out, VERSION);
+    put_u8(out, ttl);
+    put_u8(out, flags);
+    put_u32(out, seq);
+    put_mac(out, orig);
+    put_mac(out, prev);
     put_reserved(out, 1);
-    put_number8(out, tq);
-    put_number16(out, told);
+    put_u8(out, tq);
+    put_u16(out, told);
 }
 
-pub fn put_bcast(out: &mut Vec<u8>, head: &Head)
-    requires kind { IsOfKind Kind.Bcast head.now }
-    requires room { HasRoom out.old (header_bytes Kind.Bcast) }
-    ensures fields { (told : ℕ) → PutsFields out.old (header_of head.now told) out.new }
-    ensures len { vec_len out.new ≡ vec_len out.old + header_bytes Kind.Bcast }
+fn put_bcast(out: &mut Vec<u8>, ttl: u8, seq: u32, orig: Mac)
+    requires room { HasRoom out.old BCAST_SIZE }
+    ensures parts { (told : ℕ) → PutsParts out.old (header_of (Bcast ttl seq orig) told) out.new }
+    ensures len { vec_len out.new ≡ vec_len out.old + BCAST_SIZE }
 {
-    let Head::Bcast { ttl, seq, orig } = *head else {
-        unreachable!()
-    };
-    put_number8(out, BCAST);
-    put_number8(out, VERSION);
-    put_number8(out, ttl);
+    put_u8(out, BCAST);
+    put_u8(out, VERSION);
+    put_u8(out, ttl);
     put_reserved(out, 1);
-    put_number32(out, seq);
-    put_address(out, orig);
+    put_u32(out, seq);
+    put_mac(out, orig);
 }
 
-pub fn put_elp(out: &mut Vec<u8>, head: &Head)
-    requires kind { IsOfKind Kind.Elp head.now }
-    requires room { HasRoom out.old (header_bytes Kind.Elp) }
-    ensures fields { (told : ℕ) → PutsFields out.old (header_of head.now told) out.new }
-    ensures len { vec_len out.new ≡ vec_len out.old + header_bytes Kind.Elp }
+fn put_elp(out: &mut Vec<u8>, orig: Mac, seq: u32, interval: u32)
+    requires room { HasRoom out.old ELP_SIZE }
+    ensures parts { (told : ℕ) → PutsParts out.old (header_of (Elp orig seq interval) told) out.new }
+    ensures len { vec_len out.new ≡ vec_len out.old + ELP_SIZE }
 {
-    let Head::Elp {
-        orig,
-        seq,
-        interval,
-    } = *head
-    else {
-        unreachable!()
-    };
-    put_number8(out, ELP);
-    put_number8(out, VERSION);
-    put_address(out, orig);
-    put_number32(out, seq);
-    put_number32(out, interval);
+    put_u8(out, ELP);
+    put_u8(out, VERSION);
+    put_mac(out, orig);
+    put_u32(out, seq);
+    put_u32(out, interval);
 }
 
-pub fn put_ogm2(out: &mut Vec<u8>, head: &Head, told: u16)
-    requires kind { IsOfKind Kind.Ogm2 head.now }
-    requires room { HasRoom out.old (header_bytes Kind.Ogm2) }
-    ensures fields { PutsFields out.old (header_of head.now told) out.new }
-    ensures len { vec_len out.new ≡ vec_len out.old + header_bytes Kind.Ogm2 }
+fn put_ogm2(out: &mut Vec<u8>, ttl: u8, flags: u8, seq: u32, orig: Mac, told: u16, throughput: u32)
+    requires room { HasRoom out.old OGM2_SIZE }
+    ensures parts { PutsParts out.old (header_of (Ogm2 ttl flags seq orig throughput) told) out.new }
+    ensures len { vec_len out.new ≡ vec_len out.old + OGM2_SIZE }
 {
-    let Head::Ogm2 {
-        ttl,
-        flags,
-        seq,
-        orig,
-        throughput,
-    } = *head
-    else {
-        unreachable!()
-    };
-    put_number8(out, OGM2);
-    put_number8(out, VERSION);
-    put_number8(out, ttl);
-    put_number8(out, flags);
-    put_number32(out, seq);
-    put_address(out, orig);
-    put_number16(out, told);
-    put_number32(out, throughput);
+    put_u8(out, OGM2);
+    put_u8(out, VERSION);
+    put_u8(out, ttl);
+    put_u8(out, flags);
+    put_u32(out, seq);
+    put_mac(out, orig);
+    put_u16(out, told);
+    put_u32(out, throughput);
 }
 
-pub fn put_unicast(out: &mut Vec<u8>, head: &Head)
-    requires kind { IsOfKind Kind.Unicast head.now }
-    requires room { HasRoom out.old (header_bytes Kind.Unicast) }
-    ensures fields { (told : ℕ) → PutsFields out.old (header_of head.now told) out.new }
-    ensures len { vec_len out.new ≡ vec_len out.old + header_bytes Kind.Unicast }
+fn put_unicast(out: &mut Vec<u8>, ttl: u8, ttvn: u8, dst: Mac)
+    requires room { HasRoom out.old UNICAST_SIZE }
+    ensures parts { (told : ℕ) → PutsParts out.old (header_of (Unicast ttl ttvn dst) told) out.new }
+    ensures len { vec_len out.new ≡ vec_len out.old + UNICAST_SIZE }
 {
-    let Head::Unicast { ttl, ttvn, dst } = *head else {
-        unreachable!()
-    };
-    put_number8(out, UNICAST);
-    put_number8(out, VERSION);
-    put_number8(out, ttl);
-    put_number8(out, ttvn);
-    put_address(out, dst);
+    put_u8(out, UNICAST);
+    put_u8(out, VERSION);
+    put_u8(out, ttl);
+    put_u8(out, ttvn);
+    put_mac(out, dst);
 }
 
-pub fn put_frag(out: &mut Vec<u8>, head: &Head)
-    requires kind { IsOfKind Kind.Frag head.now }
-    requires place { HasSmallPlace head.now }
-    requires room { HasRoom out.old (header_bytes Kind.Frag) }
-    ensures fields { (told : ℕ) → PutsFields out.old (header_of head.now told) out.new }
-    ensures len { vec_len out.new ≡ vec_len out.old + header_bytes Kind.Frag }
+fn put_frag(
+    out: &mut Vec<u8>,
+    ttl: u8,
+    number: u8,
+    priority: u8,
+    dst: Mac,
+    orig: Mac,
+    seq: u16,
+    total: u16,
+)
+    requires fits { FitsFragmentByte number priority }
+    requires room { HasRoom out.old FRAG_SIZE }
+    ensures parts { (told : ℕ) → PutsParts out.old (header_of (Frag ttl number priority dst orig seq total) told) out.new }
+    ensures len { vec_len out.new ≡ vec_len out.old + FRAG_SIZE }
 {
-    let Head::Frag {
-        ttl,
-        number,
-        priority,
-        dst,
-        orig,
-        seq,
-        total,
-    } = *head
-    else {
-        unreachable!()
-    };
-    put_number8(out, FRAG);
-    put_number8(out, VERSION);
-    put_number8(out, ttl);
-    put_fragment_place(out, number, priority);
-    put_address(out, dst);
-    put_address(out, orig);
-    put_number16(out, seq);
-    put_number16(out, total);
+    put_u8(out, FRAG);
+    put_u8(out, VERSION);
+    put_u8(out, ttl);
+    put_fragment(out, number, priority);
+    put_mac(out, dst);
+    put_mac(out, orig);
+    put_u16(out, seq);
+    put_u16(out, total);
 }
 
-pub fn put_unicast4(out: &mut Vec<u8>, head: &Head)
-    requires kind { IsOfKind Kind.Unicast4 head.now }
-    requires room { HasRoom out.old (header_bytes Kind.Unicast4) }
-    ensures fields { (told : ℕ) → PutsFields out.old (header_of head.now told) out.new }
-    ensures len { vec_len out.new ≡ vec_len out.old + header_bytes Kind.Unicast4 }
+fn put_unicast4(out: &mut Vec<u8>, ttl: u8, ttvn: u8, dst: Mac, src: Mac, subtype: u8)
+    requires room { HasRoom out.old UNICAST4_SIZE }
+    ensures parts { (told : ℕ) → PutsParts out.old (header_of (Unicast4 ttl ttvn dst src subtype) told) out.new }
+    ensures len { vec_len out.new ≡ vec_len out.old + UNICAST4_SIZE }
 {
-    let Head::Unicast4 {
-        ttl,
-        ttvn,
-        dst,
-        src,
-        subtype,
-    } = *head
-    else {
-        unreachable!()
-    };
-    put_number8(out, UNICAST4);
-    put_number8(out, VERSION);
-    put_number8(out, ttl);
-    put_number8(out, ttvn);
-    put_address(out, dst);
-    put_address(out, src);
-    put_number8(out, subtype);
+    put_u8(out, UNICAST4);
+    put_u8(out, VERSION);
+    put_u8(out, ttl);
+    put_u8(out, ttvn);
+    put_mac(out, dst);
+    put_mac(out, src);
+    put_u8(out, subtype);
     put_reserved(out, 1);
 }
 
-pub fn put_icmp(out: &mut Vec<u8>, head: &Head)
-    requires kind { IsOfKind Kind.Icmp head.now }
-    requires room { HasRoom out.old (header_bytes Kind.Icmp) }
-    ensures fields { (told : ℕ) → PutsFields out.old (header_of head.now told) out.new }
-    ensures len { vec_len out.new ≡ vec_len out.old + header_bytes Kind.Icmp }
+fn put_icmp(out: &mut Vec<u8>, ttl: u8, msg: u8, dst: Mac, orig: Mac, uid: u8, seq: u16)
+    requires room { HasRoom out.old ICMP_SIZE }
+    ensures parts { (told : ℕ) → PutsParts out.old (header_of (Icmp ttl msg dst orig uid seq) told) out.new }
+    ensures len { vec_len out.new ≡ vec_len out.old + ICMP_SIZE }
 {
-    let Head::Icmp {
-        ttl,
-        msg,
-        dst,
-        orig,
-        uid,
-        seq,
-    } = *head
-    else {
-        unreachable!()
-    };
-    put_number8(out, ICMP);
-    put_number8(out, VERSION);
-    put_number8(out, ttl);
-    put_number8(out, msg);
-    put_address(out, dst);
-    put_address(out, orig);
-    put_number8(out, uid);
+    put_u8(out, ICMP);
+    put_u8(out, VERSION);
+    put_u8(out, ttl);
+    put_u8(out, msg);
+    put_mac(out, dst);
+    put_mac(out, orig);
+    put_u8(out, uid);
     put_reserved(out, 1);
-    put_number16(out, seq);
+    put_u16(out, seq);
 }
 
-pub fn put_utvlv(out: &mut Vec<u8>, head: &Head, told: u16)
-    requires kind { IsOfKind Kind.Utvlv head.now }
-    requires room { HasRoom out.old (header_bytes Kind.Utvlv) }
-    ensures fields { PutsFields out.old (header_of head.now told) out.new }
-    ensures len { vec_len out.new ≡ vec_len out.old + header_bytes Kind.Utvlv }
+fn put_utvlv(out: &mut Vec<u8>, ttl: u8, dst: Mac, src: Mac, told: u16)
+    requires room { HasRoom out.old UTVLV_SIZE }
+    ensures parts { PutsParts out.old (header_of (Utvlv ttl dst src) told) out.new }
+    ensures len { vec_len out.new ≡ vec_len out.old + UTVLV_SIZE }
 {
-    let Head::Utvlv { ttl, dst, src } = *head else {
-        unreachable!()
-    };
-    put_number8(out, UTVLV);
-    put_number8(out, VERSION);
-    put_number8(out, ttl);
+    put_u8(out, UTVLV);
+    put_u8(out, VERSION);
+    put_u8(out, ttl);
     put_reserved(out, 1);
-    put_address(out, dst);
-    put_address(out, src);
-    put_number16(out, told);
+    put_mac(out, dst);
+    put_mac(out, src);
+    put_u16(out, told);
     put_reserved(out, 2);
 }
 
 /// The header of a head, whose tail has this length.
 pub fn put_header(out: &mut Vec<u8>, head: &Head, tail_len: usize)
-    requires place { HasSmallPlace head.now }
+    requires fits { FitsFragment head.now }
     requires told { CanTell head.now tail_len }
     requires room { HasRoom out.old LONGEST_HEADER }
-    ensures fields { PutsFields out.old (header_of head.now tail_len) out.new }
+    ensures parts { PutsParts out.old (header_of head.now tail_len) out.new }
     ensures len { vec_len out.new ≤ vec_len out.old + LONGEST_HEADER }
 {
-    match head {
-        Head::IvOgm { .. } => put_iv_ogm(out, head, tail_len as u16),
-        Head::Bcast { .. } => put_bcast(out, head),
-        Head::Elp { .. } => put_elp(out, head),
-        Head::Ogm2 { .. } => put_ogm2(out, head, tail_len as u16),
-        Head::Unicast { .. } => put_unicast(out, head),
-        Head::Frag { .. } => put_frag(out, head),
-        Head::Unicast4 { .. } => put_unicast4(out, head),
-        Head::Icmp { .. } => put_icmp(out, head),
-        Head::Utvlv { .. } => put_utvlv(out, head, tail_len as u16),
+    match *head {
+        Head::IvOgm {
+            ttl,
+            flags,
+            seq,
+            orig,
+            prev,
+            tq,
+        } => put_iv_ogm(out, ttl, flags, seq, orig, prev, tq, tail_len as u16),
+        Head::Bcast { ttl, seq, orig } => put_bcast(out, ttl, seq, orig),
+        Head::Elp {
+            orig,
+            seq,
+            interval,
+        } => put_elp(out, orig, seq, interval),
+        Head::Ogm2 {
+            ttl,
+            flags,
+            seq,
+            orig,
+            throughput,
+        } => put_ogm2(out, ttl, flags, seq, orig, tail_len as u16, throughput),
+        Head::Unicast { ttl, ttvn, dst } => put_unicast(out, ttl, ttvn, dst),
+        Head::Frag {
+            ttl,
+            number,
+            priority,
+            dst,
+            orig,
+            seq,
+            total,
+        } => put_frag(out, ttl, number, priority, dst, orig, seq, total),
+        Head::Unicast4 {
+            ttl,
+            ttvn,
+            dst,
+            src,
+            subtype,
+        } => put_unicast4(out, ttl, ttvn, dst, src, subtype),
+        Head::Icmp {
+            ttl,
+            msg,
+            dst,
+            orig,
+            uid,
+            seq,
+        } => put_icmp(out, ttl, msg, dst, orig, uid, seq),
+        Head::Utvlv { ttl, dst, src } => put_utvlv(out, ttl, dst, src, tail_len as u16),
     }
 }

@@ -1,4 +1,4 @@
-ghost use Rattle.mesh_model.specs.Packets.Layout.{HasSmallPlace};
+ghost use Rattle.mesh_model.specs.Packets.Layout.{FitsFragment};
 
 use super::*;
 use mesh_base::Mac;
@@ -18,7 +18,7 @@ fn goes_both_ways(
     head: Head,
     tail_len: usize,
 ) -> Result<(), Fail>
-    requires { HasSmallPlace head }
+    requires { FitsFragment head }
 {
     let packet = hex::decode(alloc, digits).ok().ok_or("hex digits")?;
     let (read, tail, used) = decode(&packet).ok().ok_or("a packet")?;

@@ -1,9 +1,9 @@
 ghost use Rattle.std.specs.Prelude.{◌≡◌, ◌++◌, ◌+◌, ℕ, List, length, OnOk, OnErr, IfErr, IsErrOf, IsOk};
-ghost use Rattle.mesh_model.specs.Packets.Layout.{HasSmallPlace, HasSpelling, spelling};
+ghost use Rattle.mesh_model.specs.Packets.Layout.{FitsFragment, HasSpelling, spelling};
 ghost use Rattle.mesh_codec.specs.Encoding.{IsTooLong, HasStrayTail, HasObstacle};
 
 use crate::failure::CodecErr;
-use crate::kind::LONGEST_HEADER;
+use crate::numbers::LONGEST_HEADER;
 use crate::put::put;
 use crate::put_header::put_header;
 use mesh_model::Head;
@@ -36,7 +36,7 @@ fn check_tail(head: &Head, tail: &[u8]) -> Result<(), CodecErr>
 ///
 /// Flags may have any value. `Short`, `Version`, `Kind` and `Length` are no answers of this call.
 pub fn encode(out: &mut Vec<u8>, head: &Head, tail: &[u8]) -> Result<(), CodecErr>
-    requires place { HasSmallPlace head.now }
+    requires fits { FitsFragment head.now }
 
     // What is appended is the one spelling, which can be read again.
     ensures ok { OnOk result (out.new.items ≡ out.old.items ++ spelling head.now tail.now) }

@@ -5,7 +5,7 @@ use Rattle.std.proofs.lemmas.List.{drop_at, drop-drop, length-drop, length-take-
 use Rattle.std.proofs.lemmas.List.Elements.{All-cons, All-drop}
 use Rattle.std.proofs.lemmas.Option.{none-some}
 use Rattle.std.specs.Prelude.{Bool, cond, nat_lt, Option, Some, None, All}
-use Rattle.mesh_model.specs.Packets.Containers.{Container, FitsLength, AreContainers, container_text, containers_text, container_size, told_length, front_container, first_container, containers_of, rest_of}
+use Rattle.mesh_model.specs.Packets.Containers.{Container, FitsLength, AreContainers, container_spelling, containers_spelling, container_size, told_length, front_container, first_container, containers_of, rest_of}
 use Rattle.mesh_tvlv.proofs.ContainersLemmas.{containers_of-some, containers_of-none}
 use Rattle.mesh_tvlv.proofs.SpellingLemmas.{first-text}
 
@@ -27,7 +27,7 @@ whole_first bytes c is =
 
 -- bytes that begin a whole container are its spelling and more, and its length fits two bytes
 record IsSpelled (bytes : List ℕ) (c : Container) : Type 0 where
-  text : bytes ≡ container_text c ++ drop (container_size c) bytes
+  text : bytes ≡ container_spelling c ++ drop (container_size c) bytes
   fits : FitsLength c
 
 -- the first container of bytes is spelled in them
@@ -63,8 +63,8 @@ found_more bytes rest c is spelled behind =
     let more : List ℕ = drop (container_size c) bytes in
     let P : List Container → Type 0 = λ cs. AreContainers bytes cs rest in
     subst P (sym (containers_of-some bytes c is)) (record {
-      spelled = spelled.text ∙ ap (λ xs. container_text c ++ xs) behind.spelled
-          ∙ sym (append_assoc (container_text c) (containers_text (containers_of more)) rest);
+      spelled = spelled.text ∙ ap (λ xs. container_spelling c ++ xs) behind.spelled
+          ∙ sym (append_assoc (container_spelling c) (containers_spelling (containers_of more)) rest);
       each = All-cons FitsLength c (containers_of more) spelled.fits behind.each;
       cut = behind.cut;
     })
@@ -105,7 +105,7 @@ found_some (suc n) bytes below small =
 pub found : (bytes : List ℕ) → AreBytes bytes → AreContainers bytes (containers_of bytes) (rest_of bytes)
 found bytes small =
     let some = found_some (length bytes) bytes (omega arith) small in
-    let rest : rest_of bytes ≡ some.0 = ap (drop (length (containers_text (containers_of bytes)))) some.1.spelled
-    ∙ drop_at (containers_text (containers_of bytes)) some.0 (length (containers_text (containers_of bytes))) refl in
+    let rest : rest_of bytes ≡ some.0 = ap (drop (length (containers_spelling (containers_of bytes)))) some.1.spelled
+    ∙ drop_at (containers_spelling (containers_of bytes)) some.0 (length (containers_spelling (containers_of bytes))) refl in
     let P : List ℕ → Type 0 = λ xs. AreContainers bytes (containers_of bytes) xs in
     subst P (sym rest) some.1

@@ -3,3 +3,4 @@ pub mod PiecesLemmas
 pub mod SpellingLemmas
 pub mod FindingLemmas
 pub mod TableLemmas
+pub mod FlawLemmas

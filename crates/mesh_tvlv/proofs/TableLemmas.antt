@@ -9,7 +9,9 @@ use Rattle.byteorder.specs.Endian.{big_bytes, big_number}
 use Rattle.byteorder.specs.Numbers.{big_number-reads_back}
 use Rattle.mesh_base.specs.declared.client.Key.{Key}
 use Rattle.mesh_base.specs.declared.client.Entry.{Entry}
-use Rattle.mesh_model.specs.Packets.Bodies.{VlanSum, TtChange, TtData, Bandwidth, pieces, whole_pieces, vlan_of_bytes, vlan_text, key_of_bytes, key_text, change_of_bytes, change_text, told_vlans, tt_data, tt_of_body, tt_text, client_flags, change_of, entry_of_change, is_deletion}
+use Rattle.mesh_model.specs.Packets.Bodies.{VlanSum, TtChange, TtData, Bandwidth, pieces, whole_pieces, vlan_of_bytes, key_of_bytes, change_of_bytes, told_vlans, tt_data, client_flags, change_of, entry_of_change, is_deletion}
+use Rattle.mesh_model.specs.Packets.Contents.{table_of_body}
+use Rattle.mesh_model.specs.Packets.BodySpellings.{vlan_spelling, key_spelling, change_spelling, tt_spelling}
 use Rattle.mesh_tvlv.specs.Laws.{FitsKey, FitsVlan, FitsTable, RecordIsReadBack, BodiesAreReadBack}
 use Rattle.mesh_tvlv.proofs.SpellingLemmas.{All-tail}
 
@@ -43,7 +45,7 @@ items_back size text read Fits codec (x ∷ xs) fits =
     ∙ ap (λ ys. x ∷ ys) (items_back size text read Fits codec xs (All-tail Fits x xs fits))
 
 -- a VLAN is read back
-vlan_back : IsCodec 8 vlan_text vlan_of_bytes FitsVlan
+vlan_back : IsCodec 8 vlan_spelling vlan_of_bytes FitsVlan
 vlan_back = record {
   long = λ vlan fits. refl;
   back = λ vlan fits. ap₂ (λ (sum n : ℕ). let v : VlanSum = record { sum = sum; vid = record { 0 = n } } in v)
@@ -52,14 +54,14 @@ vlan_back = record {
 }
 
 -- a client is read back
-key_back : (key : Key) → FitsKey key → key_of_bytes (key_text key) ≡ key
+key_back : (key : Key) → FitsKey key → key_of_bytes (key_spelling key) ≡ key
 key_back key fits = ap₂ (λ (bytes : List ℕ) (n : ℕ). let k : Key = record { mac = record { 0 = bytes }; vid = record { 0 = n } } in k)
     (take_at key.mac.0 (big_bytes 2 key.vid.0) 6 fits.address)
     (ap (big_number 2) (drop_at key.mac.0 (big_bytes 2 key.vid.0) 6 fits.address)
     ∙ big_number-reads_back 2 key.vid.0 [] fits.vid)
 
 -- a record is read back
-change_back : IsCodec 12 change_text change_of_bytes (λ change. FitsKey change.key)
+change_back : IsCodec 12 change_spelling change_of_bytes (λ change. FitsKey change.key)
 change_back = record {
   long = λ change fits. omega (arith, length-append change.key.mac.0 (big_bytes 2 change.key.vid.0), fits.address);
   back = λ change fits. ap (λ (key : Key). let c : TtChange = record { flags = change.flags; key = key } in c)
@@ -74,16 +76,16 @@ whole_back size text read Fits codec xs fits count =
     ap (λ k. map read (pieces k size (flat_map text xs))) count ∙ items_back size text read Fits codec xs fits
 
 -- a translation table is read back
-pub table_back : (table : TtData) → FitsTable table → tt_of_body (tt_text table) ≡ Some table
+pub table_back : (table : TtData) → FitsTable table → table_of_body (tt_spelling table) ≡ Some table
 table_back table fits =
-    let body : List ℕ = tt_text table in
-    let vlans : List ℕ = flat_map vlan_text table.vlans in
-    let changes : List ℕ = flat_map change_text table.changes in
+    let body : List ℕ = tt_spelling table in
+    let vlans : List ℕ = flat_map vlan_spelling table.vlans in
+    let changes : List ℕ = flat_map change_spelling table.changes in
     let FitsClient : TtChange → Type 0 = λ change. FitsKey change.key in
     let told : told_vlans body ≡ length table.vlans =
     big_number-reads_back 2 (length table.vlans) (vlans ++ changes) fits.vlans in
-    let long = length-items 8 vlan_text vlan_of_bytes FitsVlan vlan_back table.vlans fits.each_vlan in
-    let longer = length-items 12 change_text change_of_bytes FitsClient change_back table.changes fits.each_change in
+    let long = length-items 8 vlan_spelling vlan_of_bytes FitsVlan vlan_back table.vlans fits.each_vlan in
+    let longer = length-items 12 change_spelling change_of_bytes FitsClient change_back table.changes fits.each_change in
     let whole : nat_lt (length body) (4 + 8 * told_vlans body) ≡ false =
     le-ltb (length body) (4 + 8 * told_vlans body) (omega (arith, told, long, length-append vlans changes)) in
     let first : take (8 * told_vlans body) (vlans ++ changes) ≡ vlans =
@@ -92,12 +94,12 @@ table_back table fits =
     sym (drop-drop (8 * told_vlans body) 4 body) ∙ drop_at vlans changes (8 * told_vlans body) (omega (arith, told, long)) in
     let vlans_back : map vlan_of_bytes (whole_pieces 8 (take (8 * told_vlans body) (vlans ++ changes))) ≡ table.vlans =
     ap (λ bytes. map vlan_of_bytes (whole_pieces 8 bytes)) first
-    ∙ whole_back 8 vlan_text vlan_of_bytes FitsVlan vlan_back table.vlans fits.each_vlan (omega (arith, long)) in
+    ∙ whole_back 8 vlan_spelling vlan_of_bytes FitsVlan vlan_back table.vlans fits.each_vlan (omega (arith, long)) in
     let changes_back : map change_of_bytes (whole_pieces 12 (drop (4 + 8 * told_vlans body) body)) ≡ table.changes =
     ap (λ bytes. map change_of_bytes (whole_pieces 12 bytes)) second
-    ∙ whole_back 12 change_text change_of_bytes FitsClient change_back table.changes fits.each_change
+    ∙ whole_back 12 change_spelling change_of_bytes FitsClient change_back table.changes fits.each_change
     (omega (arith, longer)) in
-    ap (λ (b : Bool). cond b None (Some (tt_data body))) whole
+    ap (λ (b : Bool). cond b None (Some (tt_data 4 body))) whole
     ∙ ap₂ (λ (vs : List VlanSum) (cs : List TtChange). let t : TtData =
     record { flags = table.flags; ttvn = table.ttvn; vlans = vs; changes = cs } in Some t) vlans_back changes_back
 
@@ -105,9 +107,9 @@ table_back table fits =
 pub bodies_back : BodiesAreReadBack
 bodies_back = record {
   roaming = λ key fits.
-      let whole : nat_lt (length (key_text key)) 8 ≡ false = le-ltb (length (key_text key)) 8
+      let whole : nat_lt (length (key_spelling key)) 8 ≡ false = le-ltb (length (key_spelling key)) 8
       (omega (arith, length-append key.mac.0 (big_bytes 2 key.vid.0), fits.address)) in
-      ap (λ (b : Bool). cond b None (Some (key_of_bytes (key_text key)))) whole ∙ ap (λ k. Some k) (key_back key fits);
+      ap (λ (b : Bool). cond b None (Some (key_of_bytes (key_spelling key)))) whole ∙ ap (λ k. Some k) (key_back key fits);
   gateway = λ bandwidth down up. ap₂ (λ (d u : ℕ). let b : Bandwidth = record { download = d; upload = u } in Some b)
       (big_number-reads_back 4 bandwidth.download (big_bytes 4 bandwidth.upload) down)
       (big_number-reads_back 4 bandwidth.upload [] up);

@@ -3,14 +3,16 @@
 use Rattle.std.specs.Prelude.{◌≡◌, ℕ, ◌^◌, ◌<◌, Bool, List, [], length, All, Some}
 use Rattle.mesh_base.specs.declared.client.Key.{Key}
 use Rattle.mesh_base.specs.declared.client.Entry.{Entry}
-use Rattle.mesh_model.specs.Packets.Containers.{Container, FitsLength, AreContainers, containers_text, containers_of, rest_of}
-use Rattle.mesh_model.specs.Packets.Bodies.{VlanSum, TtData, Bandwidth, tt_of_body, tt_text, roaming_of_body, key_text, gateway_of_body, gateway_text, multicast_of_body, multicast_text, client_flags, change_of, entry_of_change, is_deletion}
+use Rattle.mesh_model.specs.Packets.Containers.{Container, FitsLength, AreContainers, containers_spelling, containers_of, rest_of}
+use Rattle.mesh_model.specs.Packets.Bodies.{VlanSum, TtData, Bandwidth, roaming_of_body, gateway_of_body, multicast_of_body, client_flags, change_of, entry_of_change, is_deletion}
+use Rattle.mesh_model.specs.Packets.Contents.{table_of_body}
+use Rattle.mesh_model.specs.Packets.BodySpellings.{tt_spelling, key_spelling, gateway_spelling, multicast_spelling}
 
 -- spelled containers are these containers again, and nothing is left
 abbrev pub ContainersAreReadBack : Type 0
 ContainersAreReadBack = (containers : List Container) → All FitsLength containers
-    → (containers_of (containers_text containers) ≡ containers)
-    × (rest_of (containers_text containers) ≡ [])
+    → (containers_of (containers_spelling containers) ≡ containers)
+    × (rest_of (containers_spelling containers) ≡ [])
 
 -- bytes are the containers that are computed from them, and what is left
 abbrev pub ContainersAreFound : Type 0
@@ -34,7 +36,7 @@ pub record FitsVlan (vlan : VlanSum) : Type 0 where
   pub vid : vlan.vid.0 < 2 ^ 16
   pub sum : vlan.sum < 2 ^ 32
 
--- a translation table whose fields fit their places
+-- a translation table whose fields fit their bytes
 pub record FitsTable (table : TtData) : Type 0 where
   pub vlans : length table.vlans < 2 ^ 16
   pub each_vlan : All FitsVlan table.vlans
@@ -42,7 +44,8 @@ pub record FitsTable (table : TtData) : Type 0 where
 
 -- a spelled translation table is read back, field by field
 abbrev pub TableIsReadBack : Type 0
-TableIsReadBack = (table : TtData) → FitsTable table → tt_of_body (tt_text table) ≡ Some table
+TableIsReadBack =
+    (table : TtData) → FitsTable table → table_of_body (tt_spelling table) ≡ Some table
 
 -- a record for a client tells the client, with the flags that it keeps, and whether it is gone
 abbrev pub RecordIsReadBack : Type 0
@@ -52,7 +55,7 @@ RecordIsReadBack = (entry : Entry) (is_gone : Bool)
 
 -- the other spelled bodies are read back
 pub record BodiesAreReadBack : Type 0 where
-  pub roaming : (key : Key) → FitsKey key → roaming_of_body (key_text key) ≡ Some key
+  pub roaming : (key : Key) → FitsKey key → roaming_of_body (key_spelling key) ≡ Some key
   pub gateway : (bandwidth : Bandwidth) → bandwidth.download < 2 ^ 32 → bandwidth.upload < 2 ^ 32
-      → gateway_of_body (gateway_text bandwidth) ≡ Some bandwidth
-  pub multicast : (flags : ℕ) → multicast_of_body (multicast_text flags) ≡ Some flags
+      → gateway_of_body (gateway_spelling bandwidth) ≡ Some bandwidth
+  pub multicast : (flags : ℕ) → multicast_of_body (multicast_spelling flags) ≡ Some flags

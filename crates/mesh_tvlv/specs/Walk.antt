@@ -14,15 +14,15 @@ seen container = record {
   body = container.body.now;
 }
 
--- the bytes that aren't read yet, their place counted from the first of all, and whether a cut came
+-- the bytes that aren't read yet, the offset of the first of them, and whether a cut came
 pub record Walk : Type 0 where
   pub left : List ℕ
-  pub place : ℕ
+  pub offset : ℕ
   pub stopped : Bool
 
 -- a walk that begins at the first of these bytes
 abbrev pub walk_over : List ℕ → Walk
-walk_over bytes = record { left = bytes; place = 0; stopped = false }
+walk_over bytes = record { left = bytes; offset = 0; stopped = false }
 
 -- the containers that a walk will still give
 abbrev pub to_come : Walk → List grammar.Container
@@ -46,5 +46,5 @@ stopped walk = record walk { stopped = true }
 abbrev pub behind : Walk → grammar.Container → Walk
 behind walk container = record walk {
   left = drop (container_size container) walk.left;
-  place = walk.place + container_size container;
+  offset = walk.offset + container_size container;
 }

@@ -1,14 +1,15 @@
 ghost use Rattle.std.specs.Prelude.{◌≡◌, ◌<◌, ◌≤◌, ◌↔◌, length, IsErr, ok_or, option_map};
-ghost use Rattle.mesh_model.specs.Packets.Bodies.{key_of_bytes, roaming_of_body, gateway_of_body, multicast_of_body};
+ghost use Rattle.mesh_model.specs.Packets.Bodies.{gateway_size, key_size, multicast_size, key_of_bytes, roaming_of_body, gateway_of_body, multicast_of_body};
+ghost use Rattle.mesh_model.specs.Packets.Numbers.{gateway_tvlv, roaming_tvlv, multicast_tvlv};
 ghost use Rattle.mesh_tvlv.specs.Translation.{speeds};
 
-use crate::failure::TvlvErr;
 use crate::layout::{
-    GATEWAY, GATEWAY_SIZE, KEY_SIZE, KEY_VID_PLACE, MULTICAST, MULTICAST_SIZE, ROAMING,
-    UPLOAD_PLACE,
+    GATEWAY, GATEWAY_SIZE, KEY_SIZE, KEY_VID_OFFSET, MULTICAST, MULTICAST_SIZE, ROAMING,
+    UPLOAD_OFFSET,
 };
 use byteorder::{BigEndian, ByteOrder};
 use mesh_base::{Key, Mac, Vid};
+use mesh_model::TvlvErr;
 
 /// The client in the first bytes: its address in 6 bytes, the wire number of its VLAN in 2.
 pub(crate) fn key_in(bytes: &[u8]) -> Key
@@ -16,18 +17,18 @@ pub(crate) fn key_in(bytes: &[u8]) -> Key
     ensures { result ≡ key_of_bytes bytes.now }
 {
     let mut mac = [0; 6];
-    mac.copy_from_slice(&bytes[..KEY_VID_PLACE]);
+    mac.copy_from_slice(&bytes[..KEY_VID_OFFSET]);
     Key {
         mac: Mac(mac),
-        vid: Vid(BigEndian::read_u16(&bytes[KEY_VID_PLACE..])),
+        vid: Vid(BigEndian::read_u16(&bytes[KEY_VID_OFFSET..])),
     }
 }
 
 /// The client of a roaming advertisement. `BadLength` where the body has fewer than 8 bytes.
 pub fn read_roam(body: &[u8]) -> Result<Key, TvlvErr>
     ensures reads { result ≡ ok_or (roaming_of_body body.now)
-        (TvlvErr.BadLength ROAMING (length body.now)) }
-    ensures short { IsErr result ↔ (length body.now < KEY_SIZE) }
+        (TvlvErr.BadLength roaming_tvlv (length body.now)) }
+    ensures short { IsErr result ↔ (length body.now < key_size) }
 {
     if body.len() < KEY_SIZE {
         return Err(TvlvErr::BadLength {
@@ -42,8 +43,8 @@ pub fn read_roam(body: &[u8]) -> Result<Key, TvlvErr>
 /// fewer than 8 bytes.
 pub fn read_gw(body: &[u8]) -> Result<(u32, u32), TvlvErr>
     ensures reads { result ≡ ok_or (option_map speeds (gateway_of_body body.now))
-        (TvlvErr.BadLength GATEWAY (length body.now)) }
-    ensures short { IsErr result ↔ (length body.now < GATEWAY_SIZE) }
+        (TvlvErr.BadLength gateway_tvlv (length body.now)) }
+    ensures short { IsErr result ↔ (length body.now < gateway_size) }
 {
     if body.len() < GATEWAY_SIZE {
         return Err(TvlvErr::BadLength {
@@ -52,15 +53,15 @@ pub fn read_gw(body: &[u8]) -> Result<(u32, u32), TvlvErr>
         });
     }
     let download = BigEndian::read_u32(body);
-    let upload = BigEndian::read_u32(&body[UPLOAD_PLACE..]);
+    let upload = BigEndian::read_u32(&body[UPLOAD_OFFSET..]);
     Ok((download, upload))
 }
 
 /// The multicast flags of a node. `BadLength` where the body has fewer than 4 bytes.
 pub fn read_mcast(body: &[u8]) -> Result<u8, TvlvErr>
     ensures reads { result ≡ ok_or (multicast_of_body body.now)
-        (TvlvErr.BadLength MULTICAST (length body.now)) }
-    ensures short { IsErr result ↔ (length body.now < MULTICAST_SIZE) }
+        (TvlvErr.BadLength multicast_tvlv (length body.now)) }
+    ensures short { IsErr result ↔ (length body.now < multicast_size) }
 {
     if body.len() < MULTICAST_SIZE {
         return Err(TvlvErr::BadLength {

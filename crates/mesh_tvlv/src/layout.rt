@@ -1,4 +1,4 @@
-//! The numbers of the layouts: types and versions of containers, flags, sizes and places of fields.
+//! The numbers of the layouts: types and versions of containers, flags, sizes and offsets of fields.
 
 /// The type of a gateway's container, which tells its bandwidth (`BATADV_TVLV_GW`).
 pub const GATEWAY: u8 = 1;
@@ -34,34 +34,34 @@ pub const WIFI: u8 = 0x10;
 /// The flag of an isolated client (`BATADV_TT_CLIENT_ISOLA`).
 pub const ISOLATED: u8 = 0x20;
 /// The flags that a client keeps.
-pub const CLIENT_FLAGS: u8 = WIFI | ISOLATED;
+pub(crate) const CLIENT_FLAGS: u8 = WIFI | ISOLATED;
 
 /// The bytes of a container before its body: type 1, version 1, length 2.
-pub const HEADER_SIZE: usize = 4;
-/// The place of the length in a container.
-pub const LENGTH_PLACE: usize = 2;
+pub(crate) const HEADER_SIZE: usize = 4;
+/// The offset of the length in a container.
+pub(crate) const LENGTH_OFFSET: usize = 2;
 
 /// The bytes of a translation table before its VLANs: flags 1, version 1, number of VLANs 2.
-pub const TT_HEAD_SIZE: usize = 4;
-/// The place of the number of VLANs in a translation table.
-pub const VLANS_PLACE: usize = 2;
+pub(crate) const TT_HEAD_SIZE: usize = 4;
+/// The offset of the number of VLANs in a translation table.
+pub(crate) const VLANS_OFFSET: usize = 2;
 /// The bytes of a VLAN: checksum 4, wire number 2, reserved 2.
-pub const VLAN_SIZE: usize = 8;
-/// The place of the wire number in a VLAN.
-pub const VLAN_VID_PLACE: usize = 4;
+pub(crate) const VLAN_SIZE: usize = 8;
+/// The offset of the wire number in a VLAN.
+pub(crate) const VLAN_VID_OFFSET: usize = 4;
 /// The bytes of a record: flags 1, reserved 3, client 8.
-pub const CHANGE_SIZE: usize = 12;
-/// The place of the client in a record.
-pub const CHANGE_KEY_PLACE: usize = 4;
+pub(crate) const CHANGE_SIZE: usize = 12;
+/// The offset of the client in a record.
+pub(crate) const CHANGE_KEY_OFFSET: usize = 4;
 
 /// The bytes of a client: address 6, wire number of its VLAN 2.
-pub const KEY_SIZE: usize = 8;
-/// The place of the wire number in a client.
-pub const KEY_VID_PLACE: usize = 6;
+pub(crate) const KEY_SIZE: usize = 8;
+/// The offset of the wire number in a client.
+pub(crate) const KEY_VID_OFFSET: usize = 6;
 
 /// The least body of a gateway: download 4, upload 4.
-pub const GATEWAY_SIZE: usize = 8;
-/// The place of the upload in a gateway's body.
-pub const UPLOAD_PLACE: usize = 4;
+pub(crate) const GATEWAY_SIZE: usize = 8;
+/// The offset of the upload in a gateway's body.
+pub(crate) const UPLOAD_OFFSET: usize = 4;
 /// The least body of multicast flags: flags 1, reserved 3.
-pub const MULTICAST_SIZE: usize = 4;
+pub(crate) const MULTICAST_SIZE: usize = 4;

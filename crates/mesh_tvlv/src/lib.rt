@@ -9,16 +9,17 @@
 #![tactic(auto)]
 
 mod bodies;
-mod failure;
 pub mod laws;
 pub mod layout;
 mod piece;
+mod soundness;
 mod translation;
 mod walk;
 mod writing;
 
 pub use bodies::{read_gw, read_mcast, read_roam};
-pub use failure::TvlvErr;
+pub use mesh_model::TvlvErr;
+pub use soundness::{first_flaw, is_long_enough};
 pub use translation::{TtView, read_tt};
 pub use walk::{Container, TvlvIter};
 pub use writing::{write_change, write_container, write_tt_head, write_vlan};

@@ -121,3 +121,16 @@ fn a_container_is_written_byte_by_byte(rt: HostRuntime) -> Result<(), NoMemory> 
     assert_eq!(rt; out.as_slice(), expected.as_slice());
     Ok(())
 }
+
+#[test]
+fn the_first_flaw_of_containers_is_found(rt: HostRuntime) {
+    let whole = [2, 1, 0, 0, 4, 1, 0, 4, 1, 0, 0, 0, 3, 1, 0, 0];
+    assert_eq!(rt; first_flaw(&whole), None);
+    let cut = &whole[..14];
+    assert_eq!(rt; first_flaw(cut), Some(TvlvErr::Cut { place: 12 }));
+    let short = [2, 1, 0, 0, 1, 1, 0, 7, 0, 0, 0, 0, 0, 0, 0, 2];
+    assert_eq!(rt;
+        first_flaw(&short),
+        Some(TvlvErr::BadLength { kind: 1, len: 7 })
+    );
+}

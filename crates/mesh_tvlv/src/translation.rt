@@ -1,16 +1,18 @@
-ghost use Rattle.std.specs.Prelude.{◌≡◌, ◌<◌, ◌≤◌, ◌↔◌, length, IsErr, ok_or, option_map, slice_get};
-ghost use Rattle.mesh_model.specs.Packets.Bodies.{tt_of_body, tt_size, vlan_of_bytes, change_of_bytes};
+ghost use Rattle.std.specs.Prelude.{◌≡◌, ◌+◌, ◌^◌, ◌<◌, ◌≤◌, ◌↔◌, length, IsErr, ok_or, option_map, slice_get};
+ghost use Rattle.mesh_model.specs.Packets.Bodies.{tt_head_size, tt_of_body, vlans_size, vlan_of_bytes, change_of_bytes};
+ghost use Rattle.mesh_model.specs.Packets.Contents.{table_of_body};
+ghost use Rattle.mesh_model.specs.Packets.Numbers.{tt_tvlv};
 ghost use Rattle.mesh_tvlv.specs.Translation.{vid_and_sum, entry_and_deletion};
 
 use crate::bodies::key_in;
-use crate::failure::TvlvErr;
 use crate::layout::{
-    CHANGE_KEY_PLACE, CHANGE_SIZE, CLIENT_FLAGS, DEL, TT, TT_HEAD_SIZE, VLAN_SIZE, VLAN_VID_PLACE,
-    VLANS_PLACE,
+    CHANGE_KEY_OFFSET, CHANGE_SIZE, CLIENT_FLAGS, DEL, TT, TT_HEAD_SIZE, VLAN_SIZE,
+    VLAN_VID_OFFSET, VLANS_OFFSET,
 };
 use crate::piece::piece;
 use byteorder::{BigEndian, ByteOrder};
 use mesh_base::{Entry, Vid};
+use mesh_model::TvlvErr;
 use std::marker::Model;
 
 /// A translation table where it lies in a body: its flags and version, its VLANs with their
@@ -25,42 +27,54 @@ pub struct TtView<'a> {
 
 impl<'a> Model for TtView<'a> {
     ghost use Rattle.std.specs.Prelude.{map};
-    ghost use Rattle.mesh_model.specs.Packets.Bodies.{TtData, vlan_of_bytes, change_of_bytes, whole_pieces};
+    ghost use Rattle.mesh_model.specs.Packets.Bodies.{TtData, change_size, vlan_size, vlan_of_bytes, change_of_bytes, whole_pieces};
 
     ghost Value = { TtData };
 
     ghost view = { λ v. record {
       flags = v.flags;
       ttvn = v.ttvn;
-      vlans = map vlan_of_bytes (whole_pieces 8 v.vlans.now);
-      changes = map change_of_bytes (whole_pieces 12 v.changes.now);
+      vlans = map vlan_of_bytes (whole_pieces vlan_size v.vlans.now);
+      changes = map change_of_bytes (whole_pieces change_size v.changes.now);
     } };
 }
 
-/// The translation table in a body. `BadLength` where the body has fewer bytes than 4 and 8 for
-/// each VLAN that it tells.
-pub fn read_tt(body: &[u8]) -> Result<TtView<'_>, TvlvErr>
-    ensures reads { result ≡ ok_or (tt_of_body body.now) (TvlvErr.BadLength TT (length body.now)) }
-    ensures short { IsErr result ↔ (length body.now < tt_size body.now) }
+/// The translation table in a body whose head has so many bytes, at least those that are read of
+/// it.
+fn table_behind(head_size: usize, body: &[u8]) -> Result<TtView<'_>, TvlvErr>
+    requires { (tt_head_size ≤ head_size) × (head_size < 2 ^ 32) }
+    ensures reads { result ≡ ok_or (tt_of_body head_size body.now)
+        (TvlvErr.BadLength tt_tvlv (length body.now)) }
+    ensures short { IsErr result ↔ (length body.now < head_size + vlans_size body.now) }
 {
     let short = TvlvErr::BadLength {
         kind: TT,
         len: body.len(),
     };
-    if body.len() < TT_HEAD_SIZE {
+    if body.len() < head_size {
         return Err(short);
     }
-    let vlans = usize::from(BigEndian::read_u16(&body[VLANS_PLACE..]));
-    let size = TT_HEAD_SIZE + VLAN_SIZE * vlans;
+    let vlans = usize::from(BigEndian::read_u16(&body[VLANS_OFFSET..]));
+    let size = head_size + VLAN_SIZE * vlans;
     if body.len() < size {
         return Err(short);
     }
     Ok(TtView {
         flags: body[0],
         ttvn: body[1],
-        vlans: &body[TT_HEAD_SIZE..size],
+        vlans: &body[head_size..size],
         changes: &body[size..],
     })
+}
+
+/// The translation table in a body. `BadLength` where the body has fewer bytes than 4 and 8 for
+/// each VLAN that it tells.
+pub fn read_tt(body: &[u8]) -> Result<TtView<'_>, TvlvErr>
+    ensures reads { result ≡ ok_or (table_of_body body.now)
+        (TvlvErr.BadLength tt_tvlv (length body.now)) }
+    ensures short { IsErr result ↔ (length body.now < tt_head_size + vlans_size body.now) }
+{
+    table_behind(TT_HEAD_SIZE, body)
 }
 
 fn vlan_in(bytes: &[u8]) -> (Vid, u32)
@@ -68,7 +82,7 @@ fn vlan_in(bytes: &[u8]) -> (Vid, u32)
     ensures { result ≡ vid_and_sum (vlan_of_bytes bytes.now) }
 {
     let sum = BigEndian::read_u32(bytes);
-    let vid = BigEndian::read_u16(&bytes[VLAN_VID_PLACE..]);
+    let vid = BigEndian::read_u16(&bytes[VLAN_VID_OFFSET..]);
     (Vid(vid), sum)
 }
 
@@ -77,7 +91,7 @@ fn change_in(bytes: &[u8]) -> (Entry, bool)
     ensures { result ≡ entry_and_deletion (change_of_bytes bytes.now) }
 {
     let flags = bytes[0];
-    let key = key_in(&bytes[CHANGE_KEY_PLACE..]);
+    let key = key_in(&bytes[CHANGE_KEY_OFFSET..]);
     let entry = Entry {
         key,
         flags: flags & CLIENT_FLAGS,

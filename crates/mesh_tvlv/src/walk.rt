@@ -2,9 +2,9 @@ ghost use Rattle.std.specs.Prelude.{◌≡◌, ◌↔◌, ◌∷◌, [], IsNone,
 ghost use Rattle.mesh_model.specs.Packets.Containers.{first_container};
 ghost use Rattle.mesh_tvlv.specs.Walk.{seen, walk_over, to_come, behind, stopped, HasEnded, IsAtCut};
 
-use crate::failure::TvlvErr;
-use crate::layout::{HEADER_SIZE, LENGTH_PLACE};
+use crate::layout::{HEADER_SIZE, LENGTH_OFFSET};
 use byteorder::{BigEndian, ByteOrder};
+use mesh_model::TvlvErr;
 use std::marker::Model;
 
 /// A container: its type, the version of its type, and its body where it lies.
@@ -22,7 +22,7 @@ fn first_container(bytes: &[u8]) -> Option<Container<'_>>
     if bytes.len() < HEADER_SIZE {
         return None;
     }
-    let told = usize::from(BigEndian::read_u16(&bytes[LENGTH_PLACE..]));
+    let told = usize::from(BigEndian::read_u16(&bytes[LENGTH_OFFSET..]));
     if bytes.len() < HEADER_SIZE + told {
         return None;
     }
@@ -37,7 +37,7 @@ fn first_container(bytes: &[u8]) -> Option<Container<'_>>
 #[derive(Debug, Drop)]
 pub struct TvlvIter<'a> {
     left: &'a [u8],
-    place: usize,
+    offset: usize,
     stopped: bool,
 }
 
@@ -47,9 +47,9 @@ impl<'a> Model for TvlvIter<'a> {
 
     ghost Value = { Walk };
 
-    ghost view = { λ w. record { left = w.left.now; place = w.place; stopped = w.stopped } };
+    ghost view = { λ w. record { left = w.left.now; offset = w.offset; stopped = w.stopped } };
 
-    ghost invariant = { λ w. w.place + length w.left.now < 2 ^ 64 };
+    ghost invariant = { λ w. w.offset + length w.left.now < 2 ^ 64 };
 }
 
 impl<'a> TvlvIter<'a> {
@@ -59,7 +59,7 @@ impl<'a> TvlvIter<'a> {
     {
         TvlvIter {
             left: bytes,
-            place: 0,
+            offset: 0,
             stopped: false,
         }
     }
@@ -75,9 +75,9 @@ impl<'a> TvlvIter<'a> {
             (λ answer. OnErr answer (to_come self.old ≡ [])) }
 
         // A cut is told exactly before some bytes, but fewer than a header and its told length.
-        ensures cut { (result ≡ Some (Err (TvlvErr.Cut self.old.place))) ↔ IsAtCut self.old }
+        ensures cut { (result ≡ Some (Err (TvlvErr.Cut self.old.offset))) ↔ IsAtCut self.old }
         ensures cause { IfSome result (λ answer. IfErr answer (λ fault.
-            fault ≡ TvlvErr.Cut self.old.place)) }
+            fault ≡ TvlvErr.Cut self.old.offset)) }
         ensures stops { IfSome result (λ answer. OnErr answer (self.new ≡ stopped self.old)) }
 
         // Nothing is answered exactly at the end and after a cut.
@@ -89,11 +89,11 @@ impl<'a> TvlvIter<'a> {
         }
         let Some(container) = first_container(self.left) else {
             self.stopped = true;
-            return Some(Err(TvlvErr::Cut { place: self.place }));
+            return Some(Err(TvlvErr::Cut { place: self.offset }));
         };
         let size = HEADER_SIZE + container.body.len();
         self.left = &self.left[size..];
-        self.place += size;
+        self.offset += size;
         Some(Ok(container))
     }
 }

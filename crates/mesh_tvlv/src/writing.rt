@@ -1,10 +1,11 @@
 ghost use Rattle.std.specs.Prelude.{◌≡◌, ◌≤◌, ◌++◌, length, OnOk, OnErr};
-ghost use Rattle.mesh_model.specs.Packets.Containers.{container_text};
-ghost use Rattle.mesh_model.specs.Packets.Bodies.{tt_head_text, key_text, vlan_text, change_text, change_of};
+ghost use Rattle.mesh_model.specs.Packets.Containers.{container_spelling};
+ghost use Rattle.mesh_model.specs.Packets.Bodies.{change_of};
+ghost use Rattle.mesh_model.specs.Packets.BodySpellings.{tt_head_spelling, key_spelling, vlan_spelling, change_spelling};
 
 use crate::layout::{
-    CHANGE_KEY_PLACE, CHANGE_SIZE, CLIENT_FLAGS, DEL, HEADER_SIZE, KEY_SIZE, LENGTH_PLACE,
-    TT_HEAD_SIZE, VLAN_SIZE, VLAN_VID_PLACE, VLANS_PLACE,
+    CHANGE_KEY_OFFSET, CHANGE_SIZE, CLIENT_FLAGS, DEL, HEADER_SIZE, KEY_SIZE, LENGTH_OFFSET,
+    TT_HEAD_SIZE, VLAN_SIZE, VLAN_VID_OFFSET, VLANS_OFFSET,
 };
 use byteorder::{BigEndian, ByteOrder};
 use mesh_base::{Entry, Key, NoMemory, Vid};
@@ -18,31 +19,29 @@ pub fn write_container(
 ) -> Result<(), NoMemory>
     requires { length body.now ≤ 65535 }
     ensures ok { OnOk result (out.new.items ≡ out.old.items
-        ++ container_text (record { kind = kind; version = version; body = body.now })) }
+        ++ container_spelling (record { kind = kind; version = version; body = body.now })) }
     ensures err { OnErr result (out.new.items ≡ out.old.items) }
 {
     let mut header = [0; HEADER_SIZE];
     header[0] = kind;
     header[1] = version;
-    BigEndian::write_u16(&mut header[LENGTH_PLACE..], body.len() as u16);
-    let alloc = *out.allocator();
-    let mut text = Vec::new(alloc);
-    text.extend_from_slice(&header)?;
-    text.extend_from_slice(body)?;
-    out.extend_from_slice(text.as_slice())?;
+    BigEndian::write_u16(&mut header[LENGTH_OFFSET..], body.len() as u16);
+    out.reserve(HEADER_SIZE + body.len())?;
+    out.extend_from_slice(&header).unwrap();
+    out.extend_from_slice(body).unwrap();
     Ok(())
 }
 
 /// Appends the head of a translation table: its flags, its version, the number of its VLANs in 2
 /// bytes.
 pub fn write_tt_head(out: &mut Vec<u8>, flags: u8, ttvn: u8, vlans: u16) -> Result<(), NoMemory>
-    ensures ok { OnOk result (out.new.items ≡ out.old.items ++ tt_head_text flags ttvn vlans) }
+    ensures ok { OnOk result (out.new.items ≡ out.old.items ++ tt_head_spelling flags ttvn vlans) }
     ensures err { OnErr result (out.new.items ≡ out.old.items) }
 {
     let mut head = [0; TT_HEAD_SIZE];
     head[0] = flags;
     head[1] = ttvn;
-    BigEndian::write_u16(&mut head[VLANS_PLACE..], vlans);
+    BigEndian::write_u16(&mut head[VLANS_OFFSET..], vlans);
     out.extend_from_slice(&head)?;
     Ok(())
 }
@@ -50,19 +49,19 @@ pub fn write_tt_head(out: &mut Vec<u8>, flags: u8, ttvn: u8, vlans: u16) -> Resu
 /// Appends a VLAN: the checksum of its clients in 4 bytes, its wire number in 2, two bytes of 0.
 pub fn write_vlan(out: &mut Vec<u8>, vid: Vid, sum: u32) -> Result<(), NoMemory>
     ensures ok { OnOk result (out.new.items ≡ out.old.items
-        ++ vlan_text (record { vid = vid; sum = sum })) }
+        ++ vlan_spelling (record { vid = vid; sum = sum })) }
     ensures err { OnErr result (out.new.items ≡ out.old.items) }
 {
     let mut vlan = [0; VLAN_SIZE];
     BigEndian::write_u32(&mut vlan, sum);
-    BigEndian::write_u16(&mut vlan[VLAN_VID_PLACE..], vid.0);
+    BigEndian::write_u16(&mut vlan[VLAN_VID_OFFSET..], vid.0);
     out.extend_from_slice(&vlan)?;
     Ok(())
 }
 
 /// A client in 8 bytes: its address, then the wire number of its VLAN.
 fn key_bytes(key: Key) -> [u8; KEY_SIZE]
-    ensures { result ≡ key_text key }
+    ensures { result ≡ key_spelling key }
 {
     let [a, b, c, d, e, f] = key.mac.0;
     let [high, low] = key.vid.0.to_be_bytes();
@@ -73,13 +72,13 @@ fn key_bytes(key: Key) -> [u8; KEY_SIZE]
 /// flags WIFI and ISOLATED are written, ROAM is 0, and so are the three reserved bytes.
 pub fn write_change(out: &mut Vec<u8>, entry: &Entry, del: bool) -> Result<(), NoMemory>
     ensures ok { OnOk result (out.new.items ≡ out.old.items
-        ++ change_text (change_of entry.now del)) }
+        ++ change_spelling (change_of entry.now del)) }
     ensures err { OnErr result (out.new.items ≡ out.old.items) }
 {
     let gone = if del { DEL } else { 0 };
     let mut change = [0; CHANGE_SIZE];
     change[0] = (entry.flags & CLIENT_FLAGS) | gone;
-    change[CHANGE_KEY_PLACE..].copy_from_slice(&key_bytes(entry.key));
+    change[CHANGE_KEY_OFFSET..].copy_from_slice(&key_bytes(entry.key));
     out.extend_from_slice(&change)?;
     Ok(())
 }

@@ -1,5 +1,5 @@
-use Rattle.mesh_codec.proofs.Written.{table_size}
+use Rattle.mesh_codec.proofs.Written.{shape_size}
 use Rattle.mesh_codec.proofs.laws.a_header_has_its_size.Goals as goal
 
 pub returns : goal.returns
-returns c = table_size
+returns c = shape_size

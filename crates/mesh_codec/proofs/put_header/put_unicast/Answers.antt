@@ -1,5 +1,5 @@
 use Rattle.std.proofs.Common.{refl}
 use Rattle.mesh_codec.proofs.put_header.put_unicast.Goals as goal
 
-pub returns-clause-fields : goal.returns-clause-fields
-returns-clause-fields c = λ told. rw c.in-Unicast.is (_, c.put_number8.ensures.field, (_, c.put_number8-2.ensures.field, (_, c.put_number8-3.ensures.field, (_, c.put_number8-4.ensures.field, (_, c.put_address.ensures.field, refl)))))
+pub returns-clause-parts : goal.returns-clause-parts
+returns-clause-parts c = λ told. (_, c.put_u8.ensures.part, (_, c.put_u8-2.ensures.part, (_, c.put_u8-3.ensures.part, (_, c.put_u8-4.ensures.part, (_, c.put_mac.ensures.part, refl)))))
