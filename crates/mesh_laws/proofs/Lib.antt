@@ -4,6 +4,7 @@ pub mod RunLemmas
 pub mod HaltLemmas
 pub mod UnfinishedLemmas
 pub mod KeyLists
+pub mod NumberLemmas
 pub mod PresentLemmas
 pub mod HeaderLemmas
 pub mod FirstPacketLemmas

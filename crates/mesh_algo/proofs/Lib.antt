@@ -1,0 +1,2 @@
+-- What the methods rest on.
+pub mod WordLemmas
