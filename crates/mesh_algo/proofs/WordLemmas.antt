@@ -39,7 +39,7 @@ shifted_bit : (word by i : ℕ) → i < 64 → is_bit (shifted_word word by) i �
 shifted_bit word by i lt =
     ⊎_elim (λ e. ap (λ b. is_bit (cond b (word * 2 ^ by % 2 ^ 64) 0) i) e ∙ mod_bit (word * 2 ^ by) i lt ∙ shl_bit word by i)
     (λ e. ap (λ b. is_bit (cond b (word * 2 ^ by % 2 ^ 64) 0) i) e ∙ zero_bit i
-        ∙ (let far = ltb-false by 64 e in let above : i < by = omega arith in sym (ap (λ b. b && is_bit word (i - by)) (lt-leb by i above))))
+    ∙ (let far = ltb-false by 64 e in let above : i < by = omega arith in sym (ap (λ b. b && is_bit word (i - by)) (lt-leb by i above))))
     (cases_Bool (nat_lt by 64))
 
 pub shifted_fits : (word by : ℕ) → shifted_word word by < 2 ^ 64
@@ -67,11 +67,11 @@ above_tests s newest n b above low lt = grind (arith, nat_tests)
 pub see_above : (newest word s : ℕ) → IsWord newest word → newest < s → numbers_of s (bit_or (shifted_word word (s - newest)) 1) ≡ window (s ∷ numbers_of newest word)
 see_above newest word s h above =
     from_bits s _ (s ∷ numbers_of newest word) (let g = newest_back newest word h in omega arith) (λ n low lt.
-        let e : s - n - (s - newest) ≡ newest - n = omega arith in
-        or_bit (shifted_word word (s - newest)) 1 (s - n)
-        ∙ ap₂ (λ a b. a || b) (shifted_bit word (s - newest) (s - n) lt ∙ ap (λ i. nat_le (s - newest) (s - n) && is_bit word i) e) (one_bit (s - n))
-        ∙ above_tests s newest n (is_bit word (newest - n)) above low lt
-        ∙ sym (ap (λ b. nat_eq n s || b) (has-numbers n newest word)))
+    let e : s - n - (s - newest) ≡ newest - n = omega arith in
+    or_bit (shifted_word word (s - newest)) 1 (s - n)
+    ∙ ap₂ (λ a b. a || b) (shifted_bit word (s - newest) (s - n) lt ∙ ap (λ i. nat_le (s - newest) (s - n) && is_bit word i) e) (one_bit (s - n))
+    ∙ above_tests s newest n (is_bit word (newest - n)) above low lt
+    ∙ sym (ap (λ b. nat_eq n s || b) (has-numbers n newest word)))
 
 or_true : (a : Bool) → (a || true) ≡ true
 or_true true = refl
@@ -101,8 +101,8 @@ near_tests s newest n b le near low lt = grind (arith, nat_tests)
 pub see_near : (newest word s : ℕ) → IsWord newest word → s ≤ newest → newest - s < 64 → numbers_of newest (bit_or word (1 * 2 ^ (newest - s) % 2 ^ 64)) ≡ window (s ∷ numbers_of newest word)
 see_near newest word s h le near =
     from_bits newest _ (s ∷ numbers_of newest word) (let g = newest_back newest word h in omega arith) (λ n low lt.
-        set_bit word (newest - s) (newest - n) near ∙ near_tests s newest n (is_bit word (newest - n)) le near low lt
-        ∙ sym (ap (λ b. nat_eq n s || b) (has-numbers n newest word)))
+    set_bit word (newest - s) (newest - n) near ∙ near_tests s newest n (is_bit word (newest - n)) le near low lt
+    ∙ sym (ap (λ b. nat_eq n s || b) (has-numbers n newest word)))
 
 pub word_near : (newest word s : ℕ) → IsWord newest word → s ≤ newest → newest - s < 64 → IsWord newest (bit_or word (1 * 2 ^ (newest - s) % 2 ^ 64))
 word_near newest word s h le near = record {
@@ -119,7 +119,7 @@ far_tests s newest n b far low lt = grind (arith, nat_tests)
 pub see_far : (newest word s : ℕ) → IsWord newest word → 64 ≤ newest - s → numbers_of newest word ≡ window (s ∷ numbers_of newest word)
 see_far newest word s h far =
     from_bits newest _ (s ∷ numbers_of newest word) (let g = newest_back newest word h in omega arith) (λ n low lt.
-        far_tests s newest n (is_bit word (newest - n)) far low lt ∙ sym (ap (λ b. nat_eq n s || b) (has-numbers n newest word)))
+    far_tests s newest n (is_bit word (newest - n)) far low lt ∙ sym (ap (λ b. nat_eq n s || b) (has-numbers n newest word)))
 
 -- ---- how many numbers
 one_more : (b : Bool) (x n : ℕ) (rest : List ℕ) → length rest ≡ n → length (cond b (x ∷ rest) rest) ≡ cond b 1 0 + n
@@ -167,14 +167,22 @@ top_tests : (newest top n : ℕ) (b : Bool) → newest ≤ top → n ≤ top →
     → (nat_le (top - newest) (top - n) && b) ≡ (nat_le n newest && (nat_lt (newest - n) 64 && b))
 top_tests newest top n b le low lt = grind (arith, nat_tests)
 
--- the last numbers up to a top are those of a shifted word
-pub count_shifted : (newest word top : ℕ) → IsWord newest word → newest ≤ top → count_ones (shifted_word word (top - newest)) ≡ length (seen_among top window_length (numbers_of newest word))
-count_shifted newest word top h le =
+count_from : (newest word top : ℕ) → IsWord newest word → newest ≤ top → count_ones (shifted_word word (top - newest)) ≡ length (seen_among top window_length (numbers_of newest word))
+count_from newest word top h le =
     count_word top (shifted_word word (top - newest)) (shifted_fits word (top - newest)) (λ i lt gt. shifted_below newest word top i h le lt gt)
     ∙ ap (λ l. length l) (among-agree top 64 (λ n. is_bit (shifted_word word (top - newest)) (top - n)) (λ n. has n (numbers_of newest word)) (λ n low lt.
-        let e : top - n - (top - newest) ≡ newest - n = omega arith in
-        shifted_bit word (top - newest) (top - n) lt ∙ ap (λ i. nat_le (top - newest) (top - n) && is_bit word i) e
-        ∙ top_tests newest top n (is_bit word (newest - n)) le low lt ∙ sym (has-numbers n newest word)))
+    let e : top - n - (top - newest) ≡ newest - n = omega arith in
+    shifted_bit word (top - newest) (top - n) lt ∙ ap (λ i. nat_le (top - newest) (top - n) && is_bit word i) e
+    ∙ top_tests newest top n (is_bit word (newest - n)) le low lt ∙ sym (has-numbers n newest word)))
+
+-- the last numbers up to a top are those of a shifted word
+pub count_shifted : (newest word top : ℕ) → IsWord newest word
+    → count_ones (shifted_word word (top - newest)) ≡ length (seen_among (max top (greatest (numbers_of newest word))) window_length (numbers_of newest word))
+count_shifted newest word top h =
+    let g = newest_back newest word h in
+    let d : top - newest ≡ max top newest - newest = omega arith in
+    ap (λ by. count_ones (shifted_word word by)) d ∙ count_from newest word (max top newest) h (omega arith)
+    ∙ ap (λ n. length (seen_among (max top n) window_length (numbers_of newest word))) (sym g)
 
 -- ---- a number that is looked up
 pub has_near : (newest word s : ℕ) → s ≤ newest → newest - s < 64 → nat_eq (bit_and (word / 2 ^ (newest - s)) 1) 1 ≡ has s (numbers_of newest word)
@@ -207,10 +215,10 @@ top_is_seen newest word e =
 zero_or_bit : (newest word : ℕ) → IsWord newest word → newest_of (numbers_of newest word) ≡ cond (nat_eq word 0) None (Some newest)
 zero_or_bit newest word h =
     ⊎_elim (λ e. let filled : word ≡ 0 → ⊥ = λ z. true≢false (sym e ∙ ap (λ w. is_bit w 0) z) in
-        newest_of_some newest (numbers_of newest word) (top_is_seen newest word e) ∙ ap (λ n. Some n) (newest_back newest word h)
-        ∙ sym (ap (λ b. cond b None (Some newest)) (ne_eqb word 0 filled)))
+    newest_of_some newest (numbers_of newest word) (top_is_seen newest word e) ∙ ap (λ n. Some n) (newest_back newest word h)
+    ∙ sym (ap (λ b. cond b None (Some newest)) (ne_eqb word 0 filled)))
     (λ (e : (word ≡ 0) × (newest ≡ 0)). ap₂ (λ n w. newest_of (numbers_of n w)) e.1 e.0 ∙ ap (λ l. newest_of l) none_seen
-        ∙ sym (ap (λ b. cond b None (Some newest)) (eq-eqb word 0 e.0))) h.top
+    ∙ sym (ap (λ b. cond b None (Some newest)) (eq-eqb word 0 e.0))) h.top
 
 pub no_numbers : numbers_of 0 0 ≡ []
 no_numbers = none_seen

@@ -33,8 +33,8 @@ bit_of-word_by zero i p lt = absurd (omega arith)
 bit_of-word_by (suc k) i p lt =
     ⊎_elim (λ low. ap (λ b. nat_eq b 1) (bit_at_cat_low (cond (p k) 1 0) k (word_by k p) i low) ∙ bit_of-word_by k i p low)
     (λ high. let e : i ≡ k = omega arith in let z : i - k ≡ 0 = omega arith in
-        ap (λ b. nat_eq b 1) (bit_at_cat_high (cond (p k) 1 0) k (word_by k p) i (word_by-lt k p) high)
-        ∙ ap (λ j. is_bit (cond (p k) 1 0) j) z ∙ lowest (p k) ∙ ap p (sym e))
+    ap (λ b. nat_eq b 1) (bit_at_cat_high (cond (p k) 1 0) k (word_by k p) i (word_by-lt k p) high)
+    ∙ ap (λ j. is_bit (cond (p k) 1 0) j) z ∙ lowest (p k) ∙ ap p (sym e))
     (cases_lt i k)
 
 -- what a word has
@@ -59,9 +59,9 @@ own_bit : (i newest word : ℕ) → i < 64 → IsWord newest word → (nat_le i 
 own_bit i newest word lt h =
     ⊎_elim (λ above. first_false i newest _ (is_bit word i) above (h.below i lt above))
     (λ le. let e : newest - (newest - i) ≡ i = omega arith in
-        ap (λ b. nat_le i newest && b) (has-numbers (newest - i) newest word)
-        ∙ ap (λ j. nat_le i newest && (nat_le (newest - i) newest && (nat_lt j 64 && is_bit word j))) e
-        ∙ all_true i newest (is_bit word i) le lt)
+    ap (λ b. nat_le i newest && b) (has-numbers (newest - i) newest word)
+    ∙ ap (λ j. nat_le i newest && (nat_le (newest - i) newest && (nat_lt j 64 && is_bit word j))) e
+    ∙ all_true i newest (is_bit word i) le lt)
     (cases_lt newest i)
 
 -- the bits of the word that has a word's numbers are its own
@@ -71,5 +71,5 @@ word_back newest word h =
     let numbers = numbers_of newest word in
     let test : ℕ → Bool = λ i. nat_le i (greatest numbers) && has (greatest numbers - i) numbers in
     same_from_bits_below 64 (word_by 64 test) word (word_by-lt 64 test) h.fits (λ i lt.
-        same_bit _ _ (bit_at-lt (word_by 64 test) i) (bit_at-lt word i)
-        (bit_of-word_by 64 i test lt ∙ ap (λ g. nat_le i g && has (g - i) numbers) (newest_back newest word h) ∙ own_bit i newest word lt h))
+    same_bit _ _ (bit_at-lt (word_by 64 test) i) (bit_at-lt word i)
+    (bit_of-word_by 64 i test lt ∙ ap (λ g. nat_le i g && has (g - i) numbers) (newest_back newest word h) ∙ own_bit i newest word lt h))

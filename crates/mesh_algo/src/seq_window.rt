@@ -1,4 +1,4 @@
-ghost use Rattle.std.specs.Prelude.{◌≡◌, ◌≤◌, [], ◌∷◌, length};
+ghost use Rattle.std.specs.Prelude.{◌≡◌, ◌≤◌, [], ◌∷◌, length, max};
 ghost use Rattle.mesh_model.specs.Routes.Numbers.{has, greatest, seen_among, window, window_length};
 ghost use Rattle.mesh_algo.specs.Words.{newest_of, shifted_word};
 
@@ -70,12 +70,12 @@ impl SeqWindow {
         self.word.count_ones()
     }
 
-    /// How many of its numbers are among the 64 up to this one, which none passes.
+    /// How many of its numbers are among the 64 up to this one, or to its newest if that is above it.
     pub fn count_to(&self, top: u32) -> u32
-        requires { greatest self.now ≤ top }
-        ensures { result ≡ length (seen_among top window_length self.now) }
+        ensures counted { result ≡ length (seen_among (max top (greatest self.now)) window_length self.now) }
+        ensures few { result ≤ 64 }
     {
-        shifted(self.word, top - self.newest).count_ones()
+        shifted(self.word, top.saturating_sub(self.newest)).count_ones()
     }
 
     /// The newest number, 0 where nothing was seen.

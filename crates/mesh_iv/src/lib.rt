@@ -1,13 +1,14 @@
-// A library with one function.
+//! Algorithm IV of one node: two keyed tables, a row for each originator and a row for each pair of
+//! an originator and a neighbour from which it was heard.
+
 #![tactic(auto)]
 
-ghost use Rattle.std.specs.Prelude.{◌≡◌};
-ghost use Rattle.mesh_iv.specs.Echo.{echo_of};
+mod best;
+pub mod iv;
+mod path;
+mod quality;
+mod row;
+mod table;
 
-// The `ensures` clause is the contract: what `echo` returns is `echo_of` of its argument, a definition
-// in `specs/Echo.antt`, which a caller's clause can cite too.
-pub fn echo(x: usize) -> usize
-    ensures { result ≡ echo_of x }
-{
-    x
-}
+pub use iv::Iv;
+pub use mesh_algo::Algo;
