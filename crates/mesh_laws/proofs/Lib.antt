@@ -4,6 +4,8 @@ pub mod RunLemmas
 pub mod HaltLemmas
 pub mod UnfinishedLemmas
 pub mod KeyLists
+pub mod NumberLemmas
+pub mod WindowLemmas
 pub mod PresentLemmas
 pub mod HeaderLemmas
 pub mod ReadingLemmas
@@ -19,7 +21,6 @@ pub mod MachineLemmas
 pub mod MisledWorld
 pub mod Schedule
 pub mod Lines
-pub mod NumberLemmas
 pub mod FoundLemmas
 pub mod FrameLemmas
 pub mod BadLineLemmas

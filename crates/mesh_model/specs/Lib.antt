@@ -1,6 +1,7 @@
 -- The definitions, in rooms. A room imports only from the rooms before it and from itself.
 pub mod Packets
 pub mod Scenario
+pub mod Routes
 pub mod Clients
 pub mod Tables
 pub mod Text

@@ -15,6 +15,7 @@ pub mod link_frame;
 pub mod name_list;
 pub mod packet;
 pub mod table_change;
+pub mod route;
 pub mod table_row;
 
 pub use act::Act;
@@ -26,4 +27,5 @@ pub use link_frame::{Ending, NoPacket, TvlvErr};
 pub use name_list::NameList;
 pub use packet::Head;
 pub use table_change::Change;
+pub use route::{Beats, Hearing, LinkRow, OrigRow};
 pub use table_row::LocalRow;

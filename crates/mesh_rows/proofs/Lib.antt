@@ -1,5 +1,6 @@
 -- How the definitions compute on scenarios, bytes and lines that are written out.
 pub mod OnLiterals
+pub mod RoutesOnLiterals
 pub mod DecodeOnLiterals
 pub mod NetOnLiterals
 pub mod TablesOnLiterals

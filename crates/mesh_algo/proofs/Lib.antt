@@ -1,0 +1,5 @@
+-- What the methods rest on.
+pub mod MacLemmas
+pub mod LifeLemmas
+pub mod BestLemmas
+pub mod WordLemmas

@@ -1,0 +1,35 @@
+-- What is said of a routing algorithm's answers in the laws that each algorithm keeps. The main words
+-- are `HasRouteByMetric` and `HasSameAnswers`.
+use Rattle.std.specs.Prelude.{◌≡◌, ◌↔◌, ℕ, ◌%◌, ◌<◌, is_some, IsSome, IsTrue}
+use Rattle.mesh_base.specs.declared.address.Mac.{Mac}
+use Rattle.mesh_model.specs.declared.packet.Head.{Head}
+use Rattle.mesh_model.specs.Routes.Queries.{Queries}
+use Rattle.mesh_model.specs.Routes.RouteLog.{RouteLog}
+
+-- a route is there exactly where the metric is above 0
+abbrev pub HasRouteByMetric : Queries → Type 0
+HasRouteByMetric q =
+    (log : RouteLog) (moment : ℕ) (orig : Mac) →
+    IsSome (q.route log moment orig) ↔ (0 < q.metric log moment orig)
+
+-- only live originators have a route
+abbrev pub HasLiveRoutes : Queries → Type 0
+HasLiveRoutes q =
+    (log : RouteLog) (moment : ℕ) (orig : Mac) →
+    IsSome (q.route log moment orig) → IsTrue (q.live log moment orig)
+
+-- an OGM is sent exactly at ticks of even index
+abbrev pub HasOgmAtEvenTicks : Queries → Type 0
+HasOgmAtEvenTicks q =
+    (log : RouteLog) (index : ℕ) → IsSome (q.beats log index).ogm ↔ (index % 2 ≡ 0)
+
+-- every answer is the same by two logs
+pub record HasSameAnswers (q : Queries) (a b : RouteLog) : Type 0 where
+  pub beats : (index : ℕ) → q.beats a index ≡ q.beats b index
+  pub hear : (moment : ℕ) (from : Mac) (throughput : ℕ) (head : Head) →
+      q.hear a moment from throughput head ≡ q.hear b moment from throughput head
+  pub metric : (moment : ℕ) (orig : Mac) → q.metric a moment orig ≡ q.metric b moment orig
+  pub route : (moment : ℕ) (orig : Mac) → q.route a moment orig ≡ q.route b moment orig
+  pub live : (moment : ℕ) (orig : Mac) → q.live a moment orig ≡ q.live b moment orig
+  pub originators : (moment : ℕ) → q.originators a moment ≡ q.originators b moment
+  pub neighbours : (moment : ℕ) → q.neighbours a moment ≡ q.neighbours b moment

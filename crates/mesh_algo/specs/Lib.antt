@@ -1,0 +1,4 @@
+-- What the contracts cite.
+pub mod AlgoLaws
+pub mod Words
+pub mod WordBack

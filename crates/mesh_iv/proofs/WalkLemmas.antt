@@ -1,0 +1,101 @@
+-- The walk over the rows of one originator, which stand together in the order of pairs.
+use Rattle.std.proofs.Common.{◌≡◌, ◌⊎◌, inl, inr, ⊎_elim, ℕ, zero, suc, ◌<◌, ◌≤◌, Bool, true, false, cond, List, [], ◌∷◌, length, get_or, drop, Option, Some, None, is_eq, is_lt, arith, refl, sym, ap, ◌∙◌, subst, Ordering, Less, Equal, Greater}
+use Rattle.std.specs.Cmp.{IsTotalOrder}
+use Rattle.std.specs.List.{AllByRecursion}
+use Rattle.std.specs.List.Sorted.{IsStrictlySortedBy, IsPartitionedBy}
+use Rattle.std.specs.Map.{keys_of}
+use Rattle.std.specs.Ordering.{ordering_then, ordering_reverse}
+use Rattle.std.proofs.lemmas.Bool.{cases_Bool, false≢true, true≢false}
+use Rattle.std.proofs.lemmas.Cmp.{alike_right, tied_back}
+use Rattle.mesh_base.specs.declared.address.Mac.{Mac}
+use Rattle.mesh_model.specs.Routes.Addresses.{mac_order, same_mac, is_smaller}
+use Rattle.mesh_algo.proofs.MacLemmas.{mac_total, mac_exact, same_by_order, other_by_order}
+use Rattle.mesh_iv.specs.declared.best.Best.{Best}
+use Rattle.mesh_iv.specs.declared.row.Pair.{Pair}
+use Rattle.mesh_iv.specs.declared.path.Path.{Path}
+use Rattle.mesh_iv.specs.Rows.{average_of}
+use Rattle.mesh_iv.specs.Walk.{pair_order, walk, walk_front, better_row}
+
+-- ---- originators in the order of pairs
+first_then : (r s : Ordering) → ordering_then r s ≡ Less → (r ≡ Less) ⊎ (r ≡ Equal)
+first_then Less s e = inl refl
+first_then Equal s e = inr refl
+first_then Greater s e = absurd (false≢true (ap is_lt e))
+
+-- the originators of two pairs in order
+orig_upto : (a b : Pair) → pair_order a b ≡ Less → (mac_order a.orig b.orig ≡ Less) ⊎ (mac_order a.orig b.orig ≡ Equal)
+orig_upto a b e = first_then (mac_order a.orig b.orig) (mac_order a.from b.from) e
+
+-- what is above the first is above the second
+above_upto : (o : Mac) (a b : Pair) → pair_order a b ≡ Less → mac_order o a.orig ≡ Less → mac_order o b.orig ≡ Less
+above_upto o a b e above =
+    ⊎_elim (λ lt. mac_total.trans o a.orig b.orig above lt) (λ eq. sym (alike_right mac_total a.orig b.orig o eq) ∙ above) (orig_upto a b e)
+
+below_upto : (o : Mac) (a b : Pair) → pair_order a b ≡ Less → mac_order b.orig o ≡ Less → mac_order a.orig o ≡ Less
+below_upto o a b e below =
+    ⊎_elim (λ lt. mac_total.trans a.orig b.orig o lt below) (λ eq. mac_total.congr a.orig b.orig o eq ∙ below) (orig_upto a b e)
+
+less_from : (r : Ordering) → is_lt r ≡ true → r ≡ Less
+less_from Less e = refl
+less_from Equal e = absurd (false≢true e)
+less_from Greater e = absurd (false≢true e)
+
+-- an originator that is neither smaller nor the same is above
+greater_from : (r : Ordering) → is_lt r ≡ false → is_eq r ≡ false → ordering_reverse r ≡ Less
+greater_from Less lt eq = absurd (true≢false lt)
+greater_from Equal lt eq = absurd (true≢false eq)
+greater_from Greater lt eq = refl
+
+above_from : (a o : Mac) → is_smaller a o ≡ false → same_mac a o ≡ false → mac_order o a ≡ Less
+above_from a o lt eq = mac_total.antisymm o a ∙ greater_from (mac_order a o) lt (same_by_order a o ∙ eq)
+
+-- ---- rows of other originators change nothing
+module _ (top : ℕ) (orig : Mac) where
+  other_row : (best : Option Best) (e : Pair × Path) (rows : List (Pair × Path)) → same_mac e.0.orig orig ≡ false → walk top orig best (e ∷ rows) ≡ walk top orig best rows
+  other_row best e rows n = ap (λ b. cond b (walk top orig (better_row best e.0.from (average_of top e.1)) rows) (walk top orig best rows)) n
+
+  all_above : (best : Option Best) (k : Pair) (rows : List (Pair × Path)) → mac_order orig k.orig ≡ Less → AllByRecursion (λ y. pair_order k y ≡ Less) (keys_of rows) → walk top orig best rows ≡ best
+  all_above best k [] above h = refl
+  all_above best k (e ∷ rows) above h =
+      other_row best e rows (other_by_order orig e.0.orig (above_upto orig k e.0 h.0 above)) ∙ all_above best k rows above h.1
+
+  -- from the first row that isn't below the originator, its rows come first
+  front : (best : Option Best) (rows : List (Pair × Path)) → IsStrictlySortedBy pair_order (keys_of rows) → ((j : ℕ) (d : Pair × Path) → j < length rows → is_smaller (get_or rows j d).0.orig orig ≡ false) → walk_front top orig best rows ≡ walk top orig best rows
+  unfolding IsStrictlySortedBy
+  front best [] sorted after = refl
+  front best (e ∷ rows) sorted after =
+      elim (same_mac e.0.orig orig) as (λ b. same_mac e.0.orig orig ≡ b → cond b (walk_front top orig (better_row best e.0.from (average_of top e.1)) rows) best
+      ≡ cond b (walk top orig (better_row best e.0.from (average_of top e.1)) rows) (walk top orig best rows)) [
+        | true ↦ λ t. front (better_row best e.0.from (average_of top e.1)) rows sorted.1 (λ j d lt. after (suc j) d (omega arith))
+        | false ↦ λ n. sym (all_above best e.0 rows (above_from e.0.orig orig (after 0 e (omega arith)) n) sorted.0)
+      ] refl
+
+  not_below : (a : Mac) → is_smaller a orig ≡ true → same_mac a orig ≡ false
+  not_below a lt = sym (same_by_order a orig) ∙ ap is_eq (less_from (mac_order a orig) lt)
+
+  -- the walk over all rows is that from the first row on that isn't below the originator
+  pub front_walk : (best : Option Best) (rows : List (Pair × Path)) (i : ℕ) → IsStrictlySortedBy pair_order (keys_of rows) → i ≤ length rows
+      → ((j : ℕ) (d : Pair × Path) → j < i → is_smaller (get_or rows j d).0.orig orig ≡ true)
+      → ((j : ℕ) (d : Pair × Path) → i ≤ j → j < length rows → is_smaller (get_or rows j d).0.orig orig ≡ false)
+      → walk_front top orig best (drop i rows) ≡ walk top orig best rows
+  unfolding IsStrictlySortedBy
+  front_walk best [] zero sorted le before after = refl
+  front_walk best [] (suc i) sorted le before after = refl
+  front_walk best (e ∷ rows) zero sorted le before after = front best (e ∷ rows) sorted (λ j d lt. after j d (omega arith) lt)
+  front_walk best (e ∷ rows) (suc i) sorted le before after =
+      front_walk best rows i sorted.1 (omega (arith, le)) (λ j d lt. before (suc j) d (omega arith)) (λ j d low lt. after (suc j) d (omega arith) (omega arith))
+      ∙ sym (other_row best e rows (not_below e.0.orig (before 0 e (omega arith))))
+
+  -- ---- rows below the originator come first
+  head_below : (k : Pair) (rows : List (Pair × Path)) → AllByRecursion (λ y. pair_order k y ≡ Less) (keys_of rows) → (j : ℕ) (d : Pair × Path) → j < length rows → is_smaller (get_or rows j d).0.orig orig ≡ true → is_smaller k.orig orig ≡ true
+  head_below k [] h j d lt below = absurd (omega (arith, lt))
+  head_below k (e ∷ rows) h zero d lt below = ap is_lt (below_upto orig k e.0 h.0 (less_from _ below))
+  head_below k (e ∷ rows) h (suc j) d lt below = head_below k rows h.1 j d (omega (arith, lt)) below
+
+  pub partitioned : (rows : List (Pair × Path)) → IsStrictlySortedBy pair_order (keys_of rows) → IsPartitionedBy (λ e. is_smaller e.0.orig orig) rows
+  unfolding IsStrictlySortedBy
+  partitioned [] sorted i j d le lt below = absurd (omega (arith, lt))
+  partitioned (e ∷ rows) sorted zero zero d le lt below = below
+  partitioned (e ∷ rows) sorted zero (suc j) d le lt below = head_below e.0 rows sorted.0 j d (omega (arith, lt)) below
+  partitioned (e ∷ rows) sorted (suc i) zero d le lt below = absurd (omega (arith, le))
+  partitioned (e ∷ rows) sorted (suc i) (suc j) d le lt below = partitioned rows sorted.1 i j d (omega (arith, le)) (omega (arith, lt)) below

@@ -1,0 +1,113 @@
+ghost use Rattle.std.specs.Prelude.{◌≡◌, ◌≤◌, [], is_some, option_map};
+ghost use Rattle.mesh_base.specs.declared.address.Mac.{Mac};
+ghost use Rattle.mesh_model.specs.Routes.AlgorithmIv.{iv_life};
+ghost use Rattle.mesh_model.specs.Routes.Hearings.{heard};
+ghost use Rattle.mesh_model.specs.Routes.Quality.{receive_quality, echo_quality, echoes_from};
+ghost use Rattle.mesh_model.specs.Routes.RouteLog.{RouteLog};
+ghost use Rattle.mesh_iv.specs.Rows.{life_row};
+ghost use Rattle.mesh_iv.specs.Tables.{StandsFor, path_at};
+ghost use Rattle.mesh_iv.specs.Answers.{count_of, best_in};
+
+use crate::best::{Best, best_of};
+use crate::path::Path;
+use crate::row::{Life, Pair};
+use indexmap::IndexMap;
+use mesh_base::{Mac, Millis};
+use std::alloc::Global;
+use std::marker::Model;
+
+/// Algorithm IV at the node of an address. Memory grows with originators times neighbours.
+#[derive(Debug, Drop)]
+pub struct Iv {
+    /// The node's own address.
+    pub(crate) me: Mac,
+    /// The number of its last OGM.
+    pub(crate) sent: u32,
+    /// A row for each originator, in the order of addresses.
+    pub(crate) lives: IndexMap<Mac, Life>,
+    /// A row for each originator and neighbour, in their order; under the own address those of
+    /// echoes.
+    pub(crate) paths: IndexMap<Pair, Path>,
+}
+
+impl Model for Iv {
+    ghost use Rattle.mesh_iv.specs.Tables.{Tables};
+
+    ghost Value = { Tables };
+
+    ghost view = { λ iv. record { me = iv.me; sent = iv.sent; lives = iv.lives.entries; paths = iv.paths.entries } };
+}
+
+impl Iv {
+    /// The algorithm at a node that has heard nothing.
+    pub fn new(alloc: Global, me: Mac) -> Iv
+        ensures { StandsFor me result [] }
+    {
+        Iv {
+            me,
+            sent: 0,
+            lives: IndexMap::new(alloc),
+            paths: IndexMap::new(alloc),
+        }
+    }
+
+    // The life of an originator.
+    pub(crate) fn life(&self, now: Millis, orig: Mac) -> Option<Life>
+        ensures { (me : Mac) (log : RouteLog) → StandsFor me self.now log →
+            result ≡ life_row (iv_life me log now orig) }
+    {
+        self.lives.get(&orig)?.at(now)
+    }
+
+    // The row of an originator and a neighbour.
+    pub(crate) fn path(&self, pair: Pair) -> Option<Path>
+        ensures { (me : Mac) (log : RouteLog) → StandsFor me self.now log →
+            result ≡ path_at me (heard me log) (λ k. echoes_from me k log) pair }
+    {
+        self.paths.get(&pair).copied()
+    }
+
+    // How many of the last numbers of a neighbour were heard from itself.
+    pub(crate) fn receive_quality(&self, now: Millis, k: Mac) -> u32
+        ensures quality { (me : Mac) (log : RouteLog) → StandsFor me self.now log →
+            result ≡ receive_quality now k (heard me log) }
+        ensures few { result ≤ 64 }
+    {
+        let Some(life) = self.life(now, k) else {
+            return 0;
+        };
+        count(&self.path(Pair { orig: k, from: k }), life.newest)
+    }
+
+    // How many of the own last numbers came back from a neighbour.
+    pub(crate) fn echo_quality(&self, k: Mac) -> u32
+        ensures { (me : Mac) (log : RouteLog) → StandsFor me self.now log →
+            result ≡ echo_quality me k log }
+    {
+        let pair = Pair {
+            orig: self.me,
+            from: k,
+        };
+        count(&self.path(pair), self.sent)
+    }
+
+    // The best neighbour to an originator.
+    pub(crate) fn best(&self, now: Millis, orig: Mac) -> Option<Best>
+        ensures { (me : Mac) (log : RouteLog) → StandsFor me self.now log →
+            result ≡ best_in (iv_life me log now orig) }
+    {
+        let life = self.life(now, orig)?;
+        best_of(&self.paths, orig, life.newest)
+    }
+}
+
+// How many numbers of a row are among the last up to a top.
+fn count(path: &Option<Path>, top: u32) -> u32
+    ensures counted { result ≡ count_of top path.now }
+    ensures few { result ≤ 64 }
+{
+    match path {
+        None => 0,
+        Some(path) => path.heard.count_to(top),
+    }
+}

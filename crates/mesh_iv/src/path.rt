@@ -1,0 +1,85 @@
+ghost use Rattle.std.specs.Prelude.{◌≡◌, ◌≤◌, ◌<◌, length};
+ghost use Rattle.mesh_iv.specs.Rows.{blank, mean_of, path_with, value_with, value_moved, average_of};
+
+use mesh_algo::SeqWindow;
+
+/// How many values are kept of a path.
+const VALUES: usize = 5;
+
+/// What was heard of an originator from a neighbour in the originator's life.
+#[derive(Clone, Copy, Debug)]
+pub(crate) struct Path {
+    /// The numbers heard.
+    pub(crate) heard: SeqWindow,
+    /// The values of the greatest number heard and of the four below it, 0 where it wasn't heard.
+    pub(crate) values: [u8; VALUES],
+}
+
+impl Path {
+    /// Nothing heard.
+    pub(crate) fn new() -> Path
+        ensures { result ≡ blank }
+    {
+        Path {
+            heard: SeqWindow::new(),
+            values: [0; VALUES],
+        }
+    }
+
+    /// The path with a number more and its value.
+    pub(crate) fn with(&self, seq: u32, value: u8) -> Path
+        ensures { result ≡ path_with self.now seq value }
+    {
+        let values = [
+            self.value_with(seq, value, 0),
+            self.value_with(seq, value, 1),
+            self.value_with(seq, value, 2),
+            self.value_with(seq, value, 3),
+            self.value_with(seq, value, 4),
+        ];
+        let mut heard = self.heard;
+        heard.see(seq);
+        Path { heard, values }
+    }
+
+    // The value at this place, counted from the greatest number, with a number more and its value.
+    fn value_with(&self, seq: u32, value: u8, i: u32) -> u8
+        ensures { result ≡ value_with self.now seq value i }
+    {
+        let greatest = self.heard.greatest();
+        let newest = greatest.max(seq);
+        if i == newest - seq {
+            value
+        } else {
+            self.value_before(i, newest - greatest)
+        }
+    }
+
+    // The value at this place, where all stood so many places before.
+    fn value_before(&self, i: u32, by: u32) -> u8
+        ensures { result ≡ value_moved self.now.values i by }
+    {
+        if i < by {
+            return 0;
+        }
+        self.values.get((i - by) as usize).copied().unwrap_or(0)
+    }
+
+    /// The mean of the values above 0 among the newest five numbers of the originator.
+    pub(crate) fn average(&self, newest: u32) -> u32
+        ensures { result ≡ average_of newest self.now }
+    {
+        let back = newest.saturating_sub(self.heard.greatest()) as usize;
+        mean(&self.values[..VALUES.saturating_sub(back)])
+    }
+}
+
+// The floored mean of the values above 0, 0 where there is none.
+fn mean(values: &[u8]) -> u32
+    requires { length values.now ≤ 5 }
+    ensures { result ≡ mean_of values.now }
+{
+    let good = values.iter().filter(|value| **value > 0).count() as u32;
+    let sum: u32 = values.iter().map(|value| u32::from(*value)).sum();
+    if good == 0 { 0 } else { sum / good }
+}

@@ -1,0 +1,86 @@
+-- What a node knows of an originator, by the OGMs of it that it heard. A life is the longest run of
+-- hearings in which each follows the one before by less than 200,000 ms; an originator is live while
+-- its last hearing is younger than that. A hearing that is late, since its number is 64 or more below
+-- the newest, counts for the life and for nothing else. Each list of hearings is newest first. The
+-- main word is `life`.
+use Rattle.std.specs.Prelude.{ℕ, ◌-◌, ◌&&◌, nat_eq, nat_lt, max, Bool, true, false, not, List, [], ◌∷◌, filter, if◌then◌else◌}
+use Rattle.mesh_base.specs.declared.address.Mac.{Mac}
+use Rattle.mesh_model.specs.Routes.Addresses.{same_mac, insert_mac}
+use Rattle.mesh_model.specs.Routes.Numbers.{has}
+
+-- the hearing of an OGM, with what was decided when it came
+pub record HeardOgm : Type 0 where
+  -- when it was heard, in milliseconds
+  pub moment : ℕ
+  -- the originator, and the neighbour from which it came
+  pub orig : Mac
+  pub from : Mac
+  -- its number and its time to live
+  pub seq : ℕ
+  pub ttl : ℕ
+  -- whether it is late
+  pub late : Bool
+  -- what the path over the neighbour is worth by it
+  pub value : ℕ
+  -- whether it was sent on
+  pub sent_on : Bool
+
+-- how long an originator lives after a hearing, in milliseconds
+abbrev pub life_span : ℕ
+life_span = 200000
+
+-- the hearings of an originator
+abbrev pub of : Mac → List HeardOgm → List HeardOgm
+of orig hearings = filter (λ h. same_mac h.orig orig) hearings
+
+-- the originators heard, in the order of their addresses and each once
+abbrev pub heard_originators : List HeardOgm → List Mac
+heard_originators [] = []
+heard_originators (h ∷ older) = insert_mac h.orig (heard_originators older)
+
+-- of the hearings before one, those of its life
+abbrev pub since : HeardOgm → List HeardOgm → List HeardOgm
+since h [] = []
+since h (g ∷ older) = if nat_lt (h.moment - g.moment) life_span then g ∷ since g older else []
+
+-- of an originator's hearings, those of the life that it has at a moment
+abbrev pub life : ℕ → List HeardOgm → List HeardOgm
+life moment [] = []
+life moment (h ∷ older) = if nat_lt (moment - h.moment) life_span then h ∷ since h older else []
+
+-- whether there is a life
+abbrev pub is_live : List HeardOgm → Bool
+is_live [] = false
+is_live (h ∷ older) = true
+
+-- the greatest number in a life, late hearings apart; 0 where there is none
+abbrev pub newest : List HeardOgm → ℕ
+newest [] = 0
+newest (h ∷ older) = if h.late then newest older else max h.seq (newest older)
+
+-- the numbers heard from a neighbour, late hearings apart
+abbrev pub numbers_from : Mac → List HeardOgm → List ℕ
+numbers_from k [] = []
+numbers_from k (h ∷ older) =
+    if not h.late && same_mac h.from k then h.seq ∷ numbers_from k older else numbers_from k older
+
+-- whether a hearing is the first of its number from its neighbour in its life, and isn't late
+abbrev pub is_first : HeardOgm → List HeardOgm → Bool
+is_first h before = not h.late && not (has h.seq (numbers_from h.from before))
+
+-- whether a hearing is accepted: it begins a life or raises the newest number
+abbrev pub is_accepted : HeardOgm → List HeardOgm → Bool
+is_accepted h [] = true
+is_accepted h (g ∷ older) = not h.late && nat_lt (newest (g ∷ older)) h.seq
+
+-- the numbers that were sent on in a life
+abbrev pub forwarded : List HeardOgm → List ℕ
+forwarded [] = []
+forwarded (h ∷ older) = if not h.late && h.sent_on then h.seq ∷ forwarded older else forwarded older
+
+-- what a number is worth from a neighbour: the value at its first hearing, 0 where there is none
+abbrev pub value_at : ℕ → Mac → List HeardOgm → ℕ
+value_at number k [] = 0
+value_at number k (h ∷ older) =
+    if is_first h older && (same_mac h.from k && nat_eq h.seq number) then h.value
+    else value_at number k older

@@ -1,0 +1,31 @@
+-- What a node asks its routing algorithm. Each question is answered from the algorithm's log alone.
+-- The main word is `Queries`.
+use Rattle.std.specs.Prelude.{ℕ, Bool, false, List, Option, None}
+use Rattle.mesh_base.specs.declared.address.Mac.{Mac}
+use Rattle.mesh_model.specs.declared.packet.Head.{Head}
+use Rattle.mesh_model.specs.declared.route.Beats.{Beats}
+use Rattle.mesh_model.specs.declared.route.Hearing.{Hearing}
+use Rattle.mesh_model.specs.declared.route.LinkRow.{LinkRow}
+use Rattle.mesh_model.specs.declared.route.OrigRow.{OrigRow}
+use Rattle.mesh_model.specs.Routes.RouteLog.{RouteLog}
+
+-- the questions, each over the log so far
+pub record Queries : Type 0 where
+  -- what is sent at a tick of an index right after the log
+  pub beats : RouteLog → (index : ℕ) → Beats
+  -- what is made of a head that comes right after the log
+  pub hear : RouteLog → (moment : ℕ) → (from : Mac) → (throughput : ℕ) → Head → Hearing
+  -- an originator's metric at a moment, 0 without a route
+  pub metric : RouteLog → (moment : ℕ) → (orig : Mac) → ℕ
+  -- the best neighbour to an originator at a moment
+  pub route : RouteLog → (moment : ℕ) → (orig : Mac) → Option Mac
+  -- whether an originator is live at a moment
+  pub live : RouteLog → (moment : ℕ) → (orig : Mac) → Bool
+  -- the live originators at a moment, in the order of their addresses
+  pub originators : RouteLog → (moment : ℕ) → List OrigRow
+  -- the neighbours at a moment, in the order of their addresses
+  pub neighbours : RouteLog → (moment : ℕ) → List LinkRow
+
+-- what is made of a head that isn't heard: nothing
+abbrev pub unheard : Hearing
+unheard = record { accepted = false; forward = None }
