@@ -2,5 +2,6 @@
 pub mod Scenario
 pub mod Packets
 pub mod Clients
+pub mod Marks
 pub mod Text
 pub mod Run

@@ -1,3 +1,4 @@
--- What is said of a worked scenario, and of bytes that are decoded.
+-- What is said of a worked scenario, of bytes that are decoded, and of calls that are written out.
 pub mod Rows
 pub mod DecodeRows
+pub mod CallRows

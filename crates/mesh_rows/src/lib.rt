@@ -5,4 +5,5 @@
 #![tactic(auto)]
 
 pub mod decode_rows;
+pub mod mark_rows;
 pub mod rows;
