@@ -3,5 +3,6 @@ pub mod Scenario
 pub mod Packets
 pub mod Clients
 pub mod Marks
+pub mod Probes
 pub mod Text
 pub mod Run

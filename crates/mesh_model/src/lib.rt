@@ -10,6 +10,7 @@ pub mod ending;
 pub mod line_form;
 pub mod name_list;
 pub mod packet;
+pub mod probe;
 pub mod roaming_mark;
 pub mod table_row;
 
@@ -17,5 +18,6 @@ pub use ending::{LimitName, Refusal, Stop};
 pub use line_form::{AlfredMode, Algorithm, Command, Policy, Table};
 pub use name_list::NameList;
 pub use packet::Head;
+pub use probe::{OpenProbe, Probe, Told};
 pub use roaming_mark::RoamingMark;
 pub use table_row::LocalRow;

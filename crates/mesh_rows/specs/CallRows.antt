@@ -1,8 +1,9 @@
 -- What is said of calls that are written out: the addresses and keys in them, and the calls in the
 -- order in which they were made, the first one first.
-use Rattle.std.specs.Prelude.{None, ℕ, List, [], ◌∷◌, reverse}
+use Rattle.std.specs.Prelude.{None, ℕ, true, List, [], ◌∷◌, reverse}
 use Rattle.mesh_base.specs.declared.address.Mac.{Mac}
 use Rattle.mesh_base.specs.declared.client.Key.{Key}
+use Rattle.mesh_model.specs.declared.probe.OpenProbe.{OpenProbe}
 use Rattle.mesh_model.specs.Marks.Calls.{Calls, Marked, Unmarked, Advised, Asked}
 
 -- an address 02:00:00:00 with these two last bytes
@@ -35,3 +36,11 @@ abbrev pub some_marks : Calls
 some_marks = in_order (Marked 1 (client 3) (node 11) None ∷ Marked 2 (client 1) (node 12) None
     ∷ Marked 3 (client 2) (node 11) None ∷ Unmarked (client 3) ∷ Marked 4 (client 2) (node 10) None
     ∷ [])
+
+-- the last probe that a traceroute may send
+abbrev pub hop_50 : OpenProbe
+hop_50 = record {
+  probe = record { target = node 11; seq = 50; ttl = 50 };
+  trace = true;
+  sent = 100;
+}

@@ -6,4 +6,5 @@
 
 pub mod decode_rows;
 pub mod mark_rows;
+pub mod probe_rows;
 pub mod rows;
