@@ -4,3 +4,4 @@ pub mod Halting
 pub mod RunLaws
 pub mod PacketLaws
 pub mod PresentLaws
+pub mod MarkLaws

@@ -4,6 +4,7 @@
 
 #![tactic(auto)]
 
+pub mod mark_laws;
 pub mod packet_laws;
 pub mod present_laws;
 pub mod run_laws;
