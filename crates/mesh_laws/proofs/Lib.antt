@@ -6,11 +6,13 @@ pub mod UnfinishedLemmas
 pub mod KeyLists
 pub mod NumberLemmas
 pub mod WindowLemmas
+pub mod KeyTables
+pub mod AscendingKeys
 pub mod PresentLemmas
+pub mod MarkLemmas
 pub mod HeaderLemmas
 pub mod ReadingLemmas
 pub mod FirstPacketLemmas
-pub mod KeyTables
 pub mod KeptOrder
 pub mod TableSums
 pub mod AnnouncedSums

@@ -10,3 +10,4 @@ pub mod MeshLaws
 pub mod LineLaws
 pub mod TableLaws
 pub mod Machine
+pub mod MarkLaws

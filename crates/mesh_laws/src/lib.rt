@@ -5,6 +5,7 @@
 #![tactic(auto)]
 
 pub mod machine_laws;
+pub mod mark_laws;
 pub mod packet_laws;
 pub mod present_laws;
 pub mod run_laws;

@@ -4,6 +4,8 @@ pub mod Scenario
 pub mod Routes
 pub mod Clients
 pub mod Tables
+pub mod Marks
+pub mod Probes
 pub mod Text
 pub mod Acts
 pub mod Net

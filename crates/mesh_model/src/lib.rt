@@ -16,6 +16,8 @@ pub mod name_list;
 pub mod packet;
 pub mod table_change;
 pub mod route;
+pub mod probe;
+pub mod roaming_mark;
 pub mod table_row;
 
 pub use act::Act;
@@ -28,4 +30,6 @@ pub use name_list::NameList;
 pub use packet::Head;
 pub use table_change::Change;
 pub use route::{Beats, Hearing, LinkRow, OrigRow};
+pub use probe::{OpenProbe, Probe, Told};
+pub use roaming_mark::RoamingMark;
 pub use table_row::LocalRow;

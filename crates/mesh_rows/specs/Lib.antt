@@ -8,3 +8,5 @@ pub mod TableRows
 -- What is said of a worked scenario, of bytes that are decoded, and of a single line.
 pub mod LineRows
 pub mod RouteRows
+-- What is said of a worked scenario, of bytes that are decoded, and of calls that are written out.
+pub mod CallRows
