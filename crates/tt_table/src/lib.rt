@@ -6,8 +6,11 @@
 pub mod announcement;
 pub mod changes;
 pub mod checksum;
+mod entries;
 pub mod failure;
+mod strict;
 pub mod sums;
+mod totals;
 mod vlan_total;
 
 pub use announcement::Announcement;

@@ -76,7 +76,7 @@ impl Sums {
     }
 
     // Where a VLAN stands, or where it would.
-    fn search(&self, vid: Vid) -> Result<usize, usize>
+    pub(crate) fn search(&self, vid: Vid) -> Result<usize, usize>
         ensures there { IfOk result (λ i. IsThere nat_cmp row_key vid.0 self.now.rows i) }
         ensures gap { IfErr result (λ i. IsGap nat_cmp row_key vid.0 self.now.rows i) }
     {
