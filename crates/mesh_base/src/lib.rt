@@ -17,6 +17,7 @@ pub mod memory_intake;
 pub mod memory_sink;
 pub mod outside;
 pub mod real;
+pub mod steps;
 pub mod transfer;
 
 pub use address::Mac;
@@ -28,6 +29,7 @@ pub use memory_intake::MemIntake;
 pub use memory_sink::MemSink;
 pub use outside::{Intake, PIECE_LIMIT, Sink};
 pub use real::{RealIntake, RealSink};
+pub use steps::Steps;
 pub use transfer::write_all;
 
 #[cfg(test)]

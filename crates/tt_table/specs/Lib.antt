@@ -1,0 +1,4 @@
+-- What the contracts cite.
+pub mod Sums
+pub mod Places
+pub mod Entries

@@ -1,0 +1,21 @@
+//! Tables of clients: what changes lead from one table to another, whether they apply strictly, and
+//! the checksums of the VLANs, which a table keeps as it changes.
+
+#![tactic(auto)]
+
+pub mod announcement;
+pub mod changes;
+pub mod checksum;
+mod entries;
+pub mod failure;
+mod strict;
+pub mod sums;
+mod totals;
+mod vlan_total;
+
+pub use announcement::Announcement;
+pub use changes::Changes;
+pub use checksum::{crc32c, entry_sum};
+pub use failure::ApplyErr;
+pub use mesh_model::Change;
+pub use sums::Sums;
