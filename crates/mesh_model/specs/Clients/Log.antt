@@ -25,6 +25,7 @@ pub data Given : Type 0 where
 pub record LogEntry : Type 0 where
   pub moment : ℕ
   pub given : Given
+  pub acts : List Act
 
 -- a node's log, newest first
 abbrev pub Log : Type 0
