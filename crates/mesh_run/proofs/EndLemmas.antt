@@ -3,7 +3,7 @@ use Rattle.std.proofs.Common.{◌≡◌, ℕ, ◌+◌, ◌<◌, ◌≤◌, ◌==
 use Rattle.std.specs.Io.KnownBytes.{Appends}
 use Rattle.std.proofs.lemmas.Bool.Decides.{nat_tests}
 use Rattle.mesh_base.specs.Writes.{AppendsFront}
-use Rattle.mesh_model.specs.declared.ending.LimitName.TheVariants.{Line, Input}
+use Rattle.mesh_model.specs.declared.ending.LimitName.TheVariants.{Line, Input, Nodes, Links, Clients, Vlans, Frames, FrameBytes, Clock}
 use Rattle.mesh_model.specs.declared.ending.Stop.{Stop}
 use Rattle.mesh_model.specs.declared.ending.Stop.TheVariants.{Refused, Limit}
 use Rattle.mesh_model.specs.Scenario.Commands.{command_of_line}
@@ -98,6 +98,13 @@ halting_place-last : (before : ℕ) (rest : List ℕ) (stop : Stop) → length r
 halting_place-last before rest (Refused refusal) short within = omega arith
 halting_place-last before rest (Limit Line) short within = omega (arith, short)
 halting_place-last before rest (Limit Input) short within = omega (arith, within)
+halting_place-last before rest (Limit Nodes) short within = omega arith
+halting_place-last before rest (Limit Links) short within = omega arith
+halting_place-last before rest (Limit Clients) short within = omega arith
+halting_place-last before rest (Limit Vlans) short within = omega arith
+halting_place-last before rest (Limit Frames) short within = omega arith
+halting_place-last before rest (Limit FrameBytes) short within = omega arith
+halting_place-last before rest (Limit Clock) short within = omega arith
 
 -- the run prints what the unfinished line leaves printed
 output-last : (base old : Option (List ℕ)) (runner : Runner) (read : List ℕ) → (stands : Stands base old runner read)

@@ -1,6 +1,6 @@
 -- Lemmas on the faults that end a run.
 use Rattle.std.proofs.Common.{◌≡◌, ℕ, ◌+◌, ◌<◌, ◌≤◌, List, [], ◌∷◌, ◌++◌, length, Option, sym, ap, ◌∙◌, subst, length-append, arith}
-use Rattle.mesh_model.specs.declared.ending.LimitName.TheVariants.{Line, Input}
+use Rattle.mesh_model.specs.declared.ending.LimitName.TheVariants.{Line, Input, Nodes, Links, Clients, Vlans, Frames, FrameBytes, Clock}
 use Rattle.mesh_model.specs.declared.ending.Stop.{Stop}
 use Rattle.mesh_model.specs.declared.ending.Stop.TheVariants.{Refused, Limit}
 use Rattle.mesh_model.specs.Scenario.Commands.{command_of_line}
@@ -27,6 +27,13 @@ halting_place-newline : (before least : ℕ) (rest : List ℕ) (stop : Stop) →
 halting_place-newline before least rest (Refused refusal) is short within = omega (arith, is, length-append rest (newline ∷ []))
 halting_place-newline before least rest (Limit Line) is short within = omega (arith, is, short)
 halting_place-newline before least rest (Limit Input) is short within = omega (arith, within)
+halting_place-newline before least rest (Limit Nodes) is short within = omega (arith, is, length-append rest (newline ∷ []))
+halting_place-newline before least rest (Limit Links) is short within = omega (arith, is, length-append rest (newline ∷ []))
+halting_place-newline before least rest (Limit Clients) is short within = omega (arith, is, length-append rest (newline ∷ []))
+halting_place-newline before least rest (Limit Vlans) is short within = omega (arith, is, length-append rest (newline ∷ []))
+halting_place-newline before least rest (Limit Frames) is short within = omega (arith, is, length-append rest (newline ∷ []))
+halting_place-newline before least rest (Limit FrameBytes) is short within = omega (arith, is, length-append rest (newline ∷ []))
+halting_place-newline before least rest (Limit Clock) is short within = omega (arith, is, length-append rest (newline ∷ []))
 
 -- the run of any longer input prints what a line leaves printed, and more
 line-grows : (base : Option (List ℕ)) (runner : Runner) (old : Option (List ℕ)) (read more : List ℕ) (outcome : Outcome) → (stands : Stands base old runner read)
