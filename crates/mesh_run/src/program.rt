@@ -73,8 +73,8 @@ pub fn batmesh<I: Intake, K: Sink, E: Sink>(
     ensures usage { (result ≡ usage_status) ↔ (0 < length words.now) }
     ensures untouched { result ≡ usage_status → (intake.new ≡ intake.old) × (out.new ≡ out.old) }
 
-    // A fault is blamed only on a count that rose. Where a read failed, the lines that had come were
-    // printed and the run was still going; where a write did, less than the whole was taken.
+    // A fault is blamed only on a count that rose. Where a read failed, the lines that had come
+    // were printed and the run was still going; where a write did, less than the whole was taken.
     ensures read_fault { result ≡ read_fault_status →
         Rose (I.faults intake.old) (I.faults intake.new) }
     ensures taken { result ≡ read_fault_status → IfSome (I.named intake.old None)

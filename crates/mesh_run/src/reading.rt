@@ -61,7 +61,8 @@ impl Runner {
     /// Carries out the lines that these bytes end, and keeps what they begin.
     pub fn take_lines<K: Sink>(&mut self, out: &mut K, bytes: &[u8]) -> Result<(), Fault>
         requires within { self.old.taken + length bytes.now ≤ input_limit }
-        ensures ok { ReadsOn (K.taken out.old) (K.taken out.new) self.old self.new bytes.now result }
+        ensures ok { ReadsOn (K.taken out.old) (K.taken out.new) self.old self.new
+            bytes.now result }
         ensures failed { FailsOn (K.taken out.old) (K.taken out.new) self.old bytes.now result }
         ensures taken { OnOk result (self.new.taken ≡ self.old.taken + length bytes.now) }
         ensures faults { CountsWrites (K.faults out.old) (K.faults out.new) result }
@@ -93,7 +94,8 @@ impl Runner {
 
     /// Takes what one read gave; the byte past the input's limit halts the run.
     pub fn take_piece<K: Sink>(&mut self, out: &mut K, piece: &[u8]) -> Result<(), Fault>
-        ensures ok { ReadsOn (K.taken out.old) (K.taken out.new) self.old self.new piece.now result }
+        ensures ok { ReadsOn (K.taken out.old) (K.taken out.new) self.old self.new
+            piece.now result }
         ensures failed { FailsOn (K.taken out.old) (K.taken out.new) self.old piece.now result }
         ensures taken { OnOk result (self.new.taken ≡ self.old.taken + length piece.now) }
         ensures faults { CountsWrites (K.faults out.old) (K.faults out.new) result }

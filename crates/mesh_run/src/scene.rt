@@ -269,7 +269,8 @@ impl Scene {
     fn show_clients(&self, name: &[u8], text: &mut Vec<u8>) -> Result<(), LineFault>
         requires { text.old.items ≡ [] }
         ensures ok { CarriesFrom self.now self.now
-            (λ state. carried_out state (Command.Show name.now Table.Locals)) text.new.items result }
+            (λ state. carried_out state (Command.Show name.now Table.Locals))
+            text.new.items result }
         ensures refused { FailsFrom self.now
             (λ state. carried_out state (Command.Show name.now Table.Locals)) result }
     {

@@ -1,5 +1,5 @@
--- The names of nodes and LANs that a line uses and doesn't itself give, in their order, and the node
--- that a line gives. The main words are `names_used` and `node_given`.
+-- The names of nodes and LANs that a line uses and doesn't itself give, in their order, and the
+-- node that a line gives. The main words are `names_used` and `node_given`.
 use Rattle.std.specs.Prelude.{ℕ, List, [], ◌∷◌, Option, Some, None}
 use Rattle.mesh_base.specs.declared.address.Mac.{Mac}
 use Rattle.mesh_model.specs.declared.line_form.Command.{Command}

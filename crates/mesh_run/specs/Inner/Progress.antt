@@ -1,6 +1,6 @@
 -- How far a run has come: the bytes that were read are whole lines, which were carried out, and an
--- unfinished one. The main words are `Stands`, for a runner, and `FailsIn`, for the fault that ended
--- it.
+-- unfinished one. The main words are `Stands`, for a runner, and `FailsIn`, for the fault that
+-- ended it.
 use Rattle.std.specs.Prelude.{◌≡◌, ℕ, ◌+◌, ◌≤◌, List, ◌++◌, length, Option, Some, None, Result, OnOk, IfErr}
 use Rattle.std.specs.Io.KnownBytes.{Appends}
 use Rattle.mesh_model.specs.declared.ending.Stop.{Stop}
@@ -29,8 +29,8 @@ pub record HaltsFrom (base now : Option (List ℕ)) (least : ℕ) (input : List 
   pub printed : Appends base now (output (plain_run input))
   pub late : least ≤ halting_byte input (record { line = line; stop = stop })
 
--- the cause of a fault while an input is carried out, which reads nothing; a halt comes at this byte
--- at least
+-- the cause of a fault while an input is carried out, which reads nothing; a halt comes at this
+-- byte at least
 abbrev pub FailsIn : (base now : Option (List ℕ)) → ℕ → List ℕ → Fault → Type 0
 FailsIn base now least input (Halted line stop) = HaltsFrom base now least input line stop
 FailsIn base now least input Read = ⊥

@@ -62,7 +62,8 @@ HasReadingCause reading Memory = Unit {0}
 abbrev pub CarriesFrom : (old new : Scene) → (State → Outcome) → List ℕ
     → Result (Unit {0}) LineFault → Type 0
 CarriesFrom old new outcome printed result =
-    (state : State) → SceneStands old state → OnOk result (Carries (outcome state) state new printed)
+    (state : State) → SceneStands old state
+    → OnOk result (Carries (outcome state) state new printed)
 
 -- from each state that the scene stood for, a call's fault has its cause in this outcome
 abbrev pub FailsFrom : Scene → (State → Outcome) → Result (Unit {0}) LineFault → Type 0

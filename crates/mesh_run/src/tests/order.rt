@@ -8,6 +8,7 @@ use std::test::Fail;
 
 /// A line, and what it prints.
 const SHORT: &[u8] = b"decode 00\n";
+
 const SHORT_PRINTED: &[u8] = b"bad short have=1 need=2\n";
 
 /// How many bytes 2,000 such lines have.
@@ -77,7 +78,10 @@ fn each_line_is_printed_before_the_next_read(rt: HostRuntime) -> Result<(), Fail
     let mut out = Watched { written: &written };
     let mut err = MemSink::new(rt.alloc(), ROOM, ROOM, &[])?;
     let status = batmesh(rt.alloc(), &[], &mut intake, &mut out, &mut err);
-    assert_eq!(rt; (status, intake.given, intake.is_late), (FINISHED, GIVEN, false));
+    assert_eq!(rt;
+        (status, intake.given, intake.is_late),
+        (FINISHED, GIVEN, false)
+    );
     assert_eq!(rt; written.get(), 48_000);
     Ok(())
 }
