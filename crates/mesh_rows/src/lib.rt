@@ -4,5 +4,6 @@
 
 #![tactic(auto)]
 
+pub mod container_rows;
 pub mod decode_rows;
 pub mod rows;
