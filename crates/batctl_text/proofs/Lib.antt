@@ -1,5 +1,2 @@
-pub mod MacLemmas
 pub mod LinesLemmas
-pub mod RefusalLemmas
-pub mod WalkLemmas
-pub mod PacketLemmas
+pub mod TextLemmas

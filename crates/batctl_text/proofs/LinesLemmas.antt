@@ -1,7 +1,7 @@
--- The lines of a list, one element at a time.
-use Rattle.std.proofs.Common.{◌≡◌, ℕ, zero, suc, ◌+◌, ◌<◌, List, [], ◌∷◌, ◌++◌, length, take, sym, ap, ◌∙◌, arith, append_assoc}
-use Rattle.std.specs.Prelude.{Some, None, option_map, slice_get}
-use Rattle.std.specs.List.{flat_map}
+-- The lines of a list, one element at a time, and lists of lines as text.
+use Rattle.std.proofs.Common.{◌≡◌, ℕ, zero, suc, ◌+◌, ◌<◌, List, [], ◌∷◌, ◌++◌, length, take, refl, sym, ap, ◌∙◌, arith, append_assoc}
+use Rattle.std.specs.Prelude.{Some, None, option_map, slice_get, map}
+use Rattle.std.specs.List.{flat_map, concat}
 use Rattle.std.proofs.lemmas.List.{append-nil}
 
 -- there is an element at each place below the length
@@ -28,3 +28,13 @@ appended_more g line xs i y old text new is so_far more =
     more ∙ ap (λ front. front ++ line y) so_far ∙ append_assoc old (flat_map (λ x. line (g x)) (take i xs)) (line y)
     ∙ ap (λ lines. old ++ lines) (sym (lines_more g line xs i y is))
     ∙ ap (λ n. old ++ flat_map (λ x. line (g x)) (take n xs)) next
+
+-- two lists of lines, one behind the other
+pub concat-append : (xs ys : List (List ℕ)) → concat (xs ++ ys) ≡ concat xs ++ concat ys
+concat-append [] ys = refl
+concat-append (x ∷ xs) ys = ap (λ more. x ++ more) (concat-append xs ys) ∙ sym (append_assoc x (concat xs) (concat ys))
+
+-- a line for each element
+pub concat-map : {X : Type 0} (line : X → List ℕ) (xs : List X) → concat (map line xs) ≡ flat_map line xs
+concat-map line [] = refl
+concat-map line (x ∷ xs) = ap (λ more. line x ++ more) (concat-map line xs)

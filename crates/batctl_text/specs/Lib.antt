@@ -1,3 +1,2 @@
 -- What the contracts of this crate cite beside the definitions of printed text.
-pub mod Printed
-pub mod Laws
+pub mod Inner

@@ -1,130 +1,135 @@
-//! The lines of containers, of which each call writes one in place of what `line` holds.
+//! The lines of containers.
 
-ghost use Rattle.std.specs.Prelude.{◌≡◌, OnOk};
-ghost use Rattle.mesh_model.specs.Text.ContainerLines.{container_start, plain_line, gateway_line, roaming_line, multicast_line, table_start, change_line};
+ghost use Rattle.std.specs.Prelude.{◌≡◌, ◌++◌, OnOk, OnErr, length};
+ghost use Rattle.mesh_model.specs.Text.ContainerLines.{plain_line, gateway_line, roaming_line, multicast_line, table_start, change_line};
 ghost use Rattle.mesh_model.specs.Text.Tables.{vlan_line};
 ghost use Rattle.mesh_tvlv.specs.Walk.{seen};
+ghost use Rattle.batctl_text.specs.Inner.Parts.{part_text};
 
-use crate::fields::{
-    put_hex_byte, put_named_address, put_named_flags, put_named_number, put_number, put_sum,
-    put_vid, start_line,
-};
+use crate::line::put_line;
+use crate::part::Part::{self, Address, Flags, Number, Sum, Text, Vlan};
 use mesh_base::{Key, NoMemory, Vid};
 use mesh_tvlv::{Container, TtView};
 
 // The front of a container's line: its type, version and length.
-fn container_start(line: &mut Vec<u8>, container: &Container<'_>) -> Result<(), NoMemory>
-    ensures ok { OnOk result (line.new.items ≡ container_start (seen container.now)) }
+fn start<'a>(container: &Container<'_>) -> Part<'a>
+    ensures { result ≡ Part.Container container.now.kind container.now.version (length container.now.body.now) }
 {
-    start_line(line, b"tvlv ")?;
-    put_number(line, u64::from(container.kind))?;
-    put_named_number(line, b" version=", u64::from(container.version))?;
-    put_named_number(line, b" len=", container.body.len() as u64)?;
-    Ok(())
+    Part::Container {
+        kind: container.kind,
+        version: container.version,
+        len: container.body.len(),
+    }
 }
 
-/// The line of a container whose body has no fields that are known.
+/// Appends the line of a container whose body has no fields that are known.
 #[tactic(auto, unfolding(mesh_model::specs::Text::ContainerLines::plain_line))]
-pub fn plain_line(line: &mut Vec<u8>, container: &Container<'_>) -> Result<(), NoMemory>
-    ensures ok { OnOk result (line.new.items ≡ plain_line (seen container.now)) }
+pub fn plain_line(out: &mut Vec<u8>, container: &Container<'_>) -> Result<(), NoMemory>
+    ensures ok { OnOk result (out.new.items ≡ out.old.items ++ plain_line (seen container.now)) }
+    ensures err { OnErr result (out.new.items ≡ out.old.items) }
 {
-    container_start(line, container)?;
-    line.extend_from_slice(b"\n")?;
-    Ok(())
+    put_line(out, &[start(container)])
 }
 
-/// The line of a gateway's container, with its bandwidth down and up in 100 kbit/s.
+/// Appends the line of a gateway's container, with its bandwidth down and up in 100 kbit/s.
 #[tactic(auto, unfolding(mesh_model::specs::Text::ContainerLines::gateway_line))]
 pub fn gateway_line(
-    line: &mut Vec<u8>,
+    out: &mut Vec<u8>,
     container: &Container<'_>,
     download: u32,
     upload: u32,
 ) -> Result<(), NoMemory>
-    ensures ok { OnOk result (line.new.items ≡ gateway_line (seen container.now)
-        (record { download = download; upload = upload })) }
+    ensures ok { OnOk result (out.new.items ≡ out.old.items ++ gateway_line (seen container.now) (record { download = download; upload = upload })) }
+    ensures err { OnErr result (out.new.items ≡ out.old.items) }
 {
-    container_start(line, container)?;
-    put_named_number(line, b" down=", u64::from(download))?;
-    put_named_number(line, b" up=", u64::from(upload))?;
-    line.extend_from_slice(b"\n")?;
-    Ok(())
+    put_line(
+        out,
+        &[
+            start(container),
+            Number(b" down=", u64::from(download)),
+            Number(b" up=", u64::from(upload)),
+        ],
+    )
 }
 
-/// The line of a roaming advertisement.
+/// Appends the line of a roaming advertisement.
 #[tactic(auto, unfolding(mesh_model::specs::Text::ContainerLines::roaming_line))]
 pub fn roaming_line(
-    line: &mut Vec<u8>,
+    out: &mut Vec<u8>,
     container: &Container<'_>,
     client: Key,
 ) -> Result<(), NoMemory>
-    ensures ok { OnOk result (line.new.items ≡ roaming_line (seen container.now) client) }
+    ensures ok { OnOk result (out.new.items ≡ out.old.items ++ roaming_line (seen container.now) client) }
+    ensures err { OnErr result (out.new.items ≡ out.old.items) }
 {
-    container_start(line, container)?;
-    put_named_address(line, b" mac=", client.mac)?;
-    line.extend_from_slice(b" vid=")?;
-    put_vid(line, client.vid)?;
-    line.extend_from_slice(b"\n")?;
-    Ok(())
+    put_line(
+        out,
+        &[
+            start(container),
+            Address(b" mac=", client.mac),
+            Text(b" vid="),
+            Vlan(client.vid),
+        ],
+    )
 }
 
-/// The line of multicast flags.
+/// Appends the line of multicast flags.
 #[tactic(auto, unfolding(mesh_model::specs::Text::ContainerLines::multicast_line))]
 pub fn multicast_line(
-    line: &mut Vec<u8>,
+    out: &mut Vec<u8>,
     container: &Container<'_>,
     flags: u8,
 ) -> Result<(), NoMemory>
-    ensures ok { OnOk result (line.new.items ≡ multicast_line (seen container.now) flags) }
+    ensures ok { OnOk result (out.new.items ≡ out.old.items ++ multicast_line (seen container.now) flags) }
+    ensures err { OnErr result (out.new.items ≡ out.old.items) }
 {
-    container_start(line, container)?;
-    put_named_flags(line, flags)?;
-    line.extend_from_slice(b"\n")?;
-    Ok(())
+    put_line(out, &[start(container), Flags(b" flags=", flags)])
 }
 
-/// The first line of a translation table.
+/// Appends the first line of a translation table.
 #[tactic(auto, unfolding(mesh_model::specs::Text::ContainerLines::table_start))]
 pub fn table_start(
-    line: &mut Vec<u8>,
+    out: &mut Vec<u8>,
     container: &Container<'_>,
     table: &TtView<'_>,
 ) -> Result<(), NoMemory>
-    ensures ok { OnOk result (line.new.items ≡ table_start (seen container.now) table.now) }
+    ensures ok { OnOk result (out.new.items ≡ out.old.items ++ table_start (seen container.now) table.now) }
+    ensures err { OnErr result (out.new.items ≡ out.old.items) }
 {
-    container_start(line, container)?;
-    put_named_flags(line, table.flags())?;
-    put_named_number(line, b" ttvn=", u64::from(table.ttvn()))?;
-    put_named_number(line, b" vlans=", table.vlans() as u64)?;
-    put_named_number(line, b" changes=", table.changes() as u64)?;
-    line.extend_from_slice(b"\n")?;
-    Ok(())
+    put_line(
+        out,
+        &[
+            start(container),
+            Flags(b" flags=", table.flags()),
+            Number(b" ttvn=", u64::from(table.ttvn())),
+            Number(b" vlans=", table.vlans() as u64),
+            Number(b" changes=", table.changes() as u64),
+        ],
+    )
 }
 
-/// The line of a VLAN with the checksum of its clients.
+/// Appends the line of a VLAN with the checksum of its clients.
 #[tactic(auto, unfolding(mesh_model::specs::Text::Tables::vlan_line))]
-pub fn vlan_line(line: &mut Vec<u8>, vid: Vid, sum: u32) -> Result<(), NoMemory>
-    ensures ok { OnOk result (line.new.items ≡ vlan_line (record { vid = vid; sum = sum })) }
+pub fn vlan_line(out: &mut Vec<u8>, vid: Vid, sum: u32) -> Result<(), NoMemory>
+    ensures ok { OnOk result (out.new.items ≡ out.old.items ++ vlan_line (record { vid = vid; sum = sum })) }
+    ensures err { OnErr result (out.new.items ≡ out.old.items) }
 {
-    start_line(line, b"vlan ")?;
-    put_vid(line, vid)?;
-    line.extend_from_slice(b" sum=")?;
-    put_sum(line, sum)?;
-    line.extend_from_slice(b"\n")?;
-    Ok(())
+    put_line(out, &[Text(b"vlan "), Vlan(vid), Text(b" sum="), Sum(sum)])
 }
 
-/// The line of a record with these flags, as they stand.
+/// Appends the line of a record with these flags, as they stand.
 #[tactic(auto, unfolding(mesh_model::specs::Text::ContainerLines::change_line))]
-pub fn change_line(line: &mut Vec<u8>, flags: u8, client: Key) -> Result<(), NoMemory>
-    ensures ok { OnOk result (line.new.items
-        ≡ change_line (record { flags = flags; key = client })) }
+pub fn change_line(out: &mut Vec<u8>, flags: u8, client: Key) -> Result<(), NoMemory>
+    ensures ok { OnOk result (out.new.items ≡ out.old.items ++ change_line (record { flags = flags; key = client })) }
+    ensures err { OnErr result (out.new.items ≡ out.old.items) }
 {
-    start_line(line, b"change ")?;
-    put_hex_byte(line, flags)?;
-    put_named_address(line, b" ", client.mac)?;
-    line.extend_from_slice(b" ")?;
-    put_vid(line, client.vid)?;
-    line.extend_from_slice(b"\n")?;
-    Ok(())
+    put_line(
+        out,
+        &[
+            Flags(b"change ", flags),
+            Address(b" ", client.mac),
+            Text(b" "),
+            Vlan(client.vid),
+        ],
+    )
 }

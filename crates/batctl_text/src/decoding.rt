@@ -1,193 +1,91 @@
-//! The text of `decode`: packets with their containers, and what can't be read.
+//! The text of `decode`: the packets of a link frame with their containers, and what ends them.
 
-ghost use Rattle.std.specs.Prelude.{◌≡◌, ◌++◌, OnOk, OnErr, IfOk, option_copied};
-ghost use Rattle.batctl_text.specs.Printed.{HasPrinted, IsHeader, IsTailPrinted};
-ghost use Rattle.mesh_codec.specs.declared.failure.CodecErr.{CodecErr};
-ghost use Rattle.mesh_codec.specs.Decoding.{HasCause};
-ghost use Rattle.mesh_model.specs.Text.Decode.{cut_line, decode_text, is_followed, rest_line, tail_lines};
-ghost use Rattle.mesh_model.specs.Text.PacketLines.{packet_line};
-ghost use Rattle.mesh_model.specs.Packets.Layout.{IsPacket, row_of};
-ghost use Rattle.mesh_model.specs.Packets.Layout.TailKind.{containers};
+ghost use Rattle.std.specs.Prelude.{◌≡◌, ◌++◌, OnOk, OnErr, flat_map};
+ghost use Rattle.std.specs.List.{concat};
+ghost use Rattle.mesh_model.specs.Packets.Shapes.{shape_of};
+ghost use Rattle.mesh_model.specs.Packets.Contents.{sound_containers};
+ghost use Rattle.mesh_model.specs.Text.ContainerLines.{container_lines};
+ghost use Rattle.mesh_model.specs.Text.Decode.{decode_text, packet_lines, tail_lines};
+ghost use Rattle.mesh_codec.specs.Frames.{seen};
+ghost use Rattle.batctl_text.specs.Inner.Parts.{Grows};
 
-use crate::bad_line::{cut_line, kind_line, length_line, rest_line, short_line, version_line};
 use crate::container::put_container;
-use crate::packet_line::packet_line;
-use crate::page::Page;
+use crate::ending::put_ending;
+use crate::packet::packet_line;
 use mesh_base::NoMemory;
-use mesh_codec::{CodecErr, Head, decode};
-use mesh_tvlv::{TvlvErr, TvlvIter};
+use mesh_codec::{Head, LinkFrame, Packet};
+use mesh_tvlv::TvlvIter;
 
-/// The bytes of type and version.
-const PREFIX: usize = 2;
-
-// Appends the line of a container that is cut at this place.
-fn put_cut(page: &mut Page, place: usize) -> Result<(), NoMemory>
-    ensures ok { OnOk result (page.new.text.items ≡ page.old.text.items ++ cut_line place) }
+// Appends the lines of containers, up to the first that is cut or too short.
+fn put_containers(out: &mut Vec<u8>, tail: &[u8]) -> Result<(), NoMemory>
+    ensures ok { OnOk result (out.new.items ≡ out.old.items
+        ++ concat (flat_map container_lines (sound_containers tail.now))) }
+    ensures err { OnErr result (Grows out.old.items out.new.items) }
 {
-    cut_line(&mut page.line, place)?;
-    page.end_line()?;
+    let mut walk = TvlvIter::new(tail);
+    while let Some(Ok(container)) = walk.next() {
+        if !put_container(out, &container)? {
+            break;
+        }
+    }
     Ok(())
 }
 
-// Appends the lines of containers, up to the first that is cut or too short. Answers whether there
-// was none such.
-fn put_containers(page: &mut Page, tail: &[u8]) -> Result<bool, NoMemory>
-    ensures ok { IfOk result (λ whole.
-        IsTailPrinted page.old.text.items containers tail.now page.new.text.items whole) }
-{
-    let mut walk = TvlvIter::new(tail);
-    while let Some(next) = walk.next() {
-        let whole = match next {
-            Ok(container) => put_container(page, &container)?,
-            Err(TvlvErr::Cut { place }) => {
-                put_cut(page, place)?;
-                false
-            }
-            Err(TvlvErr::BadLength { .. }) => unreachable!(),
-        };
-        if !whole {
-            return Ok(false);
-        }
-    }
-    Ok(true)
-}
-
-// Appends the lines of a packet's tail, which are none where it holds no containers. Answers
-// whether all could be read.
-fn put_tail(page: &mut Page, head: &Head, tail: &[u8]) -> Result<bool, NoMemory>
-    ensures ok { IfOk result (λ whole.
-        IsTailPrinted page.old.text.items (row_of head.now 0).tail tail.now page.new.text.items
-        whole) }
+// Appends the lines of a packet's tail, which are none where it holds no containers.
+fn put_tail(out: &mut Vec<u8>, head: &Head, tail: &[u8]) -> Result<(), NoMemory>
+    ensures ok { OnOk result (out.new.items ≡ out.old.items
+        ++ concat (tail_lines (shape_of head.now).tail tail.now)) }
+    ensures err { OnErr result (Grows out.old.items out.new.items) }
 {
     match head {
-        Head::IvOgm { .. } | Head::Ogm2 { .. } | Head::Utvlv { .. } => put_containers(page, tail),
+        Head::IvOgm { .. } | Head::Ogm2 { .. } | Head::Utvlv { .. } => put_containers(out, tail),
         Head::Bcast { .. }
         | Head::Elp { .. }
         | Head::Unicast { .. }
         | Head::Frag { .. }
         | Head::Unicast4 { .. }
-        | Head::Icmp { .. } => Ok(true),
+        | Head::Icmp { .. } => Ok(()),
     }
 }
 
-// Appends the line of a packet with this head, whose tail has so many bytes.
-fn put_packet_line(page: &mut Page, head: &Head, len: usize) -> Result<(), NoMemory>
-    ensures ok { OnOk result (page.new.text.items
-        ≡ page.old.text.items ++ packet_line head.now len) }
+// Appends the lines of a packet.
+fn put_packet(out: &mut Vec<u8>, packet: &Packet<'_>) -> Result<(), NoMemory>
+    ensures ok { OnOk result (out.new.items
+        ≡ out.old.items ++ concat (packet_lines (seen packet.now))) }
+    ensures err { OnErr result (Grows out.old.items out.new.items) }
 {
-    packet_line(&mut page.line, head, len)?;
-    page.end_line()?;
+    packet_line(out, &packet.head, packet.tail.len())?;
+    put_tail(out, &packet.head, packet.tail)?;
     Ok(())
 }
 
-// Appends the line of bytes after a packet, where there are some.
-fn put_rest(page: &mut Page, rest: &[u8]) -> Result<(), NoMemory>
-    ensures ok { OnOk result (page.new.text.items ≡ page.old.text.items ++ rest_line rest.now) }
+// Appends the lines of a link frame. Where memory runs out, some of them may stay.
+fn put_frame(out: &mut Vec<u8>, bytes: &[u8]) -> Result<(), NoMemory>
+    ensures ok { OnOk result (out.new.items ≡ out.old.items ++ decode_text bytes.now) }
+    ensures err { OnErr result (Grows out.old.items out.new.items) }
 {
-    rest_line(&mut page.line, rest)?;
-    page.end_line()?;
-    Ok(())
-}
-
-// Whether a packet with this head is an originator message, and the bytes after it begin with a
-// header like its own.
-fn is_followed(head: &Head, header: &[u8], rest: &[u8]) -> bool
-    requires header { IsHeader head.now header.now }
-    ensures { result ≡ is_followed head.now rest.now }
-{
-    matches!(head, Head::IvOgm { .. } | Head::Ogm2 { .. })
-        && rest.len() >= header.len()
-        && rest[..PREFIX] == header[..PREFIX]
-}
-
-// Appends the lines of the packet that begins the bytes. Answers the bytes after it where the next
-// packet follows there.
-fn put_packet<'a>(
-    page: &mut Page,
-    bytes: &'a [u8],
-    head: &Head,
-    tail: &[u8],
-    used: usize,
-) -> Result<Option<&'a [u8]>, NoMemory>
-    requires packet { IsPacket bytes.now head.now tail.now used }
-    ensures ok { IfOk result (λ further.
-        HasPrinted page.old.text.items bytes.now page.new.text.items (option_copied further)) }
-{
-    put_packet_line(page, head, tail.len())?;
-    if !put_tail(page, head, tail)? {
-        return Ok(None);
-    }
-    let (packet, rest) = bytes.split_at(used);
-    if is_followed(head, &packet[..used - tail.len()], rest) {
-        return Ok(Some(rest));
-    }
-    put_rest(page, rest)?;
-    Ok(None)
-}
-
-// The line of bytes that begin no packet, for this cause, in place of what `line` holds.
-fn refusal_line(line: &mut Vec<u8>, bytes: &[u8], cause: CodecErr) -> Result<(), NoMemory>
-    requires cause { HasCause bytes.now cause }
-    ensures ok { OnOk result (line.new.items ≡ decode_text bytes.now) }
-{
-    match cause {
-        CodecErr::Short { have, need } => short_line(line, have, need)?,
-        CodecErr::Version { byte } => version_line(line, byte)?,
-        CodecErr::Kind { byte } => kind_line(line, byte)?,
-        CodecErr::Length { told, left } => length_line(line, told, left)?,
-        CodecErr::Long { .. } | CodecErr::Tail { .. } | CodecErr::Memory => unreachable!(),
-    }
-    Ok(())
-}
-
-// Appends the line of bytes that begin no packet, for this cause.
-fn put_refusal(page: &mut Page, bytes: &[u8], cause: CodecErr) -> Result<(), NoMemory>
-    requires cause { HasCause bytes.now cause }
-    ensures ok { OnOk result (page.new.text.items ≡ page.old.text.items ++ decode_text bytes.now) }
-{
-    refusal_line(&mut page.line, bytes, cause)?;
-    page.end_line()?;
-    Ok(())
-}
-
-// Appends what the bytes print, up to a next packet that follows in them. Answers the bytes that
-// begin with it.
-fn put_first<'a>(page: &mut Page, bytes: &'a [u8]) -> Result<Option<&'a [u8]>, NoMemory>
-    ensures ok { IfOk result (λ further.
-        HasPrinted page.old.text.items bytes.now page.new.text.items (option_copied further)) }
-{
-    match decode(bytes) {
-        Ok((head, tail, used)) => put_packet(page, bytes, &head, tail, used),
-        Err(cause) => {
-            put_refusal(page, bytes, cause)?;
-            Ok(None)
+    let mut frame = LinkFrame::new(bytes);
+    loop {
+        match frame.next() {
+            Ok(packet) => put_packet(out, &packet)?,
+            Err(ending) => return put_ending(out, ending),
         }
     }
-}
-
-// Appends what the bytes print.
-fn put_all(page: &mut Page, bytes: &[u8]) -> Result<(), NoMemory>
-    ensures ok { OnOk result (page.new.text.items ≡ page.old.text.items ++ decode_text bytes.now) }
-{
-    let mut left = bytes;
-    while let Some(further) = put_first(page, left)? {
-        left = further;
-    }
-    Ok(())
 }
 
 /// Appends the text of `decode`, one line for each packet, container, VLAN and record, and for what
 /// can't be read.
 ///
 /// `bytes` are a frame as it is sent on a link, of any length. The layouts are those of
-/// `batadv_packet.h` at compat version 15 (Linux, Open-Mesh); the text is batmesh's own. The text
-/// is made aside, and memory for it is given back.
+/// `batadv_packet.h` at compat version 15 (Linux, Open-Mesh); the text is batmesh's own.
 pub fn decode_text(out: &mut Vec<u8>, bytes: &[u8]) -> Result<(), NoMemory>
     ensures ok { OnOk result (out.new.items ≡ out.old.items ++ decode_text bytes.now) }
     ensures err { OnErr result (out.new.items ≡ out.old.items) }
 {
-    let mut page = Page::new(*out.allocator())?;
-    put_all(&mut page, bytes)?;
-    out.extend_from_slice(page.text.as_slice())?;
+    let before = out.len();
+    if let Err(NoMemory) = put_frame(out, bytes) {
+        out.truncate(before);
+        return Err(NoMemory);
+    }
     Ok(())
 }

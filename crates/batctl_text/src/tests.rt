@@ -1,6 +1,5 @@
 use super::*;
-use mesh_base::{Entry, Key, Mac, Vid};
-use mesh_model::LocalRow;
+use mesh_base::{Mac, Vid};
 use std::test::*;
 
 /// Hex digits, and the text that `decode` prints of them.
@@ -144,30 +143,26 @@ fn a_text_is_appended(rt: HostRuntime) -> Result<(), Fail> {
 
 #[test]
 fn a_local_table_has_a_header_and_a_line_a_client(rt: HostRuntime) -> Result<(), Fail> {
-    let client = LocalRow {
-        entry: Entry {
-            key: Key {
-                mac: Mac([2, 0, 0, 0, 1, 1]),
-                vid: Vid(0x8007),
-            },
-            flags: 0x10,
-        },
-        age: Some(599_999),
-    };
-    let group = LocalRow {
-        entry: Entry {
-            key: Key {
-                mac: Mac([0x33, 0x33, 0, 0, 0, 1]),
-                vid: Vid::UNTAGGED,
-            },
-            flags: 0x20,
-        },
-        age: None,
-    };
     let mut out = Vec::new(rt.alloc());
     local_header(&mut out, b"A", 1, 2).ok().ok_or("memory")?;
-    local_line(&mut out, &client).ok().ok_or("memory")?;
-    local_line(&mut out, &group).ok().ok_or("memory")?;
+    local_line(
+        &mut out,
+        Mac([2, 0, 0, 0, 1, 1]),
+        Vid(0x8007),
+        0x10,
+        Some(599_999),
+    )
+    .ok()
+    .ok_or("memory")?;
+    local_line(
+        &mut out,
+        Mac([0x33, 0x33, 0, 0, 0, 1]),
+        Vid::UNTAGGED,
+        0x20,
+        None,
+    )
+    .ok()
+    .ok_or("memory")?;
     let text = b"tl A version=1 clients=2\n\
         c 02:00:00:00:01:01 7 w- age=599999\n\
         c 33:33:00:00:00:01 - -i age=-\n";

@@ -10,3 +10,4 @@ pub mod LineRows
 pub mod RouteRows
 -- What is said of a worked scenario, of bytes that are decoded, and of calls that are written out.
 pub mod CallRows
+pub mod ContainerRows

@@ -7,6 +7,7 @@
 
 #![tactic(auto)]
 
+pub mod container_rows;
 pub mod decode_rows;
 pub mod net_rows;
 pub mod line_rows;

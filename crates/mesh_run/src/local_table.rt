@@ -20,7 +20,8 @@ pub fn put_local_table(
 {
     batctl_text::local_header(out, name, version, rows.len())?;
     for row in rows {
-        batctl_text::local_line(out, row)?;
+        let key = row.entry.key;
+        batctl_text::local_line(out, key.mac, key.vid, row.entry.flags, row.age)?;
     }
     Ok(())
 }

@@ -11,12 +11,15 @@ use Rattle.mesh_model.specs.Packets.Contents.Content.{gateway, translation, roam
 use Rattle.mesh_model.specs.Text.PacketLines.{line_of, named_number, named_address, named_flags}
 use Rattle.mesh_model.specs.Text.Tables.{vid_text, vlan_line}
 
--- the line of a container with these parts behind its type, version and length
+-- type, version and length of a container
+abbrev pub container_start : Container → List ℕ
+container_start container = named_number (codes "tvlv ") container.kind
+    ++ named_number (codes " version=") container.version
+    ++ named_number (codes " len=") (length container.body)
+
+-- the line of a container with these parts behind its start
 abbrev pub container_line : Container → List (List ℕ) → List ℕ
-container_line container parts =
-    line_of (named_number (codes "tvlv ") container.kind
-    ∷ named_number (codes " version=") container.version
-    ∷ named_number (codes " len=") (length container.body) ∷ parts)
+container_line container parts = line_of (container_start container ∷ parts)
 
 -- the line of a container whose body has no fields that are known
 unfoldable pub plain_line : Container → List ℕ

@@ -4,4 +4,4 @@ use Rattle.mesh_model.specs.Text.Tables.{vlan_line}
 use Rattle.batctl_text.proofs.container.put_vlans.Given as goal
 
 abbrev pub invariant-loop-i : goal.invariant-loop-i
-invariant-loop-i l = l.page.text.items ≡ l.initial.page.text.items ++ flat_map vlan_line (take l.i l.table.vlans)
+invariant-loop-i l = l.out.items ≡ l.initial.out.items ++ flat_map vlan_line (take l.i l.table.vlans)
