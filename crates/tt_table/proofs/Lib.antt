@@ -6,3 +6,4 @@ pub mod StrictLemmas
 pub mod TakenBack
 pub mod TotalsLemmas
 pub mod TableSums
+pub mod NamedSums

@@ -1,6 +1,6 @@
 -- Lists whose items stand in the order of their keys: what stands at a key, and what an item put in, taken out or
 -- replaced changes.
-use Rattle.std.proofs.Common.{◌≡◌, ℕ, zero, suc, ◌+◌, ◌<◌, ◌≤◌, Bool, true, false, cond, List, [], ◌∷◌, map, length, get_or, set, Option, Some, None, is_eq, is_lt, refl, sym, ap, ◌∙◌, subst, arith, Result, Ok, Err, IfOk, IfErr, Ordering, Less, Equal, Greater}
+use Rattle.std.proofs.Common.{filter, IsSome, option_and_then, ◌≡◌, ℕ, zero, suc, ◌+◌, ◌<◌, ◌≤◌, Bool, true, false, cond, List, [], ◌∷◌, map, length, get_or, set, Option, Some, None, is_eq, is_lt, refl, sym, ap, ◌∙◌, subst, arith, Result, Ok, Err, IfOk, IfErr, Ordering, Less, Equal, Greater}
 use Rattle.std.specs.Cmp.{IsTotalOrder}
 use Rattle.std.specs.List.{AllByRecursion, insert, remove}
 use Rattle.std.specs.List.Sorted.{IsBinarySearchResult, IsPartitionPoint, IsSearchInRange, IsSortedBy, IsStrictlySortedBy}
@@ -106,7 +106,7 @@ module _ {K X : Type 0} {R : K → K → Ordering} (o : IsTotalOrder R) (exact :
   sorted_set k x xs i there same sorted = subst (IsStrictlySortedBy R) (sym (map-set_same key xs i x x (same ∙ sym (there.same x)))) sorted
 
   -- ---- what stands at a key
-  other : (a b : K) → R a b ≡ Less → (q : K) → is_eq (R q a) ≡ true → is_eq (R q b) ≡ false
+  pub other : (a b : K) → R a b ≡ Less → (q : K) → is_eq (R q a) ≡ true → is_eq (R q b) ≡ false
   other a b e q t = ap is_eq (subst (λ z. R z b ≡ Less) (sym (tied R exact q a _ refl t)) e)
 
   none_over : (q : K) (xs : List X) → AllByRecursion (λ y. R q y ≡ Less) (map key xs) → item_at R key q xs ≡ None
@@ -119,13 +119,17 @@ module _ {K X : Type 0} {R : K → K → Ordering} (o : IsTotalOrder R) (exact :
   item_there k (x ∷ xs) (suc i) d there =
       ap (λ b. cond b (Some x) (item_at R key k xs)) (ap is_eq (turned_less (key x) k (there.below 0 x (omega arith)))) ∙ item_there k xs i d (there_next k x xs i there)
 
+  pub some_item : (k : K) (xs : List X) (i : ℕ) → IsThere R key k xs i → IsSome (item_at R key k xs)
+  some_item k [] i there = absurd (let w = there.within in omega (arith, w))
+  some_item k (x ∷ xs) i there = subst (λ o. IsSome o) (sym (item_there k (x ∷ xs) i x there)) refl
+
   pub none_in_gap : (k : K) (xs : List X) (i : ℕ) → IsGap R key k xs i → item_at R key k xs ≡ None
   none_in_gap k [] i gap = refl
   none_in_gap k (x ∷ xs) zero gap = none_over k (x ∷ xs) (all_over k (x ∷ xs) (λ j d lt. gap.above j d (omega arith) lt))
   none_in_gap k (x ∷ xs) (suc i) gap =
       ap (λ b. cond b (Some x) (item_at R key k xs)) (ap is_eq (turned_less (key x) k (gap.below 0 x (omega arith)))) ∙ none_in_gap k xs i (gap_next k x xs i gap)
 
-  one_of_two : (a b : Bool) (x y : Option X) (z : Option X) → (a ≡ true → b ≡ false) → cond a x (cond b y z) ≡ cond b y (cond a x z)
+  pub one_of_two : (a b : Bool) (x y : Option X) (z : Option X) → (a ≡ true → b ≡ false) → cond a x (cond b y z) ≡ cond b y (cond a x z)
   one_of_two true true x y z never = absurd (true≢false (never refl))
   one_of_two true false x y z never = refl
   one_of_two false b x y z never = refl
@@ -161,3 +165,34 @@ module _ {K X : Type 0} {R : K → K → Ordering} (o : IsTotalOrder R) (exact :
   item_left q k (y ∷ ys) (suc i) there sorted =
       ap (cond (is_eq (R q (key y))) (Some y)) (item_left q k ys i (there_next k y ys i there) sorted.1)
       ∙ one_of_two (is_eq (R q (key y))) (is_eq (R q k)) (Some y) None (item_at R key q ys) (other (key y) k (there.below 0 y (omega arith)) q)
+
+  -- ---- what a filter leaves
+  all_kept : (P : K → Type 0) (p : X → Bool) (xs : List X) → AllByRecursion P (map key xs) → AllByRecursion P (map key (filter p xs))
+  all_kept P p [] all = tt
+  all_kept P p (x ∷ xs) all =
+      elim (p x) as (λ b. AllByRecursion P (map key (cond b (x ∷ filter p xs) (filter p xs)))) [ true ↦ (all.0, all_kept P p xs all.1) | false ↦ all_kept P p xs all.1 ]
+
+  pub sorted_kept : (p : X → Bool) (xs : List X) → InOrder xs → InOrder (filter p xs)
+  unfolding IsStrictlySortedBy
+  sorted_kept p [] sorted = tt
+  sorted_kept p (x ∷ xs) sorted =
+      elim (p x) as (λ b. InOrder (cond b (x ∷ filter p xs) (filter p xs))) [ true ↦ (all_kept (λ y. R (key x) y ≡ Less) p xs sorted.0, sorted_kept p xs sorted.1) | false ↦ sorted_kept p xs sorted.1 ]
+
+  pub item_kept : (p : X → Bool) (q : K) (xs : List X) → InOrder xs → item_at R key q (filter p xs) ≡ option_and_then (λ x. cond (p x) (Some x) None) (item_at R key q xs)
+  unfolding IsStrictlySortedBy
+  item_kept p q [] sorted = refl
+  item_kept p q (x ∷ xs) sorted =
+      let keep : X → Option X = λ y. cond (p y) (Some y) None in
+      elim (is_eq (R q (key x))) as (λ t. is_eq (R q (key x)) ≡ t → item_at R key q (filter p (x ∷ xs)) ≡ option_and_then keep (cond t (Some x) (item_at R key q xs))) [
+        | true ↦ λ e.
+            let above = subst (λ z. AllByRecursion (λ y. R z y ≡ Less) (map key xs)) (sym (tied R exact q (key x) _ refl e)) sorted.0 in
+            elim (p x) as (λ b. item_at R key q (cond b (x ∷ filter p xs) (filter p xs)) ≡ cond b (Some x) None) [
+              | true ↦ ap (λ b. cond b (Some x) (item_at R key q (filter p xs))) e
+              | false ↦ none_over q (filter p xs) (all_kept (λ y. R q y ≡ Less) p xs above)
+            ]
+        | false ↦ λ e.
+            elim (p x) as (λ b. item_at R key q (cond b (x ∷ filter p xs) (filter p xs)) ≡ option_and_then keep (item_at R key q xs)) [
+              | true ↦ ap (λ b. cond b (Some x) (item_at R key q (filter p xs))) e ∙ item_kept p q xs sorted.1
+              | false ↦ item_kept p q xs sorted.1
+            ]
+      ] refl

@@ -158,3 +158,25 @@ halves_failed cs t m n back (Err c) e b failed undone = (both_halves cs t m e �
 
 pub half_failed : (cs : List Change) (t n : List Entry) (c : Change) → change_each (deletions cs) t ≡ Err c → n ≡ t → Becomes (Err c) (apply_strictly t cs) t n
 half_failed cs t n c e same = (fails_on (deletions cs) (additions cs) t c e, same)
+
+-- the entries between the halves
+pub record Between (cs : List Change) (t u : List Entry) : Type 0 where
+  pub middle : List Entry
+  pub deleted : change_each (deletions cs) t ≡ Ok middle
+  pub added : change_each (additions cs) middle ≡ Ok u
+
+between_from : (cs : List Change) (t u : List Entry) (r : Result (List Entry) Change) → apply_strictly t cs ≡ Ok u → change_each (deletions cs) t ≡ r → Between cs t u
+between_from cs t u (Ok m) e p = record { middle = m; deleted = p; added = sym (both_halves cs t m p) ∙ e }
+between_from cs t u (Err c) e p = let h = fails_on (deletions cs) (additions cs) t c p in absurd (let k : ⊥ = cc in k)
+
+pub between : (cs : List Change) (t u : List Entry) → apply_strictly t cs ≡ Ok u → Between cs t u
+between cs t u e = between_from cs t u (change_each (deletions cs) t) e refl
+
+pub halves_counted : (cs : List Change) → length (deletions cs) + length (additions cs) ≡ length cs
+halves_counted [] = refl
+halves_counted (c ∷ cs) =
+    let n = halves_counted cs in
+    elim c.del as (λ b. length (cond b (c ∷ deletions cs) (deletions cs)) + length (cond (not b) (c ∷ additions cs) (additions cs)) ≡ length (c ∷ cs)) [
+      | true ↦ omega (arith, n)
+      | false ↦ omega (arith, n)
+    ]

@@ -1,7 +1,7 @@
 -- How an entry put into a table, or taken out, changes the table's checksums and how many entries a VLAN has.
-use Rattle.std.proofs.Common.{◌≡◌, ℕ, zero, suc, ◌+◌, ◌-◌, ◌<◌, ◌≤◌, Bool, true, false, cond, nat_eq, List, [], ◌∷◌, map, filter, length, Option, Some, None, option_map, bit_xor, refl, sym, ap, ap₂, ◌∙◌, subst, arith, Ordering, Less, Equal, Greater}
+use Rattle.std.proofs.Common.{◌≡◌, ℕ, zero, suc, ◌+◌, ◌-◌, ◌<◌, ◌≤◌, Bool, true, false, cond, nat_eq, List, [], ◌∷◌, map, filter, length, Option, Some, None, option_map, IsSome, bit_xor, refl, sym, ap, ap₂, ◌∙◌, subst, arith, Ordering, Less, Equal, Greater}
 use Rattle.std.specs.Int.Bits.{xor_self, xor_zero_l, xor_zero_r}
-use Rattle.std.proofs.lemmas.Bool.{eq-eqb, ne_eqb, eqb-true, true≢false}
+use Rattle.std.proofs.lemmas.Bool.{eq-eqb, ne_eqb, eqb-true, false≢true, true≢false}
 use Rattle.std.proofs.lemmas.Nat.{xor_comm}
 use Rattle.mesh_base.specs.KeyOrder.{key_order}
 use Rattle.mesh_base.specs.declared.client.Entry.{Entry}
@@ -9,12 +9,12 @@ use Rattle.mesh_base.specs.declared.client.Vid.{Vid}
 use Rattle.mesh_model.specs.Tables.Strict.{change_one, with_entry, without_entry}
 use Rattle.mesh_model.specs.Tables.Sums.{checksums, entries_in, entry_sum, is_in_vlan, xor_of}
 use Rattle.mesh_model.specs.declared.table_change.Change.{Change}
-use Rattle.tt_table.specs.Sums.{AreTotalsOf, HasOneChanged, row_at, row_in, row_of, row_with, row_without}
+use Rattle.tt_table.specs.Sums.{AreTotalsOf, HasOneChanged, IsNamed, entries_of, row_after, row_at, sum_of}
 use Rattle.tt_table.specs.declared.vlan_total.VlanTotal.{VlanTotal}
 use Rattle.tt_table.proofs.Crc.{xor_assoc}
 use Rattle.tt_table.proofs.EntriesLemmas.{with_at, without_at}
 use Rattle.tt_table.proofs.TakenBack.{behind, same_entry}
-use Rattle.tt_table.proofs.TotalsLemmas.{same_vid}
+use Rattle.tt_table.proofs.TotalsLemmas.{at_one_or_others, same_vid}
 
 -- what an entry gives to the checksum of a VLAN, and to the number of its entries
 abbrev pub share : Vid → Entry → ℕ
@@ -89,80 +89,84 @@ more_without vid entry (first ∷ rest) u e =
     at_first p false f h = absurd (let k : ⊥ = cc in k)
 
 -- ---- rows
-no_entries : (vid : Vid) (table : List Entry) → count table vid ≡ 0 → checksums table vid ≡ 0
-no_entries vid table e = none (entries_in vid table) e
+pub no_entries : (table : List Entry) (vid : Vid) → count table vid ≡ 0 → checksums table vid ≡ 0
+no_entries table vid e = none (entries_in vid table) e
   where
     none : (l : List Entry) → length l ≡ 0 → xor_of (map entry_sum l) ≡ 0
     none [] h = refl
     none (x ∷ xs) h = absurd (omega (arith, h))
 
-row_some : (vid : Vid) (sum n : ℕ) → 0 < n → row_of vid sum n ≡ Some (record { vid = vid; sum = sum; entries = n })
-row_some vid sum n some = ap (λ b. cond b None (Some (record { vid = vid; sum = sum; entries = n }))) (ne_eqb n 0 (λ e. omega (arith, e, some)))
+apart : (vid : Vid) (entry : Entry) (t u : List Entry) → More vid entry t u → is_in_vlan vid entry ≡ false → (checksums u vid ≡ checksums t vid) × (count u vid ≡ count t vid)
+apart vid entry t u m e = (
+  m.sums ∙ ap (λ b. bit_xor (cond b (entry_sum entry) 0) (checksums t vid)) e ∙ xor_zero_l (checksums t vid),
+  m.counts ∙ ap (λ b. cond b 1 0 + count t vid) e ∙ omega arith,
+)
 
-row_more : (vid : Vid) (s old new n m : ℕ) → (n ≡ 0 → old ≡ 0) → new ≡ bit_xor s old → m ≡ 1 + n → row_with vid s (row_of vid old n) ≡ row_of vid new m
-row_more vid s old new zero m none is more =
-    ap₂ (λ x k. row_of vid x k) (sym (is ∙ ap (bit_xor s) (none refl) ∙ xor_zero_r s)) (sym more)
-row_more vid s old new (suc n) m none is more =
-    let sums : bit_xor old s ≡ new = xor_comm old s ∙ sym is in
-    let counts : suc n + 1 ≡ m = omega (arith, more) in
-    let after : ℕ → ℕ → Option VlanTotal = λ x k. Some (record { vid = vid; sum = x; entries = k }) in
-    ap (row_with vid s) (row_some vid old (suc n) (omega arith)) ∙ ap₂ after sums counts ∙ sym (row_some vid new m (omega (arith, more)))
+record Own (entry : Entry) (t u : List Entry) : Type 0 where
+  sums : checksums u entry.key.vid ≡ bit_xor (entry_sum entry) (checksums t entry.key.vid)
+  counts : count u entry.key.vid ≡ 1 + count t entry.key.vid
 
-row_less : (vid : Vid) (s old new n m : ℕ) → old ≡ bit_xor s new → n ≡ 1 + m → row_without vid s (row_of vid old n) ≡ row_of vid new m
-row_less vid s old new n m is less =
-    let sums : bit_xor old s ≡ new = ap (λ x. bit_xor x s) (is ∙ xor_comm s new) ∙ xor_assoc new s s ∙ ap (bit_xor new) (xor_self s) ∙ xor_zero_r new in
-    let counts : n - 1 ≡ m = omega (arith, less) in
-    ap (row_without vid s) (row_some vid old n (omega (arith, less))) ∙ ap₂ (row_of vid) sums counts
-
-apart : (vid : Vid) (entry : Entry) (t u : List Entry) → More vid entry t u → is_in_vlan vid entry ≡ false → row_in u vid ≡ row_in t vid
-apart vid entry t u m e =
-    ap₂ (row_of vid)
-    (m.sums ∙ ap (λ b. bit_xor (cond b (entry_sum entry) 0) (checksums t vid)) e ∙ xor_zero_l (checksums t vid))
-    (m.counts ∙ ap (λ b. cond b 1 0 + count t vid) e ∙ omega arith)
-
-totals_from : (vid : Vid) (change : Option VlanTotal → Option VlanTotal) (old new : List VlanTotal) (t u : List Entry) → AreTotalsOf old t → HasOneChanged vid change old new
-    → change (row_in t vid) ≡ row_in u vid → ((other : Vid) → nat_eq other.0 vid.0 ≡ false → row_in u other ≡ row_in t other) → AreTotalsOf new u
-totals_from vid change old new t u totals changed here others other =
-    changed other ∙ ap (λ o. cond (nat_eq other.0 vid.0) (change o) o) (totals other)
-    ∙ elim (nat_eq other.0 vid.0) as (λ b. nat_eq other.0 vid.0 ≡ b → cond b (change (row_in t other)) (row_in t other) ≡ row_in u other) [
-      | true ↦ λ e. subst (λ v. change (row_in t v) ≡ row_in u v) (sym (same_vid other vid e)) here
-      | false ↦ λ e. sym (others other e)
-    ] refl
-
-in_own : (entry : Entry) → is_in_vlan entry.key.vid entry ≡ true
-in_own entry = eq-eqb entry.key.vid.0 entry.key.vid.0 refl
-
-pub totals_gained : (entry : Entry) (old new : List VlanTotal) (t u : List Entry) → AreTotalsOf old t → with_entry entry t ≡ Some u
-    → HasOneChanged entry.key.vid (row_with entry.key.vid (entry_sum entry)) old new → AreTotalsOf new u
-totals_gained entry old new t u totals e changed =
+own : (entry : Entry) (t u : List Entry) → More entry.key.vid entry t u → Own entry t u
+own entry t u m =
     let vid = entry.key.vid in
-    let own = in_own entry in
-    let m = more_with vid entry t u e in
-    totals_from vid (row_with vid (entry_sum entry)) old new t u totals changed
-    (row_more vid (entry_sum entry) (checksums t vid) (checksums u vid) (count t vid) (count u vid) (no_entries vid t)
-    (m.sums ∙ ap (λ b. bit_xor (cond b (entry_sum entry) 0) (checksums t vid)) own) (m.counts ∙ ap (λ b. cond b 1 0 + count t vid) own))
-    (λ other o. apart other entry t u (more_with other entry t u e) o)
+    let here = eq-eqb vid.0 vid.0 refl in record {
+      sums = m.sums ∙ ap (λ b. bit_xor (cond b (entry_sum entry) 0) (checksums t vid)) here;
+      counts = m.counts ∙ ap (λ b. cond b 1 0 + count t vid) here;
+    }
 
-pub totals_lost : (entry : Entry) (old new : List VlanTotal) (t u : List Entry) → AreTotalsOf old t → without_entry entry t ≡ Some u
-    → HasOneChanged entry.key.vid (row_without entry.key.vid (entry_sum entry)) old new → AreTotalsOf new u
-totals_lost entry old new t u totals e changed =
-    let vid = entry.key.vid in
-    let own = in_own entry in
-    let m = more_without vid entry t u e in
-    totals_from vid (row_without vid (entry_sum entry)) old new t u totals changed
-    (row_less vid (entry_sum entry) (checksums t vid) (checksums u vid) (count t vid) (count u vid)
-    (m.sums ∙ ap (λ b. bit_xor (cond b (entry_sum entry) 0) (checksums u vid)) own) (m.counts ∙ ap (λ b. cond b 1 0 + count u vid) own))
-    (λ other o. sym (apart other entry u t (more_without other entry t u e) o))
+module _ (entry : Entry) (old new : List VlanTotal) (t u : List Entry) (totals : AreTotalsOf old t) where
+  totals_gained : with_entry entry t ≡ Some u → IsSome (row_at old entry.key.vid)
+      → HasOneChanged entry.key.vid (option_map (row_after (entry_sum entry) false)) old new → AreTotalsOf new u
+  totals_gained e some changed =
+      let vid = entry.key.vid in
+      let m = own entry t u (more_with vid entry t u e) in
+      at_one_or_others (λ v o. (sum_of o ≡ checksums u v) × (entries_of o ≡ count u v)) vid (option_map (row_after (entry_sum entry) false)) old new changed
+      (here (row_at old vid) some (totals vid).0 (totals vid).1 m.sums m.counts)
+      (λ other o. let a = apart other entry t u (more_with other entry t u e) o in ((totals other).0 ∙ sym a.0, (totals other).1 ∙ sym a.1))
+    where
+      here : (o : Option VlanTotal) → IsSome o → sum_of o ≡ checksums t entry.key.vid → entries_of o ≡ count t entry.key.vid
+          → checksums u entry.key.vid ≡ bit_xor (entry_sum entry) (checksums t entry.key.vid) → count u entry.key.vid ≡ 1 + count t entry.key.vid
+          → (sum_of (option_map (row_after (entry_sum entry) false) o) ≡ checksums u entry.key.vid) × (entries_of (option_map (row_after (entry_sum entry) false) o) ≡ count u entry.key.vid)
+      here None some s n sums counts = absurd (false≢true some)
+      here (Some row) some s n sums counts =
+          (xor_comm row.sum (entry_sum entry) ∙ ap (bit_xor (entry_sum entry)) s ∙ sym sums, omega (arith, n, counts))
+
+  totals_lost : without_entry entry t ≡ Some u
+      → HasOneChanged entry.key.vid (option_map (row_after (entry_sum entry) true)) old new → AreTotalsOf new u
+  totals_lost e changed =
+      let vid = entry.key.vid in
+      let m = own entry u t (more_without vid entry t u e) in
+      at_one_or_others (λ v o. (sum_of o ≡ checksums u v) × (entries_of o ≡ count u v)) vid (option_map (row_after (entry_sum entry) true)) old new changed
+      (here (row_at old vid) (totals vid).0 (totals vid).1 m.sums m.counts)
+      (λ other o. let a = apart other entry u t (more_without other entry t u e) o in ((totals other).0 ∙ a.0, (totals other).1 ∙ a.1))
+    where
+      here : (o : Option VlanTotal) → sum_of o ≡ checksums t entry.key.vid → entries_of o ≡ count t entry.key.vid
+          → checksums t entry.key.vid ≡ bit_xor (entry_sum entry) (checksums u entry.key.vid) → count t entry.key.vid ≡ 1 + count u entry.key.vid
+          → (sum_of (option_map (row_after (entry_sum entry) true) o) ≡ checksums u entry.key.vid) × (entries_of (option_map (row_after (entry_sum entry) true) o) ≡ count u entry.key.vid)
+      here None s n sums counts = absurd (omega (arith, n, counts))
+      here (Some row) s n sums counts =
+          let w = entry_sum entry in let after = checksums u entry.key.vid in
+          (ap (λ x. bit_xor x w) (s ∙ sums ∙ xor_comm w after) ∙ xor_assoc after w w ∙ ap (bit_xor after) (xor_self w) ∙ xor_zero_r after, omega (arith, n, counts))
+
+  not_lost : without_entry entry t ≡ Some u → row_at old entry.key.vid ≡ None → ⊥
+  not_lost e none =
+      let m = own entry u t (more_without entry.key.vid entry t u e) in let n = (totals entry.key.vid).1 in let counts = m.counts in
+      let zero = ap entries_of none in omega (arith, n, counts, zero)
 
 -- rows that went along with a change
-pub lost_with : (c : Change) (s : ℕ) (old new : List VlanTotal) → c.del ≡ true → s ≡ entry_sum c.entry → HasOneChanged c.entry.key.vid (row_without c.entry.key.vid s) old new
-    → (t u : List Entry) → AreTotalsOf old t → change_one c t ≡ Some u → AreTotalsOf new u
-lost_with c s old new del sum changed t u totals e =
-    totals_lost c.entry old new t u totals (sym (ap (λ b. cond b (without_entry c.entry t) (with_entry c.entry t)) del) ∙ e)
-    (subst (λ x. HasOneChanged c.entry.key.vid (row_without c.entry.key.vid x) old new) sum changed)
+pub totals_followed : (c : Change) (s : ℕ) (old new : List VlanTotal) → s ≡ entry_sum c.entry → HasOneChanged c.entry.key.vid (option_map (row_after s c.del)) old new
+    → (t u : List Entry) → AreTotalsOf old t → IsNamed old c → change_one c t ≡ Some u → AreTotalsOf new u
+totals_followed c s old new sum changed t u totals named e =
+    elim c.del as (λ b. (b ≡ false → IsSome (row_at old c.entry.key.vid)) → cond b (without_entry c.entry t) (with_entry c.entry t) ≡ Some u
+    → HasOneChanged c.entry.key.vid (option_map (row_after (entry_sum c.entry) b)) old new → AreTotalsOf new u) [
+      | true ↦ λ n h k. totals_lost c.entry old new t u totals h k
+      | false ↦ λ n h k. totals_gained c.entry old new t u totals h (n refl) k
+    ] named e (subst (λ x. HasOneChanged c.entry.key.vid (option_map (row_after x c.del)) old new) sum changed)
 
-pub gained_with : (c : Change) (s : ℕ) (old new : List VlanTotal) → c.del ≡ false → s ≡ entry_sum c.entry → HasOneChanged c.entry.key.vid (row_with c.entry.key.vid s) old new
-    → (t u : List Entry) → AreTotalsOf old t → change_one c t ≡ Some u → AreTotalsOf new u
-gained_with c s old new del sum changed t u totals e =
-    totals_gained c.entry old new t u totals (sym (ap (λ b. cond b (without_entry c.entry t) (with_entry c.entry t)) del) ∙ e)
-    (subst (λ x. HasOneChanged c.entry.key.vid (row_with c.entry.key.vid x) old new) sum changed)
+-- a change of a VLAN without a row isn't one of this table
+pub none_followed : (c : Change) (old : List VlanTotal) → row_at old c.entry.key.vid ≡ None → (t u : List Entry) → AreTotalsOf old t → IsNamed old c → change_one c t ≡ Some u → AreTotalsOf old u
+none_followed c old none t u totals named e =
+    elim c.del as (λ b. (b ≡ false → IsSome (row_at old c.entry.key.vid)) → cond b (without_entry c.entry t) (with_entry c.entry t) ≡ Some u → AreTotalsOf old u) [
+      | true ↦ λ n h. absurd (not_lost c.entry old old t u totals h none)
+      | false ↦ λ n h. absurd (false≢true (subst (λ o. IsSome o) none (n refl)))
+    ] named e

@@ -1,14 +1,17 @@
 -- How a row put in, replaced or taken out changes what rows say of each VLAN.
-use Rattle.std.proofs.Common.{◌≡◌, ℕ, zero, suc, ◌+◌, ◌-◌, ◌^◌, ◌<◌, ◌≤◌, Bool, true, false, cond, nat_eq, List, [], ◌∷◌, map, get_or, set, Option, Some, None, is_eq, nat_cmp, bit_xor, refl, sym, ap, ap₂, ◌∙◌, subst, arith, Ordering, Less, Equal, Greater}
+use Rattle.std.proofs.Common.{◌≡◌, ℕ, zero, suc, ◌+◌, ◌-◌, ◌^◌, ◌<◌, ◌≤◌, Bool, true, false, cond, nat_eq, nat_lt, IsSome, option_and_then, option_map, filter, length, List, [], ◌∷◌, map, get_or, set, Option, Some, None, is_eq, nat_cmp, bit_xor, refl, sym, ap, ap₂, ◌∙◌, subst, arith, Ordering, Less, Equal, Greater}
 use Rattle.std.specs.List.{insert, remove}
-use Rattle.std.proofs.lemmas.Bool.{eq-eqb, eqb-true, ne_eqb, true≢false}
+use Rattle.std.proofs.lemmas.Bool.{eq-eqb, eqb-true, ltb-false, ltb-true, ne_eqb, true≢false}
 use Rattle.std.proofs.lemmas.Cmp.{nat_cmp_total, tied_itself}
 use Rattle.std.proofs.lemmas.Map.Lookups.{exact_unsigned}
+use Rattle.mesh_base.specs.declared.client.Entry.{Entry}
 use Rattle.mesh_base.specs.declared.client.Vid.{Vid}
+use Rattle.mesh_model.specs.Tables.Sums.{checksums, entries_in}
+use Rattle.mesh_model.specs.declared.table_change.Change.{Change}
 use Rattle.tt_table.specs.Places.{IsThere, IsGap}
-use Rattle.tt_table.specs.Sums.{AreByVlan, AreFew, HasOneChanged, entries_of, row_at, row_key, row_of, row_with, row_without}
+use Rattle.tt_table.specs.Sums.{AreByVlan, AreFew, AreTotalsOf, HasOneChanged, HaveEntries, AreNamed, KeepNames, KeepTotals, entries_of, row_after, row_at, row_key, sum_of}
 use Rattle.tt_table.specs.declared.vlan_total.VlanTotal.{VlanTotal}
-use Rattle.tt_table.proofs.OrderedLists.{item_left, item_put, item_set, item_there, none_in_gap}
+use Rattle.tt_table.proofs.OrderedLists.{item_kept, item_put, item_set, item_there, none_in_gap}
 
 -- the order of numbers and the test that they are equal
 pub tied_test : (a b : ℕ) → is_eq (nat_cmp a b) ≡ nat_eq a b
@@ -33,13 +36,39 @@ changed_from vid change old new here looks is other =
       | false ↦ λ e. refl
     ] refl
 
-pub changed_by_put : (vid : Vid) (sum : ℕ) (rows : List VlanTotal) (i : ℕ) → IsGap nat_cmp row_key vid.0 rows i
-    → HasOneChanged vid (row_with vid sum) rows (insert rows i (record { vid = vid; sum = sum; entries = 1 }))
-changed_by_put vid sum rows i gap =
-    let row : VlanTotal = record { vid = vid; sum = sum; entries = 1 } in
-    changed_from vid (row_with vid sum) rows (insert rows i row) (Some row)
-    (λ q. item_put nat_cmp_total exact_unsigned row_key q row rows i gap)
-    (ap (row_with vid sum) (sym (none_in_gap nat_cmp_total exact_unsigned row_key vid.0 rows i gap)))
+-- a row of no entries for a VLAN that had none
+abbrev pub no_row : Vid → VlanTotal
+no_row vid = record { vid = vid; sum = 0; entries = 0 }
+
+named : (vid : Vid) (rows : List VlanTotal) (i : ℕ) → IsGap nat_cmp row_key vid.0 rows i → HasOneChanged vid (λ o. Some (no_row vid)) rows (insert rows i (no_row vid))
+named vid rows i gap =
+    changed_from vid (λ o. Some (no_row vid)) rows (insert rows i (no_row vid)) (Some (no_row vid))
+    (λ q. item_put nat_cmp_total exact_unsigned row_key q (no_row vid) rows i gap) refl
+
+pub is_named : (vid : Vid) (rows : List VlanTotal) (i : ℕ) → IsGap nat_cmp row_key vid.0 rows i → IsSome (row_at (insert rows i (no_row vid)) vid)
+is_named vid rows i gap =
+    subst (λ o. IsSome o) (sym (named vid rows i gap vid))
+    (subst (λ b. IsSome (cond b (Some (no_row vid)) (row_at rows vid))) (sym (eq-eqb vid.0 vid.0 refl)) refl)
+
+-- a look-up at one VLAN or at the others
+pub at_one_or_others : (P : Vid → Option VlanTotal → Type 0) (vid : Vid) (change : Option VlanTotal → Option VlanTotal) (old new : List VlanTotal) → HasOneChanged vid change old new
+    → P vid (change (row_at old vid)) → ((other : Vid) → nat_eq other.0 vid.0 ≡ false → P other (row_at old other)) → (other : Vid) → P other (row_at new other)
+at_one_or_others P vid change old new changed here others other =
+    subst (P other) (sym (changed other))
+    (elim (nat_eq other.0 vid.0) as (λ b. nat_eq other.0 vid.0 ≡ b → P other (cond b (change (row_at old other)) (row_at old other))) [
+      | true ↦ λ e. subst (λ v. P v (change (row_at old v))) (sym (same_vid other vid e)) here
+      | false ↦ λ e. others other e
+    ] refl)
+
+pub names_kept : (vid : Vid) (rows : List VlanTotal) (i : ℕ) → IsGap nat_cmp row_key vid.0 rows i → KeepNames rows (insert rows i (no_row vid))
+names_kept vid rows i gap =
+    at_one_or_others (λ v o. IsSome (row_at rows v) → IsSome o) vid (λ o. Some (no_row vid)) rows (insert rows i (no_row vid)) (named vid rows i gap) (λ h. refl) (λ other e h. h)
+
+pub totals_kept : (vid : Vid) (rows : List VlanTotal) (i : ℕ) → IsGap nat_cmp row_key vid.0 rows i → KeepTotals rows (insert rows i (no_row vid))
+totals_kept vid rows i gap =
+    let none = none_in_gap nat_cmp_total exact_unsigned row_key vid.0 rows i gap in
+    at_one_or_others (λ v o. (sum_of o ≡ sum_of (row_at rows v)) × (entries_of o ≡ entries_of (row_at rows v))) vid (λ o. Some (no_row vid)) rows (insert rows i (no_row vid)) (named vid rows i gap)
+    (sym (ap sum_of none), sym (ap entries_of none)) (λ other e. (refl, refl))
 
 pub changed_by_set : (vid : Vid) (change : Option VlanTotal → Option VlanTotal) (found row : VlanTotal) (rows : List VlanTotal) (i : ℕ)
     → IsThere nat_cmp row_key vid.0 rows i → found ≡ get_or rows i found → row.vid ≡ found.vid → Some row ≡ change (Some found)
@@ -49,24 +78,6 @@ changed_by_set vid change found row rows i there is kept becomes =
     (λ q. item_set nat_cmp_total exact_unsigned row_key q vid.0 row rows i there (ap (λ (v : Vid). v.0) kept ∙ ap row_key is ∙ there.same found))
     (becomes ∙ ap change (ap (λ r. Some r) is ∙ sym (item_there nat_cmp_total exact_unsigned row_key vid.0 rows i found there)))
 
-pub changed_by_remove : (vid : Vid) (change : Option VlanTotal → Option VlanTotal) (found : VlanTotal) (rows : List VlanTotal) (i : ℕ)
-    → IsThere nat_cmp row_key vid.0 rows i → AreByVlan rows → found ≡ get_or rows i found → None ≡ change (Some found)
-    → HasOneChanged vid change rows (remove rows i)
-changed_by_remove vid change found rows i there sorted is becomes =
-    changed_from vid change rows (remove rows i) None
-    (λ q. item_left nat_cmp_total exact_unsigned row_key q vid.0 rows i there sorted)
-    (becomes ∙ ap change (ap (λ r. Some r) is ∙ sym (item_there nat_cmp_total exact_unsigned row_key vid.0 rows i found there)))
-
--- nothing is lost where there is no row
-pub unchanged : (vid : Vid) (sum : ℕ) (rows : List VlanTotal) (i : ℕ) → IsGap nat_cmp row_key vid.0 rows i → HasOneChanged vid (row_without vid sum) rows rows
-unchanged vid sum rows i gap other =
-    elim (nat_eq other.0 vid.0) as (λ b. nat_eq other.0 vid.0 ≡ b → row_at rows other ≡ cond b (row_without vid sum (row_at rows other)) (row_at rows other)) [
-      | true ↦ λ e.
-          let none : row_at rows other ≡ None = ap (row_at rows) (same_vid other vid e) ∙ none_in_gap nat_cmp_total exact_unsigned row_key vid.0 rows i gap in
-          none ∙ ap (row_without vid sum) (sym none)
-      | false ↦ λ e. refl
-    ] refl
-
 -- the row at a place, as it is looked up
 pub found_row : (vid : Vid) (found : VlanTotal) (rows : List VlanTotal) (i : ℕ) → IsThere nat_cmp row_key vid.0 rows i → found ≡ get_or rows i found → row_at rows vid ≡ Some found
 found_row vid found rows i there is = item_there nat_cmp_total exact_unsigned row_key vid.0 rows i found there ∙ ap (λ r. Some r) (sym is)
@@ -74,60 +85,75 @@ found_row vid found rows i there is = item_there nat_cmp_total exact_unsigned ro
 found_vid : (vid : Vid) (found : VlanTotal) (rows : List VlanTotal) (i : ℕ) → IsThere nat_cmp row_key vid.0 rows i → found ≡ get_or rows i found → found.vid ≡ vid
 found_vid vid found rows i there is = let n = ap row_key is ∙ there.same found in λ j. record { 0 = n j }
 
--- a row that gains an entry, and one that loses an entry and isn't the last
-pub gained : (vid : Vid) (sum : ℕ) (found : VlanTotal) (rows : List VlanTotal) (i : ℕ) → IsThere nat_cmp row_key vid.0 rows i → found ≡ get_or rows i found
-    → HasOneChanged vid (row_with vid sum) rows (set rows i (record { vid = found.vid; sum = bit_xor found.sum sum; entries = found.entries + 1 }))
-gained vid sum found rows i there is =
-    changed_by_set vid (row_with vid sum) found (record { vid = found.vid; sum = bit_xor found.sum sum; entries = found.entries + 1 }) rows i there is refl
-    (ap (λ v. Some (record { vid = v; sum = bit_xor found.sum sum; entries = found.entries + 1 })) (found_vid vid found rows i there is))
+pub some_found : (vid : Vid) (found : VlanTotal) (rows : List VlanTotal) (i : ℕ) → IsThere nat_cmp row_key vid.0 rows i → found ≡ get_or rows i found → IsSome (row_at rows vid)
+some_found vid found rows i there is = subst (λ o. IsSome o) (sym (found_row vid found rows i there is)) refl
 
-pub lost : (vid : Vid) (sum : ℕ) (found : VlanTotal) (rows : List VlanTotal) (i : ℕ) → IsThere nat_cmp row_key vid.0 rows i → found ≡ get_or rows i found → 1 < found.entries
-    → HasOneChanged vid (row_without vid sum) rows (set rows i (record { vid = found.vid; sum = bit_xor found.sum sum; entries = found.entries - 1 }))
-lost vid sum found rows i there is more =
-    changed_by_set vid (row_without vid sum) found (record { vid = found.vid; sum = bit_xor found.sum sum; entries = found.entries - 1 }) rows i there is refl
-    (ap (λ v. Some (record { vid = v; sum = bit_xor found.sum sum; entries = found.entries - 1 })) (found_vid vid found rows i there is)
-    ∙ ap (λ b. cond b None (Some (record { vid = vid; sum = bit_xor found.sum sum; entries = found.entries - 1 }))) (sym (ne_eqb (found.entries - 1) 0 (λ e. omega (arith, more, e)))))
+-- a row that went along with a change
+pub followed : (vid : Vid) (sum : ℕ) (del : Bool) (found row : VlanTotal) (rows : List VlanTotal) (i : ℕ) → IsThere nat_cmp row_key vid.0 rows i → found ≡ get_or rows i found → row ≡ row_after sum del found
+    → HasOneChanged vid (option_map (row_after sum del)) rows (set rows i row)
+followed vid sum del found row rows i there is after =
+    changed_by_set vid (option_map (row_after sum del)) found row rows i there is (ap (λ (r : VlanTotal). r.vid) after) (ap (λ r. Some r) after)
 
-pub lost_last : (vid : Vid) (sum : ℕ) (found : VlanTotal) (rows : List VlanTotal) (i : ℕ) → IsThere nat_cmp row_key vid.0 rows i → AreByVlan rows → found ≡ get_or rows i found → found.entries ≤ 1
-    → HasOneChanged vid (row_without vid sum) rows (remove rows i)
-lost_last vid sum found rows i there sorted is last =
-    changed_by_remove vid (row_without vid sum) found rows i there sorted is
-    (ap (λ b. cond b None (Some (record { vid = vid; sum = bit_xor found.sum sum; entries = found.entries - 1 }))) (sym (eq-eqb (found.entries - 1) 0 (omega (arith, last)))))
+some_mapped : (f : VlanTotal → VlanTotal) (o : Option VlanTotal) → IsSome o → IsSome (option_map f o)
+some_mapped f None h = h
+some_mapped f (Some row) h = refl
+
+pub names_followed : (vid : Vid) (f : VlanTotal → VlanTotal) (old new : List VlanTotal) → HasOneChanged vid (option_map f) old new → KeepNames old new
+names_followed vid f old new changed =
+    at_one_or_others (λ v o. IsSome (row_at old v) → IsSome o) vid (option_map f) old new changed (some_mapped f (row_at old vid)) (λ other e h. h)
 
 -- ---- few entries
-fewer_by : (more less : ℕ) (vid : Vid) (change : Option VlanTotal → Option VlanTotal) (old new : List VlanTotal) → less ≤ more → HasOneChanged vid change old new
-    → entries_of (change (row_at old vid)) + less ≤ entries_of (row_at old vid) + more → AreFew more old → AreFew less new
-fewer_by more less vid change old new le changed here few other =
-    subst (λ o. entries_of o + less < 2 ^ 64) (sym (changed other))
-    (elim (nat_eq other.0 vid.0) as (λ b. nat_eq other.0 vid.0 ≡ b → entries_of (cond b (change (row_at old other)) (row_at old other)) + less < 2 ^ 64) [
-      | true ↦ λ t.
-          let n = few other in
-          let h = subst (λ v. entries_of (change (row_at old v)) + less ≤ entries_of (row_at old v) + more) (sym (same_vid other vid t)) here in
-          omega (arith, n, h)
-      | false ↦ λ t. let n = few other in omega (arith, n, le)
-    ] refl)
-
 pub less_few : (more less : ℕ) (rows : List VlanTotal) → less ≤ more → AreFew more rows → AreFew less rows
 less_few more less rows le few vid = let n = few vid in omega (arith, n, le)
 
-one_entry_more : (vid : Vid) (sum : ℕ) (o : Option VlanTotal) → entries_of (row_with vid sum o) ≡ entries_of o + 1
-one_entry_more vid sum None = refl
-one_entry_more vid sum (Some row) = refl
+one_more_at_most : (sum : ℕ) (del : Bool) (o : Option VlanTotal) → entries_of (option_map (row_after sum del) o) ≤ entries_of o + 1
+one_more_at_most sum del None = omega arith
+one_more_at_most sum true (Some row) = omega arith
+one_more_at_most sum false (Some row) = omega arith
 
-no_entry_more : (vid : Vid) (sum : ℕ) (o : Option VlanTotal) → entries_of (row_without vid sum o) ≤ entries_of o
-no_entry_more vid sum None = omega arith
-no_entry_more vid sum (Some row) =
-    elim (nat_eq (row.entries - 1) 0) as (λ b. entries_of (cond b None (Some (record { vid = vid; sum = bit_xor row.sum sum; entries = row.entries - 1 }))) ≤ row.entries) [
-      | true ↦ omega arith
-      | false ↦ omega arith
-    ]
+pub few_followed : (more : ℕ) (vid : Vid) (sum : ℕ) (del : Bool) (old new : List VlanTotal) → HasOneChanged vid (option_map (row_after sum del)) old new → AreFew (more + 1) old → AreFew more new
+few_followed more vid sum del old new changed few =
+    at_one_or_others (λ v o. entries_of o + more < 2 ^ 64) vid (option_map (row_after sum del)) old new changed
+    (let n = one_more_at_most sum del (row_at old vid) in let h = few vid in omega (arith, n, h))
+    (λ other e. let h = few other in omega (arith, h))
 
-pub few_gained : (more : ℕ) (vid : Vid) (sum : ℕ) (old new : List VlanTotal) → HasOneChanged vid (row_with vid sum) old new → AreFew (more + 1) old → AreFew more new
-few_gained more vid sum old new changed few =
-    let n = one_entry_more vid sum (row_at old vid) in
-    fewer_by (more + 1) more vid (row_with vid sum) old new (omega arith) changed (omega (arith, n)) few
+-- ---- rows without entries dropped
+abbrev pub has_entries : VlanTotal → Bool
+has_entries row = nat_lt 0 row.entries
 
-pub few_lost : (more : ℕ) (vid : Vid) (sum : ℕ) (old new : List VlanTotal) → HasOneChanged vid (row_without vid sum) old new → AreFew more old → AreFew more new
-few_lost more vid sum old new changed few =
-    let n = no_entry_more vid sum (row_at old vid) in
-    fewer_by more more vid (row_without vid sum) old new (omega arith) changed (omega (arith, n)) few
+kept_row : (rows : List VlanTotal) → AreByVlan rows → (vid : Vid) → row_at (filter has_entries rows) vid ≡ option_and_then (λ row. cond (has_entries row) (Some row) None) (row_at rows vid)
+kept_row rows sorted vid = item_kept nat_cmp_total exact_unsigned row_key has_entries vid.0 rows sorted
+
+pub have_entries : (rows : List VlanTotal) → AreByVlan rows → HaveEntries (filter has_entries rows)
+have_entries rows sorted vid row e = some (row_at rows vid) (sym (kept_row rows sorted vid) ∙ e)
+  where
+    tested : (found : VlanTotal) (b : Bool) → has_entries found ≡ b → cond b (Some found) None ≡ Some row → 0 < row.entries
+    tested found true t h = let lt = ltb-true 0 found.entries t in let n : found.entries ≡ row.entries = ap (λ (r : VlanTotal). r.entries) (let k : found ≡ row = cc in k) in omega (arith, lt, n)
+    tested found false t h = absurd (let k : ⊥ = cc in k)
+
+    some : (o : Option VlanTotal) → option_and_then (λ r. cond (has_entries r) (Some r) None) o ≡ Some row → 0 < row.entries
+    some None h = absurd (let k : ⊥ = cc in k)
+    some (Some found) h = tested found (has_entries found) refl h
+
+pub totals_left : (rows : List VlanTotal) → AreByVlan rows → (table : List Entry) → ((vid : Vid) → length (entries_in vid table) ≡ 0 → checksums table vid ≡ 0)
+    → AreTotalsOf rows table → AreTotalsOf (filter has_entries rows) table
+totals_left rows sorted table empty totals vid =
+    subst (λ o. (sum_of o ≡ checksums table vid) × (entries_of o ≡ length (entries_in vid table))) (sym (kept_row rows sorted vid))
+    (left (row_at rows vid) (totals vid).0 (totals vid).1)
+  where
+    tested : (found : VlanTotal) (b : Bool) → has_entries found ≡ b → found.sum ≡ checksums table vid → found.entries ≡ length (entries_in vid table)
+        → (sum_of (cond b (Some found) None) ≡ checksums table vid) × (entries_of (cond b (Some found) None) ≡ length (entries_in vid table))
+    tested found true t s n = (s, n)
+    tested found false t s n = let none = ltb-false 0 found.entries t in let zero : length (entries_in vid table) ≡ 0 = omega (arith, n, none) in (sym (empty vid zero), sym zero)
+
+    left : (o : Option VlanTotal) → sum_of o ≡ checksums table vid → entries_of o ≡ length (entries_in vid table)
+        → (sum_of (option_and_then (λ r. cond (has_entries r) (Some r) None) o) ≡ checksums table vid) × (entries_of (option_and_then (λ r. cond (has_entries r) (Some r) None) o) ≡ length (entries_in vid table))
+    left None s n = (s, n)
+    left (Some found) s n = tested found (has_entries found) refl s n
+
+-- ---- what stays under other rows
+pub totals_renamed : (old new : List VlanTotal) (table : List Entry) → KeepTotals old new → AreTotalsOf old table → AreTotalsOf new table
+totals_renamed old new table keep totals vid = ((keep vid).0 ∙ (totals vid).0, (keep vid).1 ∙ (totals vid).1)
+
+pub still_named : (old new : List VlanTotal) (changes : List Change) → KeepNames old new → AreNamed old changes → AreNamed new changes
+still_named old new changes keep named i other lt added = keep _ (named i other lt added)

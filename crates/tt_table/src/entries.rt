@@ -1,4 +1,4 @@
-ghost use Rattle.std.specs.Prelude.{◌≡◌, ◌↔◌, ◌+◌, ◌≤◌, [], length, slice_get, IfErr, IfOk, IsNone, IsOk, OnOk};
+ghost use Rattle.std.specs.Prelude.{◌≡◌, ◌↔◌, ◌+◌, ◌<◌, ◌≤◌, ◌^◌, [], length, slice_get, IfErr, IfOk, IsNone, IsOk, OnOk};
 ghost use Rattle.mesh_base.specs.KeyOrder.{key_order};
 ghost use Rattle.mesh_model.specs.Tables.Changes.{IsInKeyOrder, flags_at};
 ghost use Rattle.mesh_model.specs.Tables.Strict.{with_entry, without_entry};
@@ -48,6 +48,7 @@ impl Entries {
     /// Makes room for so many more entries.
     pub(crate) fn reserve(&mut self, more: usize) -> Result<(), NoMemory>
         ensures ok { OnOk result (HasRoom more self.new) }
+        ensures fits { OnOk result (length self.new.entries + more < 2 ^ 64) }
         ensures entries { self.new.entries ≡ self.old.entries }
         ensures capacity { self.old.capacity ≤ self.new.capacity }
         ensures room { HasRoom more self.old → IsOk result }
@@ -106,9 +107,10 @@ impl Entries {
         true
     }
 
-    /// The entries stand in key order.
+    /// The entries stand in key order, and there is room for them.
     pub(crate) fn tell_order(&self)
-        ensures { IsInKeyOrder self.now.entries }
+        ensures order { IsInKeyOrder self.now.entries }
+        ensures room { HasRoom 0 self.now }
     {
         let _entries = &self.entries;
     }

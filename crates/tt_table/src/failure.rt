@@ -1,5 +1,9 @@
-use mesh_base::{Entry, Key};
-use std::alloc::AllocError;
+ghost use Rattle.std.specs.Prelude.{◌≢◌, Err};
+ghost use Rattle.tt_table.specs.Table.{HasCause};
+ghost use Rattle.tt_table.specs.declared.failure.ApplyErr.TheVariants.{Memory};
+
+use mesh_base::{Entry, Key, NoMemory};
+use mesh_model::Change;
 use thiserror::Error;
 
 /// Why changes aren't applied to a table: the first that isn't strict, or want of memory.
@@ -16,8 +20,31 @@ pub enum ApplyErr {
     Memory,
 }
 
-impl From<AllocError> for ApplyErr {
-    fn from(_error: AllocError) -> ApplyErr {
+impl From<NoMemory> for ApplyErr {
+    ghost use Rattle.std.specs.Prelude.{◌≡◌};
+    ghost use Rattle.tt_table.specs.declared.failure.ApplyErr.TheVariants.{Memory};
+
+    ghost from_gives = { λ _ e. e ≡ Memory };
+
+    fn from(_error: NoMemory) -> ApplyErr {
         ApplyErr::Memory
+    }
+}
+
+impl ApplyErr {
+    /// Why this change isn't strict.
+    pub(crate) fn of(change: Change) -> ApplyErr
+        ensures cause { HasCause (Err change) result }
+        ensures strict { result ≢ Memory }
+    {
+        if change.del {
+            ApplyErr::Missing {
+                entry: change.entry,
+            }
+        } else {
+            ApplyErr::Present {
+                key: change.entry.key,
+            }
+        }
     }
 }

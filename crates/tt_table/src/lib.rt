@@ -10,6 +10,7 @@ mod entries;
 pub mod failure;
 mod strict;
 pub mod sums;
+pub mod table;
 mod totals;
 mod vlan_total;
 
@@ -19,3 +20,4 @@ pub use checksum::{crc32c, entry_sum};
 pub use failure::ApplyErr;
 pub use mesh_model::Change;
 pub use sums::Sums;
+pub use table::Table;

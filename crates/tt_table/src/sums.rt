@@ -36,6 +36,14 @@ impl Sums {
         }
     }
 
+    /// The same sums once more.
+    pub fn copy(&self) -> Result<Sums, NoMemory>
+        ensures { IfOk result (λ copy. copy.rows ≡ self.now.rows) }
+    {
+        let rows = self.rows.clone()?;
+        Ok(Sums { rows })
+    }
+
     /// Names a VLAN with its checksum, also where that is 0.
     pub fn set(&mut self, vid: Vid, sum: u32) -> Result<(), NoMemory>
         ensures ok { OnOk result (named_sums self.new
@@ -45,12 +53,7 @@ impl Sums {
         match self.search(vid) {
             Ok(place) => self.rows[place].sum = sum,
             Err(place) => {
-                let row = VlanTotal {
-                    vid,
-                    sum,
-                    entries: 0,
-                };
-                self.rows.insert(place, row)?;
+                self.rows.insert(place, VlanTotal::new(vid, sum))?;
             }
         }
         Ok(())

@@ -1,13 +1,13 @@
-ghost use Rattle.std.specs.Prelude.{◌≡◌, ℕ, ◌+◌, ◌≤◌, length, List, Ok, Some, OnOk, IsOk};
+ghost use Rattle.std.specs.Prelude.{◌≡◌, ℕ, ◌+◌, ◌≤◌, false, length, List, Ok, Some, OnOk, IsOk, IsSome};
 ghost use Rattle.mesh_base.specs.declared.client.Entry.{Entry};
 ghost use Rattle.mesh_model.specs.Tables.Strict.{change_each, change_one};
 ghost use Rattle.tt_table.specs.Entries.{half};
-ghost use Rattle.tt_table.specs.Sums.{AreFew, AreTotalsOf, HasOneChanged, HasRows, row_with, row_without};
+ghost use Rattle.tt_table.specs.Sums.{AreByVlan, AreFew, AreNamed, AreTotalsOf, HasRows, HaveEntries, IsNamed, KeepNames, KeepTotals, row_at};
 
 use crate::checksum::entry_sum;
 use crate::sums::Sums;
 use crate::vlan_total::VlanTotal;
-use mesh_base::{Entry, NoMemory, Steps, Vid};
+use mesh_base::{NoMemory, Steps, Vid};
 use mesh_model::Change;
 use std::sync::ledger::Ledger;
 
@@ -17,10 +17,57 @@ impl Sums {
         ensures ok { OnOk result (HasRows more self.new) }
         ensures rows { self.new.rows ≡ self.old.rows }
         ensures capacity { self.old.capacity ≤ self.new.capacity }
-        ensures room { HasRows more self.old → IsOk result }
     {
         self.rows.reserve(more)?;
         Ok(())
+    }
+
+    /// The VLANs stand by wire number, and there is room for them.
+    pub(crate) fn tell_order(&self)
+        ensures order { AreByVlan self.now.rows }
+        ensures room { HasRows 0 self.now }
+    {
+        let _rows = &self.rows;
+    }
+
+    /// Makes a row for the VLAN of each addition that has none.
+    pub(crate) fn name_all(&mut self, changes: &[Change]) -> Result<(), NoMemory>
+        ensures ok { OnOk result (AreNamed self.new.rows changes.now) }
+        ensures totals { KeepTotals self.old.rows self.new.rows }
+        ensures capacity { self.old.capacity ≤ self.new.capacity }
+        ensures room { HasRows (length changes.now) self.old → IsOk result }
+    {
+        for change in changes {
+            if !change.del {
+                self.name(change.entry.key.vid)?;
+            }
+        }
+        Ok(())
+    }
+
+    // Makes a row for a VLAN that has none.
+    fn name(&mut self, vid: Vid) -> Result<(), NoMemory>
+        ensures ok { OnOk result (IsSome (row_at self.new.rows vid)) }
+        ensures names { KeepNames self.old.rows self.new.rows }
+        ensures totals { KeepTotals self.old.rows self.new.rows }
+        ensures capacity { self.old.capacity ≤ self.new.capacity }
+        ensures grown { length self.new.rows ≤ length self.old.rows + 1 }
+        ensures room { HasRows 1 self.old → IsOk result }
+    {
+        if let Err(place) = self.search(vid) {
+            self.rows.insert(place, VlanTotal::new(vid, 0))?;
+        }
+        Ok(())
+    }
+
+    /// Drops the rows of VLANs without entries.
+    pub(crate) fn drop_empty(&mut self)
+        ensures totals { (table : List Entry) →
+            AreTotalsOf self.old.rows table → AreTotalsOf self.new.rows table }
+        ensures entries { HaveEntries self.new.rows }
+        ensures capacity { self.old.capacity ≤ self.new.capacity }
+    {
+        self.rows.retain(|row| row.entries > 0);
     }
 
     /// Goes along with the deletions among changes that were made, or with the additions.
@@ -30,14 +77,14 @@ impl Sums {
         del: bool,
         steps: &mut Steps<L>,
     )
-        requires room { HasRows (length (half del changes.now)) self.old }
         requires few { AreFew (length (half del changes.now)) self.old.rows }
         ensures totals { (table after : List Entry) → AreTotalsOf self.old.rows table →
+            AreNamed self.old.rows changes.now →
             change_each (half del changes.now) table ≡ Ok after → AreTotalsOf self.new.rows after }
-        ensures capacity { self.old.capacity ≤ self.new.capacity }
-        ensures grown { length self.new.rows ≤ length self.old.rows + length (half del changes.now) }
+        ensures names { KeepNames self.old.rows self.new.rows }
         ensures few { (more : ℕ) → AreFew (more + length (half del changes.now)) self.old.rows →
             AreFew more self.new.rows }
+        ensures capacity { self.old.capacity ≤ self.new.capacity }
         ensures steps { steps.new ≡ steps.old + length (half del changes.now) }
     {
         for change in changes {
@@ -49,63 +96,18 @@ impl Sums {
 
     // Goes along with a change that was made.
     fn follow<L: Ledger>(&mut self, change: &Change, steps: &mut Steps<L>)
-        requires room { HasRows 1 self.old }
         requires few { AreFew 1 self.old.rows }
         ensures totals { (table after : List Entry) → AreTotalsOf self.old.rows table →
+            IsNamed self.old.rows change.now →
             change_one change.now table ≡ Some after → AreTotalsOf self.new.rows after }
-        ensures capacity { self.old.capacity ≤ self.new.capacity }
-        ensures grown { length self.new.rows ≤ length self.old.rows + 1 }
+        ensures names { KeepNames self.old.rows self.new.rows }
         ensures few { (more : ℕ) → AreFew (more + 1) self.old.rows → AreFew more self.new.rows }
+        ensures capacity { self.old.capacity ≤ self.new.capacity }
         ensures step { steps.new ≡ steps.old + 1 }
     {
         let sum = entry_sum(&change.entry, steps);
-        if change.del {
-            self.lose(change.entry.key.vid, sum);
-        } else {
-            self.gain(change.entry.key.vid, sum);
-        }
-    }
-
-    // One entry more in a VLAN, of this sum.
-    fn gain(&mut self, vid: Vid, sum: u32)
-        requires room { HasRows 1 self.old }
-        requires few { AreFew 1 self.old.rows }
-        ensures changed { HasOneChanged vid (row_with vid sum) self.old.rows self.new.rows }
-        ensures capacity { self.old.capacity ≤ self.new.capacity }
-        ensures grown { length self.new.rows ≤ length self.old.rows + 1 }
-    {
-        match self.search(vid) {
-            Ok(place) => {
-                let row = &mut self.rows[place];
-                row.sum ^= sum;
-                row.entries += 1;
-            }
-            Err(place) => {
-                let row = VlanTotal {
-                    vid,
-                    sum,
-                    entries: 1,
-                };
-                self.rows.insert(place, row).unwrap();
-            }
-        }
-    }
-
-    // One entry less in a VLAN, of this sum.
-    fn lose(&mut self, vid: Vid, sum: u32)
-        ensures changed { HasOneChanged vid (row_without vid sum) self.old.rows self.new.rows }
-        ensures capacity { self.old.capacity ≤ self.new.capacity }
-        ensures shrunk { length self.new.rows ≤ length self.old.rows }
-    {
-        let Ok(place) = self.search(vid) else {
-            return;
-        };
-        if self.rows[place].entries <= 1 {
-            self.rows.remove(place);
-        } else {
-            let row = &mut self.rows[place];
-            row.sum ^= sum;
-            row.entries -= 1;
+        if let Ok(place) = self.search(change.entry.key.vid) {
+            self.rows[place].follow(sum, change.del);
         }
     }
 }

@@ -12,7 +12,7 @@ returns-then-not-change-clause-outcome c =
     let made = c.loop-place.invariant.made in
     let chosen = half_chosen c.args.del _ c.if-change-del.true in (
       step_failed c.args.del cs c.loop-place.place any_change (omega arith) chosen c.args.self.now.entries c.loop-place.self.entries made told.0,
-      c.undo_all.ensures.undone c.args.self.now.entries c.tell_order.ensures (made ∙ ap Ok (sym told.1)),
+      c.undo_all.ensures.undone c.args.self.now.entries c.tell_order.ensures.order (made ∙ ap Ok (sym told.1)),
     )
 
 pub loop-place-preserved : goal.loop-place-preserved

@@ -20,7 +20,7 @@ pub invariant_of-self-in-Continue-1 : goal.invariant_of-self-in-Continue-1
 invariant_of-self-in-Continue-1 c =
     let gap : IsGap nat_cmp row_key c.args.vid.0 c.self.inside.rows.items c.in-Err.place = rw (← c.self.view_is) at c.in-Err.ensures.gap in
     let row : VlanTotal = record { vid = c.args.vid; sum = c.args.sum; entries = 0 } in
-    rw c.in_ok-insert-in-Err.ensures.items
+    rw (c.in_ok-insert-in-Err.ensures.items, c.new.ensures)
     (sorted_put nat_cmp_total exact_unsigned row_key row c.self.inside.rows.items c.in-Err.place gap c.self.invariant)
 
 pub returns-in-Ok-clause-ok : goal.returns-in-Ok-clause-ok
@@ -34,4 +34,4 @@ pub returns-in_ok-insert-in-Err-clause-ok : goal.returns-in_ok-insert-in-Err-cla
 returns-in_ok-insert-in-Err-clause-ok c =
     let gap : IsGap nat_cmp row_key c.args.vid.0 c.self.inside.rows.items c.in-Err.place = rw (← c.self.view_is) at c.in-Err.ensures.gap in
     let row : VlanTotal = record { vid = c.args.vid; sum = c.args.sum; entries = 0 } in
-    rw (← c.self.view_is) (rw c.in_ok-insert-in-Err.ensures.items (set_in_gap row c.self.inside.rows.items c.in-Err.place gap))
+    rw (← c.self.view_is) (rw (c.in_ok-insert-in-Err.ensures.items, c.new.ensures) (set_in_gap row c.self.inside.rows.items c.in-Err.place gap))

@@ -1,0 +1,10 @@
+use Rattle.std.proofs.Common.{◌≡◌, ◌+◌, ◌-◌, ◌≤◌, length, min, ap, arith}
+use Rattle.tt_table.proofs.table.Table.apply.Goals as goal
+
+pub returns-clause-room : goal.returns-clause-room
+returns-clause-room g c = rw (← c.self.view_is)
+    (λ room.
+    let same = ap length c.as_slice.ensures in
+    let entries = c.tell_order.ensures.room in
+    let rows = c.tell_order-2.ensures.room in
+    c.change-outcome.ensures.room (omega (arith, same, room, entries, rows)) (omega (arith, same, room, entries, rows)))

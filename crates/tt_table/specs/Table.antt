@@ -1,0 +1,21 @@
+-- What a table is seen as: its entries in key order, and the room for changes, its spare; and what
+-- each refusal of changes says of their strict application. The main word is `HasCause`.
+use Rattle.std.specs.Prelude.{◌≡◌, ℕ, false, List, Result, Err, IsErrAnd, ⊤}
+use Rattle.mesh_base.specs.declared.client.Entry.{Entry}
+use Rattle.mesh_model.specs.Tables.Changes.{deletion}
+use Rattle.mesh_model.specs.declared.table_change.Change.{Change}
+use Rattle.tt_table.specs.declared.failure.ApplyErr.{ApplyErr}
+use Rattle.tt_table.specs.declared.failure.ApplyErr.TheVariants.{Missing, Present, Memory}
+
+-- entries in key order, and the number of changes for which there is room
+pub record TableView : Type 0 where
+  pub entries : List Entry
+  pub spare : ℕ
+
+-- the cause of a refusal: a deletion of this entry is the first change that fails, or an addition
+-- of this key is; want of memory is free
+abbrev pub HasCause : Result (List Entry) Change → ApplyErr → Type 0
+HasCause applied (Missing entry) = applied ≡ Err (deletion entry)
+HasCause applied (Present key) =
+    IsErrAnd applied (λ change. (change.del ≡ false) × (change.entry.key ≡ key))
+HasCause applied Memory = ⊤
