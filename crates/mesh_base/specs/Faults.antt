@@ -1,6 +1,6 @@
 -- A count of faults: it only ever rises, and stays at its last value once it is there. The main
 -- word is `Rose`.
-use Rattle.std.specs.Prelude.{◌≡◌, ℕ, ◌+◌, ◌-◌, ◌^◌, ◌<◌, min, ◌⊎◌}
+use Rattle.std.specs.Prelude.{◌≡◌, ℕ, Bool, true, false, ◌+◌, ◌-◌, ◌^◌, ◌<◌, min, ◌⊎◌}
 use Rattle.mesh_base.specs.declared.failure.OpenErr.{OpenErr}
 use Rattle.mesh_base.specs.declared.failure.OpenErr.TheVariants.{Failed, Memory}
 
@@ -15,6 +15,11 @@ one_more count = min (count + 1) last_count
 -- a call that met a fault counted one more
 abbrev pub CountsOne : ℕ → ℕ → Type 0
 CountsOne old new = new ≡ one_more old
+
+-- what a call counts by whether it met a fault: one more, or none
+abbrev pub CountsFault : Bool → ℕ → ℕ → Type 0
+CountsFault true old new = CountsOne old new
+CountsFault false old new = new ≡ old
 
 -- the count rose, or stood at its last value and still does
 abbrev pub Rose : ℕ → ℕ → Type 0

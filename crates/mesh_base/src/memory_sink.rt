@@ -1,7 +1,7 @@
-ghost use Rattle.std.specs.Prelude.{◌≡◌, ◌<◌, ◌≤◌, ◌↔◌, ◌⊎◌, [], length, IfOk, OnOk, OnErr, IsErr, vec_capacity};
+ghost use Rattle.std.specs.Prelude.{◌≡◌, ◌<◌, ◌≤◌, ◌↔◌, ◌⊎◌, [], length, IfOk, OnOk, OnErr, IsErr, is_err, vec_capacity};
 ghost use Rattle.std.specs.Io.{WritesAtMost};
 ghost use Rattle.std.specs.Io.KnownBytes.{WriteAppends};
-ghost use Rattle.mesh_base.specs.Faults.{Rose, CountsOne};
+ghost use Rattle.mesh_base.specs.Faults.{Rose};
 
 use crate::call_plan::CallPlan;
 use crate::failure::{Failed, NoMemory};
@@ -75,15 +75,12 @@ impl Sink for MemSink {
         ensures cause { OnErr result (Rose (sink_faults self.old) (sink_faults self.new)) }
         ensures count { sink_faults self.old ≤ sink_faults self.new }
 
-        // Exactly the planned calls fail, and those for which no room is left.
+        // Exactly the planned calls fail, and those for which no room is left. A fault counts one
+        // more, and nothing else does.
         ensures fails { IsErr result ↔
             (IsFailing (sink_plan self.new) ⊎ IsFullFor self.old buf.now) }
         ensures given { IfOk result (λ count. count ≡ taken_count self.old (length buf.now)) }
-        ensures call { CallsOutput self.old self.new }
-
-        // A fault counts one more, and nothing else does.
-        ensures counted { OnErr result (CountsOne (sink_faults self.old) (sink_faults self.new)) }
-        ensures calm { OnOk result (sink_faults self.new ≡ sink_faults self.old) }
+        ensures call { CallsOutput (is_err result) self.old self.new }
     {
         let room = self.room - self.bytes.len();
         if self.plan.next_fails() || (room == 0 && !buf.is_empty()) {

@@ -1,8 +1,8 @@
-ghost use Rattle.std.specs.Prelude.{◌≡◌, ◌<◌, ◌≤◌, length, take, IfSome, OnOk, IfOk, OnErr, IfErr};
+ghost use Rattle.std.specs.Prelude.{◌≡◌, ◌<◌, ◌≤◌, length, take, IfSome, OnOk, IfOk, OnErr, IfErr, is_err};
 ghost use Rattle.std.specs.Option.{option_copied};
 ghost use Rattle.std.specs.Io.{ReadsAtMost, WritesAtMost};
 ghost use Rattle.std.specs.Io.KnownBytes.{Appends, ReadConsumes};
-ghost use Rattle.mesh_base.specs.Faults.{Rose, HasOpenCause, CountsOne, CountsOpen};
+ghost use Rattle.mesh_base.specs.Faults.{Rose, HasOpenCause, CountsFault, CountsOpen};
 ghost use Rattle.mesh_base.specs.Inner.Real.{source_left, IsOpenAt};
 
 use crate::failure::{Failed, OpenErr};
@@ -86,8 +86,7 @@ impl<R: Files + Input + Drop> Intake for RealIntake<R> {
             (source_left R.Reader.remaining R.File.remaining self.new.source) result buf.new }
 
         // A fault counts one more, and nothing else does.
-        ensures counted { OnErr result (CountsOne self.old.faults.0 self.new.faults.0) }
-        ensures calm { OnOk result (self.new.faults.0 ≡ self.old.faults.0) }
+        ensures counted { CountsFault (is_err result) self.old.faults.0 self.new.faults.0 }
     {
         let answer = match &mut self.source {
             Source::Nothing => Ok(0),
@@ -137,8 +136,7 @@ impl<W: Write> Sink for RealSink<W> {
             (W.contents self.old.writer) (W.contents self.new.writer) (take count buf.now)) }
 
         // A fault counts one more, and nothing else does.
-        ensures counted { OnErr result (CountsOne self.old.faults.0 self.new.faults.0) }
-        ensures calm { OnOk result (self.new.faults.0 ≡ self.old.faults.0) }
+        ensures counted { CountsFault (is_err result) self.old.faults.0 self.new.faults.0 }
     {
         match self.writer.write(buf) {
             Ok(count) if (count > 0 || buf.is_empty()) && self.writer.flush().is_ok() => Ok(count),

@@ -1,6 +1,7 @@
 -- Inputs and outputs in memory: what they tell, what they were made with, and how many bytes their
 -- next call moves. The main words are `given_count` and `taken_count`.
 use Rattle.std.specs.Prelude.{ℕ, ◌-◌, ◌≡◌, ◌↔◌, Bool, IsTrue, ◌<◌, min, List, length, drop, Option, Some}
+use Rattle.mesh_base.specs.Faults.{CountsFault}
 use Rattle.mesh_base.specs.Inner.CallPlan.{IsFailing, MakesCall}
 use Rattle.mesh_base.specs.declared.call_plan.CallPlan.{CallPlan}
 use Rattle.mesh_base.specs.declared.memory_intake.MemIntake.{MemIntake}
@@ -51,15 +52,18 @@ given_count intake asked =
 abbrev pub taken_count : MemSink → ℕ → ℕ
 taken_count sink offered = min sink.plan.piece (min (room_left sink) offered)
 
--- one more call of an input was made, which failed if it was one of those that fail; its bytes stay
+-- one more call of an input was made, which failed, and was counted, if it was one of those that
+-- fail; its bytes stay
 pub record CallsInput (failed : Bool) (old new : MemIntake) : Type 0 where
   pub call : MakesCall old.plan new.plan
   pub fails : IsTrue failed ↔ IsFailing new.plan
+  pub counted : CountsFault failed (intake_faults old) (intake_faults new)
   pub bytes_stay : known_bytes new ≡ known_bytes old
 
--- one more call of an output was made, and its whole room stays
-pub record CallsOutput (old new : MemSink) : Type 0 where
+-- one more call of an output was made, which was counted if it failed; its whole room stays
+pub record CallsOutput (failed : Bool) (old new : MemSink) : Type 0 where
   pub call : MakesCall old.plan new.plan
+  pub counted : CountsFault failed (sink_faults old) (sink_faults new)
   pub room_stays : whole_room new ≡ whole_room old
 
 -- no room is left for any of these bytes

@@ -1,5 +1,5 @@
--- The forms of lines to alfred, the fact store. What it does at a node is named by a word of its own,
--- which is refused by `out of range` where it isn't one of those below. The main word is
+-- The forms of lines to alfred, the fact store. What it does at a node is named by a word of its
+-- own, which is refused by `out of range` where it isn't one of those below. The main word is
 -- `read_alfred`.
 use Rattle.std.specs.Prelude.{ℕ, List, [], ◌∷◌, codes, Result}
 use Rattle.mesh_model.specs.declared.ending.Refusal.{Refusal}

@@ -77,7 +77,8 @@ unless_given (Some given) read = None
 -- the options with a delay
 abbrev pub with_delay : LinkOptions → List ℕ → Option LinkOptions
 with_delay options word = option_map (λ delay. record options { delay = Some delay })
-    (unless_given options.delay (option_and_then (number_within least_delay delay_limit) (number_of word)))
+    (unless_given options.delay
+    (option_and_then (number_within least_delay delay_limit) (number_of word)))
 
 -- the options with a pattern
 abbrev pub with_pattern : LinkOptions → List ℕ → Option LinkOptions

@@ -1,6 +1,6 @@
--- The forms of `set` lines, which set how a node behaves. What is set is named by a word of its own,
--- which is refused by `out of range` where it isn't one of those below; so are the mode of a gateway
--- and a client's policy. The main word is `read_set`.
+-- The forms of `set` lines, which set how a node behaves. What is set is named by a word of its
+-- own, which is refused by `out of range` where it isn't one of those below; so are the mode of a
+-- gateway and a client's policy. The main word is `read_set`.
 use Rattle.std.specs.Prelude.{ℕ, List, [], ◌∷◌, codes}
 use Rattle.mesh_model.specs.declared.ending.Refusal.TheVariants.{OutOfRange}
 use Rattle.mesh_model.specs.declared.line_form.Command.TheVariants.{Wifi, GwOff, GwServer, GwClient, Mcast, Dat}

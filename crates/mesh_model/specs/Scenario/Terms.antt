@@ -29,7 +29,8 @@ name_limit = 16
 abbrev pub is_name : List ℕ → Bool
 is_name [] = false
 is_name (first ∷ rest) =
-    is_ascii_alphabetic first && list_all is_name_character rest && nat_le (length (first ∷ rest)) name_limit
+    is_ascii_alphabetic first && list_all is_name_character rest
+    && nat_le (length (first ∷ rest)) name_limit
 
 -- the values of a decimal digit
 abbrev pub decimal_base : ℕ
