@@ -1,9 +1,9 @@
 -- Rows that are a table's checksums, each of a VLAN with entries, name the sums of the table.
-use Rattle.std.proofs.Common.{◌≡◌, ℕ, zero, suc, ◌+◌, ◌<◌, ◌≤◌, ◌^◌, Bool, true, false, cond, nat_eq, List, [], ◌∷◌, map, filter, length, IfSome, Option, Some, None, option_map, is_eq, nat_cmp, refl, sym, ap, ap₂, ◌∙◌, subst, arith, Ordering, Less, Equal, Greater}
+use Rattle.std.proofs.Common.{◌≡◌, ℕ, ◌+◌, ◌<◌, ◌≤◌, ◌^◌, Bool, true, false, cond, nat_eq, List, [], ◌∷◌, map, length, IfSome, Option, Some, None, option_map, is_eq, nat_cmp, refl, sym, ap, ap₂, ◌∙◌, subst, arith, Less, Equal, Greater}
 use Rattle.std.specs.List.{AllByRecursion}
 use Rattle.std.specs.List.Sorted.{IsStrictlySortedBy}
 use Rattle.std.specs.Ordering.{match_ordering, ordering_reverse}
-use Rattle.std.proofs.lemmas.Bool.{eq-eqb, eqb-true, false≢true, ne_eqb, true≢false}
+use Rattle.std.proofs.lemmas.Bool.{eq-eqb, eqb-true, ne_eqb}
 use Rattle.std.proofs.lemmas.Cmp.{nat_cmp_total}
 use Rattle.std.proofs.lemmas.Map.Lookups.{exact_unsigned}
 use Rattle.mesh_base.specs.declared.client.Entry.{Entry}
@@ -13,7 +13,7 @@ use Rattle.mesh_model.specs.Packets.Bodies.{VlanSum}
 use Rattle.mesh_model.specs.Tables.Sums.{checksums, entries_in, insert_vlan, sums_of, vlans_of}
 use Rattle.tt_table.specs.Sums.{AreByVlan, AreFew, AreTotalsOf, HaveEntries, entries_of, row_at, row_key, row_sum, sum_of}
 use Rattle.tt_table.specs.declared.vlan_total.VlanTotal.{VlanTotal}
-use Rattle.tt_table.proofs.OrderedLists.{one_of_two, other, turned_greater, turned_less}
+use Rattle.tt_table.proofs.OrderedLists.{one_of_two, other, turned_greater}
 use Rattle.tt_table.proofs.TableSums.{count, count_cons}
 use Rattle.tt_table.proofs.TotalsLemmas.{tied_test}
 

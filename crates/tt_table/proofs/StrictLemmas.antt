@@ -1,17 +1,10 @@
 -- Changes one after another: what they make of entries, how they are taken back, and how many entries they leave.
-use Rattle.std.proofs.Common.{◌≡◌, ℕ, zero, suc, ◌+◌, ◌<◌, ◌≤◌, Bool, true, false, cond, not, nat_eq, List, [], ◌∷◌, ◌++◌, map, filter, length, take, get_or, Option, Some, None, option_map, ok_or, Result, Ok, Err, refl, sym, ap, ◌∙◌, subst, arith, is_err, length-append, ap₂, append-nil, drop, Ordering, Less, Equal, Greater}
-use Rattle.std.specs.List.{AllByRecursion}
-use Rattle.std.specs.List.Sorted.{IsStrictlySortedBy}
-use Rattle.std.specs.Ordering.{match_ordering, ordering_reverse}
-use Rattle.std.proofs.lemmas.Bool.{eqb-true, eq-eqb, true≢false}
+use Rattle.std.proofs.Common.{◌≡◌, ℕ, ◌+◌, ◌<◌, ◌≤◌, Bool, true, false, cond, not, List, [], ◌∷◌, ◌++◌, filter, length, take, get_or, Option, Some, None, ok_or, Result, Ok, Err, refl, sym, ap, ◌∙◌, arith, is_err, length-append, ap₂, append-nil, drop}
+use Rattle.std.proofs.lemmas.Bool.{true≢false}
 use mathlib.Core.Bool.{beq}
-use Rattle.std.proofs.lemmas.Cmp.{tied_itself}
-use Rattle.mesh_base.specs.KeyOrder.{key_order}
 use Rattle.mesh_base.specs.declared.client.Entry.{Entry}
-use Rattle.mesh_base.specs.declared.client.Key.{Key}
-use Rattle.mesh_laws.proofs.PresentLemmas.{key_total, key_exact}
 use Rattle.mesh_model.specs.Tables.Changes.{IsInKeyOrder}
-use Rattle.mesh_model.specs.Tables.Strict.{additions, and_then, apply_strictly, change_each, change_one, deletions, with_entry, without_entry}
+use Rattle.mesh_model.specs.Tables.Strict.{additions, and_then, apply_strictly, change_each, change_one, deletions}
 use Rattle.mesh_model.specs.declared.table_change.Change.{Change}
 use Rattle.tt_table.specs.Entries.{Becomes, half, Tells}
 use Rattle.std.proofs.lemmas.List.{take-append-drop}

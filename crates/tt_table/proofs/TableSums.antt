@@ -1,7 +1,7 @@
 -- How an entry put into a table, or taken out, changes the table's checksums and how many entries a VLAN has.
-use Rattle.std.proofs.Common.{◌≡◌, ℕ, zero, suc, ◌+◌, ◌-◌, ◌<◌, ◌≤◌, Bool, true, false, cond, nat_eq, List, [], ◌∷◌, map, filter, length, Option, Some, None, option_map, IsSome, bit_xor, refl, sym, ap, ap₂, ◌∙◌, subst, arith, Ordering, Less, Equal, Greater}
+use Rattle.std.proofs.Common.{◌≡◌, ℕ, ◌+◌, Bool, true, false, cond, nat_eq, List, [], ◌∷◌, map, length, Option, Some, None, option_map, IsSome, bit_xor, refl, sym, ap, ◌∙◌, subst, arith, Less, Equal, Greater}
 use Rattle.std.specs.Int.Bits.{xor_self, xor_zero_l, xor_zero_r}
-use Rattle.std.proofs.lemmas.Bool.{eq-eqb, ne_eqb, eqb-true, false≢true, true≢false}
+use Rattle.std.proofs.lemmas.Bool.{eq-eqb, false≢true}
 use Rattle.std.proofs.lemmas.Nat.{xor_comm}
 use Rattle.mesh_base.specs.KeyOrder.{key_order}
 use Rattle.mesh_base.specs.declared.client.Entry.{Entry}
@@ -14,7 +14,7 @@ use Rattle.tt_table.specs.declared.vlan_total.VlanTotal.{VlanTotal}
 use Rattle.tt_table.proofs.Crc.{xor_assoc}
 use Rattle.tt_table.proofs.EntriesLemmas.{with_at, without_at}
 use Rattle.tt_table.proofs.TakenBack.{behind, same_entry}
-use Rattle.tt_table.proofs.TotalsLemmas.{at_one_or_others, same_vid}
+use Rattle.tt_table.proofs.TotalsLemmas.{at_one_or_others}
 
 -- what an entry gives to the checksum of a VLAN, and to the number of its entries
 abbrev pub share : Vid → Entry → ℕ

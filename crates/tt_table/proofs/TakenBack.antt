@@ -1,8 +1,8 @@
 -- An entry taken out of entries in key order and put in again, and the order that both leave.
-use Rattle.std.proofs.Common.{◌≡◌, ℕ, zero, suc, ◌+◌, ◌<◌, ◌≤◌, Bool, true, false, cond, not, nat_eq, List, [], ◌∷◌, ◌++◌, map, filter, length, take, get_or, Option, Some, None, option_map, ok_or, Result, Ok, Err, refl, sym, ap, ◌∙◌, subst, arith, Ordering, Less, Equal, Greater}
+use Rattle.std.proofs.Common.{◌≡◌, Bool, true, false, cond, not, nat_eq, List, [], ◌∷◌, map, Option, Some, None, option_map, ok_or, Ok, refl, sym, ap, ◌∙◌, subst, Less, Equal, Greater}
 use Rattle.std.specs.List.{AllByRecursion}
 use Rattle.std.specs.List.Sorted.{IsStrictlySortedBy}
-use Rattle.std.specs.Ordering.{match_ordering, ordering_reverse}
+use Rattle.std.specs.Ordering.{ordering_reverse}
 use Rattle.std.proofs.lemmas.Bool.{eqb-true, eq-eqb}
 use Rattle.std.proofs.lemmas.Cmp.{tied_itself}
 use Rattle.mesh_base.specs.KeyOrder.{key_order}
@@ -10,9 +10,8 @@ use Rattle.mesh_base.specs.declared.client.Entry.{Entry}
 use Rattle.mesh_base.specs.declared.client.Key.{Key}
 use Rattle.mesh_laws.proofs.PresentLemmas.{key_total, key_exact}
 use Rattle.mesh_model.specs.Tables.Changes.{IsInKeyOrder}
-use Rattle.mesh_model.specs.Tables.Strict.{additions, and_then, apply_strictly, change_each, change_one, deletions, with_entry, without_entry}
+use Rattle.mesh_model.specs.Tables.Strict.{and_then, change_each, change_one, with_entry, without_entry}
 use Rattle.mesh_model.specs.declared.table_change.Change.{Change}
-use Rattle.tt_table.specs.Entries.{half}
 use Rattle.tt_table.proofs.EntriesLemmas.{with_at, without_at}
 
 -- ---- an entry taken back

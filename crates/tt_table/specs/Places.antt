@@ -15,13 +15,15 @@ AreAbove {K} {X} order key k items place = (i : ℕ) (other : X) → place ≤ i
     order (key (slice_index_or items i other)) k ≡ Greater
 
 -- the item at a place has the key
-pub record IsThere {K X : Type 0} (order : K → K → Ordering) (key : X → K) (k : K) (items : List X) (place : ℕ) : Type 0 where
+pub record IsThere {K X : Type 0} (order : K → K → Ordering) (key : X → K) (k : K)
+    (items : List X) (place : ℕ) : Type 0 where
   pub within : place < length items
   pub below : AreBelow order key k items place
   pub same : (other : X) → key (slice_index_or items place other) ≡ k
 
 -- no item has the key, and one with it would stand at a place
-pub record IsGap {K X : Type 0} (order : K → K → Ordering) (key : X → K) (k : K) (items : List X) (place : ℕ) : Type 0 where
+pub record IsGap {K X : Type 0} (order : K → K → Ordering) (key : X → K) (k : K)
+    (items : List X) (place : ℕ) : Type 0 where
   pub within : place ≤ length items
   pub below : AreBelow order key k items place
   pub above : AreAbove order key k items place

@@ -1,5 +1,6 @@
--- What sums are seen as: rows by wire number, each the checksum of a VLAN with the number of entries
--- of a table that it is made of, and for how many rows there is room. Callers ask for `named_sums` alone.
+-- What sums are seen as: rows by wire number, each the checksum of a VLAN with the number of a
+-- table's entries that it is made of, and for how many rows there is room. Callers ask for
+-- `named_sums` alone.
 use Rattle.std.specs.Prelude.{◌≡◌, ℕ, ◌+◌, ◌-◌, ◌^◌, ◌<◌, ◌≤◌, ◌==◌, bit_xor, Bool, false, List, length, map, slice_index_or, Option, Some, None, IsSome, if◌then◌else◌}
 use Rattle.std.specs.List.{find}
 use Rattle.std.specs.List.Sorted.{IsStrictlySortedBy}
@@ -87,7 +88,8 @@ row_after sum del row = record {
 }
 
 -- the row of one VLAN became this, and the others are as before
-abbrev pub HasOneChanged : Vid → (Option VlanTotal → Option VlanTotal) → List VlanTotal → List VlanTotal → Type 0
+abbrev pub HasOneChanged : Vid → (Option VlanTotal → Option VlanTotal)
+    → List VlanTotal → List VlanTotal → Type 0
 HasOneChanged vid change old new = (other : Vid) → row_at new other
     ≡ (if other.0 == vid.0 then change (row_at old other) else row_at old other)
 

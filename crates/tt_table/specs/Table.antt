@@ -1,9 +1,11 @@
 -- What a table is seen as: its entries in key order, and the room for changes, its spare; and what
 -- each refusal of changes says of their strict application. The main word is `HasCause`.
-use Rattle.std.specs.Prelude.{◌≡◌, ℕ, false, List, Result, Err, IsErrAnd, ⊤}
+use Rattle.std.specs.Prelude.{◌≡◌, ℕ, ◌-◌, min, false, List, length, Result, Err, IsErrAnd, ⊤}
 use Rattle.mesh_base.specs.declared.client.Entry.{Entry}
 use Rattle.mesh_model.specs.Tables.Changes.{deletion}
 use Rattle.mesh_model.specs.declared.table_change.Change.{Change}
+use Rattle.tt_table.specs.Entries.{EntriesView}
+use Rattle.tt_table.specs.Sums.{SumsView}
 use Rattle.tt_table.specs.declared.failure.ApplyErr.{ApplyErr}
 use Rattle.tt_table.specs.declared.failure.ApplyErr.TheVariants.{Missing, Present, Memory}
 
@@ -11,6 +13,11 @@ use Rattle.tt_table.specs.declared.failure.ApplyErr.TheVariants.{Missing, Presen
 pub record TableView : Type 0 where
   pub entries : List Entry
   pub spare : ℕ
+
+-- for how many changes there is room, each of which may need an entry and a row
+abbrev pub spare_of : EntriesView → SumsView → ℕ
+spare_of entries sums =
+    min (entries.capacity - length entries.entries) (sums.capacity - length sums.rows)
 
 -- the cause of a refusal: a deletion of this entry is the first change that fails, or an addition
 -- of this key is; want of memory is free

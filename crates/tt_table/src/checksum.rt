@@ -69,8 +69,8 @@ fn after_byte(register: u32, byte: u8) -> u32
     met / 256 ^ low ^ high
 }
 
-/// The sum of an entry: the CRC32C of the wire number in two bytes, the higher first, the flags that
-/// count, and the address.
+/// The sum of an entry: the CRC32C of the wire number in two bytes, the higher first, the flags
+/// that count, and the address.
 #[tactic(auto, unfolding(mesh_model::specs::Tables::Sums::entry_sum))]
 pub fn entry_sum<L: Ledger>(entry: &Entry, steps: &mut Steps<L>) -> u32
     ensures sum { result ≡ entry_sum entry.now }

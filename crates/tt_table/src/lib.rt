@@ -21,3 +21,6 @@ pub use failure::ApplyErr;
 pub use mesh_model::Change;
 pub use sums::Sums;
 pub use table::Table;
+
+#[cfg(test)]
+mod tests;

@@ -38,7 +38,8 @@ impl Sums {
 
     /// The same sums once more.
     pub fn copy(&self) -> Result<Sums, NoMemory>
-        ensures { IfOk result (λ copy. copy.rows ≡ self.now.rows) }
+        ensures named { IfOk result (λ copy. named_sums copy ≡ named_sums self.now) }
+        ensures rows { IfOk result (λ copy. copy.rows ≡ self.now.rows) }
     {
         let rows = self.rows.clone()?;
         Ok(Sums { rows })

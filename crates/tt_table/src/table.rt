@@ -25,15 +25,14 @@ pub struct Table {
 }
 
 impl Model for Table {
-    ghost use Rattle.std.specs.Prelude.{◌-◌, length, min};
     ghost use Rattle.tt_table.specs.Sums.{AreTotalsOf, HaveEntries};
-    ghost use Rattle.tt_table.specs.Table.{TableView};
+    ghost use Rattle.tt_table.specs.Table.{TableView, spare_of};
 
     ghost Value = { TableView };
 
     ghost view = { λ t. record {
       entries = t.entries.entries;
-      spare = min (t.entries.capacity - length t.entries.entries) (t.sums.capacity - length t.sums.rows);
+      spare = spare_of t.entries t.sums;
     } };
 
     ghost invariant = { λ t. AreTotalsOf t.sums.rows t.entries.entries × HaveEntries t.sums.rows };
@@ -114,14 +113,14 @@ impl Table {
     {
         self.entries.tell_order();
         self.sums.tell_order();
-        let outcome = change(&mut self.entries, &mut self.sums, changes.as_slice(), steps);
+        let outcome = apply_all(&mut self.entries, &mut self.sums, changes.as_slice(), steps);
         self.sums.drop_empty();
         outcome
     }
 }
 
 // Applies changes strictly to entries, and goes along in their sums.
-fn change<L: Ledger>(
+fn apply_all<L: Ledger>(
     entries: &mut Entries,
     sums: &mut Sums,
     changes: &[Change],

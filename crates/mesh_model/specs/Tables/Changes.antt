@@ -1,6 +1,6 @@
--- The changes that lead from one table to another: the entries of the old one that aren't in the new
--- one, as deletions in key order, then the entries of the new one that aren't in the old one, as
--- additions in key order. A client whose flags alone changed is in both. The main word is
+-- The changes that lead from one table to another: the entries of the old one that aren't in the
+-- new one, as deletions in key order, then the entries of the new one that aren't in the old one,
+-- as additions in key order. A client whose flags alone changed is in both. The main word is
 -- `changeset`; a table stands in key order where `IsInKeyOrder`.
 use Rattle.std.specs.Prelude.{◌==◌, ◌&&◌, Bool, true, false, not, ℕ, List, ◌++◌, map, filter, find, Option, option_map}
 use Rattle.std.specs.List.{list_any}

@@ -1,7 +1,7 @@
 -- The checksums of a table, a number for every VLAN: the XOR of the sums of its entries in that
--- VLAN, and 0 where it has none. The sum of an entry is the CRC32C of nine bytes: the wire number of
--- the VLAN in two bytes, the higher first, the flags that count, and the address.
--- The main word is `checksums`; `sums_of` lists those of the VLANs that have entries.
+-- VLAN, and 0 where it has none. The sum of an entry is the CRC32C of nine bytes: the wire number
+-- of the VLAN in two bytes, the higher first, the flags that count, and the address. The main word
+-- is `checksums`; `sums_of` lists those of the VLANs that have entries.
 use Rattle.std.specs.Prelude.{ℕ, ◌==◌, Bool, List, [], ◌∷◌, ◌++◌, map, filter, bit_xor, if◌then◌else◌}
 use Rattle.std.specs.Int.{bytes_high_first}
 use Rattle.std.specs.Ordering.{nat_cmp, match_ordering}

@@ -1,6 +1,5 @@
-use Rattle.std.proofs.Common.{◌≡◌, ◌∙◌, ◌+◌, ap, subst, sym, Ok, take, arith, refl}
+use Rattle.std.proofs.Common.{◌∙◌, ap, sym, Ok, arith}
 use Rattle.mesh_model.specs.Tables.Strict.{change_each}
-use Rattle.tt_table.specs.Entries.{half}
 use Rattle.tt_table.proofs.StrictLemmas.{any_change, half_chosen, half_deleted, half_other, half_passed, step_failed, step_made}
 use Rattle.tt_table.proofs.entries.Entries.change_all.Goals as goal
 use Rattle.tt_table.proofs.entries.Entries.change_all.Goals.{else-change-del-via-then-change-del+else-not-change, else-change-del-via-else-change-del}

@@ -1,4 +1,4 @@
-use Rattle.std.proofs.Common.{◌≡◌, ◌+◌, ◌-◌, Ok, take, subst, sym, arith}
+use Rattle.std.proofs.Common.{◌≡◌, ◌+◌, ◌-◌, Ok, take, subst, arith}
 use Rattle.mesh_model.specs.Tables.Strict.{change_each}
 use Rattle.tt_table.specs.Entries.{half}
 use Rattle.tt_table.proofs.StrictLemmas.{any_change, half_chosen, step_undone}

@@ -1,4 +1,4 @@
-use Rattle.std.proofs.Common.{◌≡◌, filter, rules}
+use Rattle.std.proofs.Common.{rules}
 use Rattle.std.proofs.lemmas.Cmp.{nat_cmp_total}
 use Rattle.std.proofs.lemmas.List.Elements.{filter_from_retain}
 use Rattle.std.proofs.lemmas.Map.Lookups.{exact_unsigned}

@@ -1,4 +1,4 @@
-use Rattle.std.proofs.Common.{◌≡◌, ◌∙◌, ◌+◌, ◌≤◌, ap, length, subst, sym, take, arith}
+use Rattle.std.proofs.Common.{◌∙◌, ◌+◌, ap, length, subst, sym, take, arith}
 use Rattle.std.proofs.lemmas.List.{take_all}
 use Rattle.mesh_model.specs.Tables.Strict.{change_each}
 use Rattle.tt_table.specs.Entries.{half}

@@ -1,4 +1,4 @@
-use Rattle.std.proofs.Common.{◌≡◌, ◌+◌, ◌<◌, ◌≤◌, ℕ, length, get_or}
+use Rattle.std.proofs.Common.{◌+◌, ◌<◌, ◌≤◌, ℕ, length, get_or}
 use Rattle.mesh_model.specs.declared.table_change.Change.{Change}
 use Rattle.tt_table.specs.Sums.{IsNamed, KeepTotals}
 use Rattle.tt_table.proofs.sums.Sums.name_all.Given as goal

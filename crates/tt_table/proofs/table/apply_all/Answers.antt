@@ -1,10 +1,10 @@
-use Rattle.std.proofs.Common.{◌≡◌, ◌∙◌, ◌+◌, ◌≤◌, ap, length, subst, sym, arith}
+use Rattle.std.proofs.Common.{◌+◌, length, subst, sym, arith}
 use Rattle.mesh_model.specs.Tables.Strict.{additions, deletions}
 use Rattle.tt_table.specs.Sums.{AreTotalsOf}
 use Rattle.tt_table.proofs.NamedSums.{few_from}
 use Rattle.tt_table.proofs.StrictLemmas.{between, halves_counted}
 use Rattle.tt_table.proofs.TotalsLemmas.{less_few, still_named, totals_renamed}
-use Rattle.tt_table.proofs.table.change.Goals as goal
+use Rattle.tt_table.proofs.table.apply_all.Goals as goal
 
 pub returns-in-Err-clause-room : goal.returns-in-Err-clause-room
 returns-in-Err-clause-room g c = λ room rows same. c.of.ensures.strict cc

@@ -1,0 +1,124 @@
+#!/bin/sh
+# The speed of tables of clients: builds a program in a folder of its own, outside this repository,
+# and runs it. It takes entry sums, copies a table of 1,000 clients, and applies one change to it
+# over and over: a client comes, and goes again. With the bytes that an entry takes.
+set -e
+top=$(cd "$(dirname "$0")/.." && pwd)
+. "$top/bench/crate.sh"
+
+make_program mesh_base mesh_model mesh_laws tt_table <<'END'
+#![tactic(auto)]
+
+use mesh_base::{Entry, Key, Mac, NoMemory, Steps, Vid};
+use std::alloc::Global;
+use std::io;
+use std::marker::Brand;
+use std::sync::ledger::{Blank, Ledger};
+use std::time::Instant;
+use tt_table::{ApplyErr, Change, Changes, Table, entry_sum};
+
+const CLIENTS: u16 = 1000;
+const SUMS: u32 = 10_000_000;
+const COPIES: u32 = 100_000;
+const CHANGES: u32 = 1_000_000;
+
+fn client(place: u16) -> Entry {
+    let [high, low] = place.to_be_bytes();
+    Entry { key: Key { mac: Mac([2, 0, 0, 0, high, low]), vid: Vid::UNTAGGED }, flags: 0 }
+}
+
+fn one(alloc: Global, entry: Entry, del: bool) -> Result<Changes, NoMemory> {
+    let mut changes = Changes::new(alloc);
+    changes.push(Change { entry, del })?;
+    Ok(changes)
+}
+
+fn thousand<L: Ledger>(alloc: Global, steps: &mut Steps<L>) -> Result<Table, ApplyErr> {
+    let mut changes = Changes::new(alloc);
+    for place in 0..CLIENTS {
+        // every other address is left free
+        changes.push(Change { entry: client(place.wrapping_mul(2)), del: false })?;
+    }
+    let mut table = Table::new(alloc);
+    table.apply(&changes, steps)?;
+    Ok(table)
+}
+
+fn sum_all<L: Ledger>(steps: &mut Steps<L>) -> u32 {
+    let mut all = 0;
+    for _ in 0..SUMS / 1000 {
+        for place in 0..1000 {
+            all ^= entry_sum(&client(place), steps);
+        }
+    }
+    all
+}
+
+fn copy_all(table: &Table) -> Result<usize, NoMemory> {
+    let mut copied = 0_usize;
+    for _ in 0..COPIES {
+        let copy = table.copy()?;
+        copied = copied.wrapping_add(copy.entry_at(999).is_some() as usize);
+    }
+    Ok(copied)
+}
+
+// Two changes a round: a client comes and goes, each time another.
+fn change_all<L: Ledger>(
+    alloc: Global,
+    table: &mut Table,
+    steps: &mut Steps<L>,
+) -> Result<(), ApplyErr> {
+    let mut comes = Vec::new(alloc);
+    let mut goes = Vec::new(alloc);
+    for place in 0..64_u16 {
+        let entry = client(place.wrapping_mul(31).wrapping_add(1));
+        if comes.push(one(alloc, entry, false)?).is_err() || goes.push(one(alloc, entry, true)?).is_err() {
+            return Err(ApplyErr::Memory);
+        }
+    }
+    for round in 0..CHANGES / 2 {
+        let place = (round % 64) as usize;
+        let (Some(come), Some(go)) = (comes.get(place), goes.get(place)) else { continue };
+        table.apply(come, steps)?;
+        table.apply(go, steps)?;
+    }
+    Ok(())
+}
+
+fn measure<L: Ledger>(rt: HostRuntime, blank: Blank) -> io::Result<()>
+    requires name { blank.name ≡ L.name }
+    requires parts { blank.parts ≡ L.parts }
+    requires some { 0 < blank.parts }
+{
+    let mut steps = Steps::<L>::new(blank);
+    let start = Instant::now(&rt)?;
+    let all = sum_all(&mut steps);
+    let nanos = start.elapsed(&rt)?.as_nanos() / u128::from(SUMS);
+    println!(rt; "tables: an entry sum takes {nanos} ns (the XOR of all is {all})")?;
+    let Ok(mut table) = thousand(rt.alloc(), &mut steps) else {
+        return println!(rt; "tables: out of memory");
+    };
+    let start = Instant::now(&rt)?;
+    let copied = copy_all(&table);
+    let nanos = start.elapsed(&rt)?.as_nanos() / u128::from(COPIES);
+    println!(rt; "tables: a copy of {CLIENTS} clients takes {nanos} ns ({})", copied == Ok(COPIES as usize))?;
+    let start = Instant::now(&rt)?;
+    let changed = change_all(rt.alloc(), &mut table, &mut steps);
+    let nanos = start.elapsed(&rt)?.as_nanos() / u128::from(CHANGES);
+    println!(rt; "tables: a change of {CLIENTS} clients takes {nanos} ns ({})", changed == Ok(()))?;
+    println!(rt; "tables: an entry takes {} bytes", std::mem::size_of::<Entry>())
+}
+
+fn main(rt: HostRuntime) -> io::Result<()> {
+    measure::<Brand>(rt, Blank::new(1))
+}
+END
+mkdir -p "$work/crates/bench/proofs/main"
+cat > "$work/crates/bench/proofs/main/Invariants.antt" <<'END'
+use Rattle.bench.proofs.main.Given as goal
+
+abbrev pub ghosts-measure : goal.ghosts-measure
+ghosts-measure g a = record { name = a.blank.name; parts = a.blank.parts }
+END
+run_program 'tables:'
