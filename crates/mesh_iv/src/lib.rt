@@ -4,7 +4,9 @@
 #![tactic(auto)]
 
 mod best;
+mod hearing;
 pub mod iv;
+mod ogm;
 mod path;
 mod quality;
 mod row;
