@@ -68,21 +68,24 @@ module _ (me : Mac) (log : RouteLog) (came : OgmCame) where
     where
       on_path : (pair : Pair) (b : Bool) (f : Mac → List ℕ) → same_mac pair.orig me ≡ b → path_at me (heard me log) f pair ≡ cond b (echo_row (f pair.from)) (path_row pair.from (latest (of pair.orig (heard me log))))
       on_path pair b f t = ap (λ x. cond x (echo_row (f pair.from)) (path_row pair.from (latest (of pair.orig (heard me log))))) t
+
       written : (pair : Pair) → same_mac came.from pair.from ≡ true → Some row ≡ echo_row (came.seq ∷ echoes_from me pair.from log)
       written pair s = ap (λ r. Some r) row_is ∙ next_row (echoes_from me came.from log) ∙ ap (λ k. echo_row (came.seq ∷ echoes_from me k log)) (same_exact came.from pair.from s)
+
       at_me : (pair : Pair) → same_mac pair.orig me ≡ true → cond (true && same_mac came.from pair.from) (Some row) (lookup (same_pair pair) old.paths) ≡ path_at me (heard me log) (λ k. cond (true && same_mac came.from k) (came.seq ∷ echoes_from me k log) (echoes_from me k log)) pair
       at_me pair t =
           ⊎_elim (λ s. ap (λ b. cond b (Some row) (lookup (same_pair pair) old.paths)) s ∙ written pair s
-              ∙ sym (ap (λ b. echo_row (cond b (came.seq ∷ echoes_from me pair.from log) (echoes_from me pair.from log))) s))
+          ∙ sym (ap (λ b. echo_row (cond b (came.seq ∷ echoes_from me pair.from log) (echoes_from me pair.from log))) s))
           (λ s. ap (λ b. cond b (Some row) (lookup (same_pair pair) old.paths)) s ∙ stands.paths_stand.are pair ∙ on_path pair true (λ k. echoes_from me k log) t
-              ∙ sym (ap (λ b. echo_row (cond b (came.seq ∷ echoes_from me pair.from log) (echoes_from me pair.from log))) s))
+          ∙ sym (ap (λ b. echo_row (cond b (came.seq ∷ echoes_from me pair.from log) (echoes_from me pair.from log))) s))
           (cases_Bool (same_mac came.from pair.from))
           ∙ sym (on_path pair true (λ k. cond (true && same_mac came.from k) (came.seq ∷ echoes_from me k log) (echoes_from me k log)) t)
+
       next : (pair : Pair) → cond (same_pair (record { orig = me; from = came.from }) pair) (Some row) (lookup (same_pair pair) old.paths)
           ≡ path_at me (heard me log) (λ k. cond (true && same_mac came.from k) (came.seq ∷ echoes_from me k log) (echoes_from me k log)) pair
       next pair =
           ⊎_elim (λ t. ap (λ b. cond (b && same_mac came.from pair.from) (Some row) (lookup (same_pair pair) old.paths)) (same_equiv.symm me pair.orig ∙ t) ∙ at_me pair t)
           (λ t. ap (λ b. cond (b && same_mac came.from pair.from) (Some row) (lookup (same_pair pair) old.paths)) (same_equiv.symm me pair.orig ∙ t)
-              ∙ stands.paths_stand.are pair ∙ on_path pair false (λ k. echoes_from me k log) t
-              ∙ sym (on_path pair false (λ k. cond (true && same_mac came.from k) (came.seq ∷ echoes_from me k log) (echoes_from me k log)) t))
+          ∙ stands.paths_stand.are pair ∙ on_path pair false (λ k. echoes_from me k log) t
+          ∙ sym (on_path pair false (λ k. cond (true && same_mac came.from k) (came.seq ∷ echoes_from me k log) (echoes_from me k log)) t))
           (cases_Bool (same_mac pair.orig me))

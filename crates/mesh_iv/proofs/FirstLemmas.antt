@@ -99,9 +99,9 @@ module _ (me : Mac) (log : RouteLog) (came : OgmCame) (first : is_first (hearing
         written.paths_are pair
         ∙ ap (λ b. cond (b && same_mac came.from pair.from) (Some (path_with path came.seq value)) (lookup (same_pair pair) (rows_kept (is_none row) came.orig old.paths))) t
         ∙ ⊎_elim (λ s. ap (λ b. cond b (Some (path_with path came.seq value)) (lookup (same_pair pair) (rows_kept (is_none row) came.orig old.paths))) s ∙ put_row pair s)
-            (λ s. ap (λ b. cond b (Some (path_with path came.seq value)) (lookup (same_pair pair) (rows_kept (is_none row) came.orig old.paths))) s
-                ∙ kept_path row is.row_is pair t ∙ sym (other_row pair.from own lived s))
-            (cases_Bool (same_mac came.from pair.from))
+        (λ s. ap (λ b. cond b (Some (path_with path came.seq value)) (lookup (same_pair pair) (rows_kept (is_none row) came.orig old.paths))) s
+        ∙ kept_path row is.row_is pair t ∙ sym (other_row pair.from own lived s))
+        (cases_Bool (same_mac came.from pair.from))
 
     others : (pair : Pair) → same_mac came.orig pair.orig ≡ false → lookup (same_pair pair) new.paths ≡ lookup (same_pair pair) old.paths
     others pair t =
@@ -117,9 +117,9 @@ module _ (me : Mac) (log : RouteLog) (came : OgmCame) (first : is_first (hearing
     pub over_then : is_over_after came row new.paths ≡ is_over came.from (iv_route (own ∷ lived))
     over_then =
         let last : latest (of came.orig (own ∷ hearings me log came)) ≡ own ∷ lived
-            = ap (λ l. latest l) (of_same came.orig own (hearings me log came) (same_self came.orig)) ∙ ap (λ l. own ∷ l) (before_is me log came) in
+        = ap (λ l. latest l) (of_same came.orig own (hearings me log came) (same_self came.orig)) ∙ ap (λ l. own ∷ l) (before_is me log came) in
         let top : max (newest_by row) came.seq ≡ newest (own ∷ lived)
-            = (let n = newest_by_row lived row is.row_is in let t = newest_then in omega (arith, n, t)) in
+        = (let n = newest_by_row lived row is.row_is in let t = newest_then in omega (arith, n, t)) in
         ap (λ n. is_best came.from (walk n came.orig None new.paths)) (top ∙ ap (λ l. newest l) (sym last))
         ∙ ap (λ b. is_best came.from b) (walk_best me (own ∷ hearings me log came) (echoes me log came) new.paths came.orig paths_then (other_orig me log came is.passing))
         ∙ ap (λ l. is_best came.from (best_in l)) last
@@ -144,8 +144,8 @@ module _ (me : Mac) (log : RouteLog) (came : OgmCame) (first : is_first (hearing
     first_stands tp same_me same_sent =
         step_stands me log came tp old new is.stands is.passing same_me same_sent
         (lives_step me log came old.lives new.lives is.stands.lives_stand
-            (λ q. written.lives_are q is.stands.paths_stand.rise ∙ ap (λ r. cond (same_mac came.orig q) r (lookup (same_mac q) old.lives)) life_is)
-            (written.lives_rise is.stands.lives_stand.rise))
+        (λ q. written.lives_are q is.stands.paths_stand.rise ∙ ap (λ r. cond (same_mac came.orig q) r (lookup (same_mac q) old.lives)) life_is)
+        (written.lives_rise is.stands.lives_stand.rise))
         paths_then
 
     -- ---- the answer

@@ -62,10 +62,10 @@ module _ (k : Mac) (h : HeardOgm) (alive : List HeardOgm) where
   touched_row e =
       ⊎_elim (λ late. same_row k (h ∷ alive) alive (late_numbers k h alive late) (λ n. again_value n k h alive e))
       (λ timely. ⊎_elim (λ same.
-              let again : has h.seq (numbers_from k alive) ≡ true
-                  = ap (λ j. has h.seq (numbers_from j alive)) (sym (same_exact h.from k same)) ∙ not-false _ (sym (ap (λ b. not b && not (has h.seq (numbers_from h.from alive))) timely) ∙ e) in
-              (λ i. row_by (own_numbers k h alive timely same i) (λ n. again_value n k h alive e i)) ∙ again_row h.seq (numbers_from k alive) (λ n. value_at n k alive) again)
-          (λ other. other_row other) (cases_Bool (same_mac h.from k)))
+      let again : has h.seq (numbers_from k alive) ≡ true
+      = ap (λ j. has h.seq (numbers_from j alive)) (sym (same_exact h.from k same)) ∙ not-false _ (sym (ap (λ b. not b && not (has h.seq (numbers_from h.from alive))) timely) ∙ e) in
+      (λ i. row_by (own_numbers k h alive timely same i) (λ n. again_value n k h alive e i)) ∙ again_row h.seq (numbers_from k alive) (λ n. value_at n k alive) again)
+      (λ other. other_row other) (cases_Bool (same_mac h.from k)))
       (cases_Bool h.late)
 
 -- ---- a row in a life
@@ -111,11 +111,11 @@ module _ (top s g i value : ℕ) (v : ℕ → ℕ) (above_s : s ≤ top) (above_
   back_g : ((n : ℕ) → g < n → v n ≡ 0) → cond (nat_le i top) (v (top - i)) 0 ≡ place_before
   back_g zero_above =
       ⊎_elim (λ near. let le : i ≤ top = omega arith in
-          ap (λ b. cond b (v (top - i)) 0) (le-leb i top le) ∙ zero_above (top - i) (omega arith)
-          ∙ sym (ap (λ b. cond b 0 (cond (nat_le (i - (top - g)) g) (v (g - (i - (top - g)))) 0)) (lt-ltb i (top - g) near)))
+      ap (λ b. cond b (v (top - i)) 0) (le-leb i top le) ∙ zero_above (top - i) (omega arith)
+      ∙ sym (ap (λ b. cond b 0 (cond (nat_le (i - (top - g)) g) (v (g - (i - (top - g)))) 0)) (lt-ltb i (top - g) near)))
       (λ far. let e : top - i ≡ g - (i - (top - g)) = omega arith in
-          ap₂ (λ b n. cond b (v n) 0) (same_side i top g above_g far) e
-          ∙ sym (ap (λ b. cond b 0 (cond (nat_le (i - (top - g)) g) (v (g - (i - (top - g)))) 0)) (le-ltb i (top - g) far)))
+      ap₂ (λ b n. cond b (v n) 0) (same_side i top g above_g far) e
+      ∙ sym (ap (λ b. cond b 0 (cond (nat_le (i - (top - g)) g) (v (g - (i - (top - g)))) 0)) (le-ltb i (top - g) far)))
       (cases_lt i (top - g))
 
   place_after : ((n : ℕ) → g < n → v n ≡ 0) → cond (nat_le i top) (cond (nat_eq s (top - i)) value (v (top - i))) 0 ≡ cond (i == (top - s)) value place_before
@@ -149,7 +149,7 @@ module _ (k : Mac) (h : HeardOgm) (alive : List HeardOgm) (first : is_first h al
   first_row =
       ap (λ numbers. row_of numbers (values_by (greatest numbers) (λ n. value_at n k (h ∷ alive)))) (own_numbers k h alive timely same)
       ∙ ap₂ (λ w v. Some (record { heard = w; values = v })) (sym (window-cons h.seq (numbers_from k alive)))
-        (five-agree _ (value_with (kept_row k alive) h.seq h.value) place)
+      (five-agree _ (value_with (kept_row k alive) h.seq h.value) place)
 
 -- ---- the row of a life
 pub newest_by_row : (alive : List HeardOgm) (row : Option Life) → row ≡ life_row alive → newest_by row ≡ newest alive

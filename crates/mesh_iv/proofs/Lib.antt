@@ -11,3 +11,4 @@ pub mod StepLemmas
 pub mod FirstLemmas
 pub mod ValueLemmas
 pub mod EchoLemmas
+pub mod TableLemmas

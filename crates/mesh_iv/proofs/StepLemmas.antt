@@ -154,14 +154,14 @@ module _ (me : Mac) (log : RouteLog) (came : OgmCame) where
       let other = other_orig is.passing in
       let last = life_is_latest came.moment (of came.orig hearings) row (sym is.row_is) in
       let life_is : Some (touched row) ≡ life_row (h ∷ alive)
-          = row_parts alive row (sym is.row_is) ∙ ap₂ (λ n f. Some (record { last = came.moment; newest = n; forwarded = window f })) (sym (touched_newest first)) (sym (touched_forwarded first)) in
+      = row_parts alive row (sym is.row_is) ∙ ap₂ (λ n f. Some (record { last = came.moment; newest = n; forwarded = window f })) (sym (touched_newest first)) (sym (touched_forwarded first)) in
       step_stands tp old new is.stands is.passing same_me same_sent
       (lives_step old.lives new.lives is.stands.lives_stand (λ q. updated q ∙ ap (λ r. cond (same_mac came.orig q) r (lookup (same_mac q) old.lives)) life_is) sorted)
       (paths_step old.paths new.paths is.stands.paths_stand other
       (λ pair t. let own = same_exact came.orig pair.orig t in
-          ap (λ rows. lookup (same_pair pair) rows) same_paths ∙ is.stands.paths_stand.are pair
-          ∙ ap (λ b. cond b (echo_row (echoes pair.from)) (path_row pair.from (latest (of pair.orig hearings)))) (ap (λ o. same_mac o me) (sym own) ∙ other)
-          ∙ ap (λ o. path_row pair.from (latest (of o hearings))) (sym own) ∙ ap (λ l. path_row pair.from l) (sym last) ∙ sym (touched_row pair.from h alive first))
+      ap (λ rows. lookup (same_pair pair) rows) same_paths ∙ is.stands.paths_stand.are pair
+      ∙ ap (λ b. cond b (echo_row (echoes pair.from)) (path_row pair.from (latest (of pair.orig hearings)))) (ap (λ o. same_mac o me) (sym own) ∙ other)
+      ∙ ap (λ o. path_row pair.from (latest (of o hearings))) (sym own) ∙ ap (λ l. path_row pair.from l) (sym last) ∙ sym (touched_row pair.from h alive first))
       (λ pair t. ap (λ rows. lookup (same_pair pair) rows) same_paths)
       (subst (λ rows. IsStrictlySortedBy pair_order (keys_of rows)) (sym same_paths) is.stands.paths_stand.rise))
 

@@ -69,7 +69,7 @@ module _ (me : Mac) (log : RouteLog) (came : OgmCame) where
   first_from timely unseen =
       let le = numbers-le came.from lived in let near = leb-false (came.seq + 64) (newest lived) timely in
       let same : has came.seq (window (numbers_from came.from lived)) ≡ has came.seq (numbers_from came.from lived)
-          = has-window came.seq (numbers_from came.from lived) ∙ ap (λ b. b && has came.seq (numbers_from came.from lived)) (lt-ltb (greatest (numbers_from came.from lived) - came.seq) 64 (omega (arith, le, near))) in
+      = has-window came.seq (numbers_from came.from lived) ∙ ap (λ b. b && has came.seq (numbers_from came.from lived)) (lt-ltb (greatest (numbers_from came.from lived) - came.seq) 64 (omega (arith, le, near))) in
       ap₂ (λ a b. not a && not b) timely (sym same ∙ unseen)
 
   -- an OGM that begins a life is the first
@@ -119,8 +119,8 @@ module _ (me : Mac) (log : RouteLog) (came : OgmCame) where
       ∙ count_seen (came.seq ∷ numbers) newest_then within
       ∙ ap₂ (λ t l. length (seen_among t window_length l)) (top ∙ sym (next_newest came.from timed lived timely)) (sym (own_numbers came.from timed lived timely (own_from came.from)))
       ∙ sym (ap (λ l. received_in came.from (life came.moment l)) (of_same came.from timed (heard me log) (same_equiv.symm came.orig came.from ∙ same))
-          ∙ ap (λ b. received_in came.from (cond b (timed ∷ since timed (of came.from (heard me log))) [])) (begins came.moment)
-          ∙ ap (λ l. received_in came.from (timed ∷ l)) (since-life timed (of came.from (heard me log)) ∙ ap (λ o. life came.moment (of o (heard me log))) orig))
+      ∙ ap (λ b. received_in came.from (cond b (timed ∷ since timed (of came.from (heard me log))) [])) (begins came.moment)
+      ∙ ap (λ l. received_in came.from (timed ∷ l)) (since-life timed (of came.from (heard me log)) ∙ ap (λ o. life came.moment (of o (heard me log))) orig))
     where
       own_from : (k : Mac) → same_mac k k ≡ true
       own_from k = same_equiv.refl k

@@ -8,7 +8,7 @@ use Rattle.mesh_model.specs.Routes.AlgorithmIv.{iv_life, after_hop}
 use Rattle.mesh_model.specs.Routes.Hearings.{in_time, hearing, heard}
 use Rattle.mesh_model.specs.Routes.Life.{HeardOgm, numbers_from, newest, is_live}
 use Rattle.mesh_model.specs.Routes.Numbers.{has, window}
-use Rattle.mesh_model.specs.Routes.Ogm.{passes, not_best_flag, direct_flag}
+use Rattle.mesh_model.specs.Routes.Ogm.{ogm_of_head, passes, not_best_flag, direct_flag}
 use Rattle.mesh_model.specs.Routes.Quality.{echo_quality}
 use Rattle.mesh_model.specs.Routes.RouteLog.{RouteLog, RouteInput, HeadCame}
 use Rattle.mesh_iv.specs.declared.best.Best.{Best}
@@ -88,3 +88,9 @@ life_with came row sent_on = record {
   newest = max (newest_by row) came.seq;
   forwarded = if sent_on then window (came.seq ∷ forwarded_by row) else forwarded_by row;
 }
+
+-- an OGM that came at a moment from a neighbour is what a head is, if it is one
+abbrev pub IsCame : ℕ → Mac → Head → Option OgmCame → Type 0
+IsCame moment from head None = ogm_of_head head ≡ None
+IsCame moment from head (Some came) =
+    (came.moment ≡ moment) × (came.from ≡ from) × (head ≡ head_of came)

@@ -3,6 +3,7 @@
 
 #![tactic(auto)]
 
+mod answers;
 mod best;
 mod hearing;
 pub mod iv;

@@ -19,12 +19,12 @@ returns-clause-written c =
     let same_paths : c.reserve-2.new.self.entries ≡ c.args.paths.now.entries = c.reserve-2.ensures.entries in
     let same_lives : c.reserve.new.self.entries ≡ c.args.lives.now.entries = c.reserve.ensures.entries in
     let rises : IsStrictlySortedBy pair_order (keys_of c.args.paths.now.entries) → IsStrictlySortedBy pair_order (keys_of c.put_path.new.paths.entries)
-        = λ sorted. c.in_ok-put_path.ensures.rises (subst (λ rows. IsStrictlySortedBy pair_order (keys_of rows)) (sym same_paths) sorted) in
+    = λ sorted. c.in_ok-put_path.ensures.rises (subst (λ rows. IsStrictlySortedBy pair_order (keys_of rows)) (sym same_paths) sorted) in
     let newest : c.max-newest.result ≡ max (newest_by life) came.seq = c.max-newest.ensures ∙ ap (λ n. max n came.seq) c.newest_of.ensures in
     let over : IsStrictlySortedBy pair_order (keys_of c.args.paths.now.entries) → c.is_best-over.result ≡ is_over_after came life c.put_path.new.paths.entries
-        = λ sorted. c.is_best-over.ensures ∙ ap (λ b. is_best came.from b) (c.best_of.ensures (rises sorted) ∙ ap (λ n. walk n came.orig None c.put_path.new.paths.entries) newest) in
+    = λ sorted. c.is_best-over.ensures ∙ ap (λ b. is_best came.from b) (c.best_of.ensures (rises sorted) ∙ ap (λ n. walk n came.orig None c.put_path.new.paths.entries) newest) in
     let row : IsStrictlySortedBy pair_order (keys_of c.args.paths.now.entries) → c.life_after.result ≡ life_then came life c.args.value c.put_path.new.paths.entries
-        = λ sorted. c.life_after.ensures ∙ ap (λ b. life_with came life b) (c.goes_on-sent.ensures ∙ ap (λ b. goes_on came c.args.value (forwarded_by life) b) (over sorted)) in
+    = λ sorted. c.life_after.ensures ∙ ap (λ b. life_with came life b) (c.goes_on-sent.ensures ∙ ap (λ b. goes_on came c.args.value (forwarded_by life) b) (over sorted)) in
     record {
       paths_are = λ pair. c.in_ok-put_path.ensures.updated pair ∙ ap₂ (λ b rows. path_put came c.args.row (rows_kept b came.orig rows) pair) (none_test life c.is_none.result c.is_none.ensures) same_paths;
       paths_rise = rises;

@@ -26,7 +26,7 @@ returns-then-is_late-clause-noted c =
     let my : c.self.inside.me ≡ me = ap (λ t. t.me) c.self.view_is ∙ stands.me_is in
     let passed : c.passes.result ≡ true = search rules in
     let is : IsHeard me c.args.self.now log came c.life-life.result
-        = record { stands = stands; passing = sym (c.passes.ensures ∙ ap (λ m. passes m (ogm_in came)) my) ∙ passed; row_is = c.life-life.ensures me log stands } in
+    = record { stands = stands; passing = sym (c.passes.ensures ∙ ap (λ m. passes m (ogm_in came)) my) ∙ passed; row_is = c.life-life.ensures me log stands } in
     let path_is = c.path_before-path.ensures me log is in
     let first : is_first (hearing_of me log came) (life_before me log came) ≡ false = elim c.then-is_late.branch [
       | then-is_late-via-then-is_late w ↦ late_not_first me log came (sym (late_is me log came c.life-life.result is.row_is) ∙ sym c.is_late.ensures ∙ w.if-is_late.true)
@@ -41,7 +41,7 @@ returns-then-is_late-clause-heard c =
     let my : c.self.inside.me ≡ me = ap (λ t. t.me) c.self.view_is ∙ stands.me_is in
     let passed : c.passes.result ≡ true = search rules in
     let is : IsHeard me c.args.self.now log came c.life-life.result
-        = record { stands = stands; passing = sym (c.passes.ensures ∙ ap (λ m. passes m (ogm_in came)) my) ∙ passed; row_is = c.life-life.ensures me log stands } in
+    = record { stands = stands; passing = sym (c.passes.ensures ∙ ap (λ m. passes m (ogm_in came)) my) ∙ passed; row_is = c.life-life.ensures me log stands } in
     let path_is = c.path_before-path.ensures me log is in
     let first : is_first (hearing_of me log came) (life_before me log came) ≡ false = elim c.then-is_late.branch [
       | then-is_late-via-then-is_late w ↦ late_not_first me log came (sym (late_is me log came c.life-life.result is.row_is) ∙ sym c.is_late.ensures ∙ w.if-is_late.true)
@@ -57,10 +57,10 @@ returns-clause-noted c =
     let my : c.self.inside.me ≡ me = ap (λ t. t.me) c.self.view_is ∙ stands.me_is in
     let passed : c.passes.result ≡ true = search rules in
     let is : IsHeard me c.args.self.now log came c.life-life.result
-        = record { stands = stands; passing = sym (c.passes.ensures ∙ ap (λ m. passes m (ogm_in came)) my) ∙ passed; row_is = c.life-life.ensures me log stands } in
+    = record { stands = stands; passing = sym (c.passes.ensures ∙ ap (λ m. passes m (ogm_in came)) my) ∙ passed; row_is = c.life-life.ensures me log stands } in
     let path_is = c.path_before-path.ensures me log is in
     let first = first_from me log came (sym (late_is me log came c.life-life.result is.row_is) ∙ sym c.is_late.ensures ∙ c.if-is_late.false)
-        (sym (ap (λ p. has came.seq p.heard) path_is) ∙ sym c.has.ensures ∙ c.if-has.false) in
+    (sym (ap (λ p. has came.seq p.heard) path_is) ∙ sym c.has.ensures ∙ c.if-has.false) in
     c.in_ok-hearing.ensures.noted me log tp is path_is first
 
 pub returns-clause-heard : goal.returns-clause-heard
@@ -70,10 +70,10 @@ returns-clause-heard c =
     let my : c.self.inside.me ≡ me = ap (λ t. t.me) c.self.view_is ∙ stands.me_is in
     let passed : c.passes.result ≡ true = search rules in
     let is : IsHeard me c.args.self.now log came c.life-life.result
-        = record { stands = stands; passing = sym (c.passes.ensures ∙ ap (λ m. passes m (ogm_in came)) my) ∙ passed; row_is = c.life-life.ensures me log stands } in
+    = record { stands = stands; passing = sym (c.passes.ensures ∙ ap (λ m. passes m (ogm_in came)) my) ∙ passed; row_is = c.life-life.ensures me log stands } in
     let path_is = c.path_before-path.ensures me log is in
     let first = first_from me log came (sym (late_is me log came c.life-life.result is.row_is) ∙ sym c.is_late.ensures ∙ c.if-is_late.false)
-        (sym (ap (λ p. has came.seq p.heard) path_is) ∙ sym c.has.ensures ∙ c.if-has.false) in
+    (sym (ap (λ p. has came.seq p.heard) path_is) ∙ sym c.has.ensures ∙ c.if-has.false) in
     c.in_ok-hearing.ensures.heard me log is path_is first
     ∙ sym (ap (λ b. cond b (answer_to (hearing_of me log came) (before (hearing_of me log came) (heard me log))) unheard) is.passing
     ∙ ap (λ l. answer_to (hearing_of me log came) l) (before_is me log came))

@@ -24,13 +24,13 @@ returns-clause-noted c =
     let paths : c.self.inside.paths.entries ≡ old.paths = ap (λ t. t.paths) c.self.view_is in
     let my : c.self.inside.me ≡ me = ap (λ t. t.me) c.self.view_is ∙ stands.me_is in
     let echo : is_echo me (own_ogms log) (ogm_in came) ≡ true
-        = sym (ap₂ (λ m n. is_echo m n (ogm_in came)) my (ap (λ t. t.sent) c.self.view_is ∙ stands.sent_is)) ∙ sym c.is_echo.ensures ∙ search rules in
+    = sym (ap₂ (λ m n. is_echo m n (ogm_in came)) my (ap (λ t. t.sent) c.self.view_is ∙ stands.sent_is)) ∙ sym c.is_echo.ensures ∙ search rules in
     let row : Path = record c.unwrap_or-path.result { heard = c.see.new.self } in
     let row_is : row ≡ echo_with me log came (unwrap_or (echo_row (echoes_from me came.from log)) blank)
-        = ap (λ w. record c.unwrap_or-path.result { heard = w }) c.see.ensures
-          ∙ ap (λ p. echo_with me log came p) (c.unwrap_or-path.ensures ∙ ap₂ (λ p b. unwrap_or p b)
-          (c.path.ensures me log stands ∙ ap (λ m. path_at me (heard me log) (λ k. echoes_from me k log) (record { orig = m; from = came.from })) my
-          ∙ echo_at me came.from (heard me log) (λ k. echoes_from me k log)) c.new.ensures) in
+    = ap (λ w. record c.unwrap_or-path.result { heard = w }) c.see.ensures
+    ∙ ap (λ p. echo_with me log came p) (c.unwrap_or-path.ensures ∙ ap₂ (λ p b. unwrap_or p b)
+    (c.path.ensures me log stands ∙ ap (λ m. path_at me (heard me log) (λ k. echoes_from me k log) (record { orig = m; from = came.from })) my
+    ∙ echo_at me came.from (heard me log) (λ k. echoes_from me k log)) c.new.ensures) in
     echo_stands me log came tp old new row stands passing echo (ap (λ t. t.me) c.self.view_is) (ap (λ t. t.sent) c.self.view_is) (ap (λ t. t.lives) c.self.view_is)
     row_is
     (λ pair. c.in_ok-put.ensures.updated.0 pair
