@@ -2,4 +2,6 @@
 pub mod MacLemmas
 pub mod LifeLemmas
 pub mod BestLemmas
+pub mod IvLaws
+pub mod OrigLemmas
 pub mod WordLemmas

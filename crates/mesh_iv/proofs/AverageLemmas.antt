@@ -87,7 +87,7 @@ row_parts (n ∷ numbers) values path e = cc
 abbrev moved : ℕ → (ℕ → ℕ) → ℕ → ℕ
 moved d f i = cond (nat_lt i d) 0 (f (i - d))
 
-five-agree : (f g : ℕ → ℕ) → ((i : ℕ) → i < 5 → f i ≡ g i) → five f ≡ five g
+pub five-agree : (f g : ℕ → ℕ) → ((i : ℕ) → i < 5 → f i ≡ g i) → five f ≡ five g
 five-agree f g e = λ j. e 0 (omega arith) j ∷ e 1 (omega arith) j ∷ e 2 (omega arith) j ∷ e 3 (omega arith) j ∷ e 4 (omega arith) j ∷ []
 
 moved_mean : (d : ℕ) (f : ℕ → ℕ) → mean_of (five (moved d f)) ≡ mean_of (take (5 - d) (five f))
@@ -102,7 +102,7 @@ moved_mean (suc (suc (suc (suc (suc d))))) f =
     ap mean_of (five-agree (moved far f) (λ i. 0) (λ i lt. ap (λ b. cond b 0 (f (i - far))) (lt-ltb i far (omega arith))))
     ∙ sym (ap (λ n. mean_of (take n (five f))) none)
 
-same_side : (i top g : ℕ) → g ≤ top → top - g ≤ i → nat_le i top ≡ nat_le (i - (top - g)) g
+pub same_side : (i top g : ℕ) → g ≤ top → top - g ≤ i → nat_le i top ≡ nat_le (i - (top - g)) g
 same_side i top g le ge = grind (arith, nat_tests)
 
 either : (a b : Bool) (v : ℕ) → (b ≡ false → v ≡ 0) → cond (a && b) v 0 ≡ cond a v 0
@@ -111,7 +111,7 @@ either true false v none = sym (none refl)
 either false b v none = refl
 
 module _ (k : Mac) (alive : List HeardOgm) where
-  not_above : (n : ℕ) → greatest (numbers_from k alive) < n → has n (numbers_from k alive) ≡ false
+  pub not_above : (n : ℕ) → greatest (numbers_from k alive) < n → has n (numbers_from k alive) ≡ false
   not_above n above = ⊎_elim (λ e. absurd (let le = has-le n (numbers_from k alive) e in omega (arith, le, above))) (λ e. e) (cases_Bool (has n (numbers_from k alive)))
 
   back : (i : ℕ) → value_back (newest alive) (λ n. has n (numbers_from k alive)) (λ n. value_at n k alive) i

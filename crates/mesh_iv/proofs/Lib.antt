@@ -5,3 +5,10 @@ pub mod WalkLemmas
 pub mod AverageLemmas
 pub mod BestWalk
 pub mod StandLemmas
+pub mod HeardRows
+pub mod PutLemmas
+pub mod StepLemmas
+pub mod FirstLemmas
+pub mod ValueLemmas
+pub mod EchoLemmas
+pub mod TableLemmas

@@ -3,3 +3,6 @@ pub mod Rows
 pub mod Walk
 pub mod Tables
 pub mod Answers
+pub mod Came
+pub mod Hears
+pub mod Writing

@@ -3,8 +3,11 @@
 
 #![tactic(auto)]
 
+mod answers;
 mod best;
+mod hearing;
 pub mod iv;
+mod ogm;
 mod path;
 mod quality;
 mod row;

@@ -1,7 +1,7 @@
-ghost use Rattle.std.specs.Prelude.{◌≡◌, ◌+◌, ◌<◌, ◌≤◌, Some, not, filter, IsOk, OnOk, OnErr};
+ghost use Rattle.std.specs.Prelude.{◌≡◌, ◌<◌, ◌≤◌, Some, IsOk, OnOk, OnErr};
 ghost use Rattle.std.specs.List.Sorted.{IsStrictlySortedBy};
 ghost use Rattle.indexmap.specs.IndexMap.{keys, spare, Updates};
-ghost use Rattle.mesh_model.specs.Routes.Addresses.{same_mac};
+ghost use Rattle.mesh_iv.specs.Writing.{rows_kept};
 
 use crate::path::Path;
 use crate::row::Pair;
@@ -28,10 +28,12 @@ pub(crate) fn put<K: Copy + Ord + Hash, V: Copy>(
     Ok(())
 }
 
-/// Takes the rows of an originator out.
-pub(crate) fn drop_paths(paths: &mut IndexMap<Pair, Path>, orig: Mac)
-    ensures kept { paths.new.entries ≡ filter (λ e. not (same_mac e.0.orig orig)) paths.old.entries }
+/// Takes the rows of an originator out, if a life of it begins.
+pub(crate) fn drop_paths(paths: &mut IndexMap<Pair, Path>, orig: Mac, begins: bool)
+    ensures kept { paths.new.entries ≡ rows_kept begins orig paths.old.entries }
     ensures room { spare paths.old ≤ spare paths.new }
 {
-    paths.retain(|pair, _| pair.orig != orig);
+    if begins {
+        paths.retain(|pair, _| pair.orig != orig);
+    }
 }

@@ -1,8 +1,10 @@
-use Rattle.std.proofs.Common.{not, rules}
+use Rattle.std.proofs.Common.{◌≡◌, ◌∙◌, ap, sym, not, filter, true, rules}
 use Rattle.indexmap.proofs.CallerLemmas.{filter-RetainsPairs}
 use Rattle.mesh_model.specs.Routes.Addresses.{same_mac}
+use Rattle.mesh_iv.specs.Writing.{rows_kept}
 use Rattle.mesh_iv.proofs.table.drop_paths.Goals as goal
 
-pub returns-clause-kept : goal.returns-clause-kept
-returns-clause-kept c =
+pub returns-then-begins-clause-kept : goal.returns-then-begins-clause-kept
+returns-then-begins-clause-kept c =
     filter-RetainsPairs _ (λ e. not (same_mac e.0.orig c.args.orig)) _ (λ k v b w g called. search rules) c.args.paths.now.entries c.retain.new.self.entries c.retain.ensures.filtered
+    ∙ ap (λ b. rows_kept b c.args.orig c.args.paths.now.entries) (sym c.if-begins.true)

@@ -1,0 +1,160 @@
+-- An OGM that is the first of its number from its neighbour: its value, whether it is sent on, and the
+-- tables after it.
+use Rattle.std.proofs.Common.{◌≡◌, ◌⊎◌, ⊎_elim, ℕ, ◌+◌, ◌-◌, ◌<◌, ◌≤◌, max, nat_lt, nat_le, Bool, true, false, cond, not, ◌&&◌, ◌||◌, List, [], ◌∷◌, length, is_none, option_map, Option, Some, None, arith, refl, sym, ap, ap₂, ◌∙◌, subst}
+use Rattle.std.specs.List.Sorted.{IsStrictlySortedBy}
+use Rattle.std.specs.Map.{keys_of, lookup}
+use Rattle.std.proofs.lemmas.Bool.{cases_Bool, and_parts, leb-false, lt-ltb, not-false, not-true, true≢false}
+use Rattle.mesh_base.specs.declared.address.Mac.{Mac}
+use Rattle.mesh_model.specs.Routes.Addresses.{mac_order, same_mac}
+use Rattle.mesh_model.specs.Routes.AlgorithmIv.{answer_to, forward_head, iv_route}
+use Rattle.mesh_model.specs.Routes.BestRoute.{best_route, is_over}
+use Rattle.mesh_model.specs.Routes.Hearings.{before, heard, in_time, sends_on}
+use Rattle.mesh_model.specs.Routes.Life.{HeardOgm, life_span, of, since, life, newest, numbers_from, is_first, is_accepted, forwarded}
+use Rattle.mesh_model.specs.Routes.Numbers.{has, greatest, among, seen_among, window, window_length}
+use Rattle.mesh_model.specs.Routes.Ogm.{passes}
+use Rattle.mesh_model.specs.Routes.Quality.{average_quality, receive_quality, received_in, transmit_quality, echo_quality}
+use Rattle.mesh_model.specs.Routes.RouteLog.{RouteLog}
+use Rattle.mesh_laws.proofs.NumberLemmas.{among-window, greatest-window, has-window, window-cons}
+use Rattle.mesh_algo.proofs.LifeLemmas.{and_false, numbers-le, forwarded-le, next_newest, next_forwarded, own_numbers, of_other, of_same, since-life}
+use Rattle.mesh_algo.proofs.MacLemmas.{same_exact, same_equiv, same_self}
+use Rattle.mesh_iv.specs.declared.best.Best.{Best}
+use Rattle.mesh_iv.specs.declared.ogm.OgmCame.{OgmCame}
+use Rattle.mesh_iv.specs.declared.path.Path.{Path}
+use Rattle.mesh_iv.specs.declared.row.Life.{Life}
+use Rattle.mesh_iv.specs.declared.row.Pair.{Pair}
+use Rattle.mesh_iv.specs.Answers.{best_in}
+use Rattle.mesh_iv.specs.Came.{ogm_in}
+use Rattle.mesh_iv.specs.Hears.{IsHeard, input_of, life_before, hearing_of, kept_row, newest_by, forwarded_by, is_best, goes_on, flags_on, head_on, sent_on_as, life_with}
+use Rattle.mesh_iv.specs.Rows.{latest, life_row, path_row, path_with, echo_row}
+use Rattle.mesh_iv.specs.Tables.{Tables, StandsFor, LivesStand, PathsStand, path_at}
+use Rattle.mesh_iv.specs.Walk.{pair_order, same_pair, walk}
+use Rattle.mesh_iv.specs.Writing.{IsWritten, is_over_after, life_then, path_put, rows_kept}
+use Rattle.mesh_iv.proofs.BestWalk.{walk_best}
+use Rattle.mesh_iv.proofs.HeardRows.{first_row, other_row, newest_by_row, forwarded_by_row}
+use Rattle.mesh_iv.proofs.PutLemmas.{kept_other, kept_own}
+use Rattle.mesh_iv.proofs.StandLemmas.{life_is_latest, no_life}
+use Rattle.mesh_iv.proofs.StepLemmas.{hearings, echoes, h, alive, v, before_is, valued_before_is, other_orig, lives_step, paths_step, step_stands}
+
+-- the mark of being sent on changes no route
+marked_route : (g : HeardOgm) (b : Bool) (l : List HeardOgm) → iv_route (record g { sent_on = b } ∷ l) ≡ iv_route (g ∷ l)
+unfolding best_route average_quality among
+marked_route g b l = refl
+
+best_is_over : (k : Mac) (score : Mac → ℕ) (route : Option Mac) → is_best k (option_map (λ j. record { from = j; score = score j }) route) ≡ is_over k route
+best_is_over k score None = refl
+best_is_over k score (Some j) = refl
+
+module _ (me : Mac) (log : RouteLog) (came : OgmCame) (first : is_first (hearing_of me log came) (life_before me log came) ≡ true) where
+  abbrev own : HeardOgm
+  own = hearing_of me log came
+
+  abbrev lived : List HeardOgm
+  lived = life_before me log came
+
+  on_time : own.late ≡ false
+  on_time = not-true own.late (and_parts (not own.late) _ first).0
+
+  near : newest lived < came.seq + 64
+  near = leb-false (came.seq + 64) (newest lived) on_time
+
+  newest_then : newest (own ∷ lived) ≡ max came.seq (newest lived)
+  newest_then = next_newest came.from own lived on_time
+
+  -- ---- whether it is sent on
+  has_sent : has came.seq (window (forwarded lived)) ≡ has came.seq (forwarded lived)
+  has_sent =
+      let le = forwarded-le lived in let low = near in
+      has-window came.seq (forwarded lived) ∙ ap (λ b. b && has came.seq (forwarded lived)) (lt-ltb (greatest (forwarded lived) - came.seq) 64 (omega (arith, le, low)))
+
+  pub sent_is : (row : Option Life) → row ≡ life_row lived → own.sent_on ≡ goes_on came own.value (forwarded_by row) (is_over came.from (iv_route (own ∷ lived)))
+  sent_is row e =
+      let g = v me log came in
+      let rest : Option Mac → List HeardOgm → Bool = λ route l. nat_lt 1 came.ttl && (same_mac came.from came.orig || (nat_lt 0 own.value && (is_over came.from route && not (has came.seq (forwarded l))))) in
+      ap (λ l. is_first g l && rest (iv_route (g ∷ l)) l) (valued_before_is me log came)
+      ∙ ap (λ b. b && rest (iv_route (g ∷ lived)) lived) first
+      ∙ ap (λ route. rest route lived) (sym (marked_route g own.sent_on lived))
+      ∙ ap (λ b. nat_lt 1 came.ttl && (same_mac came.from came.orig || (nat_lt 0 own.value && (is_over came.from (iv_route (own ∷ lived)) && not b)))) (sym has_sent ∙ ap (λ l. has came.seq l) (sym (forwarded_by_row lived row e)))
+
+  -- ---- the tables
+  module _ (row : Option Life) (path : Path) (value : ℕ) (old new : Tables)
+      (is : IsHeard me old log came row) (path_is : path ≡ kept_row came.from lived) (value_is : value ≡ own.value)
+      (written : IsWritten came row (path_with path came.seq value) value old.lives old.paths new.lives new.paths) where
+    put_row : (pair : Pair) → same_mac came.from pair.from ≡ true → Some (path_with path came.seq value) ≡ path_row pair.from (own ∷ lived)
+    put_row pair t =
+        ap₂ (λ p n. Some (path_with p came.seq n)) (path_is ∙ ap (λ k. kept_row k lived) (same_exact came.from pair.from t)) value_is
+        ∙ sym (first_row pair.from own lived first t)
+
+    kept_path : (r : Option Life) → r ≡ life_row lived → (pair : Pair) → same_mac came.orig pair.orig ≡ true → lookup (same_pair pair) (rows_kept (is_none r) came.orig old.paths) ≡ path_row pair.from lived
+    kept_path None e pair t =
+        kept_own came.orig pair old.paths (same_equiv.symm pair.orig came.orig ∙ t) ∙ sym (ap (λ l. path_row pair.from l) (no_life lived (sym e)))
+    kept_path (Some r) e pair t =
+        let same = same_exact came.orig pair.orig t in
+        is.stands.paths_stand.are pair
+        ∙ ap (λ b. cond b (echo_row (echoes me log came pair.from)) (path_row pair.from (latest (of pair.orig (hearings me log came))))) (ap (λ o. same_mac o me) (sym same) ∙ other_orig me log came is.passing)
+        ∙ ap (λ o. path_row pair.from (latest (of o (hearings me log came)))) (sym same)
+        ∙ ap (λ l. path_row pair.from l) (sym (life_is_latest came.moment (of came.orig (hearings me log came)) r (sym e)))
+
+    own_rows : (pair : Pair) → same_mac came.orig pair.orig ≡ true → lookup (same_pair pair) new.paths ≡ path_row pair.from (own ∷ lived)
+    own_rows pair t =
+        written.paths_are pair
+        ∙ ap (λ b. cond (b && same_mac came.from pair.from) (Some (path_with path came.seq value)) (lookup (same_pair pair) (rows_kept (is_none row) came.orig old.paths))) t
+        ∙ ⊎_elim (λ s. ap (λ b. cond b (Some (path_with path came.seq value)) (lookup (same_pair pair) (rows_kept (is_none row) came.orig old.paths))) s ∙ put_row pair s)
+        (λ s. ap (λ b. cond b (Some (path_with path came.seq value)) (lookup (same_pair pair) (rows_kept (is_none row) came.orig old.paths))) s
+        ∙ kept_path row is.row_is pair t ∙ sym (other_row pair.from own lived s))
+        (cases_Bool (same_mac came.from pair.from))
+
+    others : (pair : Pair) → same_mac came.orig pair.orig ≡ false → lookup (same_pair pair) new.paths ≡ lookup (same_pair pair) old.paths
+    others pair t =
+        written.paths_are pair
+        ∙ ap (λ b. cond (b && same_mac came.from pair.from) (Some (path_with path came.seq value)) (lookup (same_pair pair) (rows_kept (is_none row) came.orig old.paths))) t
+        ∙ kept_other came.orig pair (is_none row) old.paths (same_equiv.symm pair.orig came.orig ∙ t)
+
+    paths_then : PathsStand me (own ∷ hearings me log came) (echoes me log came) new.paths
+    paths_then =
+        paths_step me log came old.paths new.paths is.stands.paths_stand (other_orig me log came is.passing) own_rows others (written.paths_rise is.stands.paths_stand.rise)
+
+    -- the best neighbour is then that of the route
+    pub over_then : is_over_after came row new.paths ≡ is_over came.from (iv_route (own ∷ lived))
+    over_then =
+        let last : latest (of came.orig (own ∷ hearings me log came)) ≡ own ∷ lived
+        = ap (λ l. latest l) (of_same came.orig own (hearings me log came) (same_self came.orig)) ∙ ap (λ l. own ∷ l) (before_is me log came) in
+        let top : max (newest_by row) came.seq ≡ newest (own ∷ lived)
+        = (let n = newest_by_row lived row is.row_is in let t = newest_then in omega (arith, n, t)) in
+        ap (λ n. is_best came.from (walk n came.orig None new.paths)) (top ∙ ap (λ l. newest l) (sym last))
+        ∙ ap (λ b. is_best came.from b) (walk_best me (own ∷ hearings me log came) (echoes me log came) new.paths came.orig paths_then (other_orig me log came is.passing))
+        ∙ ap (λ l. is_best came.from (best_in l)) last
+        ∙ best_is_over came.from (λ k. average_quality (own ∷ lived) k) (iv_route (own ∷ lived))
+
+    sent_then : goes_on came value (forwarded_by row) (is_over_after came row new.paths) ≡ own.sent_on
+    sent_then = ap₂ (λ n b. goes_on came n (forwarded_by row) b) value_is over_then ∙ sym (sent_is row is.row_is)
+
+    forwarded_step : (b : Bool) → (cond b (window (came.seq ∷ forwarded_by row)) (forwarded_by row)) ≡ window (cond b (came.seq ∷ forwarded lived) (forwarded lived))
+    forwarded_step true = ap (λ l. window (came.seq ∷ l)) (forwarded_by_row lived row is.row_is) ∙ window-cons came.seq (forwarded lived)
+    forwarded_step false = forwarded_by_row lived row is.row_is
+
+    life_is : Some (life_then came row value new.paths) ≡ life_row (own ∷ lived)
+    life_is =
+        let n = newest_by_row lived row is.row_is in let t = newest_then in
+        let top : max (newest_by row) came.seq ≡ newest (own ∷ lived) = omega (arith, n, t) in
+        ap₂ (λ m f. Some (record { last = came.moment; newest = m; forwarded = f })) top
+        (ap (λ b. cond b (window (came.seq ∷ forwarded_by row)) (forwarded_by row)) sent_then ∙ forwarded_step own.sent_on
+        ∙ ap (λ l. window l) (sym (next_forwarded came.from own lived on_time)))
+
+    pub first_stands : (tp : ℕ) → new.me ≡ old.me → new.sent ≡ old.sent → StandsFor me new (input_of came tp ∷ log)
+    first_stands tp same_me same_sent =
+        step_stands me log came tp old new is.stands is.passing same_me same_sent
+        (lives_step me log came old.lives new.lives is.stands.lives_stand
+        (λ q. written.lives_are q is.stands.paths_stand.rise ∙ ap (λ r. cond (same_mac came.orig q) r (lookup (same_mac q) old.lives)) life_is)
+        (written.lives_rise is.stands.lives_stand.rise))
+        paths_then
+
+    -- ---- the answer
+    accepted_is : (l : List HeardOgm) (r : Option Life) → r ≡ life_row l → (a : Bool) → a ≡ (is_none r || nat_lt (newest_by r) came.seq) → own.late ≡ false → a ≡ is_accepted own l
+    accepted_is [] r e a is_a timely = is_a ∙ ap (λ x. is_none x || nat_lt (newest_by x) came.seq) e
+    accepted_is (g ∷ older) r e a is_a timely = is_a ∙ ap (λ x. is_none x || nat_lt (newest_by x) came.seq) e ∙ sym (ap (λ b. not b && nat_lt (newest (g ∷ older)) came.seq) timely)
+
+    pub first_answer : (a : Bool) (f : Option _) → a ≡ (is_none row || nat_lt (newest_by row) came.seq)
+        → f ≡ sent_on_as came value (forwarded_by row) (is_over_after came row new.paths) → record { accepted = a; forward = f } ≡ answer_to own lived
+    first_answer a f accepted sent =
+        ap₂ (λ x y. record { accepted = x; forward = y }) (accepted_is lived row is.row_is a accepted on_time)
+        (sent ∙ ap₂ (λ b o. cond b (Some (head_on came value o)) None) sent_then over_then ∙ ap (λ n. cond own.sent_on (Some (head_on came n (is_over came.from (iv_route (own ∷ lived))))) None) value_is)

@@ -1,0 +1,161 @@
+-- How a hearing changes the row of a neighbour in a life.
+use Rattle.std.proofs.Common.{◌≡◌, ◌⊎◌, ⊎_elim, ℕ, zero, suc, ◌+◌, ◌-◌, ◌<◌, ◌≤◌, max, nat_eq, nat_lt, nat_le, ◌==◌, Bool, true, false, cond, not, ◌&&◌, ◌||◌, List, [], ◌∷◌, slice_index, unwrap_or, Option, Some, None, arith, refl, sym, ap, ap₂, ◌∙◌, subst}
+use Rattle.std.proofs.lemmas.Bool.{cases_Bool, cases_lt, cases_eq, and_parts, not-true, not-false, lt-ltb, le-ltb, le-leb, lt-leb, eqb-true, eq-eqb, ne_eqb, true≢false, false≢true}
+use Rattle.std.proofs.lemmas.Bool.Decides.{nat_tests}
+use Rattle.mesh_base.specs.declared.address.Mac.{Mac}
+use Rattle.mesh_model.specs.Routes.Addresses.{same_mac}
+use Rattle.mesh_model.specs.Routes.Life.{HeardOgm, newest, numbers_from, is_first, value_at, forwarded}
+use Rattle.mesh_model.specs.Routes.Numbers.{has, greatest, among, window}
+use Rattle.mesh_laws.proofs.NumberLemmas.{among-agree, has-le, greatest-window, window-cons}
+use Rattle.mesh_algo.proofs.LifeLemmas.{and_false, eq_back, numbers-le, other_numbers, late_numbers, own_numbers, late_newest, next_newest, late_forwarded, next_forwarded, other_value, again_value, first_value, unheard_value}
+use Rattle.mesh_algo.proofs.MacLemmas.{same_exact}
+use Rattle.mesh_iv.specs.declared.path.Path.{Path}
+use Rattle.mesh_iv.specs.declared.row.Life.{Life}
+use Rattle.mesh_iv.specs.Hears.{kept_row, newest_by, forwarded_by}
+use Rattle.mesh_iv.specs.Rows.{five, value_below, value_moved, value_with, path_with, blank, row_of, path_row, life_row}
+use Rattle.mesh_iv.proofs.AverageLemmas.{five-agree, same_side, not_above}
+use Rattle.mesh_iv.proofs.BestWalk.{none_among}
+
+-- ---- windows
+pub window_nil : window [] ≡ []
+unfolding window
+window_nil = none_among 0 64
+
+seen_again : (m s : ℕ) (numbers : List ℕ) → has s numbers ≡ true → (nat_eq m s || has m numbers) ≡ has m numbers
+seen_again m s numbers h =
+    elim (nat_eq m s) as (λ b. nat_eq m s ≡ b → (b || has m numbers) ≡ has m numbers) [
+      | true ↦ λ e. sym (ap (λ x. has x numbers) (eqb-true m s e) ∙ h)
+      | false ↦ λ e. refl
+    ] refl
+
+greatest_again : (s : ℕ) (numbers : List ℕ) → has s numbers ≡ true → greatest (s ∷ numbers) ≡ greatest numbers
+greatest_again s numbers h = let le = has-le s numbers h in omega (arith, le)
+
+window_again : (s : ℕ) (numbers : List ℕ) → has s numbers ≡ true → window (s ∷ numbers) ≡ window numbers
+unfolding window
+window_again s numbers h =
+    ap (λ g. among g 64 (λ m. has m (s ∷ numbers))) (greatest_again s numbers h)
+    ∙ among-agree (greatest numbers) 64 (λ m. has m (s ∷ numbers)) (λ m. has m numbers) (λ m low lt. seen_again m s numbers h)
+
+-- ---- a row by its numbers and their values
+abbrev values_by : ℕ → (ℕ → ℕ) → List ℕ
+values_by top value = five (λ back. cond (nat_le back top) (value (top - back)) 0)
+
+abbrev row_by : List ℕ → (ℕ → ℕ) → Option Path
+row_by numbers value = row_of numbers (values_by (greatest numbers) value)
+
+same_row : (k : Mac) (a b : List HeardOgm) → numbers_from k a ≡ numbers_from k b → ((n : ℕ) → value_at n k a ≡ value_at n k b) → path_row k a ≡ path_row k b
+same_row k a b numbers values = λ i. row_by (numbers i) (λ n. values n i)
+
+again_row : (s : ℕ) (numbers : List ℕ) (value : ℕ → ℕ) → has s numbers ≡ true → row_by (s ∷ numbers) value ≡ row_by numbers value
+again_row s [] value h = absurd (true≢false (sym h))
+again_row s (n ∷ numbers) value h =
+    ap₂ (λ w g. Some (record { heard = w; values = values_by g value })) (window_again s (n ∷ numbers) h) (greatest_again s (n ∷ numbers) h)
+
+module _ (k : Mac) (h : HeardOgm) (alive : List HeardOgm) where
+  -- a hearing over another neighbour leaves the row
+  pub other_row : same_mac h.from k ≡ false → path_row k (h ∷ alive) ≡ path_row k alive
+  other_row e = same_row k (h ∷ alive) alive (other_numbers k h alive e) (λ n. other_value n k h alive e)
+
+  -- so does one that is late or repeated
+  pub touched_row : is_first h alive ≡ false → path_row k (h ∷ alive) ≡ path_row k alive
+  touched_row e =
+      ⊎_elim (λ late. same_row k (h ∷ alive) alive (late_numbers k h alive late) (λ n. again_value n k h alive e))
+      (λ timely. ⊎_elim (λ same.
+      let again : has h.seq (numbers_from k alive) ≡ true
+      = ap (λ j. has h.seq (numbers_from j alive)) (sym (same_exact h.from k same)) ∙ not-false _ (sym (ap (λ b. not b && not (has h.seq (numbers_from h.from alive))) timely) ∙ e) in
+      (λ i. row_by (own_numbers k h alive timely same i) (λ n. again_value n k h alive e i)) ∙ again_row h.seq (numbers_from k alive) (λ n. value_at n k alive) again)
+      (λ other. other_row other) (cases_Bool (same_mac h.from k)))
+      (cases_Bool h.late)
+
+-- ---- a row in a life
+-- where nothing was heard the values are 0
+blank_values : (k : Mac) (alive : List HeardOgm) → numbers_from k alive ≡ [] → five (λ back. 0) ≡ five (λ back. value_below back k alive)
+blank_values k alive none =
+    five-agree (λ back. 0) (λ back. value_below back k alive) (λ back lt. sym (no_value (nat_le back (greatest (numbers_from k alive))) _ (unheard_value _ k alive (ap (λ l. has (greatest (numbers_from k alive) - back) l) none))))
+  where
+    no_value : (b : Bool) (v : ℕ) → v ≡ 0 → cond b v 0 ≡ 0
+    no_value true v e = e
+    no_value false v e = refl
+
+pub unwrapped : (numbers values : List ℕ) → (numbers ≡ [] → five (λ back. 0) ≡ values) → unwrap_or (row_of numbers values) blank ≡ record { heard = window numbers; values = values }
+unwrapped [] values empty = ap₂ (λ w v. record { heard = w; values = v }) (sym window_nil) (empty refl)
+unwrapped (n ∷ numbers) values empty = refl
+
+pub kept_by_row : (k : Mac) (alive : List HeardOgm) → unwrap_or (path_row k alive) blank ≡ kept_row k alive
+kept_by_row k alive = unwrapped (numbers_from k alive) (five (λ back. value_below back k alive)) (blank_values k alive)
+
+-- ---- the first hearing of a number
+index_five : (f : ℕ → ℕ) (j : ℕ) → j < 5 → slice_index (five f) j ≡ f j
+index_five f zero lt = refl
+index_five f (suc zero) lt = refl
+index_five f (suc (suc zero)) lt = refl
+index_five f (suc (suc (suc zero))) lt = refl
+index_five f (suc (suc (suc (suc zero)))) lt = refl
+index_five f (suc (suc (suc (suc (suc j))))) lt = absurd (omega (arith, lt))
+
+-- the value so far below the top, with a number s more, where v has those before it, of which g is the greatest
+module _ (top s g i value : ℕ) (v : ℕ → ℕ) (above_s : s ≤ top) (above_g : g ≤ top) where
+  abbrev place_before : ℕ
+  place_before = cond (nat_lt i (top - g)) 0 (cond (nat_le (i - (top - g)) g) (v (g - (i - (top - g)))) 0)
+
+  at_s : i ≡ top - s → cond (nat_le i top) (cond (nat_eq s (top - i)) value (v (top - i))) 0 ≡ value
+  at_s e = let le : i ≤ top = omega arith in let back : s ≡ top - i = omega arith in ap₂ (λ a b. cond a (cond b value (v (top - i))) 0) (le-leb i top le) (eq-eqb s (top - i) back)
+
+  not_s : (i ≡ top - s → ⊥) → cond (nat_le i top) (cond (nat_eq s (top - i)) value (v (top - i))) 0 ≡ cond (nat_le i top) (v (top - i)) 0
+  not_s n =
+      ⊎_elim (λ above. ap (λ b. cond b (cond (nat_eq s (top - i)) value (v (top - i))) 0) (lt-leb i top above) ∙ sym (ap (λ b. cond b (v (top - i)) 0) (lt-leb i top above)))
+      (λ le. ap (λ b. cond (nat_le i top) (cond b value (v (top - i))) 0) (ne_eqb s (top - i) (λ e. n (omega (arith, e)))))
+      (cases_lt top i)
+
+  back_g : ((n : ℕ) → g < n → v n ≡ 0) → cond (nat_le i top) (v (top - i)) 0 ≡ place_before
+  back_g zero_above =
+      ⊎_elim (λ near. let le : i ≤ top = omega arith in
+      ap (λ b. cond b (v (top - i)) 0) (le-leb i top le) ∙ zero_above (top - i) (omega arith)
+      ∙ sym (ap (λ b. cond b 0 (cond (nat_le (i - (top - g)) g) (v (g - (i - (top - g)))) 0)) (lt-ltb i (top - g) near)))
+      (λ far. let e : top - i ≡ g - (i - (top - g)) = omega arith in
+      ap₂ (λ b n. cond b (v n) 0) (same_side i top g above_g far) e
+      ∙ sym (ap (λ b. cond b 0 (cond (nat_le (i - (top - g)) g) (v (g - (i - (top - g)))) 0)) (le-ltb i (top - g) far)))
+      (cases_lt i (top - g))
+
+  place_after : ((n : ℕ) → g < n → v n ≡ 0) → cond (nat_le i top) (cond (nat_eq s (top - i)) value (v (top - i))) 0 ≡ cond (i == (top - s)) value place_before
+  place_after zero_above =
+      ⊎_elim (λ e. at_s e ∙ sym (ap (λ b. cond b value place_before) (eq-eqb i (top - s) e)))
+      (λ n. not_s n ∙ back_g zero_above ∙ sym (ap (λ b. cond b value place_before) (ne_eqb i (top - s) n)))
+      (cases_eq i (top - s))
+
+module _ (k : Mac) (h : HeardOgm) (alive : List HeardOgm) (first : is_first h alive ≡ true) (same : same_mac h.from k ≡ true) where
+  timely : h.late ≡ false
+  timely = not-true h.late (and_parts (not h.late) _ first).0
+
+  -- the value at a place
+  place : (i : ℕ) → i < 5 → cond (nat_le i (greatest (h.seq ∷ numbers_from k alive))) (value_at (greatest (h.seq ∷ numbers_from k alive) - i) k (h ∷ alive)) 0
+      ≡ value_with (kept_row k alive) h.seq h.value i
+  place i lt =
+      let numbers = numbers_from k alive in
+      let s = h.seq in
+      let g = greatest numbers in
+      let top = max s g in
+      let value : ℕ → ℕ = λ j. value_below j k alive in
+      let swap : max g s ≡ max s g = omega arith in
+      ap (λ x. cond (nat_le i top) x 0) (first_value (top - i) k h alive first same)
+      ∙ place_after top s g i h.value (λ n. value_at n k alive) (omega arith) (omega arith) (λ n above. unheard_value n k alive (not_above k alive n above))
+      ∙ ap (λ x. cond (i == (top - s)) h.value (cond (nat_lt i (top - g)) 0 x)) (sym (index_five value (i - (top - g)) (omega (arith, lt))))
+      ∙ ap (λ t. cond (i == (t - s)) h.value (value_moved (five value) i (t - g))) (sym swap)
+      ∙ ap (λ w. cond (i == (max w s - s)) h.value (value_moved (five value) i (max w s - w))) (sym (greatest-window numbers))
+
+  -- the row has the number and its value
+  pub first_row : path_row k (h ∷ alive) ≡ Some (path_with (kept_row k alive) h.seq h.value)
+  first_row =
+      ap (λ numbers. row_of numbers (values_by (greatest numbers) (λ n. value_at n k (h ∷ alive)))) (own_numbers k h alive timely same)
+      ∙ ap₂ (λ w v. Some (record { heard = w; values = v })) (sym (window-cons h.seq (numbers_from k alive)))
+      (five-agree _ (value_with (kept_row k alive) h.seq h.value) place)
+
+-- ---- the row of a life
+pub newest_by_row : (alive : List HeardOgm) (row : Option Life) → row ≡ life_row alive → newest_by row ≡ newest alive
+newest_by_row [] row e = ap newest_by e
+newest_by_row (h ∷ alive) row e = ap newest_by e
+
+pub forwarded_by_row : (alive : List HeardOgm) (row : Option Life) → row ≡ life_row alive → forwarded_by row ≡ window (forwarded alive)
+forwarded_by_row [] row e = ap forwarded_by e ∙ sym window_nil
+forwarded_by_row (h ∷ alive) row e = ap forwarded_by e

@@ -1,0 +1,178 @@
+-- The tables after an OGM is heard: what each part has to have, and an OGM that only keeps a life up.
+use Rattle.std.proofs.Common.{◌≡◌, ◌⊎◌, ⊎_elim, ℕ, ◌<◌, ◌≤◌, max, nat_lt, nat_le, Bool, true, false, cond, not, ◌&&◌, ◌||◌, List, [], ◌∷◌, Option, Some, None, arith, refl, sym, ap, ap₂, ◌∙◌, subst}
+use Rattle.std.specs.List.Sorted.{IsStrictlySortedBy}
+use Rattle.std.specs.Map.{keys_of, lookup}
+use Rattle.std.proofs.lemmas.Bool.{cases_Bool, and_parts, le-ltb, not-false, not-true, true≢false}
+use Rattle.mesh_base.specs.declared.address.Mac.{Mac}
+use Rattle.mesh_model.specs.Routes.Addresses.{mac_order, same_mac}
+use Rattle.mesh_model.specs.Routes.AlgorithmIv.{answer_to, forward_head}
+use Rattle.mesh_model.specs.Routes.BestRoute.{best_route, is_over}
+use Rattle.mesh_model.specs.Routes.Hearings.{before, heard, sends_on, valued}
+use Rattle.mesh_model.specs.Routes.Life.{HeardOgm, of, since, life, newest, numbers_from, is_first, is_accepted, forwarded}
+use Rattle.mesh_model.specs.Routes.Numbers.{has, greatest, window}
+use Rattle.mesh_model.specs.Routes.Ogm.{passes, has_flag, direct_flag}
+use Rattle.mesh_model.specs.Routes.Queries.{unheard}
+use Rattle.mesh_model.specs.Routes.Quality.{average_quality, echo_quality, echoes_from, own_ogms}
+use Rattle.mesh_model.specs.Routes.RouteLog.{RouteLog}
+use Rattle.mesh_laws.proofs.NumberLemmas.{has-le}
+use Rattle.mesh_algo.proofs.LifeLemmas.{and_false, since-life, numbers-le, late_newest, next_newest, late_forwarded, next_forwarded}
+use Rattle.mesh_algo.proofs.MacLemmas.{same_exact, same_equiv}
+use Rattle.mesh_iv.specs.declared.ogm.OgmCame.{OgmCame}
+use Rattle.mesh_iv.specs.declared.path.Path.{Path}
+use Rattle.mesh_iv.specs.declared.row.Life.{Life}
+use Rattle.mesh_iv.specs.declared.row.Pair.{Pair}
+use Rattle.mesh_iv.specs.Came.{ogm_in}
+use Rattle.mesh_iv.specs.Hears.{IsHeard, input_of, life_before, hearing_of}
+use Rattle.mesh_iv.specs.Rows.{latest, life_row, path_row, echo_row}
+use Rattle.mesh_iv.specs.Tables.{Tables, StandsFor, LivesStand, PathsStand, path_at}
+use Rattle.mesh_iv.specs.Walk.{pair_order, same_pair}
+use Rattle.mesh_iv.proofs.HeardRows.{touched_row}
+use Rattle.mesh_iv.proofs.StandLemmas.{life_is_latest, newest_of_row}
+
+-- what isn't the first of its number isn't sent on
+first_to_send : (g : HeardOgm) (l : List HeardOgm) → is_first g l ≡ false → sends_on g l ≡ false
+first_to_send g l e =
+    ap (λ b. b && (nat_lt 1 g.ttl && (same_mac g.from g.orig || (nat_lt 0 g.value && (is_over g.from (best_route (average_quality (g ∷ l)) (g ∷ l)) && not (has g.seq (forwarded l))))))) e
+
+module _ (me : Mac) (log : RouteLog) (came : OgmCame) where
+  abbrev pub hearings : List HeardOgm
+  hearings = heard me log
+
+  abbrev pub echoes : Mac → List ℕ
+  echoes k = echoes_from me k log
+
+  abbrev pub h : HeardOgm
+  h = hearing_of me log came
+
+  abbrev pub alive : List HeardOgm
+  alive = life_before me log came
+
+  -- the life before the hearing is that at its moment
+  pub before_is : since h (of came.orig hearings) ≡ alive
+  before_is = since-life h (of came.orig hearings)
+
+  -- the hearing before it is decided whether it is sent on
+  abbrev pub v : HeardOgm
+  v = valued came.moment came.from (ogm_in came) hearings (echo_quality me came.from log)
+
+  pub valued_before_is : since v (of came.orig hearings) ≡ alive
+  valued_before_is = since-life v (of came.orig hearings)
+
+  pub other_orig : passes me (ogm_in came) ≡ true → same_mac came.orig me ≡ false
+  other_orig p = not-true (same_mac came.orig me) (and_parts (not (same_mac came.orig me)) _ p).0
+
+  heard_is : (tp : ℕ) → passes me (ogm_in came) ≡ true → heard me (input_of came tp ∷ log) ≡ h ∷ hearings
+  heard_is tp p = ap (λ b. cond b (h ∷ hearings) hearings) p
+
+  no_echo : (tp : ℕ) → same_mac came.orig me ≡ false → (k : Mac) → echoes_from me k (input_of came tp ∷ log) ≡ echoes k
+  no_echo tp other k = ap (λ b. cond ((b && (has_flag direct_flag came.flags && (nat_lt 0 came.seq && nat_le came.seq (own_ogms log)))) && same_mac came.from k) (came.seq ∷ echoes k) (echoes k)) other
+
+  -- ---- the rows of originators
+  pub lives_step : (old new : List (Mac × Life)) → LivesStand hearings old
+      → ((q : Mac) → lookup (same_mac q) new ≡ cond (same_mac came.orig q) (life_row (h ∷ alive)) (lookup (same_mac q) old))
+      → IsStrictlySortedBy mac_order (keys_of new) → LivesStand (h ∷ hearings) new
+  lives_step old new stand updated sorted = record {
+    are = λ q. updated q
+        ∙ elim (same_mac came.orig q) as (λ b. same_mac came.orig q ≡ b → cond b (life_row (h ∷ alive)) (lookup (same_mac q) old) ≡ life_row (latest (cond b (h ∷ of q hearings) (of q hearings)))) [
+          | true ↦ λ t. ap (λ l. life_row (h ∷ l)) (sym before_is ∙ ap (λ o. since h (of o hearings)) (same_exact came.orig q t))
+          | false ↦ λ t. stand.are q
+        ] refl;
+    rise = sorted;
+  }
+
+  -- ---- the rows of pairs
+  own_row : (pair : Pair) → same_mac came.orig me ≡ false → same_mac came.orig pair.orig ≡ true → path_row pair.from (h ∷ alive) ≡ path_at me (h ∷ hearings) echoes pair
+  own_row pair other t =
+      let own = same_exact came.orig pair.orig t in
+      let not_me : same_mac pair.orig me ≡ false = ap (λ o. same_mac o me) (sym own) ∙ other in
+      ap (λ l. path_row pair.from (h ∷ l)) (sym before_is ∙ ap (λ o. since h (of o hearings)) own)
+      ∙ ap (λ b. path_row pair.from (latest (cond b (h ∷ of pair.orig hearings) (of pair.orig hearings)))) (sym t)
+      ∙ ap (λ b. cond b (echo_row (echoes pair.from)) (path_row pair.from (latest (of pair.orig (h ∷ hearings))))) (sym not_me)
+
+  other_row : (pair : Pair) → same_mac came.orig pair.orig ≡ false → path_at me hearings echoes pair ≡ path_at me (h ∷ hearings) echoes pair
+  other_row pair t = ap (λ b. cond (same_mac pair.orig me) (echo_row (echoes pair.from)) (path_row pair.from (latest (cond b (h ∷ of pair.orig hearings) (of pair.orig hearings))))) (sym t)
+
+  pub paths_step : (old new : List (Pair × Path)) → PathsStand me hearings echoes old → same_mac came.orig me ≡ false
+      → ((pair : Pair) → same_mac came.orig pair.orig ≡ true → lookup (same_pair pair) new ≡ path_row pair.from (h ∷ alive))
+      → ((pair : Pair) → same_mac came.orig pair.orig ≡ false → lookup (same_pair pair) new ≡ lookup (same_pair pair) old)
+      → IsStrictlySortedBy pair_order (keys_of new) → PathsStand me (h ∷ hearings) echoes new
+  paths_step old new stand other own others sorted = record {
+    are = λ pair. ⊎_elim (λ t. own pair t ∙ own_row pair other t) (λ t. others pair t ∙ stand.are pair ∙ other_row pair t) (cases_Bool (same_mac came.orig pair.orig));
+    rise = sorted;
+  }
+
+  -- ---- both
+  pub step_stands : (tp : ℕ) (old new : Tables) → StandsFor me old log → passes me (ogm_in came) ≡ true → new.me ≡ old.me → new.sent ≡ old.sent
+      → LivesStand (h ∷ hearings) new.lives → PathsStand me (h ∷ hearings) echoes new.paths → StandsFor me new (input_of came tp ∷ log)
+  step_stands tp old new stands p same_me same_sent lives paths = record {
+    me_is = same_me ∙ stands.me_is;
+    sent_is = same_sent ∙ stands.sent_is;
+    lives_stand = record {
+      are = λ q. lives.are q ∙ sym (ap (λ l. life_row (latest (of q l))) (heard_is tp p));
+      rise = lives.rise;
+    };
+    paths_stand = record {
+      are = λ pair. paths.are pair ∙ sym (ap₂ (λ l f. path_at me l f pair) (heard_is tp p) (λ i k. no_echo tp (other_orig p) k i));
+      rise = paths.rise;
+    };
+  }
+
+  -- ---- an OGM that is late or repeated
+  pub not_sent : is_first h alive ≡ false → h.sent_on ≡ false
+  not_sent first = first_to_send v (before v hearings) (ap (λ l. is_first v l) valued_before_is ∙ first)
+
+  within : has h.seq (numbers_from h.from alive) ≡ true → max h.seq (newest alive) ≡ newest alive
+  within seen = let le = has-le h.seq (numbers_from h.from alive) seen in let top = numbers-le h.from alive in omega (arith, le, top)
+
+  repeated : is_first h alive ≡ false → h.late ≡ false → has h.seq (numbers_from h.from alive) ≡ true
+  repeated first timely = not-false _ (sym (ap (λ b. not b && not (has h.seq (numbers_from h.from alive))) timely) ∙ first)
+
+  touched_newest : is_first h alive ≡ false → newest (h ∷ alive) ≡ newest alive
+  touched_newest first = ⊎_elim (λ late. late_newest came.from h alive late) (λ timely. next_newest came.from h alive timely ∙ within (repeated first timely)) (cases_Bool h.late)
+
+  touched_forwarded : is_first h alive ≡ false → forwarded (h ∷ alive) ≡ forwarded alive
+  touched_forwarded first =
+      ⊎_elim (λ late. late_forwarded came.from h alive late)
+      (λ timely. next_forwarded came.from h alive timely ∙ ap (λ b. cond b (h.seq ∷ forwarded alive) (forwarded alive)) (not_sent first)) (cases_Bool h.late)
+
+  -- the row of the life, with a new end
+  abbrev pub touched : Life → Life
+  touched row = record row { last = came.moment }
+
+  row_parts : (l : List HeardOgm) (row : Life) → life_row l ≡ Some row → Some (touched row) ≡ Some (record { last = came.moment; newest = newest l; forwarded = window (forwarded l) })
+  row_parts [] row e = cc
+  row_parts (g ∷ older) row e = sym (ap touch e)
+    where
+      touch : Option Life → Option Life
+      touch None = None
+      touch (Some r) = Some (record { last = came.moment; newest = r.newest; forwarded = r.forwarded })
+
+  pub touch_stands : (tp : ℕ) (row : Life) (old new : Tables) → IsHeard me old log came (Some row) → is_first h alive ≡ false → new.me ≡ old.me → new.sent ≡ old.sent
+      → ((q : Mac) → lookup (same_mac q) new.lives ≡ cond (same_mac came.orig q) (Some (touched row)) (lookup (same_mac q) old.lives))
+      → IsStrictlySortedBy mac_order (keys_of new.lives) → new.paths ≡ old.paths → StandsFor me new (input_of came tp ∷ log)
+  touch_stands tp row old new is first same_me same_sent updated sorted same_paths =
+      let other = other_orig is.passing in
+      let last = life_is_latest came.moment (of came.orig hearings) row (sym is.row_is) in
+      let life_is : Some (touched row) ≡ life_row (h ∷ alive)
+      = row_parts alive row (sym is.row_is) ∙ ap₂ (λ n f. Some (record { last = came.moment; newest = n; forwarded = window f })) (sym (touched_newest first)) (sym (touched_forwarded first)) in
+      step_stands tp old new is.stands is.passing same_me same_sent
+      (lives_step old.lives new.lives is.stands.lives_stand (λ q. updated q ∙ ap (λ r. cond (same_mac came.orig q) r (lookup (same_mac q) old.lives)) life_is) sorted)
+      (paths_step old.paths new.paths is.stands.paths_stand other
+      (λ pair t. let own = same_exact came.orig pair.orig t in
+      ap (λ rows. lookup (same_pair pair) rows) same_paths ∙ is.stands.paths_stand.are pair
+      ∙ ap (λ b. cond b (echo_row (echoes pair.from)) (path_row pair.from (latest (of pair.orig hearings)))) (ap (λ o. same_mac o me) (sym own) ∙ other)
+      ∙ ap (λ o. path_row pair.from (latest (of o hearings))) (sym own) ∙ ap (λ l. path_row pair.from l) (sym last) ∙ sym (touched_row pair.from h alive first))
+      (λ pair t. ap (λ rows. lookup (same_pair pair) rows) same_paths)
+      (subst (λ rows. IsStrictlySortedBy pair_order (keys_of rows)) (sym same_paths) is.stands.paths_stand.rise))
+
+  accepted_not : (l : List HeardOgm) (row : Life) → life_row l ≡ Some row → (h.late ≡ false → max h.seq (newest l) ≡ newest l) → is_accepted h l ≡ false
+  accepted_not [] row e up = cc
+  accepted_not (g ∷ older) row e up =
+      ⊎_elim (λ late. ap (λ b. not b && nat_lt (newest (g ∷ older)) h.seq) late)
+      (λ timely. let top = up timely in ap (λ b. not h.late && b) (le-ltb (newest (g ∷ older)) h.seq (omega (arith, top))) ∙ and_false (not h.late))
+      (cases_Bool h.late)
+
+  -- nothing is made of it
+  pub touch_answer : (row : Life) → life_row alive ≡ Some row → is_first h alive ≡ false → answer_to h alive ≡ unheard
+  touch_answer row e first =
+      ap₂ (λ a b. record { accepted = a; forward = cond b (Some (forward_head h (h ∷ alive))) None }) (accepted_not alive row e (λ timely. within (repeated first timely))) (not_sent first)

@@ -1,0 +1,33 @@
+use Rattle.std.proofs.Common.{◌≡◌, ◌∙◌, ap, ap₂, sym, subst, cond, max, None, Some}
+use Rattle.std.specs.List.Sorted.{IsStrictlySortedBy}
+use Rattle.std.specs.Map.{keys_of, lookup}
+use Rattle.mesh_base.specs.declared.address.Mac.{Mac}
+use Rattle.mesh_model.specs.Routes.Addresses.{mac_order, same_mac}
+use Rattle.mesh_iv.specs.declared.path.Path.{Path}
+use Rattle.mesh_iv.specs.declared.row.Life.{Life}
+use Rattle.mesh_iv.specs.declared.row.Pair.{Pair}
+use Rattle.mesh_iv.specs.Walk.{pair_order, walk}
+use Rattle.mesh_iv.specs.Hears.{forwarded_by, goes_on, is_best, life_with, newest_by}
+use Rattle.mesh_iv.specs.Writing.{is_over_after, life_then, path_put, rows_kept}
+use Rattle.mesh_iv.proofs.PutLemmas.{none_test}
+use Rattle.mesh_iv.proofs.hearing.write.Goals as goal
+
+pub returns-clause-written : goal.returns-clause-written
+returns-clause-written c =
+    let came = c.args.ogm.now in
+    let life = c.args.life.now in
+    let same_paths : c.reserve-2.new.self.entries ≡ c.args.paths.now.entries = c.reserve-2.ensures.entries in
+    let same_lives : c.reserve.new.self.entries ≡ c.args.lives.now.entries = c.reserve.ensures.entries in
+    let rises : IsStrictlySortedBy pair_order (keys_of c.args.paths.now.entries) → IsStrictlySortedBy pair_order (keys_of c.put_path.new.paths.entries)
+    = λ sorted. c.in_ok-put_path.ensures.rises (subst (λ rows. IsStrictlySortedBy pair_order (keys_of rows)) (sym same_paths) sorted) in
+    let newest : c.max-newest.result ≡ max (newest_by life) came.seq = c.max-newest.ensures ∙ ap (λ n. max n came.seq) c.newest_of.ensures in
+    let over : IsStrictlySortedBy pair_order (keys_of c.args.paths.now.entries) → c.is_best-over.result ≡ is_over_after came life c.put_path.new.paths.entries
+    = λ sorted. c.is_best-over.ensures ∙ ap (λ b. is_best came.from b) (c.best_of.ensures (rises sorted) ∙ ap (λ n. walk n came.orig None c.put_path.new.paths.entries) newest) in
+    let row : IsStrictlySortedBy pair_order (keys_of c.args.paths.now.entries) → c.life_after.result ≡ life_then came life c.args.value c.put_path.new.paths.entries
+    = λ sorted. c.life_after.ensures ∙ ap (λ b. life_with came life b) (c.goes_on-sent.ensures ∙ ap (λ b. goes_on came c.args.value (forwarded_by life) b) (over sorted)) in
+    record {
+      paths_are = λ pair. c.in_ok-put_path.ensures.updated pair ∙ ap₂ (λ b rows. path_put came c.args.row (rows_kept b came.orig rows) pair) (none_test life c.is_none.result c.is_none.ensures) same_paths;
+      paths_rise = rises;
+      lives_are = λ o sorted. c.in_ok-put.ensures.updated.0 o ∙ ap₂ (λ r rows. cond (same_mac came.orig o) (Some r) (lookup (same_mac o) rows)) (row sorted) same_lives;
+      lives_rise = λ sorted. c.in_ok-put.ensures.rises (subst (λ rows. IsStrictlySortedBy mac_order (keys_of rows)) (sym same_lives) sorted);
+    }

@@ -1,0 +1,96 @@
+-- What is known of an OGM that is heard, and what is made of it. The main word is `IsHeard`.
+use Rattle.std.specs.Prelude.{◌≡◌, ℕ, suc, ◌+◌, ◌-◌, ◌&&◌, ◌||◌, nat_lt, max, Bool, true, false, not, List, [], ◌∷◌, Option, Some, None, if◌then◌else◌}
+use Rattle.mesh_base.specs.declared.address.Mac.{Mac}
+use Rattle.mesh_model.specs.declared.packet.Head.{Head}
+use Rattle.mesh_model.specs.declared.packet.Head.TheVariants.{IvOgm}
+use Rattle.mesh_model.specs.Routes.Addresses.{same_mac}
+use Rattle.mesh_model.specs.Routes.AlgorithmIv.{iv_life, after_hop}
+use Rattle.mesh_model.specs.Routes.Hearings.{in_time, hearing, heard}
+use Rattle.mesh_model.specs.Routes.Life.{HeardOgm, numbers_from, newest, is_live}
+use Rattle.mesh_model.specs.Routes.Numbers.{has, window}
+use Rattle.mesh_model.specs.Routes.Ogm.{ogm_of_head, passes, not_best_flag, direct_flag}
+use Rattle.mesh_model.specs.Routes.Quality.{echo_quality}
+use Rattle.mesh_model.specs.Routes.RouteLog.{RouteLog, RouteInput, HeadCame}
+use Rattle.mesh_iv.specs.declared.best.Best.{Best}
+use Rattle.mesh_iv.specs.declared.ogm.OgmCame.{OgmCame}
+use Rattle.mesh_iv.specs.declared.path.Path.{Path}
+use Rattle.mesh_iv.specs.declared.row.Life.{Life}
+use Rattle.mesh_iv.specs.Came.{ogm_in, head_of}
+use Rattle.mesh_iv.specs.Rows.{life_row, five, value_below}
+use Rattle.mesh_iv.specs.Tables.{Tables, StandsFor}
+
+-- the input that an OGM is
+abbrev pub input_of : OgmCame → ℕ → RouteInput
+input_of came throughput = HeadCame came.moment came.from throughput (head_of came)
+
+-- the originator's life before an OGM
+abbrev pub life_before : Mac → RouteLog → OgmCame → List HeardOgm
+life_before me log came = iv_life me log came.moment came.orig
+
+-- the hearing of an OGM
+abbrev pub hearing_of : Mac → RouteLog → OgmCame → HeardOgm
+hearing_of me log came =
+    hearing came.moment came.from (ogm_in came) (heard me log) (echo_quality me came.from log)
+
+-- an OGM is heard, by tables that stand for a log, in which the originator has this row while it lives
+pub record IsHeard (me : Mac) (tables : Tables) (log : RouteLog) (came : OgmCame) (row : Option Life) : Type 0 where
+  pub stands : StandsFor me tables log
+  pub passing : passes me (ogm_in came) ≡ true
+  pub row_is : row ≡ life_row (life_before me log came)
+
+-- the row of a neighbour in a life
+abbrev pub kept_row : Mac → List HeardOgm → Path
+kept_row k alive = record {
+  heard = window (numbers_from k alive);
+  values = five (λ back. value_below back k alive);
+}
+
+-- the newest number of a life by its row, and the numbers that were sent on
+abbrev pub newest_by : Option Life → ℕ
+newest_by None = 0
+newest_by (Some life) = life.newest
+
+abbrev pub forwarded_by : Option Life → List ℕ
+forwarded_by None = []
+forwarded_by (Some life) = life.forwarded
+
+-- whether the best neighbour is this one
+abbrev pub is_best : Mac → Option Best → Bool
+is_best k None = false
+is_best k (Some best) = same_mac best.from k
+
+-- whether an OGM is sent on that is the first of its number from its neighbour and on time
+abbrev pub goes_on : OgmCame → ℕ → List ℕ → Bool → Bool
+goes_on came value sent over =
+    nat_lt 1 came.ttl && (same_mac came.from came.orig
+    || (nat_lt 0 value && (over && not (has came.seq sent))))
+
+-- the flags with which it is sent on
+abbrev pub flags_on : OgmCame → Bool → ℕ
+flags_on came over =
+    if same_mac came.from came.orig then (if over then direct_flag else direct_flag + not_best_flag)
+    else 0
+
+-- the head with which it is sent on
+abbrev pub head_on : OgmCame → ℕ → Bool → Head
+head_on came value over =
+    IvOgm (came.ttl - 1) (flags_on came over) came.seq came.orig came.from (after_hop value)
+
+-- the same where it is sent on
+abbrev pub sent_on_as : OgmCame → ℕ → List ℕ → Bool → Option Head
+sent_on_as came value sent over =
+    if goes_on came value sent over then Some (head_on came value over) else None
+
+-- the row of a life with an OGM more
+abbrev pub life_with : OgmCame → Option Life → Bool → Life
+life_with came row sent_on = record {
+  last = came.moment;
+  newest = max (newest_by row) came.seq;
+  forwarded = if sent_on then window (came.seq ∷ forwarded_by row) else forwarded_by row;
+}
+
+-- an OGM that came at a moment from a neighbour is what a head is, if it is one
+abbrev pub IsCame : ℕ → Mac → Head → Option OgmCame → Type 0
+IsCame moment from head None = ogm_of_head head ≡ None
+IsCame moment from head (Some came) =
+    (came.moment ≡ moment) × (came.from ≡ from) × (head ≡ head_of came)

@@ -1,0 +1,176 @@
+ghost use Rattle.std.specs.Prelude.{◌≡◌, ◌↔◌, ◌≤◌, ℕ, false, ◌∷◌, length, slice_get, is_some, Option, Some, IfOk, IfSome, IfNone, OnOk, OnErr, IsNone, Ok};
+ghost use Rattle.mesh_base.specs.declared.address.Mac.{Mac};
+ghost use Rattle.mesh_model.specs.declared.packet.Head.{Head};
+ghost use Rattle.mesh_model.specs.Routes.AlgorithmIv.{iv_beats, iv_life, iv_link, iv_queries};
+ghost use Rattle.mesh_model.specs.Routes.BestRoute.{orig_row};
+ghost use Rattle.mesh_model.specs.Routes.Ogm.{ogm_of_head};
+ghost use Rattle.mesh_model.specs.Routes.Quality.{average_quality};
+ghost use Rattle.mesh_model.specs.Routes.Queries.{unheard};
+ghost use Rattle.mesh_model.specs.Routes.RouteLog.{RouteLog, OwnTick, HeadCame, MayTick};
+ghost use Rattle.mesh_iv.specs.Came.{head_of, ogm_in};
+ghost use Rattle.mesh_iv.specs.Hears.{IsCame};
+ghost use Rattle.mesh_iv.specs.Tables.{StandsFor};
+
+use crate::hearing::UNHEARD;
+use crate::iv::Iv;
+use crate::ogm::OgmCame;
+use crate::quality::FULL_QUALITY;
+use mesh_algo::{Algo, Beats, Head, Hearing, LinkRow, OrigRow};
+use mesh_base::{Mac, Millis, NoMemory};
+
+/// How many hops an own OGM may go.
+const FIRST_TTL: u8 = 50;
+
+impl Algo for Iv {
+    ghost use Rattle.std.specs.Prelude.{false, is_some, refl};
+    ghost use Rattle.mesh_model.specs.Routes.AlgorithmIv.{iv_queries};
+    ghost use Rattle.mesh_model.specs.Routes.Ogm.{ogm_of_head};
+    ghost use Rattle.mesh_algo.proofs.IvLaws.{iv_routes, iv_live_routes, iv_ogms, iv_other_unheard, iv_other_kinds};
+    ghost use Rattle.mesh_iv.specs.Tables.{StandsFor};
+
+    ghost queries = { iv_queries };
+
+    ghost hears = { λ head. is_some (ogm_of_head head) };
+
+    ghost sends_elps = { false };
+
+    ghost stands = { λ iv me log. StandsFor me iv log };
+
+    ghost routes = { iv_routes };
+
+    ghost live_routes = { iv_live_routes };
+
+    ghost ogms = { iv_ogms };
+
+    ghost elps = { λ me log index. refl };
+
+    ghost other_unheard = { iv_other_unheard };
+
+    ghost other_kinds = { iv_other_kinds };
+
+    fn tick(&mut self, _now: Millis, index: u64) -> Beats {
+        if index % 2 != 0 {
+            return Beats {
+                elp: None,
+                ogm: None,
+            };
+        }
+        self.sent += 1;
+        let ogm = Head::IvOgm {
+            ttl: FIRST_TTL,
+            flags: 0,
+            seq: self.sent,
+            orig: self.me,
+            prev: self.me,
+            tq: FULL_QUALITY,
+        };
+        Beats {
+            elp: None,
+            ogm: Some(ogm),
+        }
+    }
+
+    fn hear(&mut self, now: Millis, from: Mac, _tp: u32, head: &Head) -> Result<Hearing, NoMemory> {
+        match ogm_came(now, from, head) {
+            Some(ogm) => {
+                let hearing = self.hear_ogm(&ogm)?;
+                Ok(hearing)
+            }
+            None => Ok(UNHEARD),
+        }
+    }
+
+    fn metric(&self, now: Millis, orig: Mac) -> u32 {
+        self.best(now, orig).map_or(0, |best| best.score)
+    }
+
+    fn route(&self, now: Millis, orig: Mac) -> Option<Mac> {
+        self.best(now, orig).map(|best| best.from)
+    }
+
+    fn live(&self, now: Millis, orig: Mac) -> bool {
+        self.life(now, orig).is_some()
+    }
+
+    fn orig_at(&self, now: Millis, i: usize) -> Option<OrigRow> {
+        self.lives
+            .keys()
+            .filter_map(|orig| self.orig_row(now, *orig))
+            .nth(i)
+    }
+
+    fn link_at(&self, now: Millis, i: usize) -> Option<LinkRow> {
+        self.lives
+            .keys()
+            .filter_map(|k| self.link_row(now, *k))
+            .nth(i)
+    }
+}
+
+impl Iv {
+    // The row of a live originator.
+    fn orig_row(&self, now: Millis, orig: Mac) -> Option<OrigRow>
+        ensures { (me : Mac) (log : RouteLog) → StandsFor me self.now log →
+            result ≡ orig_row (average_quality (iv_life me log now orig)) now orig (iv_life me log now orig) }
+    {
+        let life = self.life(now, orig)?;
+        let row = OrigRow {
+            orig,
+            seq: life.newest,
+            seen: now.saturating_sub(life.last),
+            next: self.route(now, orig),
+            metric: self.metric(now, orig),
+        };
+        Some(row)
+    }
+
+    // The row of a neighbour of which something is received.
+    fn link_row(&self, now: Millis, k: Mac) -> Option<LinkRow>
+        ensures { (me : Mac) (log : RouteLog) → StandsFor me self.now log →
+            result ≡ iv_link me log now k }
+    {
+        let rq = self.receive_quality(now, k);
+        if rq == 0 {
+            return None;
+        }
+        let row = LinkRow::Iv {
+            neigh: k,
+            rq,
+            eq: self.echo_quality(k),
+        };
+        Some(row)
+    }
+}
+
+// The OGM of algorithm IV that a head is.
+fn ogm_came(moment: Millis, from: Mac, head: &Head) -> Option<OgmCame>
+    ensures { IsCame moment from head.now result }
+{
+    match *head {
+        Head::IvOgm {
+            ttl,
+            flags,
+            seq,
+            orig,
+            prev,
+            tq,
+        } => Some(OgmCame {
+            moment,
+            from,
+            ttl,
+            flags,
+            seq,
+            orig,
+            prev,
+            tq,
+        }),
+        Head::Bcast { .. }
+        | Head::Elp { .. }
+        | Head::Ogm2 { .. }
+        | Head::Unicast { .. }
+        | Head::Frag { .. }
+        | Head::Unicast4 { .. }
+        | Head::Icmp { .. }
+        | Head::Utvlv { .. } => None,
+    }
+}
