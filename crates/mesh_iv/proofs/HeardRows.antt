@@ -6,7 +6,7 @@ use Rattle.mesh_base.specs.declared.address.Mac.{Mac}
 use Rattle.mesh_model.specs.Routes.Addresses.{same_mac}
 use Rattle.mesh_model.specs.Routes.Life.{HeardOgm, newest, numbers_from, is_first, value_at, forwarded}
 use Rattle.mesh_model.specs.Routes.Numbers.{has, greatest, among, window}
-use Rattle.mesh_laws.proofs.NumberLemmas.{among-agree, has-le, greatest-window, window-cons}
+use Rattle.mesh_laws.proofs.WindowLemmas.{among-agree, has-le, greatest-window, window-cons}
 use Rattle.mesh_algo.proofs.LifeLemmas.{and_false, eq_back, numbers-le, other_numbers, late_numbers, own_numbers, late_newest, next_newest, late_forwarded, next_forwarded, other_value, again_value, first_value, unheard_value}
 use Rattle.mesh_algo.proofs.MacLemmas.{same_exact}
 use Rattle.mesh_iv.specs.declared.path.Path.{Path}

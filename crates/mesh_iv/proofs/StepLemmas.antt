@@ -14,7 +14,7 @@ use Rattle.mesh_model.specs.Routes.Ogm.{passes, has_flag, direct_flag}
 use Rattle.mesh_model.specs.Routes.Queries.{unheard}
 use Rattle.mesh_model.specs.Routes.Quality.{average_quality, echo_quality, echoes_from, own_ogms}
 use Rattle.mesh_model.specs.Routes.RouteLog.{RouteLog}
-use Rattle.mesh_laws.proofs.NumberLemmas.{has-le}
+use Rattle.mesh_laws.proofs.WindowLemmas.{has-le}
 use Rattle.mesh_algo.proofs.LifeLemmas.{and_false, since-life, numbers-le, late_newest, next_newest, late_forwarded, next_forwarded}
 use Rattle.mesh_algo.proofs.MacLemmas.{same_exact, same_equiv}
 use Rattle.mesh_iv.specs.declared.ogm.OgmCame.{OgmCame}

@@ -11,7 +11,7 @@ use Rattle.mesh_model.specs.Routes.Life.{HeardOgm, life_span, of, since, life, n
 use Rattle.mesh_model.specs.Routes.Numbers.{has, greatest, seen_among, window, window_length}
 use Rattle.mesh_model.specs.Routes.Quality.{echoes_from, receive_quality, received_in}
 use Rattle.mesh_model.specs.Routes.RouteLog.{RouteLog}
-use Rattle.mesh_laws.proofs.NumberLemmas.{among-window, greatest-window, has-window, window-cons}
+use Rattle.mesh_laws.proofs.WindowLemmas.{among-window, greatest-window, has-window, window-cons}
 use Rattle.mesh_algo.proofs.LifeLemmas.{numbers-le, next_newest, own_numbers, of_other, of_same, since-life}
 use Rattle.mesh_algo.proofs.MacLemmas.{same_exact, same_equiv}
 use Rattle.mesh_iv.specs.declared.ogm.OgmCame.{OgmCame}

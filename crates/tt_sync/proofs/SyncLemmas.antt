@@ -7,7 +7,8 @@ use Rattle.std.proofs.lemmas.Option.{gets}
 use Rattle.mesh_base.specs.declared.client.Key.{Key}
 use Rattle.mesh_base.specs.contracts.client.KeyOrd.TheImpl.Laws.{matches_eq-law}
 use Rattle.mesh_model.specs.Clients.Present.{same_key}
-use Rattle.mesh_model.specs.Marks.Calls.{Calls, same_mac}
+use Rattle.mesh_model.specs.Marks.Calls.{Calls}
+use Rattle.mesh_model.specs.Routes.Addresses.{same_mac}
 use Rattle.mesh_model.specs.Marks.RoamingMarks.{mark_of, target_by}
 use Rattle.mesh_model.specs.Marks.Advertisements.{sent_by}
 use Rattle.mesh_laws.proofs.MarkLemmas.{marks_kept}

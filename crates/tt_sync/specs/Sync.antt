@@ -7,7 +7,8 @@ use Rattle.mesh_base.specs.declared.address.Mac.{Mac}
 use Rattle.mesh_base.specs.declared.client.Key.{Key}
 use Rattle.mesh_model.specs.declared.roaming_mark.RoamingMark.{RoamingMark}
 use Rattle.mesh_model.specs.Clients.Present.{same_key}
-use Rattle.mesh_model.specs.Marks.Calls.{Calls, same_mac}
+use Rattle.mesh_model.specs.Marks.Calls.{Calls}
+use Rattle.mesh_model.specs.Routes.Addresses.{same_mac}
 use Rattle.mesh_model.specs.Marks.RoamingMarks.{marks_by}
 use Rattle.mesh_model.specs.Marks.Requests.{asked_by}
 use Rattle.mesh_model.specs.Marks.Advertisements.{sent_by}

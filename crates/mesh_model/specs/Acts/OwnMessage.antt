@@ -1,15 +1,15 @@
--- The originator message of a node under algorithm IV: its number, time to live 50, no flags,
--- transmit quality 255, the node as originator and as previous sender, and the node's containers in
--- the order of their types. The k-th message has the number k. The main word is `own_message`.
+-- The originator message of a node under algorithm IV: the head that the algorithm gives, and the
+-- node's containers in the order of their types. The k-th message has the number k. The main word is
+-- `own_message`.
 use Rattle.std.specs.Prelude.{ℕ, ◌+◌, ◌%◌, ◌==◌, Bool, List, [], ◌∷◌, if◌then◌else◌}
 use Rattle.mesh_base.specs.declared.address.Mac.{Mac}
-use Rattle.mesh_model.specs.declared.packet.Head.TheVariants.{IvOgm}
 use Rattle.mesh_model.specs.Clients.Log.{Given, Tick, LinkFrame, Frame, Gone, Join, Leave, Arp, Dhcp, Wifi, Log}
 use Rattle.mesh_model.specs.Packets.Layout.{spelling}
 use Rattle.mesh_model.specs.Packets.Numbers.{dat_tvlv, tt_tvlv, tvlv_version, ogm_diff_flag}
 use Rattle.mesh_model.specs.Packets.Containers.{Container, containers_spelling}
 use Rattle.mesh_model.specs.Packets.Bodies.{TtData}
 use Rattle.mesh_model.specs.Packets.BodySpellings.{tt_spelling}
+use Rattle.mesh_model.specs.Routes.AlgorithmIv.{own_ogm}
 
 -- whether a node sends its originator message at the tick of this index: at each second one
 abbrev pub is_message_tick : ℕ → Bool
@@ -49,15 +49,7 @@ first_announcement = record { flags = ogm_diff_flag; ttvn = 0; vlans = []; chang
 abbrev pub own_containers : List Container
 own_containers = arp_table_container ∷ table_container first_announcement ∷ []
 
--- how many hops a message may take
-abbrev pub first_ttl : ℕ
-first_ttl = 50
-
--- the transmit quality of a message at its originator
-abbrev pub full_quality : ℕ
-full_quality = 255
-
 -- the originator message of the node with this address, by its number
 abbrev pub own_message : Mac → ℕ → List ℕ
 own_message me number =
-    spelling (IvOgm first_ttl 0 number me me full_quality) (containers_spelling own_containers)
+    spelling (own_ogm me number) (containers_spelling own_containers)

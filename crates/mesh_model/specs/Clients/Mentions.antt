@@ -6,6 +6,7 @@ use Rattle.std.specs.Prelude.{ℕ, Bool, false, List, [], ◌∷◌, ◌++◌, i
 use Rattle.mesh_base.specs.declared.address.Mac.{Mac}
 use Rattle.mesh_base.specs.declared.client.Key.{Key}
 use Rattle.mesh_base.specs.declared.client.Vid.{Vid}
+use Rattle.mesh_model.specs.Packets.Numbers.{wifi_flag}
 use Rattle.mesh_model.specs.Clients.Log.{Given, Tick, LinkFrame, Frame, Gone, Join, Leave, Arp, Dhcp, Wifi, Log}
 
 -- what a mention says of its key
@@ -21,10 +22,6 @@ pub record Mention : Type 0 where
   pub moment : ℕ
   pub key : Key
   pub news : News
-
--- the flag of a client that was sighted by wireless
-abbrev pub wifi_flag : ℕ
-wifi_flag = 16
 
 -- the marking of sightings after an input, from the marking before it
 abbrev pub wifi_after : Given → Bool → Bool

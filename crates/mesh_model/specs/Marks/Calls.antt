@@ -1,7 +1,6 @@
 -- The calls on a node's marks, requests and advertisements, newest first. What is remembered is
 -- asked of the whole list of them. The main word is `Call`.
-use Rattle.std.specs.Prelude.{ℕ, nat_eq, Bool, List, Option}
-use Rattle.std.specs.Cmp.Lexicographic.{pointwise}
+use Rattle.std.specs.Prelude.{ℕ, List, Option}
 use Rattle.mesh_base.specs.declared.address.Mac.{Mac}
 use Rattle.mesh_base.specs.declared.client.Key.{Key}
 
@@ -19,7 +18,3 @@ pub data Call : Type 0 where
 -- the calls that were made and not refused, newest first
 abbrev pub Calls : Type 0
 Calls = List Call
-
--- whether two addresses are one, byte by byte
-abbrev pub same_mac : Mac → Mac → Bool
-same_mac a b = pointwise nat_eq a.0 b.0

@@ -2,7 +2,8 @@
 -- was last asked in its life. The main word is `too_soon`.
 use Rattle.std.specs.Prelude.{ℕ, ◌-◌, nat_lt, [], ◌∷◌, Option, Some, None, option_and_then, if◌then◌else◌}
 use Rattle.mesh_base.specs.declared.address.Mac.{Mac}
-use Rattle.mesh_model.specs.Marks.Calls.{Call, Calls, Marked, Released, Unmarked, Advised, Asked, Forgotten, same_mac}
+use Rattle.mesh_model.specs.Marks.Calls.{Call, Calls, Marked, Released, Unmarked, Advised, Asked, Forgotten}
+use Rattle.mesh_model.specs.Routes.Addresses.{same_mac}
 
 -- how long an originator isn't asked again, in milliseconds
 abbrev pub asking_pause : ℕ

@@ -10,7 +10,8 @@ use Rattle.mesh_base.specs.declared.address.Mac.{Mac}
 use Rattle.mesh_base.specs.declared.client.Key.{Key}
 use Rattle.mesh_model.specs.declared.roaming_mark.RoamingMark.{RoamingMark}
 use Rattle.mesh_model.specs.Clients.Present.{same_key}
-use Rattle.mesh_model.specs.Marks.Calls.{Call, Calls, Marked, Released, Unmarked, Advised, Asked, Forgotten, same_mac}
+use Rattle.mesh_model.specs.Marks.Calls.{Call, Calls, Marked, Released, Unmarked, Advised, Asked, Forgotten}
+use Rattle.mesh_model.specs.Routes.Addresses.{same_mac}
 
 -- how long a mark stands, in milliseconds
 abbrev pub mark_age : ℕ

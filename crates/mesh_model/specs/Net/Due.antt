@@ -7,6 +7,7 @@
 use Rattle.std.specs.Prelude.{ℕ, suc, ◌+◌, ◌*◌, ◌%◌, ◌==◌, nat_le, List, [], ◌∷◌, ◌++◌, map, filter, length, slice_get, slice_index_or, Option, Some, None, option_and_then, if◌then◌else◌}
 use Rattle.mesh_model.specs.declared.happening.Class.TheVariants.{LinkDelivery, NodeTick}
 use Rattle.mesh_model.specs.declared.happening.Happening.{Happening}
+use Rattle.mesh_model.specs.Scenario.Terms.{once_mark, lost_mark, twice_mark, held_mark}
 use Rattle.mesh_model.specs.Clients.Log.{Given, Tick, LinkFrame, Frame, Gone, Join, Leave, Arp, Dhcp, Wifi, Log}
 use Rattle.mesh_model.specs.Net.Happenings.{is_before, earliest}
 use Rattle.mesh_model.specs.Net.Mesh.{NodeLog, NetLink, SentFrame, Mesh}
@@ -22,26 +23,10 @@ pub data Fate : Type 0 where
   Twice : Fate
   Held : Fate
 
--- the mark `.`
-abbrev pub once_mark : ℕ
-once_mark = 46
-
--- the mark `x`
-abbrev pub never_mark : ℕ
-never_mark = 120
-
--- the mark `2`
-abbrev pub twice_mark : ℕ
-twice_mark = 50
-
--- the mark `h`
-abbrev pub held_mark : ℕ
-held_mark = 104
-
 -- the fate of a mark; a pattern has no other marks
 abbrev pub fate_of_mark : ℕ → Fate
 fate_of_mark mark =
-    if mark == once_mark then Once else if mark == never_mark then Never
+    if mark == once_mark then Once else if mark == lost_mark then Never
     else if mark == twice_mark then Twice else Held
 
 -- the fate of a link's frame by its turn

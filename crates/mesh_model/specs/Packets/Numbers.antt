@@ -115,10 +115,6 @@ wifi_flag = 16
 abbrev pub isolated_flag : ℕ
 isolated_flag = 32
 
--- the bit of a VLAN's wire number that says that it is tagged: 0x8000
-abbrev pub tagged_bit : ℕ
-tagged_bit = 32768
-
 -- the type of an Ethernet frame that carries a link frame: 0x4305
 abbrev pub mesh_ethertype : ℕ
 mesh_ethertype = 17157

@@ -8,7 +8,8 @@ use Rattle.hex.specs.Hex.{encode_lower}
 use Rattle.mesh_base.specs.declared.client.Vid.{Vid}
 use Rattle.mesh_model.specs.declared.table_row.LocalRow.{LocalRow}
 use Rattle.mesh_model.specs.Packets.Bodies.{VlanSum}
-use Rattle.mesh_model.specs.Packets.Numbers.{tagged_bit, wifi_flag, isolated_flag}
+use Rattle.mesh_base.specs.Vlan.{tagged_bit}
+use Rattle.mesh_model.specs.Packets.Numbers.{wifi_flag, isolated_flag}
 use Rattle.mesh_model.specs.Text.PacketLines.{line_of, named_number, named_address}
 
 -- a node's local table: its name, the byte and the sums of its last commit, and its present clients

@@ -1,5 +1,5 @@
 use Rattle.std.proofs.Common.{◌∙◌, ap, cond, Some, subst, sym}
-use Rattle.mesh_model.specs.Marks.Calls.{same_mac}
+use Rattle.mesh_model.specs.Routes.Addresses.{same_mac}
 use Rattle.tt_sync.specs.Sync.{StandsFor}
 use Rattle.tt_sync.proofs.sync.Sync.ask.Goals as goal
 
