@@ -47,7 +47,8 @@ number_of (first ∷ rest) =
 -- the wire number of a tagged VLAN, from its number 1 to 4094
 abbrev pub tagged : ℕ → Option Vid
 tagged number =
-    if nat_le 1 number && nat_le number 4094 then Some (record { 0 = tagged_bit + number }) else None
+    if nat_le 1 number && nat_le number 4094
+    then Some (record { 0 = tagged_bit + number }) else None
 
 -- the VLAN that a word names
 abbrev pub vid_of : List ℕ → Option Vid
