@@ -55,7 +55,8 @@ fn put_changes(out: &mut Vec<u8>, table: &TtView<'_>) -> Result<(), NoMemory>
     Ok(())
 }
 
-// Appends the line of a container whose body has no fields that are known. Answers whether it is long enough.
+// Appends the line of a container whose body has no fields that are known. Answers whether it is
+// long enough.
 fn put_plain(out: &mut Vec<u8>, container: &Container<'_>) -> Result<bool, NoMemory>
     ensures ok { IfOk result (λ whole. IsPrinted out.old.items out.new.items (seen container.now)
         (Some unread) whole) }

@@ -13,7 +13,8 @@ use mesh_tvlv::{Container, TtView};
 
 // The front of a container's line: its type, version and length.
 fn start<'a>(container: &Container<'_>) -> Part<'a>
-    ensures { result ≡ Part.Container container.now.kind container.now.version (length container.now.body.now) }
+    ensures { result ≡ Part.Container container.now.kind container.now.version
+        (length container.now.body.now) }
 {
     Part::Container {
         kind: container.kind,
@@ -39,7 +40,8 @@ pub fn gateway_line(
     download: u32,
     upload: u32,
 ) -> Result<(), NoMemory>
-    ensures ok { OnOk result (out.new.items ≡ out.old.items ++ gateway_line (seen container.now) (record { download = download; upload = upload })) }
+    ensures ok { OnOk result (out.new.items ≡ out.old.items
+        ++ gateway_line (seen container.now) (record { download = download; upload = upload })) }
     ensures err { OnErr result (out.new.items ≡ out.old.items) }
 {
     put_line(
@@ -59,7 +61,8 @@ pub fn roaming_line(
     container: &Container<'_>,
     client: Key,
 ) -> Result<(), NoMemory>
-    ensures ok { OnOk result (out.new.items ≡ out.old.items ++ roaming_line (seen container.now) client) }
+    ensures ok { OnOk result (out.new.items
+        ≡ out.old.items ++ roaming_line (seen container.now) client) }
     ensures err { OnErr result (out.new.items ≡ out.old.items) }
 {
     put_line(
@@ -80,7 +83,8 @@ pub fn multicast_line(
     container: &Container<'_>,
     flags: u8,
 ) -> Result<(), NoMemory>
-    ensures ok { OnOk result (out.new.items ≡ out.old.items ++ multicast_line (seen container.now) flags) }
+    ensures ok { OnOk result (out.new.items
+        ≡ out.old.items ++ multicast_line (seen container.now) flags) }
     ensures err { OnErr result (out.new.items ≡ out.old.items) }
 {
     put_line(out, &[start(container), Flags(b" flags=", flags)])
@@ -93,7 +97,8 @@ pub fn table_start(
     container: &Container<'_>,
     table: &TtView<'_>,
 ) -> Result<(), NoMemory>
-    ensures ok { OnOk result (out.new.items ≡ out.old.items ++ table_start (seen container.now) table.now) }
+    ensures ok { OnOk result (out.new.items
+        ≡ out.old.items ++ table_start (seen container.now) table.now) }
     ensures err { OnErr result (out.new.items ≡ out.old.items) }
 {
     put_line(
@@ -111,7 +116,8 @@ pub fn table_start(
 /// Appends the line of a VLAN with the checksum of its clients.
 #[tactic(auto, unfolding(mesh_model::specs::Text::Tables::vlan_line))]
 pub fn vlan_line(out: &mut Vec<u8>, vid: Vid, sum: u32) -> Result<(), NoMemory>
-    ensures ok { OnOk result (out.new.items ≡ out.old.items ++ vlan_line (record { vid = vid; sum = sum })) }
+    ensures ok { OnOk result (out.new.items
+        ≡ out.old.items ++ vlan_line (record { vid = vid; sum = sum })) }
     ensures err { OnErr result (out.new.items ≡ out.old.items) }
 {
     put_line(out, &[Text(b"vlan "), Vlan(vid), Text(b" sum="), Sum(sum)])
@@ -120,7 +126,8 @@ pub fn vlan_line(out: &mut Vec<u8>, vid: Vid, sum: u32) -> Result<(), NoMemory>
 /// Appends the line of a record with these flags, as they stand.
 #[tactic(auto, unfolding(mesh_model::specs::Text::ContainerLines::change_line))]
 pub fn change_line(out: &mut Vec<u8>, flags: u8, client: Key) -> Result<(), NoMemory>
-    ensures ok { OnOk result (out.new.items ≡ out.old.items ++ change_line (record { flags = flags; key = client })) }
+    ensures ok { OnOk result (out.new.items
+        ≡ out.old.items ++ change_line (record { flags = flags; key = client })) }
     ensures err { OnErr result (out.new.items ≡ out.old.items) }
 {
     put_line(

@@ -21,7 +21,8 @@ fn put_iv_ogm(
     tq: u8,
     len: usize,
 ) -> Result<(), NoMemory>
-    ensures ok { OnOk result (out.new.items ≡ out.old.items ++ packet_line (IvOgm ttl flags seq orig prev tq) len) }
+    ensures ok { OnOk result (out.new.items
+        ≡ out.old.items ++ packet_line (IvOgm ttl flags seq orig prev tq) len) }
     ensures err { OnErr result (out.new.items ≡ out.old.items) }
 {
     put_line(
@@ -43,7 +44,8 @@ fn put_iv_ogm(
 // A broadcast.
 #[tactic(auto, unfolding(mesh_model::specs::Text::PacketLines::packet_line))]
 fn put_bcast(out: &mut Vec<u8>, ttl: u8, seq: u32, orig: Mac, len: usize) -> Result<(), NoMemory>
-    ensures ok { OnOk result (out.new.items ≡ out.old.items ++ packet_line (Bcast ttl seq orig) len) }
+    ensures ok { OnOk result (out.new.items
+        ≡ out.old.items ++ packet_line (Bcast ttl seq orig) len) }
     ensures err { OnErr result (out.new.items ≡ out.old.items) }
 {
     put_line(
@@ -62,7 +64,8 @@ fn put_bcast(out: &mut Vec<u8>, ttl: u8, seq: u32, orig: Mac, len: usize) -> Res
 // A message of the echo location protocol.
 #[tactic(auto, unfolding(mesh_model::specs::Text::PacketLines::packet_line))]
 fn put_elp(out: &mut Vec<u8>, orig: Mac, seq: u32, interval: u32) -> Result<(), NoMemory>
-    ensures ok { (tail_len : ℕ) → OnOk result (out.new.items ≡ out.old.items ++ packet_line (Elp orig seq interval) tail_len) }
+    ensures ok { (tail_len : ℕ) → OnOk result (out.new.items
+        ≡ out.old.items ++ packet_line (Elp orig seq interval) tail_len) }
     ensures err { OnErr result (out.new.items ≡ out.old.items) }
 {
     put_line(
@@ -88,7 +91,8 @@ fn put_ogm2(
     throughput: u32,
     len: usize,
 ) -> Result<(), NoMemory>
-    ensures ok { OnOk result (out.new.items ≡ out.old.items ++ packet_line (Ogm2 ttl flags seq orig throughput) len) }
+    ensures ok { OnOk result (out.new.items
+        ≡ out.old.items ++ packet_line (Ogm2 ttl flags seq orig throughput) len) }
     ensures err { OnErr result (out.new.items ≡ out.old.items) }
 {
     put_line(
@@ -109,7 +113,8 @@ fn put_ogm2(
 // A frame for one node.
 #[tactic(auto, unfolding(mesh_model::specs::Text::PacketLines::packet_line))]
 fn put_unicast(out: &mut Vec<u8>, ttl: u8, ttvn: u8, dst: Mac, len: usize) -> Result<(), NoMemory>
-    ensures ok { OnOk result (out.new.items ≡ out.old.items ++ packet_line (Unicast ttl ttvn dst) len) }
+    ensures ok { OnOk result (out.new.items
+        ≡ out.old.items ++ packet_line (Unicast ttl ttvn dst) len) }
     ensures err { OnErr result (out.new.items ≡ out.old.items) }
 {
     put_line(
@@ -138,7 +143,8 @@ fn put_frag(
     total: u16,
     len: usize,
 ) -> Result<(), NoMemory>
-    ensures ok { OnOk result (out.new.items ≡ out.old.items ++ packet_line (Frag ttl number priority dst orig seq total) len) }
+    ensures ok { OnOk result (out.new.items
+        ≡ out.old.items ++ packet_line (Frag ttl number priority dst orig seq total) len) }
     ensures err { OnErr result (out.new.items ≡ out.old.items) }
 {
     put_line(
@@ -169,7 +175,8 @@ fn put_unicast4(
     subtype: u8,
     len: usize,
 ) -> Result<(), NoMemory>
-    ensures ok { OnOk result (out.new.items ≡ out.old.items ++ packet_line (Unicast4 ttl ttvn dst src subtype) len) }
+    ensures ok { OnOk result (out.new.items
+        ≡ out.old.items ++ packet_line (Unicast4 ttl ttvn dst src subtype) len) }
     ensures err { OnErr result (out.new.items ≡ out.old.items) }
 {
     put_line(
@@ -198,7 +205,8 @@ fn put_icmp(
     uid: u8,
     seq: u16,
 ) -> Result<(), NoMemory>
-    ensures ok { (tail_len : ℕ) → OnOk result (out.new.items ≡ out.old.items ++ packet_line (Icmp ttl msg dst orig uid seq) tail_len) }
+    ensures ok { (tail_len : ℕ) → OnOk result (out.new.items
+        ≡ out.old.items ++ packet_line (Icmp ttl msg dst orig uid seq) tail_len) }
     ensures err { OnErr result (out.new.items ≡ out.old.items) }
 {
     put_line(
@@ -219,7 +227,8 @@ fn put_icmp(
 // Containers for one node.
 #[tactic(auto, unfolding(mesh_model::specs::Text::PacketLines::packet_line))]
 fn put_utvlv(out: &mut Vec<u8>, ttl: u8, dst: Mac, src: Mac, len: usize) -> Result<(), NoMemory>
-    ensures ok { OnOk result (out.new.items ≡ out.old.items ++ packet_line (Utvlv ttl dst src) len) }
+    ensures ok { OnOk result (out.new.items
+        ≡ out.old.items ++ packet_line (Utvlv ttl dst src) len) }
     ensures err { OnErr result (out.new.items ≡ out.old.items) }
 {
     put_line(

@@ -10,6 +10,9 @@ ghost use Rattle.batctl_text.specs.Inner.Parts.{part_text, Grows};
 use mesh_base::{Mac, Millis, NoMemory, Vid};
 use mesh_tvlv::layout::{ISOLATED, WIFI};
 
+/// The base of hex digits.
+const HEX: u8 = 16;
+
 /// A part of a line.
 #[derive(Clone, Copy)]
 pub enum Part<'a> {
@@ -108,16 +111,16 @@ fn mac_digits(bytes: [u8; 6]) -> [u8; 17]
 
 // The hex digit of a byte's upper four bits.
 fn high_digit(byte: u8) -> u8
-    ensures { result ≡ slice_index lower_digits (byte / 16) }
+    ensures { result ≡ slice_index lower_digits (byte / HEX) }
 {
-    b"0123456789abcdef"[usize::from(byte / 16)]
+    b"0123456789abcdef"[usize::from(byte / HEX)]
 }
 
 // The hex digit of a byte's lower four bits.
 fn low_digit(byte: u8) -> u8
-    ensures { result ≡ slice_index lower_digits (byte % 16) }
+    ensures { result ≡ slice_index lower_digits (byte % HEX) }
 {
-    b"0123456789abcdef"[usize::from(byte % 16)]
+    b"0123456789abcdef"[usize::from(byte % HEX)]
 }
 
 #[tactic(auto, unfolding(mesh_model::specs::Text::Tables::vid_text))]

@@ -4,11 +4,12 @@ use Rattle.std.specs.List.{flat_map, AllByRecursion}
 use Rattle.std.proofs.lemmas.List.{append-nil, length-append, length-replicate}
 use Rattle.mesh_model.specs.declared.packet.Head.{Head}
 use Rattle.mesh_model.specs.declared.packet.Head.TheVariants.{IvOgm, Bcast, Elp, Ogm2, Unicast, Frag, Unicast4, Icmp, Utvlv}
-use Rattle.mesh_model.specs.Packets.Layout.{Part, Holds, Fits, BeginWith, IsTail, IsPacket, HasSpelling, FitsFragment, header_of, part_spelling, spelling}
+use Rattle.mesh_model.specs.Packets.Layout.{Part, Holds, Fits, BeginWith, IsTail, IsPacket, HasSpelling, header_of, part_spelling, spelling}
 use Rattle.mesh_model.specs.Packets.Layout.Part.{number, address, fragment, reserved}
 use Rattle.mesh_model.specs.Packets.Shapes.{TailKind, header_size, shape_of}
 use Rattle.mesh_model.specs.Packets.Shapes.TailKind.{containers, all_the_rest, nothing}
 use Rattle.mesh_laws.proofs.HeaderLemmas.{begin_length, header_width}
+use Rattle.mesh_codec.specs.Encoding.{FitsFragment}
 use Rattle.mesh_codec.proofs.Decoded.{one_packet}
 
 -- what a part is written as holds it

@@ -1,11 +1,26 @@
--- What `encode` answers. A packet can't be written where its containers are longer than the header
--- can tell, or where a tail is given to a kind that has none. The main word is `HasObstacle`.
+-- What `encode` asks and answers. A fragment's number and priority fit their byte. A packet can't
+-- be written where its containers are longer than the header can tell, or where a tail is given to
+-- a kind that has none. The main word is `HasObstacle`.
 use Rattle.std.specs.Prelude.{◌≡◌, ℕ, ◌<◌, List, length, ⊤}
 use Rattle.mesh_model.specs.declared.packet.Head.{Head}
+use Rattle.mesh_model.specs.declared.packet.Head.TheVariants.{IvOgm, Bcast, Elp, Ogm2, Unicast, Frag, Unicast4, Icmp, Utvlv}
+use Rattle.mesh_model.specs.Packets.Layout.{FitsFragmentByte}
 use Rattle.mesh_model.specs.Packets.Shapes.{shape_of}
 use Rattle.mesh_model.specs.Packets.Shapes.TailKind.{containers, nothing}
 use Rattle.mesh_codec.specs.declared.failure.CodecErr.{CodecErr}
 use Rattle.mesh_codec.specs.declared.failure.CodecErr.TheVariants.{Short, Version, Kind, Length, Long, Tail, Memory}
+
+-- a head that is a fragment's has a number and a priority that fit
+abbrev pub FitsFragment : Head → Type 0
+FitsFragment (IvOgm ttl flags seq orig prev tq) = ⊤
+FitsFragment (Bcast ttl seq orig) = ⊤
+FitsFragment (Elp orig seq interval) = ⊤
+FitsFragment (Ogm2 ttl flags seq orig throughput) = ⊤
+FitsFragment (Unicast ttl ttvn dst) = ⊤
+FitsFragment (Frag ttl index priority dst orig seq total) = FitsFragmentByte index priority
+FitsFragment (Unicast4 ttl ttvn dst src subtype) = ⊤
+FitsFragment (Icmp ttl msg dst orig uid seq) = ⊤
+FitsFragment (Utvlv ttl dst src) = ⊤
 
 -- the greatest length of containers that two bytes tell
 abbrev pub longest_containers : ℕ

@@ -1,5 +1,5 @@
--- The packets of a link frame where they lie. The main word is `frame_left`, what is left of a frame
--- whose packets are taken one after the other.
+-- The packets of a link frame where they lie. The main word is `frame_left`, what is left of a
+-- frame whose packets are taken one after the other.
 use Rattle.std.specs.Prelude.{ℕ, List, Option, Some, None}
 use Rattle.mesh_model.specs.declared.link_frame.Ending.{Ending}
 use Rattle.mesh_model.specs.Packets.FirstPacket as packets

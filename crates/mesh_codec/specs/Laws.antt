@@ -5,7 +5,8 @@ use Rattle.std.specs.List.{flat_map}
 use Rattle.mesh_model.specs.declared.packet.Head.{Head}
 use Rattle.mesh_model.specs.Packets.Shapes.{header_size, shape_of}
 use Rattle.mesh_model.specs.Packets.Shapes.TailKind.{all_the_rest}
-use Rattle.mesh_model.specs.Packets.Layout.{header_of, part_spelling, spelling, HasSpelling, FitsFragment, IsPacket}
+use Rattle.mesh_model.specs.Packets.Layout.{header_of, part_spelling, spelling, HasSpelling, IsPacket}
+use Rattle.mesh_codec.specs.Encoding.{FitsFragment}
 
 -- the bytes begin with one packet at most
 abbrev pub HasOneReading : Type 0

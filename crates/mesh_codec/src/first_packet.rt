@@ -30,8 +30,10 @@ pub struct Front<'a> {
 // The bytes after type and version, where there are those of a header of this size.
 fn whole(fields: &[u8], size: usize) -> Result<&[u8], NoPacket>
     requires { PREFIX ≤ size }
-    ensures ok { IfOk result (λ whole. (whole.now ≡ fields.now) × (size ≤ PREFIX + length fields.now)) }
-    ensures short { IfErr result (λ cause. (cause ≡ NoPacket.Short (PREFIX + length fields.now) size)
+    ensures ok { IfOk result (λ whole.
+        (whole.now ≡ fields.now) × (size ≤ PREFIX + length fields.now)) }
+    ensures short { IfErr result (λ cause.
+        (cause ≡ NoPacket.Short (PREFIX + length fields.now) size)
         × (PREFIX + length fields.now < size)) }
 {
     let have = PREFIX + fields.len();
@@ -45,7 +47,8 @@ fn whole(fields: &[u8], size: usize) -> Result<&[u8], NoPacket>
 fn header_in(kind: u8, fields: &[u8]) -> Result<Header<'_>, NoPacket>
     ensures ok { IfOk result (λ header. IsHeader (shape_of_type kind) fields.now header) }
     ensures err { IfErr result (λ cause.
-        packet_of_shape kind (shape_of_type kind) (kind ∷ compat_version ∷ fields.now) ≡ Err cause) }
+        packet_of_shape kind (shape_of_type kind) (kind ∷ compat_version ∷ fields.now)
+        ≡ Err cause) }
 {
     match kind {
         IV_OGM => Ok(iv_ogm(whole(fields, IV_OGM_SIZE)?)),

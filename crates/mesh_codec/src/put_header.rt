@@ -3,7 +3,8 @@
 ghost use Rattle.std.specs.Prelude.{◌≡◌, ℕ, ◌+◌, ◌≤◌};
 ghost use Rattle.std.specs.Vec.{vec_len};
 ghost use Rattle.mesh_model.specs.declared.packet.Head.TheVariants.{IvOgm, Bcast, Elp, Ogm2, Unicast, Frag, Unicast4, Icmp, Utvlv};
-ghost use Rattle.mesh_model.specs.Packets.Layout.{header_of, FitsFragment, FitsFragmentByte};
+ghost use Rattle.mesh_model.specs.Packets.Layout.{header_of, FitsFragmentByte};
+ghost use Rattle.mesh_codec.specs.Encoding.{FitsFragment};
 ghost use Rattle.mesh_codec.specs.Inner.Writing.{HasRoom, PutsParts, CanTell};
 
 use crate::numbers::{
@@ -56,7 +57,8 @@ fn put_bcast(out: &mut Vec<u8>, ttl: u8, seq: u32, orig: Mac)
 
 fn put_elp(out: &mut Vec<u8>, orig: Mac, seq: u32, interval: u32)
     requires room { HasRoom out.old ELP_SIZE }
-    ensures parts { (told : ℕ) → PutsParts out.old (header_of (Elp orig seq interval) told) out.new }
+    ensures parts { (told : ℕ) →
+        PutsParts out.old (header_of (Elp orig seq interval) told) out.new }
     ensures len { vec_len out.new ≡ vec_len out.old + ELP_SIZE }
 {
     put_u8(out, ELP);
@@ -68,7 +70,8 @@ fn put_elp(out: &mut Vec<u8>, orig: Mac, seq: u32, interval: u32)
 
 fn put_ogm2(out: &mut Vec<u8>, ttl: u8, flags: u8, seq: u32, orig: Mac, told: u16, throughput: u32)
     requires room { HasRoom out.old OGM2_SIZE }
-    ensures parts { PutsParts out.old (header_of (Ogm2 ttl flags seq orig throughput) told) out.new }
+    ensures parts { PutsParts out.old
+        (header_of (Ogm2 ttl flags seq orig throughput) told) out.new }
     ensures len { vec_len out.new ≡ vec_len out.old + OGM2_SIZE }
 {
     put_u8(out, OGM2);
@@ -105,7 +108,8 @@ fn put_frag(
 )
     requires fits { FitsFragmentByte number priority }
     requires room { HasRoom out.old FRAG_SIZE }
-    ensures parts { (told : ℕ) → PutsParts out.old (header_of (Frag ttl number priority dst orig seq total) told) out.new }
+    ensures parts { (told : ℕ) →
+        PutsParts out.old (header_of (Frag ttl number priority dst orig seq total) told) out.new }
     ensures len { vec_len out.new ≡ vec_len out.old + FRAG_SIZE }
 {
     put_u8(out, FRAG);
@@ -120,7 +124,8 @@ fn put_frag(
 
 fn put_unicast4(out: &mut Vec<u8>, ttl: u8, ttvn: u8, dst: Mac, src: Mac, subtype: u8)
     requires room { HasRoom out.old UNICAST4_SIZE }
-    ensures parts { (told : ℕ) → PutsParts out.old (header_of (Unicast4 ttl ttvn dst src subtype) told) out.new }
+    ensures parts { (told : ℕ) →
+        PutsParts out.old (header_of (Unicast4 ttl ttvn dst src subtype) told) out.new }
     ensures len { vec_len out.new ≡ vec_len out.old + UNICAST4_SIZE }
 {
     put_u8(out, UNICAST4);
@@ -135,7 +140,8 @@ fn put_unicast4(out: &mut Vec<u8>, ttl: u8, ttvn: u8, dst: Mac, src: Mac, subtyp
 
 fn put_icmp(out: &mut Vec<u8>, ttl: u8, msg: u8, dst: Mac, orig: Mac, uid: u8, seq: u16)
     requires room { HasRoom out.old ICMP_SIZE }
-    ensures parts { (told : ℕ) → PutsParts out.old (header_of (Icmp ttl msg dst orig uid seq) told) out.new }
+    ensures parts { (told : ℕ) →
+        PutsParts out.old (header_of (Icmp ttl msg dst orig uid seq) told) out.new }
     ensures len { vec_len out.new ≡ vec_len out.old + ICMP_SIZE }
 {
     put_u8(out, ICMP);

@@ -1,4 +1,4 @@
-ghost use Rattle.mesh_model.specs.Packets.Layout.{FitsFragment};
+ghost use Rattle.mesh_codec.specs.Encoding.{FitsFragment};
 
 use super::*;
 use mesh_base::Mac;

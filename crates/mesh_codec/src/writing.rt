@@ -1,6 +1,6 @@
 ghost use Rattle.std.specs.Prelude.{◌≡◌, ◌++◌, ◌+◌, ℕ, List, length, OnOk, OnErr, IfErr, IsErrOf, IsOk};
-ghost use Rattle.mesh_model.specs.Packets.Layout.{FitsFragment, HasSpelling, spelling};
-ghost use Rattle.mesh_codec.specs.Encoding.{IsTooLong, HasStrayTail, HasObstacle};
+ghost use Rattle.mesh_model.specs.Packets.Layout.{HasSpelling, spelling};
+ghost use Rattle.mesh_codec.specs.Encoding.{FitsFragment, IsTooLong, HasStrayTail, HasObstacle};
 
 use crate::failure::CodecErr;
 use crate::numbers::LONGEST_HEADER;

@@ -1,7 +1,7 @@
 use thiserror::Error;
 
-/// Why bytes begin no packet: the first cause that applies, in this order. `Short` stands twice: for
-/// type and version, and, behind `Kind`, for the header of the kind.
+/// Why bytes begin no packet: the first cause that applies, in this order. `Short` stands for type
+/// and version and, behind `Kind`, for the header of the kind.
 #[derive(Clone, Copy, Debug, PartialEq, Eq)]
 pub enum NoPacket {
     /// There are fewer bytes than type and version, or than the header of the kind, need.
@@ -28,7 +28,7 @@ pub enum TvlvErr {
 /// What ends the packets of a link frame.
 #[derive(Clone, Copy, Debug, PartialEq, Eq)]
 pub enum Ending {
-    /// So many bytes behind the last packet, which is whole. No further packet is looked for in them.
+    /// So many bytes behind the last packet, in which no further one is looked for.
     Rest { len: usize },
     /// The bytes behind the last packet begin none.
     BadPacket(NoPacket),

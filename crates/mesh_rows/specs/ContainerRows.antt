@@ -16,5 +16,5 @@ HasTableVersion digits version =
 -- the table that counts of these containers tells this checksum for a VLAN
 abbrev pub TellsSum : List ℕ → Vid → Option ℕ → Type 0
 TellsSum digits vid sum =
-    result_map_both (λ bytes. option_and_then (λ table. told_sum vid table.vlans) (first_table (containers_of bytes)))
-    (λ error. error) (decode_of digits) ≡ Ok sum
+    result_map_both (λ bytes. option_and_then (λ table. told_sum vid table.vlans)
+    (first_table (containers_of bytes))) (λ error. error) (decode_of digits) ≡ Ok sum

@@ -32,7 +32,8 @@ pub fn another_version_is_bad()
 /// An originator message with the containers of the ARP table and of a translation table.
 pub fn containers_have_their_lines()
     ensures { Prints
-        (codes "000f32000000000102000000000a02000000000a00ff000c" ++ codes "020100000401000401000000")
+        (codes "000f32000000000102000000000a02000000000a00ff000c"
+        ++ codes "020100000401000401000000")
         ((codes "packet iv_ogm ttl=50 flags=00 seq=1 orig=02:00:00:00:00:0a "
         ++ codes "prev=02:00:00:00:00:0a tq=255 tvlv=12")
         ∷ codes "tvlv 2 version=1 len=0"

@@ -50,7 +50,8 @@ TableIsReadBack =
 -- a record for a client tells the client, with the flags that it keeps, and whether it is gone
 abbrev pub RecordIsReadBack : Type 0
 RecordIsReadBack = (entry : Entry) (is_gone : Bool)
-    → (entry_of_change (change_of entry is_gone) ≡ record entry { flags = client_flags entry.flags })
+    → (entry_of_change (change_of entry is_gone)
+    ≡ record entry { flags = client_flags entry.flags })
     × (is_deletion (change_of entry is_gone) ≡ is_gone)
 
 -- the other spelled bodies are read back

@@ -1,4 +1,4 @@
-//! The numbers of the layouts: types and versions of containers, flags, sizes and offsets of fields.
+//! The numbers of the layouts: types and versions of containers, flags, sizes and offsets.
 
 /// The type of a gateway's container, which tells its bandwidth (`BATADV_TVLV_GW`).
 pub const GATEWAY: u8 = 1;

@@ -30,16 +30,15 @@ pub fn first_flaw(bytes: &[u8]) -> Option<TvlvErr>
 {
     let mut walk = TvlvIter::new(bytes);
     while let Some(next) = walk.next() {
-        match next {
-            Ok(container) => {
-                if !is_long_enough(&container) {
-                    return Some(TvlvErr::BadLength {
-                        kind: container.kind,
-                        len: container.body.len(),
-                    });
-                }
-            }
+        let container = match next {
+            Ok(container) => container,
             Err(cut) => return Some(cut),
+        };
+        if !is_long_enough(&container) {
+            return Some(TvlvErr::BadLength {
+                kind: container.kind,
+                len: container.body.len(),
+            });
         }
     }
     None

@@ -32,7 +32,8 @@ behind_fields (fragment ∷ fields) bytes = behind_fields fields (drop 1 bytes)
 -- a header of this shape was read from the bytes after type and version
 pub record HasRead (shape : Shape) (fields : List ℕ) (header : Header) : Type 0 where
   pub head_is : header.head ≡ head_in shape.fields shape.head fields
-  pub extent_is : (left : ℕ) → extent_length header.extent left ≡ tail_length shape.tail (told_in shape.fields fields) left
+  pub extent_is : (left : ℕ) → extent_length header.extent left
+      ≡ tail_length shape.tail (told_in shape.fields fields) left
   pub rest_is : header.rest.now ≡ behind_fields shape.fields fields
 
 -- a header of this shape, where there is one, was read from enough bytes

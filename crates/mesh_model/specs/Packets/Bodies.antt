@@ -78,13 +78,15 @@ vlan_of_bytes bytes = record {
 abbrev pub change_of_bytes : List ℕ → TtChange
 change_of_bytes bytes = record { flags = slice_index bytes 0; key = key_of_bytes (drop 4 bytes) }
 
--- the bytes of a client, a VLAN and a record
+-- the bytes of a client
 abbrev pub key_size : ℕ
 key_size = 8
 
+-- the bytes of a VLAN
 abbrev pub vlan_size : ℕ
 vlan_size = 8
 
+-- the bytes of a record
 abbrev pub change_size : ℕ
 change_size = 12
 

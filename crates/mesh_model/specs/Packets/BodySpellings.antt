@@ -1,6 +1,6 @@
--- How the bodies of the known containers are spelled. Numbers stand highest byte first, and reserved
--- bytes are 0. The main words are `tt_spelling`, `key_spelling`, which is the body of a roaming
--- advertisement, `gateway_spelling` and `multicast_spelling`.
+-- How the bodies of the known containers are spelled. Numbers stand highest byte first, and
+-- reserved bytes are 0. The main words are `tt_spelling`, `key_spelling`, which is the body of a
+-- roaming advertisement, `gateway_spelling` and `multicast_spelling`.
 use Rattle.std.specs.Prelude.{ℕ, List, [], ◌∷◌, ◌++◌, length, flat_map}
 use Rattle.byteorder.specs.Endian.{big_bytes}
 use Rattle.mesh_base.specs.declared.client.Key.{Key}

@@ -2,13 +2,14 @@
 -- cause for which they begin none: fewer bytes than type and version, or than the header of the
 -- kind, need; another version; a type byte of no kind; more bytes of containers told than are left
 -- after the header. The main word is `first_packet`. It agrees with `IsPacket` of the grammar.
-use Rattle.std.specs.Prelude.{ℕ, ◌/◌, ◌%◌, ◌==◌, nat_lt, if◌then◌else◌, List, [], ◌∷◌, length, take, drop, Option, Some, None, Result, Ok, Err}
+use Rattle.std.specs.Prelude.{ℕ, ◌==◌, nat_lt, if◌then◌else◌, List, [], ◌∷◌, length, take, drop, Option, Some, None, Result, Ok, Err}
 use Rattle.byteorder.specs.Endian.{big_number}
 use Rattle.mesh_base.specs.declared.address.Mac.{Mac}
 use Rattle.mesh_model.specs.declared.packet.Head.{Head}
 use Rattle.mesh_model.specs.declared.link_frame.NoPacket.{NoPacket}
 use Rattle.mesh_model.specs.declared.link_frame.NoPacket.TheVariants.{Short, Version, Kind, Length}
 use Rattle.mesh_model.specs.Packets.Numbers.{compat_version}
+use Rattle.mesh_model.specs.Packets.Layout.{number_in, priority_in}
 use Rattle.mesh_model.specs.Packets.Shapes.{Field, Shape, TailKind, HeadFrom, field_size, header_size, prefix_size, shape_of_type}
 use Rattle.mesh_model.specs.Packets.Shapes.Field.{number, address, reserved, tvlv_length, fragment}
 use Rattle.mesh_model.specs.Packets.Shapes.TailKind.{containers, all_the_rest, nothing}
@@ -38,7 +39,7 @@ head_in (reserved size ∷ fields) make bytes = head_in fields make (drop size b
 head_in (tvlv_length ∷ fields) make bytes =
     head_in fields make (drop (field_size tvlv_length) bytes)
 head_in (fragment ∷ fields) make bytes =
-    head_in fields (make (big_number 1 bytes / 16) (big_number 1 bytes / 2 % 8))
+    head_in fields (make (number_in (big_number 1 bytes)) (priority_in (big_number 1 bytes)))
     (drop (field_size fragment) bytes)
 
 -- the length of containers that is read from the bytes of fields, which is 0 where they tell none
@@ -60,7 +61,10 @@ tail_length nothing told left = 0
 abbrev pub packet_cut : Head → ℕ → List ℕ → Result Front NoPacket
 packet_cut head len after =
     if nat_lt (length after) len then Err (Length len (length after))
-    else Ok (record { packet = record { head = head; tail = take len after }; rest = drop len after })
+    else Ok (record {
+      packet = record { head = head; tail = take len after };
+      rest = drop len after;
+    })
 
 -- the packet of a shape whose fields these bytes hold, and go on with those after the header
 abbrev pub packet_of_fields : Shape → List ℕ → List ℕ → Result Front NoPacket

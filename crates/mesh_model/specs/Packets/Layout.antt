@@ -1,7 +1,7 @@
 -- The bytes of packets. The shape of a head's kind, filled with the values of the head, gives the
 -- parts of its header. The main words are `spelling`, the bytes that a packet is written as, and
 -- `IsPacket`, what bytes begin with.
-use Rattle.std.specs.Prelude.{◌≡◌, ℕ, ◌+◌, ◌*◌, ◌<◌, ◌≤◌, ◌^◌, List, [], ◌∷◌, ◌++◌, length, replicate, slice_index, ⊤}
+use Rattle.std.specs.Prelude.{◌≡◌, ℕ, ◌+◌, ◌*◌, ◌/◌, ◌%◌, ◌<◌, ◌≤◌, ◌^◌, List, [], ◌∷◌, ◌++◌, length, replicate, slice_index, ⊤}
 use Rattle.std.specs.List.{flat_map, AllByRecursion}
 use Rattle.std.specs.Int.{bytes_high_first}
 use Rattle.mesh_base.specs.declared.address.Mac.{Mac}
@@ -29,8 +29,8 @@ Values (reserved_field size ∷ fields) = Values fields
 Values (tvlv_length ∷ fields) = Values fields
 Values (fragment_field ∷ fields) = ℕ × (ℕ × Values fields)
 
--- a value before others
 infixr 5 ◌&◌
+-- a value before others
 abbrev ◌&◌ : {A B : Type 0} → A → B → A × B
 value & others = (value, others)
 
@@ -63,11 +63,31 @@ abbrev pub header_of : Head → ℕ → List Part
 header_of head told = number 1 (shape_of head).kind ∷ number 1 compat_version
     ∷ filled (shape_of head).fields (values_of head) told
 
+-- what one of a fragment's number is in its byte
+abbrev pub number_step : ℕ
+number_step = 16
+
+-- what one of a fragment's priority is in its byte
+abbrev pub priority_step : ℕ
+priority_step = 2
+
+-- the byte of a fragment's number and priority, without its spare bit
+abbrev pub fragment_byte : ℕ → ℕ → ℕ
+fragment_byte index priority = number_step * index + priority_step * priority
+
+-- the fragment's number in a byte
+abbrev pub number_in : ℕ → ℕ
+number_in byte = byte / number_step
+
+-- the priority in a byte
+abbrev pub priority_in : ℕ → ℕ
+priority_in byte = byte / priority_step % 8
+
 -- the bytes that a part is written as
 abbrev pub part_spelling : Part → List ℕ
 part_spelling (number size value) = bytes_high_first size value
 part_spelling (address mac) = mac.0
-part_spelling (fragment index priority) = (16 * index + 2 * priority) ∷ []
+part_spelling (fragment index priority) = fragment_byte index priority ∷ []
 part_spelling (reserved size) = replicate size 0
 
 -- the bytes that a packet is written as
@@ -90,7 +110,7 @@ abbrev pub Holds : List ℕ → Part → Type 0
 Holds bytes (number size value) = bytes ≡ bytes_high_first size value
 Holds bytes (address mac) = bytes ≡ mac.0
 Holds bytes (fragment index priority) =
-    (spare : ℕ) × (spare < 2) × (bytes ≡ (16 * index + 2 * priority + spare) ∷ [])
+    (spare : ℕ) × (spare < 2) × (bytes ≡ (fragment_byte index priority + spare) ∷ [])
 Holds bytes (reserved size) = length bytes ≡ size
 
 -- the bytes begin with the part, and go on with others
@@ -123,15 +143,3 @@ pub record IsPacket (bytes : List ℕ) (head : Head) (tail : List ℕ) (used : �
 pub record HasSpelling (head : Head) (tail : List ℕ) : Type 0 where
   pub parts : AllByRecursion Fits (header_of head (length tail))
   pub tail_is : IsTail (shape_of head).tail tail []
-
--- a head that is a fragment's has a number and a priority that fit
-abbrev pub FitsFragment : Head → Type 0
-FitsFragment (IvOgm ttl flags seq orig prev tq) = ⊤
-FitsFragment (Bcast ttl seq orig) = ⊤
-FitsFragment (Elp orig seq interval) = ⊤
-FitsFragment (Ogm2 ttl flags seq orig throughput) = ⊤
-FitsFragment (Unicast ttl ttvn dst) = ⊤
-FitsFragment (Frag ttl index priority dst orig seq total) = FitsFragmentByte index priority
-FitsFragment (Unicast4 ttl ttvn dst src subtype) = ⊤
-FitsFragment (Icmp ttl msg dst orig uid seq) = ⊤
-FitsFragment (Utvlv ttl dst src) = ⊤

@@ -1,7 +1,7 @@
 -- What a link frame holds: packets in order, and what ends them. After an originator message the
 -- next packet follows while further bytes begin with the same type byte and the version, and hold a
--- whole header. Other bytes after a packet are a rest that isn't read. Nothing follows what begins no
--- packet, a container that is cut, and one that is too short for its type. The main word is
+-- whole header. Other bytes after a packet are a rest that isn't read. Nothing follows what begins
+-- no packet, a container that is cut, and one that is too short for its type. The main word is
 -- `link_frame`.
 use Rattle.std.specs.Prelude.{ℕ, zero, suc, ◌==◌, ◌&&◌, ◌||◌, nat_le, Bool, List, [], ◌∷◌, length, slice_index, Option, Some, None, Result, Ok, Err, if◌then◌else◌}
 use Rattle.mesh_model.specs.declared.link_frame.Ending.{Ending}

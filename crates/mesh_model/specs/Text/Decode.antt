@@ -1,7 +1,7 @@
--- The text of `decode`: the lines of the packets of a link frame in order, and the line of what ends
--- them. A packet has a line, and its containers have theirs, up to the first that is cut or too
--- short. The line of a rest tells its length, and there is none where nothing is left. Each other
--- ending is a line `bad` with the cause. The main word is `decode_text`.
+-- The text of `decode`: the lines of the packets of a link frame in order, and the line of what
+-- ends them. A packet has a line, and its containers have theirs, up to the first that is cut or
+-- too short. The line of a rest tells its length, and there is none where nothing is left. Each
+-- other ending is a line `bad` with the cause. The main word is `decode_text`.
 use Rattle.std.specs.Prelude.{ℕ, List, [], ◌∷◌, ◌++◌, length, flat_map, codes, nat_eq, if◌then◌else◌}
 use Rattle.std.specs.List.{concat}
 use Rattle.mesh_model.specs.declared.link_frame.Ending.{Ending}
