@@ -10,7 +10,8 @@ use Rattle.mesh_model.specs.Routes.BestRoute.{best_route}
 use Rattle.mesh_model.specs.Routes.Hearings.{hearing, heard, heard_with}
 use Rattle.mesh_model.specs.Routes.Life.{HeardOgm, life_span, of, since, life, newest, numbers_from}
 use Rattle.mesh_model.specs.Routes.Numbers.{has, greatest, among, seen_among, window, window_length}
-use Rattle.mesh_model.specs.Routes.Ogm.{Ogm, ogm_of_head, is_echo, passes, has_flag, direct_flag}
+use Rattle.mesh_model.specs.Routes.Ogm.{Ogm, ogm_of_head, is_echo, passes, has_flag}
+use Rattle.mesh_model.specs.Packets.Numbers.{directlink_flag}
 use Rattle.mesh_model.specs.Routes.Quality.{own_ogms, echoes_with, echoes_from, echo_quality, receive_quality, received_in}
 use Rattle.mesh_model.specs.Routes.RouteLog.{RouteLog, RouteInput, OwnTick, HeadCame}
 use Rattle.mesh_laws.proofs.WindowLemmas.{among-window, greatest-window}
@@ -37,8 +38,8 @@ echo_le me k last from (Some m) echoes le =
     elim (is_echo me last m && same_mac from k) as (λ b. (is_echo me last m && same_mac from k) ≡ b → greatest (cond b (m.seq ∷ echoes) echoes) ≤ last) [
       | true ↦ λ t.
           let echo = and_parts (is_echo me last m) (same_mac from k) t in
-          let direct = and_parts (same_mac m.orig me) (has_flag direct_flag m.flags && (nat_lt 0 m.seq && nat_le m.seq last)) echo.0 in
-          let within = and_parts (has_flag direct_flag m.flags) (nat_lt 0 m.seq && nat_le m.seq last) direct.1 in
+          let direct = and_parts (same_mac m.orig me) (has_flag directlink_flag m.flags && (nat_lt 0 m.seq && nat_le m.seq last)) echo.0 in
+          let within = and_parts (has_flag directlink_flag m.flags) (nat_lt 0 m.seq && nat_le m.seq last) direct.1 in
           let last_one = and_parts (nat_lt 0 m.seq) (nat_le m.seq last) within.1 in
           let seq = leb-true m.seq last last_one.1 in
           omega (arith, seq, le)

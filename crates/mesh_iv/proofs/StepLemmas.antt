@@ -10,7 +10,8 @@ use Rattle.mesh_model.specs.Routes.BestRoute.{best_route, is_over}
 use Rattle.mesh_model.specs.Routes.Hearings.{before, heard, sends_on, valued}
 use Rattle.mesh_model.specs.Routes.Life.{HeardOgm, of, since, life, newest, numbers_from, is_first, is_accepted, forwarded}
 use Rattle.mesh_model.specs.Routes.Numbers.{has, greatest, window}
-use Rattle.mesh_model.specs.Routes.Ogm.{passes, has_flag, direct_flag}
+use Rattle.mesh_model.specs.Routes.Ogm.{passes, has_flag}
+use Rattle.mesh_model.specs.Packets.Numbers.{directlink_flag}
 use Rattle.mesh_model.specs.Routes.Queries.{unheard}
 use Rattle.mesh_model.specs.Routes.Quality.{average_quality, echo_quality, echoes_from, own_ogms}
 use Rattle.mesh_model.specs.Routes.RouteLog.{RouteLog}
@@ -65,7 +66,7 @@ module _ (me : Mac) (log : RouteLog) (came : OgmCame) where
   heard_is tp p = ap (λ b. cond b (h ∷ hearings) hearings) p
 
   no_echo : (tp : ℕ) → same_mac came.orig me ≡ false → (k : Mac) → echoes_from me k (input_of came tp ∷ log) ≡ echoes k
-  no_echo tp other k = ap (λ b. cond ((b && (has_flag direct_flag came.flags && (nat_lt 0 came.seq && nat_le came.seq (own_ogms log)))) && same_mac came.from k) (came.seq ∷ echoes k) (echoes k)) other
+  no_echo tp other k = ap (λ b. cond ((b && (has_flag directlink_flag came.flags && (nat_lt 0 came.seq && nat_le came.seq (own_ogms log)))) && same_mac came.from k) (came.seq ∷ echoes k) (echoes k)) other
 
   -- ---- the rows of originators
   pub lives_step : (old new : List (Mac × Life)) → LivesStand hearings old

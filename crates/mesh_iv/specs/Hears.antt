@@ -8,7 +8,8 @@ use Rattle.mesh_model.specs.Routes.AlgorithmIv.{iv_life, after_hop}
 use Rattle.mesh_model.specs.Routes.Hearings.{in_time, hearing, heard}
 use Rattle.mesh_model.specs.Routes.Life.{HeardOgm, numbers_from, newest, is_live}
 use Rattle.mesh_model.specs.Routes.Numbers.{has, window}
-use Rattle.mesh_model.specs.Routes.Ogm.{ogm_of_head, passes, not_best_flag, direct_flag}
+use Rattle.mesh_model.specs.Routes.Ogm.{ogm_of_head, passes}
+use Rattle.mesh_model.specs.Packets.Numbers.{not_best_next_hop_flag, directlink_flag}
 use Rattle.mesh_model.specs.Routes.Quality.{echo_quality}
 use Rattle.mesh_model.specs.Routes.RouteLog.{RouteLog, RouteInput, HeadCame}
 use Rattle.mesh_iv.specs.declared.best.Best.{Best}
@@ -68,7 +69,7 @@ goes_on came value sent over =
 -- the flags with which it is sent on
 abbrev pub flags_on : OgmCame → Bool → ℕ
 flags_on came over =
-    if same_mac came.from came.orig then (if over then direct_flag else direct_flag + not_best_flag)
+    if same_mac came.from came.orig then (if over then directlink_flag else directlink_flag + not_best_next_hop_flag)
     else 0
 
 -- the head with which it is sent on

@@ -1,7 +1,7 @@
 -- Algorithm IV. At each tick of even index a node sends its OGM, the k-th with number k. A hearing
 -- that is sent on has one hop less to live, its neighbour as previous sender, and its value, less a
--- part of 30 in 255, as quality; it is marked DIRECTLINK where it came from the originator itself, and
--- then NOT_BEST_NEXT_HOP too where the best route is another. The main word is `iv_queries`.
+-- part of 30 in 255, as quality; it is marked DIRECTLINK where it came from the originator itself,
+-- and then NOT_BEST_NEXT_HOP too where the best route is another. The main word is `iv_queries`.
 use Rattle.std.specs.Prelude.{ℕ, ◌+◌, ◌-◌, ◌*◌, ◌/◌, ◌%◌, ◌==◌, nat_lt, List, ◌∷◌, filter_map, Option, Some, None, if◌then◌else◌}
 use Rattle.mesh_base.specs.declared.address.Mac.{Mac}
 use Rattle.mesh_model.specs.declared.packet.Head.{Head}
@@ -14,7 +14,8 @@ use Rattle.mesh_model.specs.Routes.Addresses.{same_mac}
 use Rattle.mesh_model.specs.Routes.BestRoute.{best_route, route_metric, is_over, orig_row}
 use Rattle.mesh_model.specs.Routes.Hearings.{before, hearing, heard}
 use Rattle.mesh_model.specs.Routes.Life.{HeardOgm, of, life, is_live, is_accepted, heard_originators}
-use Rattle.mesh_model.specs.Routes.Ogm.{Ogm, ogm_of_head, passes, not_best_flag, direct_flag}
+use Rattle.mesh_model.specs.Routes.Ogm.{Ogm, ogm_of_head, passes}
+use Rattle.mesh_model.specs.Packets.Numbers.{not_best_next_hop_flag, directlink_flag}
 use Rattle.mesh_model.specs.Routes.Quality.{average_quality, receive_quality, echo_quality, full_quality, own_ogms}
 use Rattle.mesh_model.specs.Routes.Queries.{Queries, unheard}
 use Rattle.mesh_model.specs.Routes.RouteLog.{RouteLog}
@@ -38,8 +39,8 @@ iv_beats me log index = record {
 abbrev pub forward_flags : HeardOgm → List HeardOgm → ℕ
 forward_flags h alive =
     if same_mac h.from h.orig then
-    (if is_over h.from (best_route (average_quality alive) alive) then direct_flag
-    else direct_flag + not_best_flag)
+    (if is_over h.from (best_route (average_quality alive) alive) then directlink_flag
+    else directlink_flag + not_best_next_hop_flag)
     else 0
 
 -- what is left of a value after a hop

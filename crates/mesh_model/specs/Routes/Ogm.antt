@@ -6,6 +6,7 @@ use Rattle.std.specs.Prelude.{ℕ, ◌&&◌, ◌==◌, nat_le, nat_lt, bit_and, 
 use Rattle.mesh_base.specs.declared.address.Mac.{Mac}
 use Rattle.mesh_model.specs.declared.packet.Head.{Head}
 use Rattle.mesh_model.specs.declared.packet.Head.TheVariants.{IvOgm, Bcast, Elp, Ogm2, Unicast, Frag, Unicast4, Icmp, Utvlv}
+use Rattle.mesh_model.specs.Packets.Numbers.{not_best_next_hop_flag, directlink_flag}
 use Rattle.mesh_model.specs.Routes.Addresses.{same_mac}
 
 -- an OGM of algorithm IV, its fields as in the head
@@ -36,14 +37,6 @@ ogm_of_head (Unicast4 ttl ttvn dst src subtype) = None
 ogm_of_head (Icmp ttl msg dst orig uid seq) = None
 ogm_of_head (Utvlv ttl dst src) = None
 
--- the flag NOT_BEST_NEXT_HOP: the sender hears the originator better over another node
-abbrev pub not_best_flag : ℕ
-not_best_flag = 1
-
--- the flag DIRECTLINK: the sender heard it from the originator itself
-abbrev pub direct_flag : ℕ
-direct_flag = 4
-
 -- whether a flag is set
 abbrev pub has_flag : ℕ → ℕ → Bool
 has_flag flag flags = not (bit_and flags flag == 0)
@@ -52,9 +45,10 @@ has_flag flag flags = not (bit_and flags flag == 0)
 abbrev pub passes : Mac → Ogm → Bool
 passes me m =
     not (same_mac m.orig me)
-    && (not (same_mac m.prev me) && (not (has_flag not_best_flag m.flags) && nat_lt 0 m.tq))
+    && (not (same_mac m.prev me)
+    && (not (has_flag not_best_next_hop_flag m.flags) && nat_lt 0 m.tq))
 
 -- whether an OGM is an echo at the node of this address, whose own last number is `last`
 abbrev pub is_echo : Mac → ℕ → Ogm → Bool
 is_echo me last m =
-    same_mac m.orig me && (has_flag direct_flag m.flags && (nat_lt 0 m.seq && nat_le m.seq last))
+    same_mac m.orig me && (has_flag directlink_flag m.flags && (nat_lt 0 m.seq && nat_le m.seq last))
