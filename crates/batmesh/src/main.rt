@@ -9,13 +9,22 @@ use std::env;
 use std::io::{self, ErrorKind};
 use std::process::ExitCode;
 
-/// The words after the program's name.
+/// A word in the form of an option that no version has: it is never taken.
+const UNREADABLE: &str = "--not-utf-8";
+
+/// The words after the program's name, or, where they aren't UTF-8, a word that is never taken.
 fn words(rt: &HostRuntime) -> io::Result<Vec<String>> {
-    let words = env::args(rt)?.skip(1).collect(rt.alloc())?;
+    let words = match env::args(rt) {
+        Ok(words) => words.skip(1).collect(rt.alloc())?,
+        Err(error) if error.kind() == ErrorKind::OutOfMemory => return Err(error),
+        Err(_unreadable) => {
+            let word = String::from_str(rt.alloc(), UNREADABLE)?;
+            vec![in rt.alloc(); word]?
+        }
+    };
     Ok(words)
 }
 
-/// Words that aren't UTF-8 stand as one empty word, which isn't taken.
 fn main(rt: HostRuntime) -> ExitCode {
     let mut intake = RealIntake::new(&rt);
     let mut out = RealSink::new(rt.stdout());
@@ -28,11 +37,7 @@ fn main(rt: HostRuntime) -> ExitCode {
             &mut out,
             &mut err,
         ),
-        Err(error) if error.kind() == ErrorKind::OutOfMemory => OUT_OF_MEMORY,
-        Err(_) => {
-            let unread = [String::new(rt.alloc())];
-            batmesh(rt.alloc(), &unread, &mut intake, &mut out, &mut err)
-        }
+        Err(_out_of_memory) => OUT_OF_MEMORY,
     };
     ExitCode::from(status)
 }
