@@ -1,8 +1,8 @@
 -- What a node heard under algorithm IV, with what it decided at each hearing: whether it is late,
 -- its value, and whether it was sent on. It is sent on where it is the first of its number from its
--- neighbour in the life, isn't late, may live longer, and either came from the originator itself, or
--- has a value and came over the best route as it then is, and the number wasn't sent on in the life.
--- The main word is `heard`.
+-- neighbour in the life, isn't late, may live longer, and either came from the originator itself,
+-- or has a value and came over the best route as it then is, and the number wasn't sent on in the
+-- life. The main word is `heard`.
 use Rattle.std.specs.Prelude.{ℕ, ◌+◌, ◌&&◌, ◌||◌, nat_le, nat_lt, Bool, false, not, List, [], ◌∷◌, Option, Some, None, if◌then◌else◌}
 use Rattle.mesh_base.specs.declared.address.Mac.{Mac}
 use Rattle.mesh_model.specs.Routes.Addresses.{same_mac}

@@ -1,8 +1,8 @@
 -- What a node knows of an originator, by the OGMs of it that it heard. A life is the longest run of
--- hearings in which each follows the one before by less than 200,000 ms; an originator is live while
--- its last hearing is younger than that. A hearing that is late, since its number is 64 or more below
--- the newest, counts for the life and for nothing else. Each list of hearings is newest first. The
--- main word is `life`.
+-- hearings in which each follows the one before by less than 200,000 ms; an originator is live
+-- while its last hearing is younger than that. A hearing that is late, since its number is 64 or
+-- more below the newest, counts for the life and for nothing else. Each list of hearings is newest
+-- first. The main word is `life`.
 use Rattle.std.specs.Prelude.{ℕ, ◌-◌, ◌&&◌, nat_eq, nat_lt, max, Bool, true, false, not, List, [], ◌∷◌, filter, if◌then◌else◌}
 use Rattle.mesh_base.specs.declared.address.Mac.{Mac}
 use Rattle.mesh_model.specs.Routes.Addresses.{same_mac, insert_mac}

@@ -1,8 +1,8 @@
 -- The quality of links and paths under algorithm IV. The receive quality of a neighbour is how many
--- of its own last 64 numbers were heard from itself in its life. The echo quality is how many of the
--- node's own last 64 numbers came back from it. By both an OGM has its value: with
--- `link = 255 * min(echo, receive) / receive` and `asym = 255 - 255 * (64 - receive)^3 / 262144` it is
--- `tq * link * asym / 65025`, each division floored, and 0 where nothing is received. The quality of a
+-- of its own last 64 numbers were heard from itself in its life. The echo quality is how many of
+-- the node's own last 64 numbers came back from it. By both an OGM has its value: with `link = 255
+-- * min(echo, receive) / receive` and `asym = 255 - 255 * (64 - receive)^3 / 262144` it is `tq *
+-- link * asym / 65025`, each division floored, and 0 where nothing is received. The quality of a
 -- path is the mean of the values above 0 among the originator's newest five numbers. The main words
 -- are `transmit_quality` and `average_quality`.
 use Rattle.std.specs.Prelude.{ℕ, suc, ◌-◌, ◌*◌, ◌/◌, ◌%◌, ◌&&◌, ◌==◌, nat_lt, min, List, [], ◌∷◌, length, map, filter, sum, Option, Some, None, if◌then◌else◌}

@@ -1,5 +1,5 @@
--- The log of a routing algorithm: all that it was given, newest first. That is its node's ticks, and
--- the heads of the packets that came from neighbours. The main word is `RouteLog`.
+-- The log of a routing algorithm: all that it was given, newest first. That is its node's ticks,
+-- and the heads of the packets that came from neighbours. The main word is `RouteLog`.
 use Rattle.std.specs.Prelude.{◌≡◌, ℕ, suc, ◌+◌, ◌^◌, ◌<◌, List, [], ◌∷◌, Option, Some, None}
 use Rattle.mesh_base.specs.declared.address.Mac.{Mac}
 use Rattle.mesh_model.specs.declared.packet.Head.{Head}
