@@ -13,7 +13,7 @@ use Rattle.mesh_model.specs.Routes.Ogm.{Ogm, ogm_of_head}
 use Rattle.mesh_model.specs.Routes.Quality.{average_quality, echo_quality, echoes_with, echoes_from, own_ogms, receive_quality}
 use Rattle.mesh_model.specs.Routes.Queries.{unheard}
 use Rattle.mesh_model.specs.Routes.RouteLog.{RouteLog, HeadCame}
-use Rattle.mesh_algo.specs.AlgoLaws.{HasRouteByMetric, HasLiveRoutes, HasOgmAtEvenTicks, HasSameAnswers}
+use Rattle.mesh_algo.specs.AlgoLaws.{HasElps, HasRouteByMetric, HasLiveRoutes, HasOgmAtEvenTicks, HasSameAnswers, HearsNoneBut, IgnoresAllBut}
 use Rattle.mesh_algo.proofs.BestLemmas.{IsTop, is_among, best_is_top}
 
 by_top : (score : Mac → ℕ) (among : Mac → Bool) (route : Option Mac) → IsTop score among route → IsSome route ↔ (0 < route_metric score route)
@@ -53,8 +53,8 @@ module _ (me : Mac) (log : RouteLog) (moment : ℕ) (from : Mac) (tp : ℕ) (hea
   none : ogm_of_head head ≡ None
   none = no_ogm (ogm_of_head head) other
 
-  pub iv_other_unheard : (iv_queries me).hear log moment from tp head ≡ unheard
-  iv_other_unheard = ap (λ m. iv_answer me moment from m (heard me log) (echo_quality me from log)) none
+  other_unheard : (iv_queries me).hear log moment from tp head ≡ unheard
+  other_unheard = ap (λ m. iv_answer me moment from m (heard me log) (echo_quality me from log)) none
 
   heard_same : heard me (HeadCame moment from tp head ∷ log) ≡ heard me log
   heard_same = ap (λ m. heard_with me moment from m (heard me log) (echo_quality me from log)) none
@@ -62,8 +62,8 @@ module _ (me : Mac) (log : RouteLog) (moment : ℕ) (from : Mac) (tp : ℕ) (hea
   echoes_same : (k : Mac) → echo_quality me k (HeadCame moment from tp head ∷ log) ≡ echo_quality me k log
   echoes_same k = ap (λ m. length (seen_among (own_ogms log) window_length (echoes_with me k (own_ogms log) from m (echoes_from me k log)))) none
 
-  pub iv_other_kinds : HasSameAnswers (iv_queries me) (HeadCame moment from tp head ∷ log) log
-  iv_other_kinds = record {
+  other_kinds : HasSameAnswers (iv_queries me) (HeadCame moment from tp head ∷ log) log
+  other_kinds = record {
     beats = λ index. refl;
     hear = λ m f t h. ap₂ (λ l e. iv_answer me m f (ogm_of_head h) l e) heard_same (echoes_same f);
     metric = λ m o. ap (λ l. route_metric (average_quality (life m (of o l))) (iv_route (life m (of o l)))) heard_same;
@@ -72,3 +72,12 @@ module _ (me : Mac) (log : RouteLog) (moment : ℕ) (from : Mac) (tp : ℕ) (hea
     originators = λ m. ap (λ l. filter_map (λ o. orig_row (average_quality (life m (of o l))) m o (life m (of o l))) (heard_originators l)) heard_same;
     neighbours = λ m i. filter_map (λ k. cond (nat_lt 0 (receive_quality m k (heard_same i))) (Some (Iv k (receive_quality m k (heard_same i)) (echoes_same k i))) None) (heard_originators (heard_same i));
   }
+
+pub iv_elps : (me : Mac) → HasElps (iv_queries me) false
+iv_elps me = λ log index. refl
+
+pub iv_other_unheard : (me : Mac) → HearsNoneBut (iv_queries me) (λ head. is_some (ogm_of_head head))
+iv_other_unheard me = λ log moment from tp head other. other_unheard me log moment from tp head other
+
+pub iv_other_kinds : (me : Mac) → IgnoresAllBut (iv_queries me) (λ head. is_some (ogm_of_head head))
+iv_other_kinds me = λ log moment from tp head other. other_kinds me log moment from tp head other

@@ -1,10 +1,10 @@
 -- What is said of a routing algorithm's answers in the laws that each algorithm keeps. The main words
--- are `HasRouteByMetric` and `HasSameAnswers`.
-use Rattle.std.specs.Prelude.{◌≡◌, ◌↔◌, ℕ, ◌%◌, ◌<◌, is_some, IsSome, IsTrue}
+-- are `HasRouteByMetric` and `IgnoresAllBut`.
+use Rattle.std.specs.Prelude.{◌≡◌, ◌↔◌, ℕ, ◌%◌, ◌<◌, Bool, false, List, ◌∷◌, is_some, IsSome, IsTrue}
 use Rattle.mesh_base.specs.declared.address.Mac.{Mac}
 use Rattle.mesh_model.specs.declared.packet.Head.{Head}
-use Rattle.mesh_model.specs.Routes.Queries.{Queries}
-use Rattle.mesh_model.specs.Routes.RouteLog.{RouteLog}
+use Rattle.mesh_model.specs.Routes.Queries.{Queries, unheard}
+use Rattle.mesh_model.specs.Routes.RouteLog.{RouteLog, HeadCame}
 
 -- a route is there exactly where the metric is above 0
 abbrev pub HasRouteByMetric : Queries → Type 0
@@ -23,6 +23,16 @@ abbrev pub HasOgmAtEvenTicks : Queries → Type 0
 HasOgmAtEvenTicks q =
     (log : RouteLog) (index : ℕ) → IsSome (q.beats log index).ogm ↔ (index % 2 ≡ 0)
 
+-- an ELP is sent at each tick, or at none
+abbrev pub HasElps : Queries → Bool → Type 0
+HasElps q sends = (log : RouteLog) (index : ℕ) → is_some (q.beats log index).elp ≡ sends
+
+-- a head of another kind than those that are heard is not heard
+abbrev pub HearsNoneBut : Queries → (Head → Bool) → Type 0
+HearsNoneBut q hears =
+    (log : RouteLog) (moment : ℕ) (from : Mac) (throughput : ℕ) (head : Head) →
+    hears head ≡ false → q.hear log moment from throughput head ≡ unheard
+
 -- every answer is the same by two logs
 pub record HasSameAnswers (q : Queries) (a b : RouteLog) : Type 0 where
   pub beats : (index : ℕ) → q.beats a index ≡ q.beats b index
@@ -33,3 +43,9 @@ pub record HasSameAnswers (q : Queries) (a b : RouteLog) : Type 0 where
   pub live : (moment : ℕ) (orig : Mac) → q.live a moment orig ≡ q.live b moment orig
   pub originators : (moment : ℕ) → q.originators a moment ≡ q.originators b moment
   pub neighbours : (moment : ℕ) → q.neighbours a moment ≡ q.neighbours b moment
+
+-- a head of another kind than those that are heard changes no answer
+abbrev pub IgnoresAllBut : Queries → (Head → Bool) → Type 0
+IgnoresAllBut q hears =
+    (log : RouteLog) (moment : ℕ) (from : Mac) (throughput : ℕ) (head : Head) →
+    hears head ≡ false → HasSameAnswers q (HeadCame moment from throughput head ∷ log) log

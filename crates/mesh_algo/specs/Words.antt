@@ -1,5 +1,5 @@
--- Sequence numbers as the bits of a word: bit i says that the number i below the newest was seen. The
--- main word is `numbers_of`.
+-- Sequence numbers as the bits of a word: bit i says that the number i below the newest was seen.
+-- The main word is `numbers_of`.
 use Rattle.std.specs.Prelude.{◌≡◌, ◌⊎◌, ℕ, zero, suc, ◌+◌, ◌-◌, ◌*◌, ◌%◌, ◌^◌, ◌<◌, ◌&&◌, nat_eq, nat_le, nat_lt, Bool, true, false, List, [], ◌∷◌, Option, Some, None, if◌then◌else◌}
 use Rattle.std.specs.Int.{bit_at}
 use Rattle.mesh_model.specs.Routes.Numbers.{has, greatest, among, window_length}

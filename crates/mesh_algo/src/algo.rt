@@ -3,7 +3,7 @@ ghost use Rattle.mesh_base.specs.declared.address.Mac.{Mac};
 ghost use Rattle.mesh_model.specs.declared.packet.Head.{Head};
 ghost use Rattle.mesh_model.specs.Routes.Queries.{Queries, unheard};
 ghost use Rattle.mesh_model.specs.Routes.RouteLog.{RouteLog, OwnTick, HeadCame, MayTick};
-ghost use Rattle.mesh_algo.specs.AlgoLaws.{HasRouteByMetric, HasLiveRoutes, HasOgmAtEvenTicks, HasSameAnswers};
+ghost use Rattle.mesh_algo.specs.AlgoLaws.{HasElps, HasLiveRoutes, HasOgmAtEvenTicks, HasRouteByMetric, HearsNoneBut, IgnoresAllBut};
 
 use mesh_base::{Mac, Millis, NoMemory};
 use mesh_model::{Beats, Head, Hearing, LinkRow, OrigRow};
@@ -31,8 +31,8 @@ pub trait Algo {
         ensures beats { (me : Mac) (log : RouteLog) → stands self.old me log →
             result ≡ (queries me).beats log index };
 
-    /// Takes the head of a packet that came from a neighbour, with the throughput of the link to it,
-    /// or 0. A head of another kind changes nothing. Only this call takes memory.
+    /// Takes the head of a packet that came from a neighbour, with the throughput of the link to
+    /// it, or 0. A head of another kind changes nothing. Only this call takes memory.
     fn hear(&mut self, now: Millis, from: Mac, tp: u32, head: &Head) -> Result<Hearing, NoMemory>
         ensures noted { OnOk result ((me : Mac) (log : RouteLog) → stands self.old me log →
             stands self.new me (HeadCame now from tp head.now ∷ log)) }
@@ -81,11 +81,11 @@ pub trait Algo {
     ghost ogms: { (me : Mac) → HasOgmAtEvenTicks (queries me) };
 
     /// A law: an ELP is sent at each tick, or at none.
-    ghost elps: { (me : Mac) (log : RouteLog) (index : ℕ) → is_some ((queries me).beats log index).elp ≡ sends_elps };
+    ghost elps: { (me : Mac) → HasElps (queries me) sends_elps };
 
     /// A law: a head of another kind is not heard.
-    ghost other_unheard: { (me : Mac) (log : RouteLog) (moment : ℕ) (from : Mac) (tp : ℕ) (head : Head) → hears head ≡ false → (queries me).hear log moment from tp head ≡ unheard };
+    ghost other_unheard: { (me : Mac) → HearsNoneBut (queries me) hears };
 
     /// A law: a head of another kind changes no answer.
-    ghost other_kinds: { (me : Mac) (log : RouteLog) (moment : ℕ) (from : Mac) (tp : ℕ) (head : Head) → hears head ≡ false → HasSameAnswers (queries me) (HeadCame moment from tp head ∷ log) log };
+    ghost other_kinds: { (me : Mac) → IgnoresAllBut (queries me) hears };
 }

@@ -30,7 +30,10 @@ impl Model for SeqWindow {
 
     ghost inverse = { λ numbers. record { word = word_of numbers; newest = greatest numbers } };
 
-    ghost inverse_ok = { λ a is_word i. record { word = word_back a.newest a.word is_word i; newest = newest_back a.newest a.word is_word i } };
+    ghost inverse_ok = { λ a is_word i. record {
+      word = word_back a.newest a.word is_word i;
+      newest = newest_back a.newest a.word is_word i;
+    } };
 }
 
 impl SeqWindow {
@@ -70,9 +73,11 @@ impl SeqWindow {
         self.word.count_ones()
     }
 
-    /// How many of its numbers are among the 64 up to this one, or to its newest if that is above it.
+    /// How many of its numbers are among the 64 up to this one, or to its newest if that is above
+    /// it.
     pub fn count_to(&self, top: u32) -> u32
-        ensures counted { result ≡ length (seen_among (max top (greatest self.now)) window_length self.now) }
+        ensures counted { result
+            ≡ length (seen_among (max top (greatest self.now)) window_length self.now) }
         ensures few { result ≤ 64 }
     {
         shifted(self.word, top.saturating_sub(self.newest)).count_ones()

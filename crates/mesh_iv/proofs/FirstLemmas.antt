@@ -78,7 +78,7 @@ module _ (me : Mac) (log : RouteLog) (came : OgmCame) (first : is_first (hearing
   -- ---- the tables
   module _ (row : Option Life) (path : Path) (value : ℕ) (old new : Tables)
       (is : IsHeard me old log came row) (path_is : path ≡ kept_row came.from lived) (value_is : value ≡ own.value)
-      (written : IsWritten came row (path_with path came.seq value) value old.lives old.paths new.lives new.paths) where
+      (written : IsWritten came row (path_with path came.seq value) value (old.lives, old.paths) (new.lives, new.paths)) where
     put_row : (pair : Pair) → same_mac came.from pair.from ≡ true → Some (path_with path came.seq value) ≡ path_row pair.from (own ∷ lived)
     put_row pair t =
         ap₂ (λ p n. Some (path_with p came.seq n)) (path_is ∙ ap (λ k. kept_row k lived) (same_exact came.from pair.from t)) value_is

@@ -12,3 +12,4 @@ pub mod FirstLemmas
 pub mod ValueLemmas
 pub mod EchoLemmas
 pub mod TableLemmas
+pub mod KeyLemmas

@@ -35,7 +35,7 @@ any_key q (e ∷ lives) =
       | false ↦ any_key q lives
     ]
 
-some_row : (hearings : List HeardOgm) → is_some (life_row (latest hearings)) ≡ is_live hearings
+pub some_row : (hearings : List HeardOgm) → is_some (life_row (latest hearings)) ≡ is_live hearings
 some_row [] = refl
 some_row (h ∷ older) = refl
 

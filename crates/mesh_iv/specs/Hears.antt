@@ -6,7 +6,7 @@ use Rattle.mesh_model.specs.declared.packet.Head.TheVariants.{IvOgm}
 use Rattle.mesh_model.specs.Routes.Addresses.{same_mac}
 use Rattle.mesh_model.specs.Routes.AlgorithmIv.{iv_life, after_hop}
 use Rattle.mesh_model.specs.Routes.Hearings.{in_time, hearing, heard}
-use Rattle.mesh_model.specs.Routes.Life.{HeardOgm, numbers_from, newest, is_live}
+use Rattle.mesh_model.specs.Routes.Life.{HeardOgm, is_first, numbers_from}
 use Rattle.mesh_model.specs.Routes.Numbers.{has, window}
 use Rattle.mesh_model.specs.Routes.Ogm.{ogm_of_head, passes}
 use Rattle.mesh_model.specs.Packets.Numbers.{not_best_next_hop_flag, directlink_flag}
@@ -33,8 +33,9 @@ abbrev pub hearing_of : Mac → RouteLog → OgmCame → HeardOgm
 hearing_of me log came =
     hearing came.moment came.from (ogm_in came) (heard me log) (echo_quality me came.from log)
 
--- an OGM is heard, by tables that stand for a log, in which the originator has this row while it lives
-pub record IsHeard (me : Mac) (tables : Tables) (log : RouteLog) (came : OgmCame) (row : Option Life) : Type 0 where
+-- an OGM is heard, by tables that stand for a log, where the originator has this row while it lives
+pub record IsHeard (me : Mac) (tables : Tables) (log : RouteLog) (came : OgmCame)
+    (row : Option Life) : Type 0 where
   pub stands : StandsFor me tables log
   pub passing : passes me (ogm_in came) ≡ true
   pub row_is : row ≡ life_row (life_before me log came)
@@ -45,6 +46,13 @@ kept_row k alive = record {
   heard = window (numbers_from k alive);
   values = five (λ back. value_below back k alive);
 }
+
+-- it is the first of its number from its neighbour, which has this row in the originator's life
+pub record IsFirstHeard (me : Mac) (tables : Tables) (log : RouteLog) (came : OgmCame)
+    (row : Option Life) (path : Path) : Type 0 where
+  pub is : IsHeard me tables log came row
+  pub path_is : path ≡ kept_row came.from (life_before me log came)
+  pub first : is_first (hearing_of me log came) (life_before me log came) ≡ true
 
 -- the newest number of a life by its row, and the numbers that were sent on
 abbrev pub newest_by : Option Life → ℕ

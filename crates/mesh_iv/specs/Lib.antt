@@ -6,3 +6,4 @@ pub mod Answers
 pub mod Came
 pub mod Hears
 pub mod Writing
+pub mod KeyLaw

@@ -28,7 +28,8 @@ pub record LivesStand (hearings : List HeardOgm) (lives : List (Mac × Life)) : 
   pub are : (orig : Mac) → lookup (same_mac orig) lives ≡ life_row (latest (of orig hearings))
   pub rise : IsStrictlySortedBy mac_order (keys_of lives)
 
--- the row of a pair at the node of an address, by the hearings, and by the echoes from each neighbour
+-- the row of a pair at the node of an address, by the hearings, and by the echoes from each
+-- neighbour
 abbrev pub path_at : Mac → List HeardOgm → (Mac → List ℕ) → Pair → Option Path
 path_at me hearings echoes pair =
     if same_mac pair.orig me then echo_row (echoes pair.from)

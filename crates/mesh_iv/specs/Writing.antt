@@ -36,12 +36,27 @@ abbrev pub life_then : OgmCame → Option Life → ℕ → List (Pair × Path) �
 life_then came life value rows =
     life_with came life (goes_on came value (forwarded_by life) (is_over_after came life rows))
 
+-- the rows of originators, and the rows of pairs
+abbrev pub Rows : Type 0
+Rows = List (Mac × Life) × List (Pair × Path)
+
+-- the rows of pairs ascend
+abbrev pub PathsRise : Rows → Type 0
+PathsRise rows = IsStrictlySortedBy pair_order (keys_of rows.1)
+
+-- the rows of originators ascend
+abbrev pub LivesRise : Rows → Type 0
+LivesRise rows = IsStrictlySortedBy mac_order (keys_of rows.0)
+
 -- the two tables have the rows of an OGM more, where their keys ascend
-pub record IsWritten (came : OgmCame) (life : Option Life) (row : Path) (value : ℕ) (lives : List (Mac × Life)) (paths : List (Pair × Path)) (lives_then : List (Mac × Life)) (paths_then : List (Pair × Path)) : Type 0 where
+pub record IsWritten (came : OgmCame) (life : Option Life) (row : Path) (value : ℕ) (old new : Rows)
+    : Type 0 where
   pub paths_are : (pair : Pair) →
-      lookup (same_pair pair) paths_then ≡ path_put came row (rows_kept (is_none life) came.orig paths) pair
-  pub paths_rise : IsStrictlySortedBy pair_order (keys_of paths) → IsStrictlySortedBy pair_order (keys_of paths_then)
-  pub lives_are : (orig : Mac) → IsStrictlySortedBy pair_order (keys_of paths) →
-      lookup (same_mac orig) lives_then
-      ≡ (if same_mac came.orig orig then Some (life_then came life value paths_then) else lookup (same_mac orig) lives)
-  pub lives_rise : IsStrictlySortedBy mac_order (keys_of lives) → IsStrictlySortedBy mac_order (keys_of lives_then)
+      lookup (same_pair pair) new.1
+      ≡ path_put came row (rows_kept (is_none life) came.orig old.1) pair
+  pub paths_rise : PathsRise old → PathsRise new
+  pub lives_are : (orig : Mac) → PathsRise old →
+      lookup (same_mac orig) new.0
+      ≡ (if same_mac came.orig orig then Some (life_then came life value new.1)
+      else lookup (same_mac orig) old.0)
+  pub lives_rise : LivesRise old → LivesRise new

@@ -22,10 +22,10 @@ use mesh_base::{Mac, Millis, NoMemory};
 const FIRST_TTL: u8 = 50;
 
 impl Algo for Iv {
-    ghost use Rattle.std.specs.Prelude.{false, is_some, refl};
+    ghost use Rattle.std.specs.Prelude.{false, is_some};
     ghost use Rattle.mesh_model.specs.Routes.AlgorithmIv.{iv_queries};
     ghost use Rattle.mesh_model.specs.Routes.Ogm.{ogm_of_head};
-    ghost use Rattle.mesh_algo.proofs.IvLaws.{iv_routes, iv_live_routes, iv_ogms, iv_other_unheard, iv_other_kinds};
+    ghost use Rattle.mesh_algo.proofs.IvLaws.{iv_routes, iv_live_routes, iv_ogms, iv_elps, iv_other_unheard, iv_other_kinds};
     ghost use Rattle.mesh_iv.specs.Tables.{StandsFor};
 
     ghost queries = { iv_queries };
@@ -42,7 +42,7 @@ impl Algo for Iv {
 
     ghost ogms = { iv_ogms };
 
-    ghost elps = { λ me log index. refl };
+    ghost elps = { iv_elps };
 
     ghost other_unheard = { iv_other_unheard };
 
@@ -111,7 +111,8 @@ impl Iv {
     // The row of a live originator.
     fn orig_row(&self, now: Millis, orig: Mac) -> Option<OrigRow>
         ensures { (me : Mac) (log : RouteLog) → StandsFor me self.now log →
-            result ≡ orig_row (average_quality (iv_life me log now orig)) now orig (iv_life me log now orig) }
+            let alive = iv_life me log now orig in
+            result ≡ orig_row (average_quality alive) now orig alive }
     {
         let life = self.life(now, orig)?;
         let row = OrigRow {

@@ -35,7 +35,12 @@ impl Model for Iv {
 
     ghost Value = { Tables };
 
-    ghost view = { λ iv. record { me = iv.me; sent = iv.sent; lives = iv.lives.entries; paths = iv.paths.entries } };
+    ghost view = { λ iv. record {
+      me = iv.me;
+      sent = iv.sent;
+      lives = iv.lives.entries;
+      paths = iv.paths.entries;
+    } };
 }
 
 impl Iv {

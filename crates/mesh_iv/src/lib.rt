@@ -5,13 +5,19 @@
 
 mod answers;
 mod best;
+mod forward;
 mod hearing;
 pub mod iv;
+pub mod laws;
 mod ogm;
 mod path;
 mod quality;
 mod row;
 mod table;
+mod writing;
 
 pub use iv::Iv;
 pub use mesh_algo::Algo;
+
+#[cfg(test)]
+mod tests;

@@ -16,7 +16,8 @@ pub(crate) fn put<K: Copy + Ord + Hash, V: Copy>(
     value: V,
 ) -> Result<(), NoMemory>
     ensures updated { OnOk result (Updates K.eq table.old table.new key (Some value)) }
-    ensures rises { OnOk result (IsStrictlySortedBy K.cmp (keys table.old) → IsStrictlySortedBy K.cmp (keys table.new)) }
+    ensures rises { OnOk result (IsStrictlySortedBy K.cmp (keys table.old) →
+        IsStrictlySortedBy K.cmp (keys table.new)) }
     ensures room { 0 < spare table.old → IsOk result }
     ensures err { OnErr result (table.new.entries ≡ table.old.entries) }
 {

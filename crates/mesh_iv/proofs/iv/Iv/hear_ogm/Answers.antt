@@ -61,7 +61,7 @@ returns-clause-noted c =
     let path_is = c.path_before-path.ensures me log is in
     let first = first_from me log came (sym (late_is me log came c.life-life.result is.row_is) ∙ sym c.is_late.ensures ∙ c.if-is_late.false)
     (sym (ap (λ p. has came.seq p.heard) path_is) ∙ sym c.has.ensures ∙ c.if-has.false) in
-    c.in_ok-hearing.ensures.noted me log tp is path_is first
+    c.in_ok-hearing.ensures.noted me log tp (record { is = is; path_is = path_is; first = first })
 
 pub returns-clause-heard : goal.returns-clause-heard
 returns-clause-heard c =
@@ -74,6 +74,6 @@ returns-clause-heard c =
     let path_is = c.path_before-path.ensures me log is in
     let first = first_from me log came (sym (late_is me log came c.life-life.result is.row_is) ∙ sym c.is_late.ensures ∙ c.if-is_late.false)
     (sym (ap (λ p. has came.seq p.heard) path_is) ∙ sym c.has.ensures ∙ c.if-has.false) in
-    c.in_ok-hearing.ensures.heard me log is path_is first
+    c.in_ok-hearing.ensures.heard me log (record { is = is; path_is = path_is; first = first })
     ∙ sym (ap (λ b. cond b (answer_to (hearing_of me log came) (before (hearing_of me log came) (heard me log))) unheard) is.passing
     ∙ ap (λ l. answer_to (hearing_of me log came) l) (before_is me log came))

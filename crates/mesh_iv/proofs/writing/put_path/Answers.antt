@@ -4,7 +4,7 @@ use Rattle.std.specs.Map.{keys_of}
 use Rattle.mesh_iv.specs.Walk.{pair_order}
 use Rattle.mesh_iv.specs.Writing.{path_put}
 use Rattle.mesh_iv.proofs.PutLemmas.{kept_sorted}
-use Rattle.mesh_iv.proofs.hearing.put_path.Goals as goal
+use Rattle.mesh_iv.proofs.writing.put_path.Goals as goal
 
 pub returns-clause-updated : goal.returns-clause-updated
 returns-clause-updated c =

@@ -10,7 +10,7 @@ use Rattle.mesh_iv.specs.Walk.{pair_order, walk}
 use Rattle.mesh_iv.specs.Hears.{forwarded_by, goes_on, is_best, life_with, newest_by}
 use Rattle.mesh_iv.specs.Writing.{is_over_after, life_then, path_put, rows_kept}
 use Rattle.mesh_iv.proofs.PutLemmas.{none_test}
-use Rattle.mesh_iv.proofs.hearing.write.Goals as goal
+use Rattle.mesh_iv.proofs.writing.write.Goals as goal
 
 pub returns-clause-written : goal.returns-clause-written
 returns-clause-written c =
