@@ -1,0 +1,2 @@
+-- What the methods of `Sync` rest on.
+pub mod SyncLemmas
