@@ -40,12 +40,12 @@ pub record StandsFor (kept : Kept) (made : Calls) : Type 0 where
   pub sent : (key : Key) →
       moments_of (lookup (same_key key) kept.sent) ≡ last_five (sent_by made key)
 
--- a refusal to ask tells the asking that is too recent; want of memory comes only where none is
+-- a refusal to ask tells the asking that is too recent; want of memory comes only where none is so
 abbrev pub AskTells : AskErr → Option ℕ → Type 0
 AskTells (TooSoon asked_at) recent = recent ≡ Some asked_at
 AskTells Memory recent = recent ≡ None
 
--- a refusal to advertise tells the oldest of five; want of memory comes only where none is in the way
+-- a refusal to advertise tells the oldest of five; want of memory comes only where none is told
 abbrev pub AdviseTells : AdviseErr → Option ℕ → Type 0
 AdviseTells (TooMany oldest) fifth = fifth ≡ Some oldest
 AdviseTells NoRoom fifth = fifth ≡ None

@@ -98,7 +98,8 @@ impl Sync {
         standing_target(self.marks.get(&key)?, now)
     }
 
-    /// The client at this place in key order, from 0, whose mark stands, and the node that it names.
+    /// Of the clients whose marks stand, in key order, the one at this place, from 0, with the node
+    /// that its mark names.
     pub fn mark_at(&self, now: Millis, i: usize) -> Option<(Key, Mac)>
         ensures at_place { (made : Calls) → StandsFor self.now made →
             result ≡ slice_get (marks_at now made) i }

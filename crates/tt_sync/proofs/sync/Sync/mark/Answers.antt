@@ -2,7 +2,7 @@ use Rattle.std.proofs.Common.{◌≡◌, ◌∙◌, ap, subst, sym}
 use Rattle.std.specs.BTreeMap.{insert_entry}
 use Rattle.mesh_base.specs.KeyOrder.{key_order}
 use Rattle.mesh_model.specs.Marks.RoamingMarks.{mark_to, marks_by}
-use Rattle.mesh_laws.proofs.KeyTables.{Ascend, inserted, sorted_from}
+use Rattle.mesh_laws.proofs.AscendingKeys.{Ascend, inserted, sorted_from}
 use Rattle.mesh_laws.proofs.MarkLemmas.{ascends}
 use Rattle.mesh_laws.proofs.PresentLemmas.{key_exact, key_total}
 use Rattle.tt_sync.specs.Sync.{StandsFor}
