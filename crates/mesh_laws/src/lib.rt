@@ -4,12 +4,12 @@
 
 #![tactic(auto)]
 
+pub mod happening_laws;
+pub mod line_laws;
 pub mod machine_laws;
 pub mod mark_laws;
 pub mod packet_laws;
 pub mod present_laws;
 pub mod run_laws;
-pub mod happening_laws;
-pub mod line_laws;
 pub mod sound_laws;
 pub mod table_laws;

@@ -9,10 +9,10 @@
 
 pub mod container_rows;
 pub mod decode_rows;
-pub mod net_rows;
 pub mod line_rows;
-pub mod route_rows;
 pub mod mark_rows;
+pub mod net_rows;
 pub mod probe_rows;
+pub mod route_rows;
 pub mod rows;
 pub mod table_rows;
