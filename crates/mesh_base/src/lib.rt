@@ -1,8 +1,8 @@
 //! The values that every layer of batmesh speaks of, and its doors to the outside.
 //!
-//! `Mac`, `Vid`, `Key` and `Entry` name clients and nodes; `Bytes` holds bytes of its own; `Event` is
-//! what happens in a run and is printed; `Intake` and `Sink` are what the program reads from and
-//! writes to, in memory or for real.
+//! `Mac`, `Vid`, `Key` and `Entry` name clients and nodes; `Bytes` holds bytes of its own; `Event`
+//! is what happens in a run and is printed; `Intake` and `Sink` are what the program reads from
+//! and writes to, in memory or for real.
 
 #![tactic(auto)]
 

@@ -11,7 +11,8 @@ use Rattle.mesh_iv.specs.declared.path.Path.{Path}
 -- how many numbers of a row are among the last up to a top
 abbrev pub count_of : ℕ → Option Path → ℕ
 count_of top None = 0
-count_of top (Some path) = length (seen_among (max top (greatest path.heard)) window_length path.heard)
+count_of top (Some path) =
+    length (seen_among (max top (greatest path.heard)) window_length path.heard)
 
 -- the best neighbour in a life, with the quality of the path over it
 abbrev pub best_in : List HeardOgm → Option Best

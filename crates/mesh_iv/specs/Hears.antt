@@ -77,7 +77,8 @@ goes_on came value sent over =
 -- the flags with which it is sent on
 abbrev pub flags_on : OgmCame → Bool → ℕ
 flags_on came over =
-    if same_mac came.from came.orig then (if over then directlink_flag else directlink_flag + not_best_next_hop_flag)
+    if same_mac came.from came.orig
+    then (if over then directlink_flag else directlink_flag + not_best_next_hop_flag)
     else 0
 
 -- the head with which it is sent on

@@ -32,5 +32,7 @@ names_pair pair (HeadCame moment from throughput head ∷ older) =
 
 -- every key of tables that stand for a log is of an OGM in it
 pub record HasKeysOfOgms (tables : Tables) (log : RouteLog) : Type 0 where
-  pub lives : (orig : Mac) → IsSome (lookup (same_mac orig) tables.lives) → IsTrue (names_orig orig log)
-  pub paths : (pair : Pair) → IsSome (lookup (same_pair pair) tables.paths) → IsTrue (names_pair pair log)
+  pub lives : (orig : Mac) → IsSome (lookup (same_mac orig) tables.lives)
+      → IsTrue (names_orig orig log)
+  pub paths : (pair : Pair) → IsSome (lookup (same_pair pair) tables.paths)
+      → IsTrue (names_pair pair log)

@@ -39,7 +39,8 @@ five value = value 0 ∷ value 1 ∷ value 2 ∷ value 3 ∷ value 4 ∷ []
 -- a row of a pair by the numbers heard, where there are any, and the values
 abbrev pub row_of : List ℕ → List ℕ → Option Path
 row_of [] values = None
-row_of (number ∷ numbers) values = Some (record { heard = window (number ∷ numbers); values = values })
+row_of (number ∷ numbers) values =
+    Some (record { heard = window (number ∷ numbers); values = values })
 
 -- the row of an originator and a neighbour, by the originator's last life
 abbrev pub path_row : Mac → List HeardOgm → Option Path

@@ -36,7 +36,8 @@ path_at me hearings echoes pair =
     else path_row pair.from (latest (of pair.orig hearings))
 
 -- these rows of pairs are what the hearings and the echoes say
-pub record PathsStand (me : Mac) (hearings : List HeardOgm) (echoes : Mac → List ℕ) (paths : List (Pair × Path)) : Type 0 where
+pub record PathsStand (me : Mac) (hearings : List HeardOgm) (echoes : Mac → List ℕ)
+    (paths : List (Pair × Path)) : Type 0 where
   pub are : (pair : Pair) → lookup (same_pair pair) paths ≡ path_at me hearings echoes pair
   pub rise : IsStrictlySortedBy pair_order (keys_of paths)
 

@@ -29,7 +29,8 @@ better_row (Some b) k score =
 abbrev pub walk : ℕ → Mac → Option Best → List (Pair × Path) → Option Best
 walk top orig best [] = best
 walk top orig best (e ∷ rows) =
-    if same_mac e.0.orig orig then walk top orig (better_row best e.0.from (average_of top e.1)) rows
+    if same_mac e.0.orig orig
+    then walk top orig (better_row best e.0.from (average_of top e.1)) rows
     else walk top orig best rows
 
 -- the same up to the first row of another originator

@@ -1,7 +1,7 @@
 -- What holds of every mesh that lines and happenings lead to: each node had the ticks up to the
 -- last happening and no other, places fit 32 bits, each frame was sent over a link, and none
--- arrives at the moment of its sending; and every frame in a log has the bytes that it was sent with. The main words are
--- `IsSound` and `KeepsBytes`.
+-- arrives at the moment of its sending; and every frame in a log has the bytes that it was sent
+-- with. The main words are `IsSound` and `KeepsBytes`.
 use Rattle.std.specs.Prelude.{◌≡◌, ℕ, suc, ◌+◌, ◌*◌, ◌-◌, ◌<◌, ◌≤◌, ◌⊎◌, List, length, slice_get, Some, ⊤}
 use Rattle.mesh_model.specs.declared.happening.Happening.{Happening}
 use Rattle.mesh_model.specs.Clients.Log.{Given, Tick, LinkFrame, Frame, Gone, Join, Leave, Arp, Dhcp, Wifi, LogEntry}

@@ -30,8 +30,8 @@ pub fn what_is_printed_grows()
     ensures text { TextGrows }
 {}
 
-/// A line that is refused, or that passes a limit, changes nothing; a run stops before the happening
-/// that would pass one.
+/// A line that is refused, or that passes a limit, changes nothing; a run stops before the
+/// happening that would pass one.
 pub fn a_refused_line_changes_nothing()
     ensures refused { RefusedChangesNothing }
     ensures ends { EndsChangeNothing }

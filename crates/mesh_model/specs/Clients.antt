@@ -1,5 +1,5 @@
--- A node's clients: its log, the mentions of clients in it, who is present, and how many may be. The
--- main word is `present_clients`, in Present.
+-- A node's clients: its log, the mentions of clients in it, who is present, and how many may be.
+-- The main word is `present_clients`, in Present.
 pub mod Log
 pub mod Mentions
 pub mod Present

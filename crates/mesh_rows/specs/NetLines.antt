@@ -57,7 +57,8 @@ many_vlans (suc more) =
 -- whether no link may be added to so many
 abbrev pub is_full_after : ℕ → Bool
 is_full_after count = is_some (stop_of (link_step some_link
-    (record (first_state Hidden) { mesh = record empty_mesh { links = replicate count some_link } })))
+    (record (first_state Hidden)
+    { mesh = record empty_mesh { links = replicate count some_link } })))
 
 -- the limit that a client passes beside so many
 abbrev pub limit_after : ℕ → Option LimitName

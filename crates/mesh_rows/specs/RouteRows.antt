@@ -1,5 +1,5 @@
--- Two nodes of algorithm IV with links to each other, as one of them, A, hears the other, B. The main
--- word is `log_of_a`.
+-- Two nodes of algorithm IV with links to each other, as one of them, A, hears the other, B. The
+-- main word is `log_of_a`.
 use Rattle.std.specs.Prelude.{ℕ, List, [], ◌∷◌}
 use Rattle.mesh_base.specs.declared.address.Mac.{Mac}
 use Rattle.mesh_model.specs.declared.packet.Head.{Head}

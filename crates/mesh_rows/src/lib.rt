@@ -1,6 +1,6 @@
 //! Worked rows: small scenarios, and bytes, with what is printed of them, and small tables. The
-//! checker computes them from the definitions of `mesh_model` alone. No other crate stands on this one, so an edited row
-//! proves nothing else anew.
+//! checker computes them from the definitions of `mesh_model` alone. No other crate stands on this
+//! one, so an edited row proves nothing else anew.
 //! Worked rows: small scenarios, and bytes, with what is printed of them, and single lines with the
 //! command that each gives. The checker computes them from the definitions of `mesh_model` alone.
 //! No other crate stands on this one, so an edited row proves nothing else anew.

@@ -1,5 +1,5 @@
-//! Small scenarios with links, computed from the definitions alone: what each prints, where it ends,
-//! and which link frames its nodes were given.
+//! Small scenarios with links, computed from the definitions alone: what each prints, where it
+//! ends, and which link frames its nodes were given.
 
 ghost use Rattle.std.specs.Prelude.{◌≡◌, true, false, [], ◌∷◌, ◌++◌, codes, length, Some, None};
 ghost use Rattle.mesh_model.specs.declared.ending.LimitName.TheVariants.{Clients, Clock, FrameBytes, Frames, Nodes, Vlans};

@@ -1,6 +1,6 @@
 -- The originator message of a node under algorithm IV: the head that the algorithm gives, and the
--- node's containers in the order of their types. The k-th message has the number k. The main word is
--- `own_message`.
+-- node's containers in the order of their types. The k-th message has the number k. The main word
+-- is `own_message`.
 use Rattle.std.specs.Prelude.{ℕ, ◌+◌, ◌%◌, ◌==◌, Bool, List, [], ◌∷◌, if◌then◌else◌}
 use Rattle.mesh_base.specs.declared.address.Mac.{Mac}
 use Rattle.mesh_model.specs.Clients.Log.{Given, Tick, LinkFrame, Frame, Gone, Join, Leave, Arp, Dhcp, Wifi, Log}

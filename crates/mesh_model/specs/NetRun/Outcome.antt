@@ -1,5 +1,6 @@
 -- What a line leaves: the state that was reached and, where it ended the run there, the stop. What
--- the first part of a run prints is printed, also where a limit ends it. The main word is `Outcome`.
+-- the first part of a run prints is printed, also where a limit ends it. The main word is
+-- `Outcome`.
 use Rattle.mesh_model.specs.declared.ending.Stop.{Stop}
 use Rattle.mesh_model.specs.NetRun.State.{State}
 

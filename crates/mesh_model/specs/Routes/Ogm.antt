@@ -51,4 +51,5 @@ passes me m =
 -- whether an OGM is an echo at the node of this address, whose own last number is `last`
 abbrev pub is_echo : Mac → ℕ → Ogm → Bool
 is_echo me last m =
-    same_mac m.orig me && (has_flag directlink_flag m.flags && (nat_lt 0 m.seq && nat_le m.seq last))
+    same_mac m.orig me
+    && (has_flag directlink_flag m.flags && (nat_lt 0 m.seq && nat_le m.seq last))
