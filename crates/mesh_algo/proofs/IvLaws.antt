@@ -1,19 +1,19 @@
 -- The answers of algorithm IV keep the laws of routing algorithms.
-use Rattle.std.proofs.Common.{◌≡◌, ◌↔◌, ◌⊎◌, ⊎_elim, ℕ, ◌%◌, ◌==◌, ◌<◌, nat_lt, Bool, true, false, cond, List, [], ◌∷◌, length, map, filter_map, is_some, IsSome, IsTrue, Option, Some, None, arith, refl, sym, ap, ap₂, ◌∙◌, subst}
+use Rattle.std.proofs.Common.{◌≡◌, ◌↔◌, ◌⊎◌, ⊎_elim, ℕ, ◌+◌, ◌%◌, ◌==◌, ◌<◌, nat_lt, Bool, true, false, cond, List, [], ◌∷◌, length, map, filter_map, is_some, IsSome, IfSome, IsTrue, Option, Some, None, arith, refl, sym, ap, ap₂, ◌∙◌, subst}
 use Rattle.std.proofs.lemmas.Bool.{cases_Bool, eqb-true, eq-eqb, false≢true, true≢false}
 use Rattle.mesh_base.specs.declared.address.Mac.{Mac}
 use Rattle.mesh_model.specs.declared.packet.Head.{Head}
 use Rattle.mesh_model.specs.declared.route.LinkRow.TheVariants.{Iv}
-use Rattle.mesh_model.specs.Routes.AlgorithmIv.{iv_queries, iv_route, iv_answer}
+use Rattle.mesh_model.specs.Routes.AlgorithmIv.{iv_queries, iv_route, iv_answer, answer_to, own_ogm}
 use Rattle.mesh_model.specs.Routes.BestRoute.{best, best_route, route_metric, orig_row}
-use Rattle.mesh_model.specs.Routes.Hearings.{heard, heard_with}
+use Rattle.mesh_model.specs.Routes.Hearings.{before, heard, heard_with, hearing}
 use Rattle.mesh_model.specs.Routes.Life.{HeardOgm, of, life, is_live, heard_originators}
 use Rattle.mesh_model.specs.Routes.Numbers.{seen_among, window_length}
-use Rattle.mesh_model.specs.Routes.Ogm.{Ogm, ogm_of_head}
+use Rattle.mesh_model.specs.Routes.Ogm.{Ogm, ogm_of_head, passes}
 use Rattle.mesh_model.specs.Routes.Quality.{average_quality, echo_quality, echoes_with, echoes_from, own_ogms, receive_quality}
-use Rattle.mesh_model.specs.Routes.Queries.{unheard}
+use Rattle.mesh_model.specs.Routes.Queries.{is_ogm, unheard}
 use Rattle.mesh_model.specs.Routes.RouteLog.{RouteLog, HeadCame}
-use Rattle.mesh_algo.specs.AlgoLaws.{HasElps, HasRouteByMetric, HasLiveRoutes, HasOgmAtEvenTicks, HasSameAnswers, HearsNoneBut, IgnoresAllBut}
+use Rattle.mesh_algo.specs.AlgoLaws.{HasElps, HasRouteByMetric, HasLiveRoutes, HasOgmAtEvenTicks, HasSameAnswers, HearsNoneBut, IgnoresAllBut, SendsOgms}
 use Rattle.mesh_algo.proofs.BestLemmas.{IsTop, is_among, best_is_top}
 
 by_top : (score : Mac → ℕ) (among : Mac → Bool) (route : Option Mac) → IsTop score among route → IsSome route ↔ (0 < route_metric score route)
@@ -44,6 +44,24 @@ even_by index head =
 
 pub iv_ogms : (me : Mac) → HasOgmAtEvenTicks (iv_queries me)
 iv_ogms me = λ log index. even_by index _
+
+ogm_if : (b : Bool) (head : Head) → IsTrue (is_ogm head) → IfSome (cond b (Some head) None) (λ h. IsTrue (is_ogm h))
+ogm_if true head is = is
+ogm_if false head is = tt
+
+sent_ogm : (me : Mac) (moment : ℕ) (from : Mac) (m : Option Ogm) (older : List HeardOgm) (echo : ℕ) → IfSome (iv_answer me moment from m older echo).forward (λ h. IsTrue (is_ogm h))
+sent_ogm me moment from None older echo = tt
+sent_ogm me moment from (Some m) older echo =
+    elim (passes me m) as (λ b. IfSome (cond b (answer_to (hearing moment from m older echo) (before (hearing moment from m older echo) older)) unheard).forward (λ h. IsTrue (is_ogm h))) [
+      | true ↦ ogm_if (hearing moment from m older echo).sent_on _ refl
+      | false ↦ tt
+    ]
+
+pub iv_ogm_heads : (me : Mac) → SendsOgms (iv_queries me)
+iv_ogm_heads me = record {
+  own = λ log index. ogm_if (index % 2 == 0) (own_ogm me (own_ogms log + 1)) refl;
+  forwarded = λ log moment from throughput came. sent_ogm me moment from (ogm_of_head came) (heard me log) (echo_quality me from log);
+}
 
 no_ogm : (m : Option Ogm) → is_some m ≡ false → m ≡ None
 no_ogm None e = refl

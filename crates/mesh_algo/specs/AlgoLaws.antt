@@ -1,9 +1,9 @@
 -- What is said of a routing algorithm's answers in the laws that each algorithm keeps. The main
 -- words are `HasRouteByMetric` and `IgnoresAllBut`.
-use Rattle.std.specs.Prelude.{◌≡◌, ◌↔◌, ℕ, ◌%◌, ◌<◌, Bool, false, List, ◌∷◌, is_some, IsSome, IsTrue}
+use Rattle.std.specs.Prelude.{◌≡◌, ◌↔◌, ℕ, ◌%◌, ◌<◌, Bool, false, List, ◌∷◌, is_some, IsSome, IfSome, IsTrue}
 use Rattle.mesh_base.specs.declared.address.Mac.{Mac}
 use Rattle.mesh_model.specs.declared.packet.Head.{Head}
-use Rattle.mesh_model.specs.Routes.Queries.{Queries, unheard}
+use Rattle.mesh_model.specs.Routes.Queries.{Queries, is_ogm, unheard}
 use Rattle.mesh_model.specs.Routes.RouteLog.{RouteLog, HeadCame}
 
 -- a route is there exactly where the metric is above 0
@@ -22,6 +22,13 @@ HasLiveRoutes q =
 abbrev pub HasOgmAtEvenTicks : Queries → Type 0
 HasOgmAtEvenTicks q =
     (log : RouteLog) (index : ℕ) → IsSome (q.beats log index).ogm ↔ (index % 2 ≡ 0)
+
+-- what is sent as an originator message, and what is sent on, is the head of one
+pub record SendsOgms (q : Queries) : Type 0 where
+  pub own : (log : RouteLog) (index : ℕ) →
+      IfSome (q.beats log index).ogm (λ head. IsTrue (is_ogm head))
+  pub forwarded : (log : RouteLog) (moment : ℕ) (from : Mac) (throughput : ℕ) (came : Head) →
+      IfSome (q.hear log moment from throughput came).forward (λ head. IsTrue (is_ogm head))
 
 -- an ELP is sent at each tick, or at none
 abbrev pub HasElps : Queries → Bool → Type 0

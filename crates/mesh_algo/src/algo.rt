@@ -3,7 +3,7 @@ ghost use Rattle.mesh_base.specs.declared.address.Mac.{Mac};
 ghost use Rattle.mesh_model.specs.declared.packet.Head.{Head};
 ghost use Rattle.mesh_model.specs.Routes.Queries.{Queries, unheard};
 ghost use Rattle.mesh_model.specs.Routes.RouteLog.{RouteLog, OwnTick, HeadCame, MayTick};
-ghost use Rattle.mesh_algo.specs.AlgoLaws.{HasElps, HasLiveRoutes, HasOgmAtEvenTicks, HasRouteByMetric, HearsNoneBut, IgnoresAllBut};
+ghost use Rattle.mesh_algo.specs.AlgoLaws.{HasElps, HasLiveRoutes, HasOgmAtEvenTicks, HasRouteByMetric, HearsNoneBut, IgnoresAllBut, SendsOgms};
 
 use mesh_base::{Mac, Millis, NoMemory};
 use mesh_model::{Beats, Head, Hearing, LinkRow, OrigRow};
@@ -79,6 +79,9 @@ pub trait Algo {
 
     /// A law: an OGM is sent exactly at ticks of even index.
     ghost ogms: { (me : Mac) → HasOgmAtEvenTicks (queries me) };
+
+    /// A law: what is sent as an OGM, and what is sent on, is one.
+    ghost ogm_heads: { (me : Mac) → SendsOgms (queries me) };
 
     /// A law: an ELP is sent at each tick, or at none.
     ghost elps: { (me : Mac) → HasElps (queries me) sends_elps };

@@ -25,7 +25,7 @@ impl Algo for Iv {
     ghost use Rattle.std.specs.Prelude.{false, is_some};
     ghost use Rattle.mesh_model.specs.Routes.AlgorithmIv.{iv_queries};
     ghost use Rattle.mesh_model.specs.Routes.Ogm.{ogm_of_head};
-    ghost use Rattle.mesh_algo.proofs.IvLaws.{iv_routes, iv_live_routes, iv_ogms, iv_elps, iv_other_unheard, iv_other_kinds};
+    ghost use Rattle.mesh_algo.proofs.IvLaws.{iv_routes, iv_live_routes, iv_ogms, iv_ogm_heads, iv_elps, iv_other_unheard, iv_other_kinds};
     ghost use Rattle.mesh_iv.specs.Tables.{StandsFor};
 
     ghost queries = { iv_queries };
@@ -41,6 +41,8 @@ impl Algo for Iv {
     ghost live_routes = { iv_live_routes };
 
     ghost ogms = { iv_ogms };
+
+    ghost ogm_heads = { iv_ogm_heads };
 
     ghost elps = { iv_elps };
 

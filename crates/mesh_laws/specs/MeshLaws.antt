@@ -1,6 +1,7 @@
 -- Laws of the meshes that are reached: what holds of all of them is kept by happenings, by runs and
 -- by what lines do between runs, and a frame that was sent stays as it is.
 use Rattle.std.specs.Prelude.{◌↔◌, ◌≡◌, ℕ, ◌≤◌, ◌<◌, ◌⊎◌, [], ◌∷◌, ◌++◌, length, Some, Ok, slice_get}
+use Rattle.mesh_base.specs.declared.address.Mac.{Mac}
 use Rattle.mesh_model.specs.declared.happening.Happening.{Happening}
 use Rattle.mesh_model.specs.Clients.Log.{Given}
 use Rattle.mesh_model.specs.Net.Mesh.{NodeLog, NetLink, SentFrame, Mesh, Setup, empty_mesh}
@@ -9,6 +10,7 @@ use Rattle.mesh_model.specs.Net.Due.{ticks_by}
 use Rattle.mesh_model.specs.Net.Limits.{scenario_setup}
 use Rattle.mesh_model.specs.Net.Next.{Happens, IsNext}
 use Rattle.mesh_model.specs.Net.Runs.{after_happening, delivered, run_to}
+use Rattle.mesh_model.specs.Routes.Queries.{Queries}
 use Rattle.mesh_laws.specs.Soundness.{FitsPlaces, IsSound, GivesItsBytes, KeepsBytes, places}
 
 -- the mesh before the first line
@@ -17,7 +19,7 @@ EmptyIsSound = IsSound empty_mesh × KeepsBytes empty_mesh
 
 -- the limit on frames of every scenario leaves each a place
 abbrev pub ScenariosFit : Type 0
-ScenariosFit = FitsPlaces scenario_setup
+ScenariosFit = (queries : Mac → Queries) → FitsPlaces (scenario_setup queries)
 
 -- a happening
 abbrev pub HappeningsKeepSound : Type 0

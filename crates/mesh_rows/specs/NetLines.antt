@@ -24,6 +24,14 @@ message_line sent number digit =
     sent ++ codes " iv_ogm 000f32000000000" ++ number ++ codes "02000000000" ++ digit
     ++ codes "02000000000" ++ digit ++ codes "00ff000c" ++ codes "020100000401000401000000"
 
+-- the line of such a message that a neighbour of the node sends on: `fN T A>B`, its flags, its
+-- number, the last digit of the node's address and its quality
+abbrev pub forwarded_line : List ℕ → List ℕ → List ℕ → List ℕ → List ℕ → List ℕ
+forwarded_line sent flags number digit quality =
+    sent ++ codes " iv_ogm 000f31" ++ flags ++ codes "0000000" ++ number ++ codes "02000000000"
+    ++ digit ++ codes "02000000000" ++ digit ++ codes "00" ++ quality
+    ++ codes "000c020100000401000401000000"
+
 -- the address of a node by the last byte
 abbrev pub node_mac : ℕ → Mac
 node_mac last = record { 0 = 2 ∷ 0 ∷ 0 ∷ 0 ∷ 0 ∷ last ∷ [] }

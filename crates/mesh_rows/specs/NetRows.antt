@@ -11,6 +11,7 @@ use Rattle.mesh_model.specs.Net.Limits.{scenario_setup}
 use Rattle.mesh_model.specs.NetRun.State.{State, first_state, node_named, text_of}
 use Rattle.mesh_model.specs.NetRun.Outcome.{Outcome, Goes, Ends, reached}
 use Rattle.mesh_model.specs.NetRun.Rules.{carried_out}
+use Rattle.mesh_model.specs.Routes.AlgorithmIv.{iv_queries}
 use Rattle.mesh_model.specs.Scenario.Commands.{command_of_line}
 use Rattle.mesh_model.specs.Scenario.Readings.{Reading}
 use Rattle.mesh_rows.specs.Rows.{lines}
@@ -56,17 +57,21 @@ EndsWith setup choice texts printed number stop =
     × ((run_of setup choice texts).lines ≡ number)
     × (text_of (reached (run_of setup choice texts).outcome) ≡ lines printed)
 
+-- the setup of a scenario under algorithm IV
+abbrev pub iv_setup : Setup
+iv_setup = scenario_setup iv_queries
+
 -- the scenario is carried out and prints this
 abbrev pub Prints : FrameChoice → List (List ℕ) → List (List ℕ) → Type 0
-Prints = PrintsWith scenario_setup
+Prints = PrintsWith iv_setup
 
 -- the scenario prints this and ends at a line
 abbrev pub EndsAt : FrameChoice → List (List ℕ) → List (List ℕ) → ℕ → Stop → Type 0
-EndsAt = EndsWith scenario_setup
+EndsAt = EndsWith iv_setup
 
 -- the setup of a scenario with other limits on frames and their bytes
 abbrev pub with_limits : ℕ → ℕ → Setup
-with_limits frames bytes = record scenario_setup { frames_limit = frames; bytes_limit = bytes }
+with_limits frames bytes = record iv_setup { frames_limit = frames; bytes_limit = bytes }
 
 -- a link frame that a node was given: when, its number, the last byte of the sender's address, and
 -- the throughput of the link to the sender
@@ -101,4 +106,4 @@ taken_at name state = option_map_or (λ node. taken node.log) (node_named state 
 -- behind these lines, the node of this name was given these link frames, newest first
 abbrev pub Takes : List (List ℕ) → FrameChoice → List ℕ → List Taken → Type 0
 Takes texts choice name frames =
-    taken_at name (reached (run_of scenario_setup choice texts).outcome) ≡ frames
+    taken_at name (reached (run_of iv_setup choice texts).outcome) ≡ frames

@@ -6,10 +6,9 @@ ghost use Rattle.mesh_model.specs.declared.ending.LimitName.TheVariants.{Clients
 ghost use Rattle.mesh_model.specs.declared.ending.Refusal.TheVariants.{LinkTaken, NoSuchFrame, NotBuilt, SameNode, UnknownName};
 ghost use Rattle.mesh_model.specs.declared.ending.Stop.TheVariants.{Limit, Refused};
 ghost use Rattle.mesh_model.specs.declared.frame_choice.FrameChoice.TheVariants.{All, Client, Hidden, Ogm};
-ghost use Rattle.mesh_model.specs.Net.Limits.{scenario_setup};
 ghost use Rattle.mesh_model.specs.NetRun.Outcome.{reached};
-ghost use Rattle.mesh_rows.specs.NetLines.{duo, is_full_after, limit_after, many_nodes, many_vlans, message_line, node_mac};
-ghost use Rattle.mesh_rows.specs.NetRows.{run_of, with_limits, EndsAt, EndsWith, Prints, Takes};
+ghost use Rattle.mesh_rows.specs.NetLines.{duo, forwarded_line, is_full_after, limit_after, many_nodes, many_vlans, message_line, node_mac};
+ghost use Rattle.mesh_rows.specs.NetRows.{iv_setup, run_of, with_limits, EndsAt, EndsWith, Prints, Takes};
 
 /// Two nodes send their first originator messages at their second ticks, in the order of their
 /// lines.
@@ -19,6 +18,21 @@ pub fn two_nodes_send_their_messages()
         ++ codes "00ff000c020100000401000401000000")
         ∷ (codes "f2 1000 B>A iv_ogm 000f32000000000102000000000b02000000000b"
         ++ codes "00ff000c020100000401000401000000") ∷ []) }
+{}
+
+/// What a node hears of its neighbour it sends on, marked as heard from the originator itself, and
+/// as not from the best next hop until its own message came back. From then on it has a quality.
+pub fn two_nodes_send_messages_on()
+    ensures { Prints Ogm (duo ++ codes "run 2001" ∷ [])
+        (message_line (codes "f1 1000 A>B") (codes "1") (codes "a")
+        ∷ message_line (codes "f2 1000 B>A") (codes "1") (codes "b")
+        ∷ forwarded_line (codes "f3 1001 B>A") (codes "05") (codes "1") (codes "a") (codes "00")
+        ∷ forwarded_line (codes "f4 1001 A>B") (codes "05") (codes "1") (codes "b") (codes "00")
+        ∷ message_line (codes "f5 2000 A>B") (codes "2") (codes "a")
+        ∷ message_line (codes "f6 2000 B>A") (codes "2") (codes "b")
+        ∷ forwarded_line (codes "f7 2001 B>A") (codes "04") (codes "2") (codes "a") (codes "09")
+        ∷ forwarded_line (codes "f8 2001 A>B") (codes "04") (codes "2") (codes "b") (codes "09")
+        ∷ []) }
 {}
 
 /// The choice of frames hides originator messages.
@@ -36,9 +50,12 @@ pub fn a_later_node_ticks_later()
         (codes "node A 02:00:00:00:00:0a" ∷ codes "run 30" ∷ codes "node B 02:00:00:00:00:0b"
         ∷ codes "link A B" ∷ codes "link B A" ∷ codes "run 2000" ∷ [])
         (message_line (codes "f1 1000 A>B") (codes "1") (codes "a")
-        ∷ message_line (codes "f2 1030 B>A") (codes "1") (codes "b")
-        ∷ message_line (codes "f3 2000 A>B") (codes "2") (codes "a")
-        ∷ message_line (codes "f4 2030 B>A") (codes "2") (codes "b") ∷ []) }
+        ∷ forwarded_line (codes "f2 1001 B>A") (codes "05") (codes "1") (codes "a") (codes "00")
+        ∷ message_line (codes "f3 1030 B>A") (codes "1") (codes "b")
+        ∷ forwarded_line (codes "f4 1031 A>B") (codes "04") (codes "1") (codes "b") (codes "0a")
+        ∷ message_line (codes "f5 2000 A>B") (codes "2") (codes "a")
+        ∷ forwarded_line (codes "f6 2001 B>A") (codes "04") (codes "2") (codes "a") (codes "09")
+        ∷ message_line (codes "f7 2030 B>A") (codes "2") (codes "b") ∷ []) }
 {}
 
 /// Time may pass in two lines.
@@ -83,7 +100,8 @@ pub fn a_pattern_decides_what_arrives()
 pub fn a_frame_is_delivered_again()
     ensures { Takes (duo ++ codes "run 1001" ∷ codes "deliver 1" ∷ codes "run 1" ∷ [])
         Hidden (codes "B")
-        (record { moment = 1001; number = 1; from = node_mac 10; throughput = 10 }
+        (record { moment = 1002; number = 4; from = node_mac 10; throughput = 10 }
+        ∷ record { moment = 1001; number = 1; from = node_mac 10; throughput = 10 }
         ∷ record { moment = 1001; number = 1; from = node_mac 10; throughput = 10 } ∷ []) }
 {}
 
@@ -140,7 +158,8 @@ pub fn a_limit_ends_a_run_in_its_middle()
     ensures between { EndsWith (with_limits 3 1000) Ogm (duo ++ codes "run 5000" ∷ [])
         (message_line (codes "f1 1000 A>B") (codes "1") (codes "a")
         ∷ message_line (codes "f2 1000 B>A") (codes "1") (codes "b")
-        ∷ message_line (codes "f3 2000 A>B") (codes "2") (codes "a") ∷ []) 5 (Limit Frames) }
+        ∷ forwarded_line (codes "f3 1001 B>A") (codes "05") (codes "1") (codes "a") (codes "00")
+        ∷ []) 5 (Limit Frames) }
     ensures within { EndsWith (with_limits 3 1000) Ogm
         (duo ++ codes "node C 02:00:00:00:00:0c" ∷ codes "link B C" ∷ codes "run 2000"
         ∷ codes "run 1" ∷ [])
@@ -178,7 +197,7 @@ pub fn clients_and_time_are_not_built_together()
 
 /// Three nodes in a chain, five seconds.
 pub fn a_chain_runs_for_five_seconds()
-    ensures { length (reached (run_of scenario_setup Hidden
+    ensures { length (reached (run_of iv_setup Hidden
         (duo ++ codes "node C 02:00:00:00:00:0c" ∷ codes "link B C" ∷ codes "link C B"
-        ∷ codes "run 5000" ∷ [])).outcome).mesh.frames ≡ 20 }
+        ∷ codes "run 5000" ∷ [])).outcome).mesh.frames ≡ 48 }
 {}

@@ -2,9 +2,11 @@
 -- links, 4,194,304 frames that were sent, 536,870,912 bytes of them, and 1,099,511,627,776
 -- milliseconds. The main word is `scenario_setup`.
 use Rattle.std.specs.Prelude.{ℕ}
+use Rattle.mesh_base.specs.declared.address.Mac.{Mac}
 use Rattle.mesh_model.specs.Acts.Choosing.{acts_of}
 use Rattle.mesh_model.specs.Clients.Limits.{passed_limit}
 use Rattle.mesh_model.specs.Net.Mesh.{Setup}
+use Rattle.mesh_model.specs.Routes.Queries.{Queries}
 
 -- the most nodes
 abbrev pub nodes_limit : ℕ
@@ -26,10 +28,10 @@ frame_bytes_limit = 536870912
 abbrev pub clock_limit : ℕ
 clock_limit = 1099511627776
 
--- what a scenario's mesh is run with
-abbrev pub scenario_setup : Setup
-scenario_setup = record {
-  acts = acts_of;
+-- what a scenario's mesh is run with, by the algorithm at the node of each address
+abbrev pub scenario_setup : (Mac → Queries) → Setup
+scenario_setup queries = record {
+  acts = λ me. acts_of (queries me) me;
   client_limit = passed_limit;
   frames_limit = frames_limit;
   bytes_limit = frame_bytes_limit;

@@ -17,12 +17,14 @@ use Rattle.mesh_model.specs.NetRun.State.{State}
 use Rattle.mesh_model.specs.NetRun.Outcome.{Outcome, Goes, Ends}
 use Rattle.mesh_model.specs.NetRun.Steps.{Step, step_of}
 use Rattle.mesh_model.specs.NetRun.Demands.{demand_of, is_early, is_known, refusal_if, first_unmet}
+use Rattle.mesh_model.specs.Routes.AlgorithmIv.{iv_queries}
 use Rattle.mesh_model.specs.Run.Names.{names_used}
 
--- a command that has no step, or comes too early for this version
+-- a command that has no step, whatever the algorithm, or comes too early for this version
 abbrev pub not_built : State → Command → Option Refusal
 not_built state command = refusal_if
-    (is_none (step_of scenario_setup command) || is_early state (demand_of command)) NotBuilt
+    (is_none (step_of (scenario_setup iv_queries) command)
+    || is_early state (demand_of command)) NotBuilt
 
 -- a command uses a name that no node has
 abbrev pub unknown_name : State → Command → Option Refusal

@@ -1,8 +1,9 @@
 -- What a node asks its routing algorithm. Each question is answered from the algorithm's log alone.
 -- The main word is `Queries`.
-use Rattle.std.specs.Prelude.{ℕ, Bool, false, List, Option, None}
+use Rattle.std.specs.Prelude.{ℕ, Bool, true, false, List, Option, None}
 use Rattle.mesh_base.specs.declared.address.Mac.{Mac}
 use Rattle.mesh_model.specs.declared.packet.Head.{Head}
+use Rattle.mesh_model.specs.declared.packet.Head.TheVariants.{IvOgm, Bcast, Elp, Ogm2, Unicast, Frag, Unicast4, Icmp, Utvlv}
 use Rattle.mesh_model.specs.declared.route.Beats.{Beats}
 use Rattle.mesh_model.specs.declared.route.Hearing.{Hearing}
 use Rattle.mesh_model.specs.declared.route.LinkRow.{LinkRow}
@@ -29,3 +30,15 @@ pub record Queries : Type 0 where
 -- what is made of a head that isn't heard: nothing
 abbrev pub unheard : Hearing
 unheard = record { accepted = false; forward = None }
+
+-- whether a head is that of an originator message, of either algorithm
+abbrev pub is_ogm : Head → Bool
+is_ogm (IvOgm ttl flags seq orig prev tq) = true
+is_ogm (Bcast ttl seq orig) = false
+is_ogm (Elp orig seq interval) = false
+is_ogm (Ogm2 ttl flags seq orig throughput) = true
+is_ogm (Unicast ttl ttvn dst) = false
+is_ogm (Frag ttl number priority dst orig seq total) = false
+is_ogm (Unicast4 ttl ttvn dst src subtype) = false
+is_ogm (Icmp ttl msg dst orig uid seq) = false
+is_ogm (Utvlv ttl dst src) = false

@@ -13,6 +13,7 @@ use Rattle.mesh_model.specs.Clients.Log.{Given}
 use Rattle.mesh_model.specs.Clients.Log.{Frame as GivenFrame}
 use Rattle.mesh_model.specs.Clients.Mentions.{mentions}
 use Rattle.mesh_model.specs.Clients.Present.{present_clients}
+use Rattle.mesh_model.specs.Routes.AlgorithmIv.{iv_queries}
 use Rattle.mesh_model.specs.Run.Names.{new_node}
 use Rattle.mesh_model.specs.Run.Outcome.{Outcome, Goes}
 use Rattle.mesh_model.specs.Run.State.{NodeLog, Printed, LocalsShown, Decoded, State, node_named, place_of}
@@ -31,8 +32,11 @@ with_node state node = record state { nodes = state.nodes ++ node ∷ [] }
 -- the node after an input at a moment
 abbrev pub with_input : ℕ → Given → NodeLog → NodeLog
 with_input now given node = record node {
-  log = record { moment = now; given = given; acts = acts_of node.mac node.log now given }
-      ∷ node.log;
+  log = record {
+    moment = now;
+    given = given;
+    acts = acts_of (iv_queries node.mac) node.mac node.log now given;
+  } ∷ node.log;
 }
 
 -- the nodes, of which the one at a place changes
