@@ -1,5 +1,6 @@
 pub mod Behind
 pub mod Decoded
 pub mod Written
+pub mod Rewritten
 pub mod Puts
 pub mod Taking

@@ -1,4 +1,5 @@
 ghost use Rattle.std.specs.Prelude.{◌≡◌, ◌≤◌, ◌<◌, ◌+◌, ◌∷◌, length, sum_by, Ok, Err, IfOk, IfErr};
+ghost use Rattle.mesh_model.specs.Packets.Layout.{HasSpelling};
 ghost use Rattle.mesh_model.specs.Packets.Numbers.{compat_version};
 ghost use Rattle.mesh_model.specs.Packets.Shapes.{field_size, header_size, shape_of_type};
 ghost use Rattle.mesh_model.specs.Packets.FirstPacket.{first_packet, packet_of_shape, packet_cut};
@@ -93,6 +94,7 @@ fn cut(header: Header<'_>) -> Result<Front<'_>, NoPacket>
 /// The packet that the bytes begin with, or why there is none.
 pub fn first_packet(bytes: &[u8]) -> Result<Front<'_>, NoPacket>
     ensures ok { IfOk result (λ front. first_packet bytes.now ≡ Ok (seen_front front)) }
+    ensures written { IfOk result (λ front. HasSpelling front.packet.head front.packet.tail.now) }
     ensures err { IfErr result (λ cause. first_packet bytes.now ≡ Err cause) }
 {
     let [kind, version, fields @ ..] = bytes else {

@@ -1,4 +1,5 @@
 ghost use Rattle.std.specs.Prelude.{◌≡◌, ◌≤◌, IfOk, IfErr, OnErr};
+ghost use Rattle.mesh_model.specs.Packets.Layout.{HasSpelling};
 ghost use Rattle.mesh_model.specs.Packets.Shapes.{Shape, header_size, shape_of};
 ghost use Rattle.mesh_model.specs.Packets.LinkFrame.{link_frame, only_ending, put_before, behind, packet_flaw, begin_header, is_followed};
 ghost use Rattle.mesh_codec.specs.Frames.{seen, frame_left};
@@ -96,9 +97,11 @@ impl<'a> LinkFrame<'a> {
         }
     }
 
-    /// Takes the next packet from the frame. `Err` where there is none, with what ends them.
+    /// Takes the next packet from the frame, which can be written again. `Err` where there is none,
+    /// with what ends them.
     pub fn next(&mut self) -> Result<Packet<'a>, Ending>
         ensures ok { IfOk result (λ packet. self.old ≡ put_before (seen packet) self.new) }
+        ensures written { IfOk result (λ packet. HasSpelling packet.head packet.tail.now) }
         ensures ended { IfErr result (λ ending. self.old ≡ only_ending ending) }
         ensures err { OnErr result (self.new ≡ self.old) }
     {
