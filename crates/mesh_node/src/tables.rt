@@ -1,0 +1,44 @@
+ghost use Rattle.std.specs.Prelude.{◌≡◌};
+ghost use Rattle.mesh_model.specs.Acts.RouteInputs.{has_table, is_taken};
+ghost use Rattle.mesh_model.specs.Routes.Queries.{is_ogm};
+ghost use Rattle.mesh_codec.specs.Frames.{seen};
+
+use mesh_codec::{Head, Packet};
+use mesh_tvlv::layout::{TT, VERSION};
+use mesh_tvlv::{TvlvIter, read_tt};
+
+// Whether bytes of containers hold a translation table that can be read.
+fn has_table(bytes: &[u8]) -> bool
+    ensures { result ≡ has_table bytes.now }
+{
+    let mut walk = TvlvIter::new(bytes);
+    while let Some(Ok(container)) = walk.next() {
+        if container.kind == TT && container.version == VERSION && read_tt(container.body).is_ok() {
+            return true;
+        }
+    }
+    false
+}
+
+// Whether a head is that of an originator message.
+fn is_ogm(head: &Head) -> bool
+    ensures { result ≡ is_ogm head.now }
+{
+    match head {
+        Head::IvOgm { .. } | Head::Ogm2 { .. } => true,
+        Head::Bcast { .. }
+        | Head::Elp { .. }
+        | Head::Unicast { .. }
+        | Head::Frag { .. }
+        | Head::Unicast4 { .. }
+        | Head::Icmp { .. }
+        | Head::Utvlv { .. } => false,
+    }
+}
+
+/// Whether a packet is an originator message that the algorithm is given.
+pub(crate) fn is_taken(packet: &Packet<'_>) -> bool
+    ensures { result ≡ is_taken (seen packet.now) }
+{
+    is_ogm(&packet.head) && has_table(packet.tail)
+}
