@@ -2,3 +2,4 @@
 pub mod Errors
 pub mod Puts
 pub mod NodeStands
+pub mod Tables

@@ -44,6 +44,7 @@ fn message(alloc: Global, head: &Head, tail: &[u8]) -> Result<Bytes, NoMemory>
 }
 
 /// Sends an originator message on all links, where there is a head for it.
+#[tactic(auto, unfolding(mesh_model::specs::Acts::Rows::message_acts))]
 pub(crate) fn send<P: Port>(
     alloc: Global,
     port: &mut P,

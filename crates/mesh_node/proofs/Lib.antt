@@ -1,0 +1,4 @@
+-- What the functions of a node rest on.
+pub mod PutsLemmas
+pub mod LengthLemmas
+pub mod Underway

@@ -1,0 +1,11 @@
+use Rattle.std.proofs.Common.{length}
+use Rattle.mesh_model.specs.Packets.LinkFrame.{link_frame}
+use Rattle.mesh_node.proofs.Underway.{IsUnderway}
+use Rattle.mesh_node.proofs.rows.link.Given as goal
+
+abbrev pub invariant-loop-next : goal.invariant-loop-next
+invariant-loop-next g l = IsUnderway g.A.Algo.stands g.A.Algo.queries g.P.Port.takes g.P.Port.same g.P.Port.over l.came.now l.came.from l.came.tp
+    (link_frame l.bytes).packets l.frame.packets l.fn.algo l.algo l.fn.port l.port
+
+abbrev pub decreases-loop-next : goal.decreases-loop-next
+decreases-loop-next g l = length l.frame.packets
