@@ -4,6 +4,7 @@ pub mod Scenario
 pub mod Routes
 pub mod Clients
 pub mod Tables
+pub mod Commits
 pub mod Marks
 pub mod Probes
 pub mod Text

@@ -23,7 +23,7 @@ use mesh_base::{Bytes, Key, Mac, Millis, NoMemory};
 use mesh_model::{Command, LimitName, Refusal, Stop, Table};
 use mesh_scenario::{LineErr, read_line};
 use std::alloc::Global;
-use tt_local::{LocalErr, Locals};
+use tt_local::Locals;
 
 /// The byte of commit 0, before any commit.
 const FIRST_VERSION: u8 = 0;
@@ -237,9 +237,9 @@ impl Scene {
             return Err(refused(Refusal::UnknownName));
         };
         let node = &mut self.nodes[place];
-        match node.locals.see(self.clock, source, 0) {
+        match node.locals.note(self.clock, source, 0) {
             Ok(_newly) => Ok(()),
-            Err(LocalErr::Memory) => Err(LineFault::Memory),
+            Err(NoMemory) => Err(LineFault::Memory),
         }
     }
 

@@ -5,6 +5,7 @@
 pub mod failure;
 pub mod locals;
 mod sighting;
+mod vlans;
 
 pub use failure::LocalErr;
 pub use locals::Locals;

@@ -1,20 +1,30 @@
-ghost use Rattle.std.specs.Prelude.{◌≡◌, ◌≤◌, ◌↔◌, List, [], ◌∷◌, length, slice_get, option_map, IfOk, OnOk, OnErr, IsTrue, IsNone};
+ghost use Rattle.std.specs.Prelude.{◌≡◌, ◌≤◌, ◌↔◌, List, [], ◌∷◌, length, None, slice_get, option_map, IfErr, IfOk, OnOk, OnErr, IsTrue, IsNone};
 ghost use Rattle.std.specs.Map.{lookup};
 ghost use Rattle.mesh_model.specs.Clients.Mentions.{Mention, Sighted};
 ghost use Rattle.mesh_model.specs.Clients.Present.{present_clients, present_row, same_key};
+ghost use Rattle.mesh_model.specs.Clients.Limits.{limit_of_mention};
+ghost use Rattle.tt_local.specs.Limits.{HasLimit, limit_at};
 ghost use Rattle.tt_local.specs.Locals.{StandsFor};
 
 use crate::failure::LocalErr;
 use crate::sighting::Sighting;
+use crate::vlans::count_vlans;
 use indexmap::IndexMap;
 use mesh_base::{Key, Millis, NoMemory};
 use mesh_model::LocalRow;
 use std::alloc::Global;
 use std::marker::Model;
 
+/// The most clients that are present at once.
+const CLIENTS_LIMIT: usize = 1_024;
+
+/// The most VLANs that clients are present in at once.
+const VLANS_LIMIT: usize = 16;
+
 /// The local clients of a node, each by its last sighting, in key order.
 #[derive(Debug, Drop)]
 pub struct Locals {
+    alloc: Global,
     sightings: IndexMap<Key, Sighting>,
 }
 
@@ -34,12 +44,37 @@ impl Locals {
         ensures { StandsFor result [] }
     {
         Locals {
+            alloc,
             sightings: IndexMap::new(alloc),
         }
     }
 
-    /// Notes a sighting of a client, and answers whether the client is newly present.
+    /// Notes a sighting of a client, and answers whether the client is newly present. `Clients` and
+    /// `Vlans` where a new client would be too many beside the present ones.
     pub fn see(&mut self, now: Millis, key: Key, flags: u8) -> Result<bool, LocalErr>
+        ensures noted { (mentions : List Mention) → StandsFor self.old mentions →
+            let mention : Mention = record { moment = now; key = key; news = Sighted flags } in
+            OnOk result (StandsFor self.new (mention ∷ mentions)) }
+        ensures newly { IfOk result (λ newly. (mentions : List Mention) →
+            StandsFor self.old mentions → IsTrue newly ↔ IsNone (present_row mentions now key)) }
+
+        // Refused exactly for the limit that is passed, or for want of memory, and then as before.
+        ensures within { (mentions : List Mention) → StandsFor self.old mentions →
+            let mention : Mention = record { moment = now; key = key; news = Sighted flags } in
+            OnOk result (limit_of_mention mentions mention ≡ None) }
+        ensures limit { (mentions : List Mention) → StandsFor self.old mentions →
+            let mention : Mention = record { moment = now; key = key; news = Sighted flags } in
+            IfErr result (HasLimit (limit_of_mention mentions mention)) }
+        ensures err { OnErr result (self.new ≡ self.old) }
+    {
+        self.keep_limits(now, key)?;
+        let newly = self.note(now, key, flags)?;
+        Ok(newly)
+    }
+
+    /// Notes a sighting of a client, whatever the limits, and answers whether the client is newly
+    /// present.
+    pub fn note(&mut self, now: Millis, key: Key, flags: u8) -> Result<bool, NoMemory>
         ensures noted { (mentions : List Mention) → StandsFor self.old mentions →
             let mention : Mention = record { moment = now; key = key; news = Sighted flags } in
             OnOk result (StandsFor self.new (mention ∷ mentions)) }
@@ -51,6 +86,26 @@ impl Locals {
         let sighting = Sighting { flags, moment: now };
         self.sightings.insert_sorted(key, sighting)?;
         Ok(newly)
+    }
+
+    // A client that isn't present is within the limits beside those that are.
+    fn keep_limits(&self, now: Millis, key: Key) -> Result<(), LocalErr>
+        ensures within { (mentions : List Mention) → StandsFor self.now mentions →
+            OnOk result (limit_at mentions now key ≡ None) }
+        ensures limit { (mentions : List Mention) → StandsFor self.now mentions →
+            IfErr result (HasLimit (limit_at mentions now key)) }
+    {
+        if self.row(now, key).is_some() {
+            return Ok(());
+        }
+        let rows = self.rows(self.alloc, now)?;
+        if rows.len() >= CLIENTS_LIMIT {
+            return Err(LocalErr::Clients);
+        }
+        if count_vlans(self.alloc, rows.as_slice(), key.vid)? > VLANS_LIMIT {
+            return Err(LocalErr::Vlans);
+        }
+        Ok(())
     }
 
     // The last sighting of a client.

@@ -3,6 +3,7 @@
 -- node passes on what it holds, is told any announcement that was ever made, takes changes or a
 -- full answer that were ever said, or drops all. Nothing says when a move comes, nor that it does.
 -- The main words are `Move` and `Reaches`.
+pub use Rattle.mesh_model.specs.Commits.Versions.{next_byte}
 use Rattle.std.specs.Prelude.{◌≡◌, ◌⊎◌, ℕ, ◌+◌, ◌%◌, ◌<◌, List, [], ◌∷◌, length, Option, Some, Ok}
 use Rattle.mesh_base.specs.declared.client.Entry.{Entry}
 use Rattle.mesh_base.specs.declared.client.Vid.{Vid}
@@ -13,10 +14,6 @@ use Rattle.mesh_model.specs.Tables.Strict.{apply_strictly}
 use Rattle.mesh_model.specs.Tables.Sums.{checksums, sums_of, sum_at}
 use Rattle.mesh_laws.specs.Machine.Pieces.{piece, piece_count, put_together}
 use Rattle.mesh_laws.specs.Machine.World.{Version, Saying, Announcement, Differences, Piece, Told, Node, World, WasSaid, silent_node, with_commit, with_saying, with_node}
-
--- the byte after a byte
-abbrev pub next_byte : ℕ → ℕ
-next_byte byte = (byte + 1) % 256
 
 -- changes are those of the last commit, from the one before it, which has the byte before
 abbrev pub AreLastChanges : List Version → List Change → Type 0

@@ -2,15 +2,11 @@
 -- a byte; all that was ever said of them; and for each node what it was last told and what it
 -- holds. An announcement tells the number of its commit, which no packet does: how many commits are
 -- older. The main word is `World`; all begins at `start`.
+pub use Rattle.mesh_model.specs.Commits.Versions.{Version, first_commit, commit_numbered}
 use Rattle.std.specs.Prelude.{◌≡◌, ◌⊎◌, ℕ, ◌==◌, if◌then◌else◌, List, [], ◌∷◌, length, Option, Some, None}
 use Rattle.mesh_base.specs.declared.client.Entry.{Entry}
 use Rattle.mesh_model.specs.Packets.Bodies.{VlanSum}
 use Rattle.mesh_model.specs.declared.table_change.Change.{Change}
-
--- a table under a byte: what the originator commits, and what a node holds
-pub record Version : Type 0 where
-  pub byte : ℕ
-  pub table : List Entry
 
 -- what was said of the originator's tables: an announcement of a commit by its number, with changes
 -- or with none; an answer in changes; or a piece of a full answer, by its place among so many
@@ -36,10 +32,6 @@ pub record World : Type 0 where
   pub said : List Saying
   pub nodes : ℕ → Node
 
--- commit 0: the empty table under byte 0
-abbrev pub first_commit : Version
-first_commit = record { byte = 0; table = [] }
-
 -- a node that was told nothing and holds nothing
 abbrev pub silent_node : Node
 silent_node = record { told = None; held = None }
@@ -47,12 +39,6 @@ silent_node = record { told = None; held = None }
 -- the beginning: commit 0 alone, nothing said, nothing told and nothing held
 abbrev pub start : World
 start = record { commits = first_commit ∷ []; said = []; nodes = λ m. silent_node }
-
--- the commit of a number
-abbrev pub commit_numbered : ℕ → List Version → Option Version
-commit_numbered number [] = None
-commit_numbered number (newest ∷ older) =
-    if number == length older then Some newest else commit_numbered number older
 
 -- a version is a commit
 abbrev pub IsCommit : List Version → Version → Type 0

@@ -15,7 +15,7 @@ pub returns-in-Ok-clause-ok : goal.returns-in-Ok-clause-ok
 returns-in-Ok-clause-ok c = λ dst text all state stands.
     let name = c.args.place.now in
     let node = c.index_mut-node.result.now in
-    let seen : SceneNode = record { name = node.name; mac = node.mac; locals = c.see.new.self } in
+    let seen : SceneNode = record { name = node.name; mac = node.mac; locals = c.note.new.self } in
     Carries-see state c.args.self.now _ name c.in-Some.place c.args.source dst text node seen all stands (sym c.place_of.ensures ∙ c.in-Some.is)
     (λ kept held.
     let N : SceneNode → Type 0 = λ n. NodeStands n kept in

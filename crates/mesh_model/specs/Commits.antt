@@ -1,0 +1,6 @@
+-- What a node commits of its clients, and what its originator messages tell of its commits. The
+-- main words are `commits`, in History, `announcement`, in Announcements, and `alias_of`, in Aliases.
+pub mod Versions
+pub mod History
+pub mod Announcements
+pub mod Aliases

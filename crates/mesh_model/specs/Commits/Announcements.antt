@@ -1,0 +1,64 @@
+-- What an originator message tells of its node's commits: the byte of the last one, the sums of the
+-- VLANs that have entries in it, and its changes, in the first three messages after it if they are
+-- at most 120. A message's root is the own tick at which its originator sent it; the message is of
+-- the last commit at its root. The main words are `announcement` and `commit_at_root`.
+use Rattle.std.specs.Prelude.{ℕ, ◌==◌, ◌&&◌, nat_lt, nat_le, Bool, false, List, [], ◌∷◌, length, map, if◌then◌else◌}
+use Rattle.mesh_base.specs.declared.address.Mac.{Mac}
+use Rattle.mesh_base.specs.declared.client.Entry.{Entry}
+use Rattle.mesh_model.specs.Packets.Numbers.{ogm_diff_flag}
+use Rattle.mesh_model.specs.Packets.Bodies.{TtData, TtChange, change_of}
+use Rattle.mesh_model.specs.Clients.Log.{Given, Tick, LinkFrame, Frame, Gone, Join, Leave, Arp, Dhcp, Wifi, Log}
+use Rattle.mesh_model.specs.Tables.Sums.{sums_of}
+use Rattle.mesh_model.specs.Commits.Versions.{Version, last_commit, last_changes}
+use Rattle.mesh_model.specs.Commits.History.{History, commits}
+use Rattle.mesh_model.specs.declared.table_change.Change.{Change}
+
+-- how many messages carry a commit's changes
+abbrev pub carrying_messages : ℕ
+carrying_messages = 3
+
+-- the most changes that a message carries
+abbrev pub carried_changes : ℕ
+carried_changes = 120
+
+-- the changes that the next message carries
+abbrev pub announced_changes : History → List Change
+announced_changes history =
+    if nat_lt history.sent carrying_messages
+        && nat_le (length (last_changes history.commits)) carried_changes
+    then last_changes history.commits else []
+
+-- the record of a change
+abbrev pub record_of_change : Change → TtChange
+record_of_change change = change_of change.entry change.del
+
+-- what the next message tells
+abbrev pub announcement : History → TtData
+announcement history = record {
+  flags = ogm_diff_flag;
+  ttvn = (last_commit history.commits).byte;
+  vlans = sums_of (last_commit history.commits).table;
+  changes = map record_of_change (announced_changes history);
+}
+
+-- whether an input is the tick of this index
+abbrev pub is_tick : ℕ → Given → Bool
+is_tick root (Tick index) = index == root
+is_tick root (LinkFrame number from throughput bytes) = false
+is_tick root (Frame src dst vid text) = false
+is_tick root (Gone key) = false
+is_tick root (Join key) = false
+is_tick root (Leave key) = false
+is_tick root (Arp mac own_ip asked_ip vid) = false
+is_tick root (Dhcp key text) = false
+is_tick root (Wifi on) = false
+
+-- a log up to an own tick, itself included
+abbrev pub log_until : ℕ → Log → Log
+log_until root [] = []
+log_until root (entry ∷ older) =
+    if is_tick root entry.given then entry ∷ older else log_until root older
+
+-- the commit that the messages of an own tick announce
+abbrev pub commit_at_root : Mac → Log → ℕ → Version
+commit_at_root me log root = last_commit (commits me (log_until root log))

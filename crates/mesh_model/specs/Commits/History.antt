@@ -1,0 +1,74 @@
+-- The commits in a node's log. At each even tick the table of present clients is the next commit,
+-- under the next byte, if it differs from the last commit's; then an originator message announces
+-- the last commit. A message counts among those of its commit also where no link takes it. The main
+-- word is `commits`.
+use Rattle.std.specs.Prelude.{ℕ, ◌+◌, ◌%◌, ◌==◌, Bool, List, [], ◌∷◌, map, if◌then◌else◌}
+use Rattle.mesh_base.specs.declared.address.Mac.{Mac}
+use Rattle.mesh_base.specs.declared.client.Entry.{Entry}
+use Rattle.mesh_model.specs.Clients.Log.{Given, Tick, LinkFrame, Frame, Gone, Join, Leave, Arp, Dhcp, Wifi, Log}
+use Rattle.mesh_model.specs.Clients.Mentions.{Mention, mentions}
+use Rattle.mesh_model.specs.Clients.Present.{present_clients}
+use Rattle.mesh_model.specs.Commits.Versions.{Version, first_commit, next_byte, last_commit, same_table}
+
+-- the commits of a node, newest first, and how many messages have announced the newest
+pub record History : Type 0 where
+  pub commits : List Version
+  pub sent : ℕ
+
+-- commit 0, and no message
+abbrev pub first_history : History
+first_history = record { commits = first_commit ∷ []; sent = 0 }
+
+-- the table of the present clients at a moment
+abbrev pub present_table : List Mention → ℕ → List Entry
+present_table mentions now = map (λ row. row.entry) (present_clients mentions now)
+
+-- a history with one more commit, which no message has announced
+abbrev pub with_commit : List Entry → History → History
+with_commit table history = record {
+  commits = record { byte = next_byte (last_commit history.commits).byte; table = table }
+      ∷ history.commits;
+  sent = 0;
+}
+
+-- a history after a table is committed, if it differs from the last commit's
+abbrev pub committed : List Entry → History → History
+committed table history =
+    if same_table (last_commit history.commits).table table then history
+    else with_commit table history
+
+-- a history after one more message
+abbrev pub announced : History → History
+announced history = record { commits = history.commits; sent = history.sent + 1 }
+
+-- whether a node commits at the tick of this index: at each second one
+abbrev pub is_commit_tick : ℕ → Bool
+is_commit_tick index = index % 2 == 0
+
+-- the history after a tick, from the table that is then present and the history before
+abbrev pub after_tick : ℕ → List Entry → History → History
+after_tick index table before =
+    if is_commit_tick index then announced (committed table before) else before
+
+-- the history after an input, from the mentions and the history before
+abbrev pub next_history : List Mention → History → ℕ → Given → History
+next_history older before moment (Tick index) =
+    after_tick index (present_table older moment) before
+next_history older before moment (LinkFrame number from throughput bytes) = before
+next_history older before moment (Frame src dst vid text) = before
+next_history older before moment (Gone key) = before
+next_history older before moment (Join key) = before
+next_history older before moment (Leave key) = before
+next_history older before moment (Arp mac own_ip asked_ip vid) = before
+next_history older before moment (Dhcp key text) = before
+next_history older before moment (Wifi on) = before
+
+-- the history in the log of the node of an address
+abbrev pub history : Mac → Log → History
+history me [] = first_history
+history me (entry ∷ older) =
+    next_history (mentions me older) (history me older) entry.moment entry.given
+
+-- the commits in the log of the node of an address, newest first
+abbrev pub commits : Mac → Log → List Version
+commits me log = (history me log).commits
