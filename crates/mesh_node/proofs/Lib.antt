@@ -2,3 +2,4 @@
 pub mod PutsLemmas
 pub mod LengthLemmas
 pub mod Underway
+pub mod SightLemmas

@@ -3,6 +3,8 @@
 use Rattle.std.specs.Prelude.{◌≡◌, Option, Some, None, Result, Ok, Err, ⊤}
 use Rattle.mesh_model.specs.declared.ending.LimitName.{LimitName}
 use Rattle.mesh_model.specs.declared.ending.LimitName.TheVariants as limits
+use Rattle.tt_local.specs.declared.failure.LocalErr.{LocalErr}
+use Rattle.tt_local.specs.declared.failure.LocalErr.TheVariants as local
 use Rattle.mesh_node.specs.declared.failure.PortErr.{PortErr}
 use Rattle.mesh_node.specs.declared.failure.PortErr.TheVariants as port
 use Rattle.mesh_node.specs.declared.failure.NodeErr.{NodeErr}
@@ -13,6 +15,12 @@ abbrev pub error_of : PortErr → NodeErr
 error_of port.Memory = Memory
 error_of port.Frames = Frames
 error_of port.FrameBytes = FrameBytes
+
+-- the error of a node whose clients refused a sighting
+abbrev pub client_error_of : LocalErr → NodeErr
+client_error_of local.Clients = Clients
+client_error_of local.Vlans = Vlans
+client_error_of local.Memory = Memory
 
 -- why a port refuses an act whose frames would pass this limit
 abbrev pub HasPortCause : Option LimitName → PortErr → Type 0

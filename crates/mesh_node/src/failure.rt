@@ -1,6 +1,6 @@
 ghost use Rattle.std.specs.Prelude.{◌≡◌};
 ghost use Rattle.mesh_node.specs.declared.failure.NodeErr.TheVariants.{Memory};
-ghost use Rattle.mesh_node.specs.Errors.{error_of};
+ghost use Rattle.mesh_node.specs.Errors.{client_error_of, error_of};
 
 use mesh_base::NoMemory;
 use thiserror::Error;
@@ -64,10 +64,12 @@ impl From<PortErr> for NodeErr {
 }
 
 impl From<LocalErr> for NodeErr {
-    ghost from_gives = { λ _ error. error ≡ Memory };
+    ghost from_gives = { λ refused error. error ≡ client_error_of refused };
 
-    fn from(error: LocalErr) -> NodeErr {
-        match error {
+    fn from(refused: LocalErr) -> NodeErr {
+        match refused {
+            LocalErr::Clients => NodeErr::Clients,
+            LocalErr::Vlans => NodeErr::Vlans,
             LocalErr::Memory => NodeErr::Memory,
         }
     }

