@@ -1,5 +1,5 @@
 -- How acts that are put one list after another are put as one list.
-use Rattle.std.proofs.Common.{◌≡◌, ◌⊎◌, inl, inr, List, [], ◌∷◌, ◌++◌, refl, sym, Option, None, Result, Ok, Err}
+use Rattle.std.proofs.Common.{inl, inr, List, [], ◌∷◌, ◌++◌, Option, None, Result, Ok, Err}
 use Rattle.mesh_model.specs.declared.act.Act.{Act}
 use Rattle.mesh_model.specs.declared.ending.LimitName.{LimitName}
 use Rattle.mesh_node.specs.declared.failure.NodeErr.{NodeErr}

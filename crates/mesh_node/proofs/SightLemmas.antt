@@ -1,5 +1,5 @@
 -- A sighting that is refused, and one that is noted.
-use Rattle.std.proofs.Common.{◌≡◌, ◌⊎◌, inl, inr, ℕ, Bool, List, [], ◌∷◌, ap, subst, sym, ◌∙◌, Option, Some, None, Result, Ok, Err}
+use Rattle.std.proofs.Common.{◌≡◌, inl, inr, ℕ, Bool, List, [], ◌∷◌, ap, subst, ◌∙◌, Option, Some, None, Result, Err}
 use Rattle.std.specs.Option.{option_or}
 use Rattle.mesh_base.specs.declared.address.Mac.{Mac}
 use Rattle.mesh_base.specs.declared.client.Key.{Key}
@@ -19,7 +19,7 @@ use Rattle.mesh_node.specs.declared.failure.NodeErr.TheVariants.{Memory, Clients
 use Rattle.mesh_node.specs.declared.node.Node.{Node}
 use Rattle.mesh_node.specs.Errors.{HasCause, HasClientCause, client_error_of}
 use Rattle.mesh_node.specs.NodeStands.{NodeStands, sighting_of}
-use Rattle.mesh_node.specs.Puts.{Answers, Leaves, StopsAt}
+use Rattle.mesh_node.specs.Puts.{Leaves, StopsAt}
 
 -- the cause of the clients is that of the node
 pub client_cause : (limit : Option LimitName) (error : LocalErr) → HasLimit limit error → HasClientCause limit (client_error_of error)

@@ -1,5 +1,5 @@
 -- A link frame of which the first packets were taken: where the algorithm and the port then stand.
-use Rattle.std.proofs.Common.{◌≡◌, ℕ, List, [], ◌∷◌, refl, sym, subst, ◌∙◌, Option, Result, Ok, Err}
+use Rattle.std.proofs.Common.{◌≡◌, ℕ, List, [], ◌∷◌, refl, subst, Option, Result, Ok, Err}
 use Rattle.mesh_base.specs.declared.address.Mac.{Mac}
 use Rattle.mesh_model.specs.declared.act.Act.{Act}
 use Rattle.mesh_model.specs.declared.ending.LimitName.{LimitName}
@@ -15,7 +15,6 @@ use Rattle.mesh_node.proofs.PutsLemmas.{puts_behind, stops_among}
 
 module _ {A P : Type 0} (stands : A → Mac → RouteLog → Type 0) (queries : Mac → Queries)
     (takes : P → Act → P → Type 0) (same : P → P → Type 0) (over : P → Act → Option LimitName) (now : ℕ) (from : Mac) (tp : ℕ) where
-
   -- what the rest leaves is what the whole leaves, by the route logs before the whole and before the rest
   pub record IsBetween (q : Queries) (whole rest : List Packet) (begin here : RouteLog) (old mid : P) : Type 0 where
     pub heard : after_packets now from tp here rest ≡ after_packets now from tp begin whole
@@ -45,13 +44,16 @@ module _ {A P : Type 0} (stands : A → Mac → RouteLog → Type 0) (queries : 
   goes_on whole rest packet first algo next old mid new way taken = record {
     each = λ me log is.
         let at = way.each me log is in
-        let step = taken me at.0 at.1 in
-        (after_packet now from tp at.0 packet, step.0, record {
-          heard = at.2.heard;
-          puts = λ result end puts. at.2.puts result end
-              (puts_behind takes same over mid new end (packet_acts (queries me) at.0 now from tp packet)
-              (packets_acts (queries me) (after_packet now from tp at.0 packet) now from tp rest) result step.1 puts);
-        });
+        let step = taken me at.0 at.1 in (
+          after_packet now from tp at.0 packet,
+          step.0,
+          record {
+            heard = at.2.heard;
+            puts = λ result end puts. at.2.puts result end
+                (puts_behind takes same over mid new end (packet_acts (queries me) at.0 now from tp packet)
+                (packets_acts (queries me) (after_packet now from tp at.0 packet) now from tp rest) result step.1 puts);
+          },
+        );
   }
 
   -- it stops at one

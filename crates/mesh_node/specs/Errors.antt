@@ -1,6 +1,6 @@
 -- The causes of what a port and a node answer other than Ok; want of memory is free. The main words
 -- are `HasPortCause` and `HasCause`.
-use Rattle.std.specs.Prelude.{◌≡◌, Option, Some, None, Result, Ok, Err, ⊤}
+use Rattle.std.specs.Prelude.{◌≡◌, Option, Some, ⊤}
 use Rattle.mesh_model.specs.declared.ending.LimitName.{LimitName}
 use Rattle.mesh_model.specs.declared.ending.LimitName.TheVariants as limits
 use Rattle.tt_local.specs.declared.failure.LocalErr.{LocalErr}

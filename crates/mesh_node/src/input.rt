@@ -4,7 +4,9 @@ use mesh_base::{Mac, Vid};
 #[derive(Clone, Copy, Debug)]
 pub enum Input<'a> {
     /// A tick, by its index from 1.
-    Tick { index: u64 },
+    Tick {
+        index: u64,
+    },
     /// A link frame from a neighbour, with the throughput of the link to it, or 0 without one.
     Link {
         from: Mac,

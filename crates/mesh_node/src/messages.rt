@@ -1,4 +1,4 @@
-ghost use Rattle.std.specs.Prelude.{◌≡◌, ◌≤◌, length, IfOk, IfSome, IsTrue};
+ghost use Rattle.std.specs.Prelude.{◌≡◌, ◌≤◌, length, IfOk, OnOk, IfSome, IsTrue};
 ghost use Rattle.mesh_model.specs.Acts.OwnContainers.{own_containers};
 ghost use Rattle.mesh_model.specs.Acts.Rows.{message_acts};
 ghost use Rattle.mesh_model.specs.Packets.Containers.{containers_spelling};
@@ -18,16 +18,33 @@ use std::alloc::Global;
 /// The version that is announced before the first commit.
 const FIRST_VERSION: u8 = 0;
 
-/// The containers of a node's originator message.
-pub(crate) fn own_containers(alloc: Global) -> Result<Vec<u8>, NoMemory>
-    ensures { IfOk result (λ bytes. bytes.items ≡ containers_spelling own_containers) }
-{
-    let mut table = Vec::new(alloc);
-    write_tt_head(&mut table, OGM_DIFF, FIRST_VERSION, 0)?;
-    let mut containers = Vec::new(alloc);
-    write_container(&mut containers, DAT, VERSION, &[])?;
-    write_container(&mut containers, TT, VERSION, table.as_slice())?;
-    Ok(containers)
+/// Room in which a node writes the containers of its messages, kept from one to the next.
+#[derive(Drop)]
+pub(crate) struct Containers {
+    table: Vec<u8>,
+    pub(crate) bytes: Vec<u8>,
+}
+
+impl Containers {
+    /// Nothing is written yet.
+    pub(crate) fn new(alloc: Global) -> Containers {
+        Containers {
+            table: Vec::new(alloc),
+            bytes: Vec::new(alloc),
+        }
+    }
+
+    /// Writes those of the node's own originator message, in place of what is there.
+    pub(crate) fn write_own(&mut self) -> Result<(), NoMemory>
+        ensures { OnOk result (self.new.bytes.items ≡ containers_spelling own_containers) }
+    {
+        self.table.clear();
+        write_tt_head(&mut self.table, OGM_DIFF, FIRST_VERSION, 0)?;
+        self.bytes.clear();
+        write_container(&mut self.bytes, DAT, VERSION, &[])?;
+        write_container(&mut self.bytes, TT, VERSION, self.table.as_slice())?;
+        Ok(())
+    }
 }
 
 // The bytes of an originator message.

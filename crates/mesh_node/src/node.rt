@@ -12,6 +12,7 @@ ghost use Rattle.tt_local.specs.Locals.{StandsFor};
 
 use crate::failure::NodeErr;
 use crate::input::Input;
+use crate::messages::Containers;
 use crate::port::Port;
 use crate::rows::{Arrival, link, tick};
 use mesh_algo::Algo;
@@ -28,6 +29,7 @@ pub struct Node<A: Algo> {
     pub(crate) algo: A,
     pub(crate) locals: Locals,
     pub(crate) wifi: bool,
+    pub(crate) containers: Containers,
     pub(crate) dead: bool,
 }
 
@@ -43,6 +45,7 @@ impl<A: Algo> Node<A> {
             algo,
             locals: Locals::new(alloc),
             wifi: false,
+            containers: Containers::new(alloc),
             dead: false,
         }
     }
@@ -78,10 +81,10 @@ impl<A: Algo> Node<A> {
         ensures puts { (me : Mac) (log : Log) (number : ℕ) → NodeStands A.stands self.old me log →
             let given : Given = given_by number input.now in
             Leaves P.takes P.same P.over (passed_limit me log now given)
-                port.old (acts_of (A.queries me) me log now given) result port.new }
+            port.old (acts_of (A.queries me) me log now given) result port.new }
         ensures noted { (me : Mac) (log : Log) (number : ℕ) → NodeStands A.stands self.old me log →
             OnOk result (NodeStands A.stands self.new me
-                (with_input (A.queries me) me log now (given_by number input.now))) }
+            (with_input (A.queries me) me log now (given_by number input.now))) }
 
         // It answers `Dead` exactly after a refusal, and leaves the port then.
         ensures dead { (result ≡ Err NodeErr.Dead) ↔ (is_dead self.old ≡ true) }
@@ -111,14 +114,17 @@ impl<A: Algo> Node<A> {
         ensures puts { (me : Mac) (log : Log) (number : ℕ) → NodeStands A.stands self.old me log →
             let given : Given = given_by number input.now in
             Leaves P.takes P.same P.over (passed_limit me log now given)
-                port.old (acts_of (A.queries me) me log now given) result port.new }
+            port.old (acts_of (A.queries me) me log now given) result port.new }
         ensures noted { (me : Mac) (log : Log) (number : ℕ) → NodeStands A.stands self.old me log →
             OnOk result (NodeStands A.stands self.new me
-                (with_input (A.queries me) me log now (given_by number input.now))) }
+            (with_input (A.queries me) me log now (given_by number input.now))) }
         ensures alive { is_dead self.new ≡ is_dead self.old }
     {
         match *input {
-            Input::Tick { index } => tick(self.alloc, &mut self.algo, port, now, index)?,
+            Input::Tick { index } => {
+                let containers = &mut self.containers;
+                tick(self.alloc, containers, &mut self.algo, port, now, index)?;
+            }
             Input::Link { from, tp, bytes } => {
                 let came = Arrival { now, from, tp };
                 link(self.alloc, &mut self.algo, port, came, bytes)?;
@@ -136,7 +142,7 @@ impl<A: Algo> Node<A> {
             Answers (limit_of_mention mentions mention) result }
         ensures noted { (mentions : List Mention) → StandsFor self.old.locals mentions →
             OnOk result (StandsFor self.new.locals
-                (sighting_of now key self.old.wifi ∷ mentions)) }
+            (sighting_of now key self.old.wifi ∷ mentions)) }
         ensures others { self.new ≡ record self.old { locals = self.new.locals } }
     {
         let flags = client_flags(self.wifi);

@@ -11,7 +11,7 @@ ghost use Rattle.mesh_model.specs.Routes.RouteLog.{RouteLog, OwnTick, HeadCame, 
 ghost use Rattle.mesh_node.specs.Puts.{Puts};
 
 use crate::failure::NodeErr;
-use crate::messages::{own_containers, send};
+use crate::messages::{Containers, send};
 use crate::port::Port;
 use crate::tables::is_taken;
 use mesh_algo::Algo;
@@ -23,6 +23,7 @@ use std::alloc::Global;
 #[tactic(auto, using(crate::proofs::PutsLemmas::stops_free), unfolding(mesh_model::specs::Acts::Rows::tick_acts))]
 pub(crate) fn tick<A: Algo, P: Port>(
     alloc: Global,
+    containers: &mut Containers,
     algo: &mut A,
     port: &mut P,
     now: Millis,
@@ -35,8 +36,8 @@ pub(crate) fn tick<A: Algo, P: Port>(
         OnOk result (A.stands algo.new me (OwnTick now index ∷ log)) }
 {
     let beats = algo.tick(now, index);
-    let containers = own_containers(alloc)?;
-    send(alloc, port, beats.ogm, containers.as_slice())?;
+    containers.write_own()?;
+    send(alloc, port, beats.ogm, containers.bytes.as_slice())?;
     Ok(())
 }
 
@@ -61,11 +62,11 @@ fn ogm<A: Algo, P: Port>(
     requires fits { length packet.now.tail.now ≤ 65535 }
     ensures puts { (me : Mac) (log : RouteLog) → A.stands algo.old me log →
         Puts P.takes P.same P.over port.old
-            (ogm_acts (A.queries me) log came.now came.from came.tp (seen packet.now))
-            result port.new }
+        (ogm_acts (A.queries me) log came.now came.from came.tp (seen packet.now))
+        result port.new }
     ensures noted { (me : Mac) (log : RouteLog) → A.stands algo.old me log →
         OnOk result (A.stands algo.new me
-            (HeadCame came.now came.from came.tp packet.now.head ∷ log)) }
+        (HeadCame came.now came.from came.tp packet.now.head ∷ log)) }
 {
     let hearing = algo.hear(came.now, came.from, came.tp, &packet.head)?;
     send(alloc, port, hearing.forward, packet.tail)?;
@@ -85,11 +86,11 @@ fn packet<A: Algo, P: Port>(
     requires written { HasSpelling packet.now.head packet.now.tail.now }
     ensures puts { (me : Mac) (log : RouteLog) → A.stands algo.old me log →
         Puts P.takes P.same P.over port.old
-            (packet_acts (A.queries me) log came.now came.from came.tp (seen packet.now))
-            result port.new }
+        (packet_acts (A.queries me) log came.now came.from came.tp (seen packet.now))
+        result port.new }
     ensures noted { (me : Mac) (log : RouteLog) → A.stands algo.old me log →
         OnOk result (A.stands algo.new me
-            (after_packet came.now came.from came.tp log (seen packet.now))) }
+        (after_packet came.now came.from came.tp log (seen packet.now))) }
 {
     if !is_taken(packet) {
         return Ok(());
@@ -109,10 +110,10 @@ pub(crate) fn link<A: Algo, P: Port>(
     requires { (me : Mac) × (log : RouteLog) × A.stands algo.old me log }
     ensures puts { (me : Mac) (log : RouteLog) → A.stands algo.old me log →
         Puts P.takes P.same P.over port.old
-            (link_acts (A.queries me) log came.now came.from came.tp bytes.now) result port.new }
+        (link_acts (A.queries me) log came.now came.from came.tp bytes.now) result port.new }
     ensures noted { (me : Mac) (log : RouteLog) → A.stands algo.old me log →
         OnOk result (A.stands algo.new me (after_packets came.now came.from came.tp log
-            (link_frame bytes.now).packets)) }
+        (link_frame bytes.now).packets)) }
 {
     let mut frame = LinkFrame::new(bytes);
     while let Ok(next) = frame.next() {

@@ -18,9 +18,9 @@ const OWN: [u8; 36] = [
 /// Two messages of B in one frame, and then one without a translation table.
 const FRAME: [u8; 100] = [
     0, 15, 50, 0, 0, 0, 0, 1, 2, 0, 0, 0, 0, 11, 2, 0, 0, 0, 0, 11, 0, 255, 0, 12, 2, 1, 0, 0, 4,
-    1, 0, 4, 1, 0, 0, 0, 0, 15, 50, 0, 0, 0, 0, 2, 2, 0, 0, 0, 0, 11, 2, 0, 0, 0, 0, 11, 0, 255,
-    0, 12, 2, 1, 0, 0, 4, 1, 0, 4, 1, 0, 0, 0, 0, 15, 50, 0, 0, 0, 0, 3, 2, 0, 0, 0, 0, 11, 2, 0,
-    0, 0, 0, 11, 0, 255, 0, 4, 2, 1, 0, 0,
+    1, 0, 4, 1, 0, 0, 0, 0, 15, 50, 0, 0, 0, 0, 2, 2, 0, 0, 0, 0, 11, 2, 0, 0, 0, 0, 11, 0, 255, 0,
+    12, 2, 1, 0, 0, 4, 1, 0, 4, 1, 0, 0, 0, 0, 15, 50, 0, 0, 0, 0, 3, 2, 0, 0, 0, 0, 11, 2, 0, 0,
+    0, 0, 11, 0, 255, 0, 4, 2, 1, 0, 0,
 ];
 
 /// The first message of B as A sends it on before it has a quality.
@@ -64,11 +64,13 @@ impl Taken {
     // Whether the act at this place sends these bytes on all links.
     fn has_sent(&self, place: usize, expected: &[u8]) -> bool {
         match self.acts.as_slice().get(place) {
-            Some(Act::Link {
-                to: None,
-                reason: None,
-                bytes,
-            }) => bytes.as_slice() == expected,
+            Some(
+                Act::Link {
+                    to: None,
+                    reason: None,
+                    bytes,
+                },
+            ) => bytes.as_slice() == expected,
             _ => false,
         }
     }
@@ -95,7 +97,11 @@ fn a_node_sends_its_own_messages_and_those_that_it_hears(rt: HostRuntime) -> Res
     assert_eq!(rt; port.acts.len(), 3);
     assert_eq!(rt;
         node.algo().link_at(1001, 0),
-        Some(LinkRow::Iv { neigh: B, rq: 2, eq: 0 })
+        Some(LinkRow::Iv {
+            neigh: B,
+            rq: 2,
+            eq: 0
+        })
     );
     Ok(())
 }
@@ -126,7 +132,10 @@ fn a_node_takes_nothing_after_a_refusal(rt: HostRuntime) -> Result<(), NodeErr> 
         bytes: &OWN,
     };
     assert_eq!(rt; node.take(&mut port, 1001, &frame), Err(NodeErr::Frames));
-    assert_eq!(rt; node.take(&mut port, 1002, &Input::Wifi(false)), Err(NodeErr::Dead));
+    assert_eq!(rt;
+        node.take(&mut port, 1002, &Input::Wifi(false)),
+        Err(NodeErr::Dead)
+    );
     assert_eq!(rt; port.acts.len(), 0);
     Ok(())
 }

@@ -1,4 +1,4 @@
-use Rattle.std.proofs.Common.{rules, sym, ◌∙◌}
+use Rattle.std.proofs.Common.{sym, ◌∙◌}
 use Rattle.mesh_codec.specs.Frames.{seen}
 use Rattle.mesh_node.proofs.LengthLemmas.{taken_fits}
 use Rattle.mesh_node.proofs.rows.packet.Goals as goal

@@ -1,7 +1,4 @@
-use Rattle.std.proofs.Common.{◌∷◌, subst}
 use Rattle.std.proofs.lemmas.Result.{err_from_is_err_and}
-use Rattle.mesh_model.specs.Clients.Limits.{limit_of_mention}
-use Rattle.mesh_model.specs.Clients.Mentions.{Mention, Sighted}
 use Rattle.mesh_node.proofs.SightLemmas.{cause_by_flags}
 use Rattle.mesh_node.proofs.node.Node.sight.Goals as goal
 
