@@ -66,8 +66,8 @@ impl<A: Algo> Node<A> {
         &self.algo
     }
 
-    /// Takes what it is given at a moment, and puts its acts into the port. After a refusal it takes
-    /// nothing more.
+    /// Takes what it is given at a moment, and puts its acts into the port. After a refusal it
+    /// takes nothing more.
     pub fn take<P: Port>(
         &mut self,
         port: &mut P,

@@ -20,7 +20,7 @@ use mesh_codec::{LinkFrame, Packet};
 use std::alloc::Global;
 
 /// A tick.
-#[tactic(auto, using(crate::proofs::PutsLemmas::stops_free), unfolding(mesh_model::specs::Acts::Rows::tick_acts))]
+#[tactic(auto, unfolding(mesh_model::specs::Acts::Rows::tick_acts))]
 pub(crate) fn tick<A: Algo, P: Port>(
     alloc: Global,
     containers: &mut Containers,
@@ -50,7 +50,7 @@ pub(crate) struct Arrival {
 }
 
 /// An originator message that the algorithm is given.
-#[tactic(auto, using(crate::proofs::PutsLemmas::stops_free), unfolding(mesh_model::specs::Acts::Rows::ogm_acts))]
+#[tactic(auto, unfolding(mesh_model::specs::Acts::Rows::ogm_acts))]
 fn ogm<A: Algo, P: Port>(
     alloc: Global,
     algo: &mut A,
