@@ -1,14 +1,22 @@
 -- Lines of worked scenarios with links, and what stands in them.
-use Rattle.std.specs.Prelude.{ℕ, Bool, zero, suc, List, [], ◌∷◌, ◌++◌, replicate, codes, decimal, Option, Some, is_some}
+use Rattle.std.specs.Prelude.{ℕ, Bool, zero, suc, List, [], ◌∷◌, ◌++◌, replicate, codes, decimal, Option, Some, None, is_some}
 use Rattle.mesh_base.specs.Address.{hex_of_byte}
 use Rattle.mesh_base.specs.declared.address.Mac.{Mac}
+use Rattle.mesh_model.specs.declared.act.Act.{Act}
+use Rattle.mesh_model.specs.declared.act.Act.TheVariants.{Link}
 use Rattle.mesh_model.specs.declared.ending.LimitName.{LimitName}
 use Rattle.mesh_model.specs.declared.frame_choice.FrameChoice.TheVariants.{Hidden}
+use Rattle.mesh_model.specs.declared.packet.Head.TheVariants.{IvOgm}
 use Rattle.mesh_model.specs.declared.table_row.LocalRow.{LocalRow}
+use Rattle.mesh_model.specs.Acts.Choosing.{acts_of}
 use Rattle.mesh_model.specs.Clients.Limits.{limit_beside}
+use Rattle.mesh_model.specs.Clients.Log.{LinkFrame}
 use Rattle.mesh_model.specs.Net.Mesh.{NetLink, empty_mesh}
 use Rattle.mesh_model.specs.NetRun.State.{first_state}
 use Rattle.mesh_model.specs.NetRun.Steps.{link_step}
+use Rattle.mesh_model.specs.Packets.Containers.{Container, containers_spelling}
+use Rattle.mesh_model.specs.Packets.Layout.{spelling}
+use Rattle.mesh_model.specs.Routes.AlgorithmIv.{iv_queries, own_ogm}
 use Rattle.mesh_rows.specs.NetRows.{stop_of}
 
 -- the lines of two nodes with a link each way
@@ -35,6 +43,22 @@ forwarded_line sent flags number digit quality =
 -- the address of a node by the last byte
 abbrev pub node_mac : ℕ → Mac
 node_mac last = record { 0 = 2 ∷ 0 ∷ 0 ∷ 0 ∷ 0 ∷ last ∷ [] }
+
+-- a node's own originator message in bytes, by the last byte of its address, its number and its
+-- containers
+abbrev pub message_bytes : ℕ → ℕ → List Container → List ℕ
+message_bytes last number containers =
+    spelling (own_ogm (node_mac last) number) (containers_spelling containers)
+
+-- such a message, sent on by a neighbour for which it has no quality yet
+abbrev pub sent_on : ℕ → ℕ → List Container → Act
+sent_on last number containers = Link None None
+    (spelling (IvOgm 49 5 number (node_mac last) (node_mac last) 0) (containers_spelling containers))
+
+-- what node B puts that is given a link frame of these bytes by node A, and was given nothing before
+abbrev pub acts_on : List ℕ → List Act
+acts_on bytes = acts_of (iv_queries (node_mac 11)) (node_mac 11) [] 1001
+    (LinkFrame 1 (node_mac 10) 10 bytes)
 
 -- a link
 abbrev pub some_link : NetLink

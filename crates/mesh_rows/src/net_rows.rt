@@ -6,8 +6,9 @@ ghost use Rattle.mesh_model.specs.declared.ending.LimitName.TheVariants.{Clients
 ghost use Rattle.mesh_model.specs.declared.ending.Refusal.TheVariants.{LinkTaken, NoSuchFrame, NotBuilt, SameNode, UnknownName};
 ghost use Rattle.mesh_model.specs.declared.ending.Stop.TheVariants.{Limit, Refused};
 ghost use Rattle.mesh_model.specs.declared.frame_choice.FrameChoice.TheVariants.{All, Client, Hidden, Ogm};
+ghost use Rattle.mesh_model.specs.Acts.OwnContainers.{arp_table_container, own_containers};
 ghost use Rattle.mesh_model.specs.NetRun.Outcome.{reached};
-ghost use Rattle.mesh_rows.specs.NetLines.{duo, forwarded_line, is_full_after, limit_after, many_nodes, many_vlans, message_line, node_mac};
+ghost use Rattle.mesh_rows.specs.NetLines.{acts_on, duo, forwarded_line, is_full_after, limit_after, many_nodes, many_vlans, message_bytes, message_line, node_mac, sent_on};
 ghost use Rattle.mesh_rows.specs.NetRows.{iv_setup, run_of, with_limits, EndsAt, EndsWith, Prints, Takes};
 
 /// Two nodes send their first originator messages at their second ticks, in the order of their
@@ -33,6 +34,18 @@ pub fn two_nodes_send_messages_on()
         ∷ forwarded_line (codes "f7 2001 B>A") (codes "04") (codes "2") (codes "a") (codes "09")
         ∷ forwarded_line (codes "f8 2001 A>B") (codes "04") (codes "2") (codes "b") (codes "09")
         ∷ []) }
+{}
+
+/// Each message of a link frame is heard, one behind the other, and sent on. One without a
+/// translation table is passed over, and bytes that are no packet give nothing.
+pub fn messages_of_a_frame_are_heard_one_by_one()
+    ensures both { acts_on (message_bytes 10 1 own_containers ++ message_bytes 10 2 own_containers)
+        ≡ sent_on 10 1 own_containers ∷ sent_on 10 2 own_containers ∷ [] }
+    ensures again { acts_on (message_bytes 10 1 own_containers ++ message_bytes 10 1 own_containers)
+        ≡ sent_on 10 1 own_containers ∷ [] }
+    ensures bare { acts_on (message_bytes 10 1 (arp_table_container ∷ [])
+        ++ message_bytes 10 2 own_containers) ≡ sent_on 10 2 own_containers ∷ [] }
+    ensures none { acts_on (codes "no packet") ≡ [] }
 {}
 
 /// The choice of frames hides originator messages.
