@@ -57,8 +57,12 @@ pub fn both_tables_are_printed()
     ensures neighbours { link_table_text (neighbours_of_a 3000) ≡ lines
         (codes "n A algo=iv count=1" ∷ codes "n 02:00:00:00:00:0b rq=2 eq=2" ∷ []) }
     ensures no_route { orig_line (record {
-          orig = mac_b; seq = 7; seen = 0; next = None; metric = 0;
-        }) ≡ lines (codes "o 02:00:00:00:00:0b seq=7 seen=0 next=- metric=0" ∷ []) }
+      orig = mac_b;
+      seq = 7;
+      seen = 0;
+      next = None;
+      metric = 0;
+    }) ≡ lines (codes "o 02:00:00:00:00:0b seq=7 seen=0 next=- metric=0" ∷ []) }
     ensures throughput { link_line (VLink mac_b 50 499)
         ≡ lines (codes "n 02:00:00:00:00:0b tp=50 seen=499" ∷ []) }
 {}
