@@ -6,8 +6,8 @@ ghost use Rattle.mesh_model.specs.Text.Tables.{vlan_line};
 ghost use Rattle.mesh_tvlv.specs.Walk.{seen};
 ghost use Rattle.batctl_text.specs.Inner.Parts.{part_text};
 
-use crate::line::put_line;
 use crate::part::Part::{self, Address, Flags, Number, Sum, Text, Vlan};
+use crate::whole_line::put_line;
 use mesh_base::{Key, NoMemory, Vid};
 use mesh_tvlv::{Container, TtView};
 

@@ -4,8 +4,8 @@ ghost use Rattle.std.specs.Prelude.{◌≡◌, ◌++◌, OnOk, OnErr};
 ghost use Rattle.std.specs.List.{concat};
 ghost use Rattle.mesh_model.specs.Text.Decode.{bad_container_line, bad_packet_line, ending_lines, rest_line};
 
-use crate::line::put_line;
 use crate::part::Part::{Number, Text};
+use crate::whole_line::put_line;
 use mesh_base::NoMemory;
 use mesh_codec::{Ending, NoPacket, TvlvErr};
 

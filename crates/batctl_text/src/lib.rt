@@ -1,4 +1,5 @@
-//! Printed text: the tables of a node, after batctl(8), and the text of `decode`.
+//! Printed text: the tables of a node, after batctl(8), the text of `decode`, and the lines of what
+//! happens in a run.
 //!
 //! Each call appends whole lines to a buffer, or leaves it as it was where memory runs out. A line
 //! is a list of parts, which `put_line` appends one after the other and takes back where one
@@ -10,13 +11,17 @@ mod container;
 mod container_line;
 mod decoding;
 mod ending;
-mod line;
+mod event_line;
 mod local_table;
 mod packet;
 mod part;
+mod route_table;
+mod whole_line;
 
 pub use decoding::decode_text;
+pub use event_line::line;
 pub use local_table::{local_header, local_line};
+pub use route_table::{iv_link_line, link_header, orig_header, orig_line, v_link_line};
 
 #[cfg(test)]
 mod tests;

@@ -3,8 +3,8 @@
 ghost use Rattle.std.specs.Prelude.{◌≡◌, ◌++◌, OnOk, OnErr};
 ghost use Rattle.mesh_model.specs.Text.Tables.{local_header, local_line};
 
-use crate::line::put_line;
 use crate::part::Part::{Address, Age, Marks, Number, Text, Vlan};
+use crate::whole_line::put_line;
 use mesh_base::{Mac, Millis, NoMemory, Vid};
 
 /// Appends the first line of a local table: the node's name, the byte of its last commit, and how

@@ -4,8 +4,8 @@ ghost use Rattle.std.specs.Prelude.{◌≡◌, ◌++◌, ℕ, OnOk, OnErr};
 ghost use Rattle.mesh_model.specs.declared.packet.Head.TheVariants.{IvOgm, Bcast, Elp, Ogm2, Unicast, Frag, Unicast4, Icmp, Utvlv};
 ghost use Rattle.mesh_model.specs.Text.PacketLines.{packet_line};
 
-use crate::line::put_line;
 use crate::part::Part::{Address, Flags, Number, Text};
+use crate::whole_line::put_line;
 use mesh_base::{Mac, NoMemory};
 use mesh_model::Head;
 

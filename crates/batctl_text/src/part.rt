@@ -1,10 +1,10 @@
 //! The parts of a line: texts, numbers, addresses, VLANs, flags, checksums and ages.
 
 ghost use Rattle.std.specs.Prelude.{◌≡◌, ◌/◌, ◌%◌, ◌++◌, ◌<◌, decimal, slice_index, codes, List, [], ◌∷◌, OnOk, OnErr};
-ghost use Rattle.hex.specs.Hex.{lower_digits};
+ghost use Rattle.hex.specs.Hex.{encode_lower, lower_digits};
 ghost use Rattle.mesh_base.specs.Address.{hex_of_byte, mac_text, pairs_text};
 ghost use Rattle.mesh_model.specs.Text.PacketLines.{named_number, named_address, named_flags};
-ghost use Rattle.mesh_model.specs.Text.Tables.{age_text, flag_text, flags_text, sum_text, vid_text};
+ghost use Rattle.mesh_model.specs.Text.Tables.{address_text, age_text, flag_text, flags_text, sum_text, vid_text};
 ghost use Rattle.batctl_text.specs.Inner.Parts.{part_text, Grows};
 
 use mesh_base::{Mac, Millis, NoMemory, Vid};
@@ -34,6 +34,10 @@ pub enum Part<'a> {
     Marks(u8),
     /// An age, or `-` for none.
     Age(Option<Millis>),
+    /// An address, or `-` for none.
+    Hop(Option<Mac>),
+    /// Bytes as two hex digits each.
+    Hex(&'a [u8]),
 }
 
 fn put_number(out: &mut Vec<u8>, number: u64) -> Result<(), NoMemory>
@@ -184,6 +188,31 @@ fn put_age(out: &mut Vec<u8>, age: Option<Millis>) -> Result<(), NoMemory>
     Ok(())
 }
 
+fn put_hop(out: &mut Vec<u8>, mac: Option<Mac>) -> Result<(), NoMemory>
+    ensures ok { OnOk result (out.new.items ≡ out.old.items ++ address_text mac) }
+    ensures err { OnErr result (out.new.items ≡ out.old.items) }
+{
+    match mac {
+        Some(mac) => out.extend_from_slice(&mac_digits(mac.0))?,
+        None => out.extend_from_slice(b"-")?,
+    }
+    Ok(())
+}
+
+fn put_hex(out: &mut Vec<u8>, bytes: &[u8]) -> Result<(), NoMemory>
+    ensures ok { OnOk result (out.new.items ≡ out.old.items ++ encode_lower bytes.now) }
+    ensures err { OnErr result (Grows out.old.items out.new.items) }
+{
+    let start = out.len();
+    let digits = bytes.len().checked_mul(2).ok_or(NoMemory)?;
+    let end = start.checked_add(digits).ok_or(NoMemory)?;
+    out.resize(end, 0)?;
+    let Ok(()) = hex::encode_to_slice(bytes, out.slice_mut(start..)) else {
+        unreachable!()
+    };
+    Ok(())
+}
+
 /// Appends a part. Where memory runs out, a front of it may stay.
 pub fn put_part(out: &mut Vec<u8>, part: &Part<'_>) -> Result<(), NoMemory>
     ensures ok { OnOk result (out.new.items ≡ out.old.items ++ part_text part.now) }
@@ -199,6 +228,8 @@ pub fn put_part(out: &mut Vec<u8>, part: &Part<'_>) -> Result<(), NoMemory>
         Part::Sum(sum) => put_sum(out, sum)?,
         Part::Marks(flags) => put_marks(out, flags)?,
         Part::Age(age) => put_age(out, age)?,
+        Part::Hop(mac) => put_hop(out, mac)?,
+        Part::Hex(bytes) => put_hex(out, bytes)?,
     }
     Ok(())
 }

@@ -1,5 +1,7 @@
 use super::*;
-use mesh_base::{Mac, Vid};
+use mesh_base::{Bytes, Event, LossReason, Mac, Names, NoMemory, Reason, Vid};
+use mesh_model::Algorithm;
+use std::alloc::Global;
 use std::test::*;
 
 /// Hex digits, and the text that `decode` prints of them.
@@ -166,6 +168,124 @@ fn a_local_table_has_a_header_and_a_line_a_client(rt: HostRuntime) -> Result<(),
     let text = b"tl A version=1 clients=2\n\
         c 02:00:00:00:01:01 7 w- age=599999\n\
         c 33:33:00:00:00:01 - -i age=-\n";
+    assert_eq!(rt; out.as_slice(), text.as_slice());
+    Ok(())
+}
+
+const A: Mac = Mac([2, 0, 0, 0, 0, 0x0a]);
+
+const B: Mac = Mac([2, 0, 0, 0, 0, 0x0b]);
+
+const C1: Mac = Mac([2, 0, 0, 0, 1, 1]);
+
+const C2: Mac = Mac([2, 0, 0, 0, 1, 2]);
+
+const C9: Mac = Mac([2, 0, 0, 0, 1, 9]);
+
+/// A's first originator message.
+const OGM: &str = "000f32000000000102000000000a02000000000a00ff000c020100000401000401000000";
+
+/// The first frame, from A to B at 1000, with the bytes of these hex digits.
+fn first_frame(alloc: Global, digits: &str, reason: Option<Reason>) -> Result<Event, Fail> {
+    let bytes = hex::decode(alloc, digits).ok().ok_or("hex digits")?;
+    Ok(Event::FrameSent {
+        number: 1,
+        moment: 1000,
+        from: A,
+        to: B,
+        reason,
+        bytes: Bytes::from_vec(bytes),
+    })
+}
+
+/// The names of A and B.
+fn two_names(alloc: Global) -> Result<Names, NoMemory> {
+    let mut names = Names::new(alloc);
+    names.add_node(A, b"A")?;
+    names.add_node(B, b"B")?;
+    Ok(names)
+}
+
+#[test]
+fn a_frame_has_a_line_by_its_kind_and_reason(rt: HostRuntime) -> Result<(), Fail> {
+    let names = two_names(rt.alloc())?;
+    let mut out = Vec::new(rt.alloc());
+    line(&mut out, &names, &first_frame(rt.alloc(), OGM, None)?)?;
+    let unicast = "400f320002000000000b02000000010102000000010288b56869";
+    let by_mark = first_frame(rt.alloc(), unicast, Some(Reason::Roam))?;
+    line(&mut out, &names, &by_mark)?;
+    line(&mut out, &names, &first_frame(rt.alloc(), "020f", None)?)?;
+    let text = b"f1 1000 A>B iv_ogm \
+        000f32000000000102000000000a02000000000a00ff000c020100000401000401000000\n\
+        f1 1000 A>B unicast by=roam 400f320002000000000b02000000010102000000010288b56869\n\
+        f1 1000 A>B - 020f\n";
+    assert_eq!(rt; out.as_slice(), text.as_slice());
+    Ok(())
+}
+
+#[test]
+fn a_node_without_a_name_is_printed_by_its_address(rt: HostRuntime) -> Result<(), Fail> {
+    let mut names = Names::new(rt.alloc());
+    names.add_node(B, b"B")?;
+    let mut out = Vec::new(rt.alloc());
+    line(&mut out, &names, &first_frame(rt.alloc(), "430f", None)?)?;
+    let text = b"f1 1000 02:00:00:00:00:0a>B icmp 430f\n";
+    assert_eq!(rt; out.as_slice(), text.as_slice());
+    Ok(())
+}
+
+#[test]
+fn client_frames_and_commits_have_their_lines(rt: HostRuntime) -> Result<(), Fail> {
+    let names = two_names(rt.alloc())?;
+    let mut out = Vec::new(rt.alloc());
+    let received = Event::Received {
+        moment: 5501,
+        node: B,
+        vid: Vid::UNTAGGED,
+        src: C2,
+        dst: C1,
+        text: Bytes::from_slice(rt.alloc(), b"hi")?,
+    };
+    line(&mut out, &names, &received)?;
+    let lost = Event::Lost {
+        moment: 0,
+        node: A,
+        vid: Vid(0x8007),
+        src: C1,
+        dst: C9,
+        reason: LossReason::Unknown,
+    };
+    line(&mut out, &names, &lost)?;
+    let alias = Event::Alias {
+        node: A,
+        commit: 65_536,
+        earlier: 0,
+    };
+    line(&mut out, &names, &alias)?;
+    let text = b"recv 5501 B - 02:00:00:00:01:02 02:00:00:00:01:01 hi\n\
+        lost 0 A 7 02:00:00:00:01:01 02:00:00:00:01:09 unknown\n\
+        alias A 65536 0\n";
+    assert_eq!(rt; out.as_slice(), text.as_slice());
+    Ok(())
+}
+
+#[test]
+fn originators_and_neighbours_have_a_header_and_a_line_each(rt: HostRuntime) -> Result<(), Fail> {
+    let mut out = Vec::new(rt.alloc());
+    orig_header(&mut out, b"A", Algorithm::Iv, 1)?;
+    orig_line(&mut out, B, 2, 999, Some(B), 11)?;
+    orig_line(&mut out, C1, 7, 0, None, 0)?;
+    link_header(&mut out, b"A", Algorithm::Iv, 1)?;
+    iv_link_line(&mut out, B, 2, 2)?;
+    link_header(&mut out, b"A", Algorithm::V, 1)?;
+    v_link_line(&mut out, B, 50, 499)?;
+    let text = b"o A algo=iv count=1\n\
+        o 02:00:00:00:00:0b seq=2 seen=999 next=02:00:00:00:00:0b metric=11\n\
+        o 02:00:00:00:01:01 seq=7 seen=0 next=- metric=0\n\
+        n A algo=iv count=1\n\
+        n 02:00:00:00:00:0b rq=2 eq=2\n\
+        n A algo=v count=1\n\
+        n 02:00:00:00:00:0b tp=50 seen=499\n";
     assert_eq!(rt; out.as_slice(), text.as_slice());
     Ok(())
 }

@@ -1,5 +1,6 @@
 use crate::{
-    Bytes, Intake, Mac, MemIntake, MemSink, OpenErr, RealIntake, RealSink, Sink, write_all,
+    Bytes, Event, Events, Intake, Mac, MemIntake, MemSink, Names, OpenErr, RealIntake, RealSink,
+    Sink, write_all,
 };
 use std::fs;
 use std::io::{self, BufWriter, ErrorKind, Write};
@@ -42,6 +43,71 @@ fn bytes_are_equal_where_their_lists_are(rt: HostRuntime) -> Result<(), Fail> {
     let other = Bytes::from_slice(rt.alloc(), b"bat")?;
     assert_eq!(rt; (one == same, one == other), (true, false));
     assert_eq!(rt; (other.len(), other.as_slice()), (3, b"bat".as_slice()));
+    Ok(())
+}
+
+/// The number of the commit that an event of a commit has.
+fn commit_of(event: Option<&Event>) -> Option<u64> {
+    match event? {
+        Event::Alias { commit, .. } => Some(*commit),
+        Event::FrameSent { .. } | Event::Received { .. } | Event::Lost { .. } => None,
+    }
+}
+
+#[test]
+fn events_are_added_in_order_and_cut_from_the_end(rt: HostRuntime) -> Result<(), Fail> {
+    let mut events = Events::new(rt.alloc());
+    for commit in 7..10 {
+        events.push(Event::Alias {
+            node: Mac([2, 0, 0, 0, 0, 0x0a]),
+            commit,
+            earlier: 3,
+        })?;
+    }
+    assert_eq!(rt; events.len(), 3);
+    assert_eq!(rt; commit_of(events.at(0)), Some(7));
+    assert_eq!(rt; commit_of(events.at(2)), Some(9));
+    assert_eq!(rt; commit_of(events.at(3)), None);
+    events.cut(4);
+    assert_eq!(rt; events.len(), 3);
+    events.cut(1);
+    assert_eq!(rt; events.len(), 1);
+    assert_eq!(rt; commit_of(events.at(0)), Some(7));
+    assert_eq!(rt; events.at(1).is_none(), true);
+    Ok(())
+}
+
+/// Whether this name was found.
+fn is_found(found: Option<&[u8]>, name: &[u8]) -> bool {
+    match found {
+        Some(found) => found == name,
+        None => false,
+    }
+}
+
+#[test]
+fn a_node_has_the_first_name_of_its_address(rt: HostRuntime) -> Result<(), Fail> {
+    let a = Mac([2, 0, 0, 0, 0, 0x0a]);
+    let b = Mac([2, 0, 0, 0, 0, 0x0b]);
+    let mut names = Names::new(rt.alloc());
+    names.add_node(a, b"A")?;
+    names.add_node(b, b"B")?;
+    names.add_node(a, b"again")?;
+    assert_eq!(rt; is_found(names.node_name(a), b"A"), true);
+    assert_eq!(rt; is_found(names.node_name(b), b"B"), true);
+    assert_eq!(rt; names.node_name(Mac::BROADCAST).is_none(), true);
+    Ok(())
+}
+
+#[test]
+fn a_lan_has_the_name_of_its_number(rt: HostRuntime) -> Result<(), Fail> {
+    let mut names = Names::new(rt.alloc());
+    names.add_lan(b"first")?;
+    names.add_lan(b"second")?;
+    assert_eq!(rt; is_found(names.lan_name(1), b"first"), true);
+    assert_eq!(rt; is_found(names.lan_name(2), b"second"), true);
+    assert_eq!(rt; names.lan_name(0).is_none(), true);
+    assert_eq!(rt; names.lan_name(3).is_none(), true);
     Ok(())
 }
 

@@ -9,7 +9,7 @@ mod first_packet;
 mod header;
 pub mod laws;
 mod link_frame;
-mod numbers;
+pub mod numbers;
 mod put;
 mod put_header;
 mod writing;

@@ -4,44 +4,44 @@
 /// The version byte, the second of each packet.
 pub const VERSION: u8 = 15;
 /// The bytes of type and version.
-pub const PREFIX: usize = 2;
+pub(crate) const PREFIX: usize = 2;
 /// The bytes of an address.
-pub const ADDRESS: usize = 6;
-
+pub(crate) const ADDRESS: usize = 6;
+/// The type byte of an originator message of algorithm IV (`BATADV_IV_OGM`).
 pub const IV_OGM: u8 = 0x00;
-
+/// The type byte of a broadcast (`BATADV_BCAST`).
 pub const BCAST: u8 = 0x01;
-
+/// The type byte of a message of the echo location protocol (`BATADV_ELP`).
 pub const ELP: u8 = 0x03;
-
+/// The type byte of an originator message of algorithm V (`BATADV_OGM2`).
 pub const OGM2: u8 = 0x04;
-
+/// The type byte of a frame for one node (`BATADV_UNICAST`).
 pub const UNICAST: u8 = 0x40;
-
+/// The type byte of a fragment (`BATADV_UNICAST_FRAG`).
 pub const FRAG: u8 = 0x41;
-
+/// The type byte of a frame for one node with its sender (`BATADV_UNICAST_4ADDR`).
 pub const UNICAST4: u8 = 0x42;
-
+/// The type byte of a message of ping or traceroute (`BATADV_ICMP`).
 pub const ICMP: u8 = 0x43;
-
+/// The type byte of containers for one node (`BATADV_UNICAST_TVLV`).
 pub const UTVLV: u8 = 0x44;
 
-pub const IV_OGM_SIZE: usize = 24;
+pub(crate) const IV_OGM_SIZE: usize = 24;
 
-pub const BCAST_SIZE: usize = 14;
+pub(crate) const BCAST_SIZE: usize = 14;
 
-pub const ELP_SIZE: usize = 16;
+pub(crate) const ELP_SIZE: usize = 16;
 
-pub const OGM2_SIZE: usize = 20;
+pub(crate) const OGM2_SIZE: usize = 20;
 
-pub const UNICAST_SIZE: usize = 10;
+pub(crate) const UNICAST_SIZE: usize = 10;
 
-pub const FRAG_SIZE: usize = 20;
+pub(crate) const FRAG_SIZE: usize = 20;
 
-pub const UNICAST4_SIZE: usize = 18;
+pub(crate) const UNICAST4_SIZE: usize = 18;
 
-pub const ICMP_SIZE: usize = 20;
+pub(crate) const ICMP_SIZE: usize = 20;
 
-pub const UTVLV_SIZE: usize = 20;
+pub(crate) const UTVLV_SIZE: usize = 20;
 /// The bytes of the longest header.
-pub const LONGEST_HEADER: usize = IV_OGM_SIZE;
+pub(crate) const LONGEST_HEADER: usize = IV_OGM_SIZE;

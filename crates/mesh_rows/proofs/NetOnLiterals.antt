@@ -13,12 +13,12 @@ use Rattle.mesh_model.specs.Packets.Containers.{first_containers, containers_of}
 use Rattle.mesh_model.specs.Packets.FirstPacket.{first_packet}
 use Rattle.mesh_model.specs.Packets.LinkFrame.{frame_within, link_frame}
 use Rattle.mesh_model.specs.Scenario.Commands.{command_of_line}
-use Rattle.mesh_model.specs.Text.Events.{event_line}
+use Rattle.mesh_model.specs.Text.Events.{client_frame_line, event_line}
 use Rattle.mesh_model.specs.Text.Tables.{age_text, flags_text, local_header, local_line, vid_text}
 use Rattle.mesh_rows.proofs.RoutesOnLiterals.{routes_on_literals}
 
 unfoldable pub net_on_literals : ⊤
 unfolding encode digits chars is_utf8 encode_with is_taken message_acts tick_acts ogm_acts packet_acts packets_acts link_acts
-    pieces first_containers containers_of first_packet frame_within link_frame routes_on_literals going_on command_of_line event_line age_text flags_text
+    pieces first_containers containers_of first_packet frame_within link_frame routes_on_literals going_on command_of_line client_frame_line event_line age_text flags_text
     local_header local_line vid_text
 net_on_literals = tt

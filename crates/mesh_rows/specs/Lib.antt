@@ -11,3 +11,4 @@ pub mod RouteRows
 -- What is said of a worked scenario, of bytes that are decoded, and of calls that are written out.
 pub mod CallRows
 pub mod ContainerRows
+pub mod EventRows

@@ -1,12 +1,15 @@
 -- Two nodes of algorithm IV with links to each other, as one of them, A, hears the other, B. The
 -- main word is `log_of_a`.
-use Rattle.std.specs.Prelude.{ℕ, List, [], ◌∷◌}
+use Rattle.std.specs.Prelude.{ℕ, List, [], ◌∷◌, codes}
 use Rattle.mesh_base.specs.declared.address.Mac.{Mac}
+use Rattle.mesh_model.specs.declared.line_form.Algorithm.TheVariants.{Iv}
 use Rattle.mesh_model.specs.declared.packet.Head.{Head}
 use Rattle.mesh_model.specs.declared.packet.Head.TheVariants.{IvOgm}
+use Rattle.mesh_model.specs.Routes.AlgorithmIv.{iv_queries}
 use Rattle.mesh_model.specs.Routes.Hearings.{heard}
 use Rattle.mesh_model.specs.Routes.Life.{HeardOgm}
 use Rattle.mesh_model.specs.Routes.RouteLog.{RouteLog, OwnTick, HeadCame}
+use Rattle.mesh_model.specs.Text.Tables.{LinkTable, OrigTable}
 
 -- the addresses of A and B
 abbrev pub mac_a : Mac
@@ -47,3 +50,18 @@ log_of_a =
 -- what A heard by a log
 abbrev pub heard_by_a : RouteLog → List HeardOgm
 heard_by_a log = heard mac_a log
+
+-- A's tables at a moment
+abbrev pub originators_of_a : ℕ → OrigTable
+originators_of_a moment = record {
+  name = codes "A";
+  algorithm = Iv;
+  rows = (iv_queries mac_a).originators log_of_a moment;
+}
+
+abbrev pub neighbours_of_a : ℕ → LinkTable
+neighbours_of_a moment = record {
+  name = codes "A";
+  algorithm = Iv;
+  rows = (iv_queries mac_a).neighbours log_of_a moment;
+}

@@ -1,13 +1,15 @@
 //! Two nodes of algorithm IV, computed from the definitions alone: what one hears of the other.
 
-ghost use Rattle.std.specs.Prelude.{◌≡◌, [], ◌∷◌, true, false, None, Some};
+ghost use Rattle.std.specs.Prelude.{◌≡◌, [], ◌∷◌, codes, true, false, None, Some};
 ghost use Rattle.mesh_model.specs.Routes.AlgorithmIv.{iv_queries};
 ghost use Rattle.mesh_model.specs.Routes.Hearings.{heard};
 ghost use Rattle.mesh_model.specs.Routes.Numbers.{window};
 ghost use Rattle.mesh_model.specs.Routes.Quality.{asymmetry, echo_quality, link_quality, receive_quality, transmit_quality};
+ghost use Rattle.mesh_model.specs.Text.Tables.{link_line, link_table_text, orig_line, orig_table_text};
 ghost use Rattle.mesh_model.specs.declared.packet.Head.TheVariants.{IvOgm};
-ghost use Rattle.mesh_model.specs.declared.route.LinkRow.TheVariants.{Iv};
-ghost use Rattle.mesh_rows.specs.RouteRows.{mac_a, mac_b, ogm_of_b, log_before_1, log_with_1, log_before_2, log_with_2, log_of_a, heard_by_a};
+ghost use Rattle.mesh_model.specs.declared.route.LinkRow.TheVariants.{Iv, V as VLink};
+ghost use Rattle.mesh_rows.specs.RouteRows.{mac_a, mac_b, ogm_of_b, log_before_1, log_with_1, log_before_2, log_with_2, log_of_a, heard_by_a, originators_of_a, neighbours_of_a};
+ghost use Rattle.mesh_rows.specs.Rows.{lines};
 
 /// A first OGM, of which nothing came back, has the value 0.
 pub fn a_link_without_echoes_is_worth_nothing()
@@ -45,6 +47,24 @@ pub fn both_tables_have_the_other_node()
     ensures originators { (iv_queries mac_a).originators log_of_a 3000
         ≡ record { orig = mac_b; seq = 2; seen = 999; next = Some mac_b; metric = 11 } ∷ [] }
     ensures neighbours { (iv_queries mac_a).neighbours log_of_a 3000 ≡ Iv mac_b 2 2 ∷ [] }
+{}
+
+/// What A prints of both tables.
+pub fn both_tables_are_printed()
+    ensures originators { orig_table_text (originators_of_a 3000) ≡ lines
+        (codes "o A algo=iv count=1"
+        ∷ codes "o 02:00:00:00:00:0b seq=2 seen=999 next=02:00:00:00:00:0b metric=11" ∷ []) }
+    ensures neighbours { link_table_text (neighbours_of_a 3000) ≡ lines
+        (codes "n A algo=iv count=1" ∷ codes "n 02:00:00:00:00:0b rq=2 eq=2" ∷ []) }
+    ensures no_route { orig_line (record {
+      orig = mac_b;
+      seq = 7;
+      seen = 0;
+      next = None;
+      metric = 0;
+    }) ≡ lines (codes "o 02:00:00:00:00:0b seq=7 seen=0 next=- metric=0" ∷ []) }
+    ensures throughput { link_line (VLink mac_b 50 499)
+        ≡ lines (codes "n 02:00:00:00:00:0b tp=50 seen=499" ∷ []) }
 {}
 
 /// An OGM is sent at ticks of even index.

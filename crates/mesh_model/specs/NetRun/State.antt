@@ -3,10 +3,11 @@
 -- are `State` and `text_of`.
 use Rattle.std.specs.Prelude.{ℕ, Bool, List, [], flat_map, map, bytes_eq, position, slice_get, Option, option_and_then}
 use Rattle.mesh_base.specs.declared.event.Event.{Event}
+use Rattle.mesh_base.specs.declared.names.NodeName.{NodeName}
 use Rattle.mesh_model.specs.declared.frame_choice.FrameChoice.{FrameChoice}
 use Rattle.mesh_model.specs.Net.Mesh.{NodeLog, Mesh, empty_mesh}
 use Rattle.mesh_model.specs.Text.Decode.{decode_text}
-use Rattle.mesh_model.specs.Text.Events.{NodeName, event_text}
+use Rattle.mesh_model.specs.Text.Events.{event_text}
 use Rattle.mesh_model.specs.Text.Tables.{LocalTable, table_text}
 
 -- what a run prints: a table that is shown, the packets in bytes that are decoded, or an event, by

@@ -5,11 +5,12 @@
 -- `alias NODE K J` a commit that announces what an earlier one announced. An address that no node
 -- has is printed itself. A choice hides link frames by their kind: `ogm` shows iv_ogm, ogm2 and
 -- elp, `client` unicast, unicast4 and bcast. The main word is `event_text`.
-use Rattle.std.specs.Prelude.{ℕ, ◌==◌, Bool, true, false, List, [], ◌∷◌, ◌++◌, find, codes, decimal, bytes_eq, slice_index_or, Option, Some, None, if◌then◌else◌}
+use Rattle.std.specs.Prelude.{ℕ, ◌==◌, Bool, true, false, List, [], ◌∷◌, ◌++◌, codes, slice_index_or, Option, Some, None, if◌then◌else◌}
 use Rattle.std.specs.List.{list_any}
-use Rattle.std.specs.Option.{option_map_or}
+use Rattle.std.specs.Option.{option_map_or, unwrap_or}
 use Rattle.hex.specs.Hex.{encode_lower}
 use Rattle.mesh_base.specs.Address.{mac_text}
+use Rattle.mesh_base.specs.Names.{node_name}
 use Rattle.mesh_base.specs.declared.address.Mac.{Mac}
 use Rattle.mesh_base.specs.declared.client.Vid.{Vid}
 use Rattle.mesh_base.specs.declared.event.Event.{Event}
@@ -18,22 +19,17 @@ use Rattle.mesh_base.specs.declared.event.LossReason.{LossReason}
 use Rattle.mesh_base.specs.declared.event.LossReason.TheVariants.{Unknown, Ttl, NoRoute}
 use Rattle.mesh_base.specs.declared.event.Reason.{Reason}
 use Rattle.mesh_base.specs.declared.event.Reason.TheVariants.{Roam, Table, Old, Gw, Mc, Alfred, Fwd}
+use Rattle.mesh_base.specs.declared.names.NodeName.{NodeName}
 use Rattle.mesh_model.specs.declared.frame_choice.FrameChoice.{FrameChoice}
 use Rattle.mesh_model.specs.declared.frame_choice.FrameChoice.TheVariants.{Hidden, All, Client, Ogm}
 use Rattle.mesh_model.specs.Packets.Numbers.{iv_ogm_type, bcast_type, elp_type, ogm2_type, unicast_type, unicast4_type}
 use Rattle.mesh_model.specs.Packets.Shapes.{Shape, shape_of_type}
-use Rattle.mesh_model.specs.Scenario.Lines.{newline}
+use Rattle.mesh_model.specs.Text.PacketLines.{line_of, named_number, named_address}
 use Rattle.mesh_model.specs.Text.Tables.{vid_text}
 
--- an address with the name of its node
-pub record NodeName : Type 0 where
-  pub mac : Mac
-  pub name : List ℕ
-
--- the first node name of this address, or the address
+-- the name of the first node of this address, or the address
 abbrev pub name_text : List NodeName → Mac → List ℕ
-name_text names mac = option_map_or (λ (known : NodeName). known.name)
-    (find (λ known. bytes_eq known.mac.0 mac.0) names) (mac_text mac)
+name_text names mac = unwrap_or (node_name names mac) (mac_text mac)
 
 -- the type byte of a frame; 255, which is no kind's, where it has none
 abbrev pub type_byte : List ℕ → ℕ
@@ -83,26 +79,28 @@ loss_word Unknown = codes "unknown"
 loss_word Ttl = codes "ttl"
 loss_word NoRoute = codes "noroute"
 
--- what `recv` and `lost` say of a client frame: moment, node, VLAN, source and destination
-abbrev pub client_frame_text : List NodeName → ℕ → Mac → Vid → Mac → Mac → List ℕ
-client_frame_text names moment node vid src dst =
-    decimal moment ++ codes " " ++ name_text names node ++ codes " " ++ vid_text vid ++ codes " "
-    ++ mac_text src ++ codes " " ++ mac_text dst ++ codes " "
+-- the line of a client frame: a word, moment, node, VLAN, source and destination, and what stands
+-- last
+unfoldable pub client_frame_line :
+    List ℕ → List NodeName → ℕ → Mac → Vid → Mac → Mac → List ℕ → List ℕ
+client_frame_line word names moment node vid src dst last = line_of
+    (word ∷ named_number (codes " ") moment ∷ codes " " ∷ name_text names node
+    ∷ codes " " ∷ vid_text vid ∷ named_address (codes " ") src ∷ named_address (codes " ") dst
+    ∷ codes " " ∷ last ∷ [])
 
 -- the line of an event
 unfoldable pub event_line : List NodeName → Event → List ℕ
-event_line names (FrameSent number moment from to reason bytes) =
-    codes "f" ++ decimal number ++ codes " " ++ decimal moment ++ codes " "
-    ++ name_text names from ++ codes ">" ++ name_text names to ++ codes " " ++ kind_word bytes
-    ++ by_text reason ++ codes " " ++ encode_lower bytes ++ newline ∷ []
+event_line names (FrameSent number moment from to reason bytes) = line_of
+    (named_number (codes "f") number ∷ named_number (codes " ") moment
+    ∷ codes " " ∷ name_text names from ∷ codes ">" ∷ name_text names to
+    ∷ codes " " ∷ kind_word bytes ∷ by_text reason ∷ codes " " ∷ encode_lower bytes ∷ [])
 event_line names (Received moment node vid src dst text) =
-    codes "recv " ++ client_frame_text names moment node vid src dst ++ text ++ newline ∷ []
+    client_frame_line (codes "recv") names moment node vid src dst text
 event_line names (Lost moment node vid src dst reason) =
-    codes "lost " ++ client_frame_text names moment node vid src dst ++ loss_word reason
-    ++ newline ∷ []
-event_line names (Alias node commit earlier) =
-    codes "alias " ++ name_text names node ++ codes " " ++ decimal commit ++ codes " "
-    ++ decimal earlier ++ newline ∷ []
+    client_frame_line (codes "lost") names moment node vid src dst (loss_word reason)
+event_line names (Alias node commit earlier) = line_of
+    (codes "alias " ∷ name_text names node ∷ named_number (codes " ") commit
+    ∷ named_number (codes " ") earlier ∷ [])
 
 -- an event as it is printed, where the choice shows it
 abbrev pub event_text : FrameChoice → List NodeName → Event → List ℕ

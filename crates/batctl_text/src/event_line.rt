@@ -1,0 +1,234 @@
+//! The line of an event.
+
+ghost use Rattle.std.specs.Prelude.{◌≡◌, ◌++◌, OnOk, OnErr};
+ghost use Rattle.mesh_base.specs.declared.event.Event.TheVariants.{Alias, FrameSent};
+ghost use Rattle.mesh_model.specs.Text.Events.{by_text, client_frame_line, event_line, kind_word, loss_word, name_text};
+ghost use Rattle.batctl_text.specs.Inner.Parts.{part_text};
+
+use crate::part::Part::{self, Address, Hex, Number, Text, Vlan};
+use crate::whole_line::put_line;
+use mesh_base::{Event, LossReason, Mac, Millis, Names, NoMemory, Reason, Vid};
+use mesh_codec::numbers::{BCAST, ELP, FRAG, ICMP, IV_OGM, OGM2, UNICAST, UNICAST4, UTVLV};
+
+// The name of a node, or its address where it has none.
+fn name_part<'a>(names: &'a Names, mac: Mac) -> Part<'a>
+    ensures { part_text result ≡ name_text names.now.nodes mac }
+{
+    match names.node_name(mac) {
+        Some(name) => Text(name),
+        None => Address(b"", mac),
+    }
+}
+
+// The word of a frame's kind, or `-` where its first byte is of none.
+fn kind_word(bytes: &[u8]) -> &'static [u8]
+    ensures { result.now ≡ kind_word bytes.now }
+{
+    let Some(&kind) = bytes.first() else {
+        return b"-";
+    };
+    match kind {
+        IV_OGM => b"iv_ogm",
+        BCAST => b"bcast",
+        ELP => b"elp",
+        OGM2 => b"ogm2",
+        UNICAST => b"unicast",
+        FRAG => b"frag",
+        UNICAST4 => b"unicast4",
+        ICMP => b"icmp",
+        UTVLV => b"utvlv",
+        _ => b"-",
+    }
+}
+
+// A reason as it stands before the bytes, or nothing.
+fn by_text(reason: Option<Reason>) -> &'static [u8]
+    ensures { result.now ≡ by_text reason }
+{
+    match reason {
+        None => b"",
+        Some(Reason::Roam) => b" by=roam",
+        Some(Reason::Table) => b" by=table",
+        Some(Reason::Old) => b" by=old",
+        Some(Reason::Gw) => b" by=gw",
+        Some(Reason::Mc) => b" by=mc",
+        Some(Reason::Alfred) => b" by=alfred",
+        Some(Reason::Fwd) => b" by=fwd",
+    }
+}
+
+// The word of a loss.
+fn loss_word(reason: LossReason) -> &'static [u8]
+    ensures { result.now ≡ loss_word reason }
+{
+    match reason {
+        LossReason::Unknown => b"unknown",
+        LossReason::Ttl => b"ttl",
+        LossReason::NoRoute => b"noroute",
+    }
+}
+
+// Appends the line of a link frame that is sent.
+#[tactic(auto, unfolding(mesh_model::specs::Text::Events::event_line))]
+fn frame_line<'a>(
+    out: &mut Vec<u8>,
+    names: &'a Names,
+    number: u32,
+    moment: Millis,
+    from: Mac,
+    to: Mac,
+    reason: Option<Reason>,
+    bytes: &'a [u8],
+) -> Result<(), NoMemory>
+    ensures ok { OnOk result (out.new.items ≡ out.old.items
+        ++ event_line names.now.nodes (FrameSent number moment from to reason bytes.now)) }
+    ensures err { OnErr result (out.new.items ≡ out.old.items) }
+{
+    put_line(
+        out,
+        &[
+            Number(b"f", u64::from(number)),
+            Number(b" ", moment),
+            Text(b" "),
+            name_part(names, from),
+            Text(b">"),
+            name_part(names, to),
+            Text(b" "),
+            Text(kind_word(bytes)),
+            Text(by_text(reason)),
+            Text(b" "),
+            Hex(bytes),
+        ],
+    )
+}
+
+// Appends the line of a client frame: a word, moment, node, VLAN, source and destination, and what
+// stands last.
+#[tactic(auto, unfolding(mesh_model::specs::Text::Events::client_frame_line))]
+fn client_frame_line<'a>(
+    out: &mut Vec<u8>,
+    word: &'a [u8],
+    names: &'a Names,
+    moment: Millis,
+    node: Mac,
+    vid: Vid,
+    src: Mac,
+    dst: Mac,
+    last: &'a [u8],
+) -> Result<(), NoMemory>
+    ensures ok { OnOk result (out.new.items ≡ out.old.items
+        ++ client_frame_line word.now names.now.nodes moment node vid src dst last.now) }
+    ensures err { OnErr result (out.new.items ≡ out.old.items) }
+{
+    put_line(
+        out,
+        &[
+            Text(word),
+            Number(b" ", moment),
+            Text(b" "),
+            name_part(names, node),
+            Text(b" "),
+            Vlan(vid),
+            Address(b" ", src),
+            Address(b" ", dst),
+            Text(b" "),
+            Text(last),
+        ],
+    )
+}
+
+// Appends the line of a commit that announces what an earlier one announced.
+#[tactic(auto, unfolding(mesh_model::specs::Text::Events::event_line))]
+fn alias_line(
+    out: &mut Vec<u8>,
+    names: &Names,
+    node: Mac,
+    commit: u64,
+    earlier: u64,
+) -> Result<(), NoMemory>
+    ensures ok { OnOk result (out.new.items ≡ out.old.items
+        ++ event_line names.now.nodes (Alias node commit earlier)) }
+    ensures err { OnErr result (out.new.items ≡ out.old.items) }
+{
+    put_line(
+        out,
+        &[
+            Text(b"alias "),
+            name_part(names, node),
+            Number(b" ", commit),
+            Number(b" ", earlier),
+        ],
+    )
+}
+
+/// Appends the line of an event.
+///
+/// A node that has no name is printed by its address. What a choice of frames hides is the
+/// caller's matter: each event has its line here.
+#[tactic(auto, unfolding(mesh_model::specs::Text::Events::event_line))]
+pub fn line(out: &mut Vec<u8>, names: &Names, event: &Event) -> Result<(), NoMemory>
+    ensures ok { OnOk result (out.new.items
+        ≡ out.old.items ++ event_line names.now.nodes event.now) }
+    ensures err { OnErr result (out.new.items ≡ out.old.items) }
+{
+    match event {
+        Event::FrameSent {
+            number,
+            moment,
+            from,
+            to,
+            reason,
+            bytes,
+        } => frame_line(
+            out,
+            names,
+            *number,
+            *moment,
+            *from,
+            *to,
+            *reason,
+            bytes.as_slice(),
+        ),
+        Event::Received {
+            moment,
+            node,
+            vid,
+            src,
+            dst,
+            text,
+        } => client_frame_line(
+            out,
+            b"recv",
+            names,
+            *moment,
+            *node,
+            *vid,
+            *src,
+            *dst,
+            text.as_slice(),
+        ),
+        Event::Lost {
+            moment,
+            node,
+            vid,
+            src,
+            dst,
+            reason,
+        } => client_frame_line(
+            out,
+            b"lost",
+            names,
+            *moment,
+            *node,
+            *vid,
+            *src,
+            *dst,
+            loss_word(*reason),
+        ),
+        Event::Alias {
+            node,
+            commit,
+            earlier,
+        } => alias_line(out, names, *node, *commit, *earlier),
+    }
+}
