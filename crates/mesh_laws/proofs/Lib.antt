@@ -8,6 +8,7 @@ pub mod NumberLemmas
 pub mod WindowLemmas
 pub mod KeyTables
 pub mod AscendingKeys
+pub mod MacLemmas
 pub mod PresentLemmas
 pub mod MarkLemmas
 pub mod HeaderLemmas

@@ -11,12 +11,9 @@ use Rattle.mesh_model.specs.declared.table_change.Change.{Change}
 use Rattle.mesh_model.specs.Tables.Changes.{IsInKeyOrder, changeset}
 use Rattle.mesh_model.specs.Tables.Strict.{apply_strictly}
 use Rattle.mesh_model.specs.Tables.Sums.{checksums, sums_of, sum_at}
+use Rattle.mesh_model.specs.Tables.Versions.{Version, next_byte}
 use Rattle.mesh_laws.specs.Machine.Pieces.{piece, piece_count, put_together}
-use Rattle.mesh_laws.specs.Machine.World.{Version, Saying, Announcement, Differences, Piece, Told, Node, World, WasSaid, silent_node, with_commit, with_saying, with_node}
-
--- the byte after a byte
-abbrev pub next_byte : ℕ → ℕ
-next_byte byte = (byte + 1) % 256
+use Rattle.mesh_laws.specs.Machine.World.{Saying, Announcement, Differences, Piece, Told, Node, World, WasSaid, silent_node, with_commit, with_saying, with_node}
 
 -- changes are those of the last commit, from the one before it, which has the byte before
 abbrev pub AreLastChanges : List Version → List Change → Type 0

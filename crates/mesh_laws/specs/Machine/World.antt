@@ -6,11 +6,7 @@ use Rattle.std.specs.Prelude.{◌≡◌, ◌⊎◌, ℕ, ◌==◌, if◌then◌e
 use Rattle.mesh_base.specs.declared.client.Entry.{Entry}
 use Rattle.mesh_model.specs.Packets.Bodies.{VlanSum}
 use Rattle.mesh_model.specs.declared.table_change.Change.{Change}
-
--- a table under a byte: what the originator commits, and what a node holds
-pub record Version : Type 0 where
-  pub byte : ℕ
-  pub table : List Entry
+use Rattle.mesh_model.specs.Tables.Versions.{Version}
 
 -- what was said of the originator's tables: an announcement of a commit by its number, with changes
 -- or with none; an answer in changes; or a piece of a full answer, by its place among so many
