@@ -1,9 +1,9 @@
 -- The least VLAN that passes a test, of one list and of two, and of rows by wire number.
-use Rattle.std.proofs.Common.{◌≡◌, ℕ, zero, suc, ◌<◌, Bool, true, false, cond, not, nat_eq, nat_lt, List, [], ◌∷◌, ◌++◌, length, map, get_or, Option, Some, None, nat_cmp, refl, sym, ap, ◌∙◌, arith, Less}
+use Rattle.std.proofs.Common.{◌≡◌, ℕ, zero, suc, ◌<◌, Bool, true, false, cond, not, nat_eq, nat_lt, List, [], ◌∷◌, ◌++◌, length, map, drop, get_or, Option, Some, None, nat_cmp, refl, sym, ap, ap₂, ◌∙◌, arith, Less}
 use Rattle.std.proofs.Math.Path.{fun_ext}
 use Rattle.std.specs.List.{AllByRecursion}
 use Rattle.std.specs.List.Sorted.{IsStrictlySortedBy}
-use Rattle.std.proofs.lemmas.Bool.{false≢true}
+use Rattle.std.proofs.lemmas.List.{length-map}
 use Rattle.std.proofs.lemmas.Bool.Decides.{nat_tests}
 use Rattle.mesh_base.specs.declared.client.Vid.{Vid}
 use Rattle.mesh_model.specs.Packets.Bodies.{VlanSum}
@@ -84,3 +84,20 @@ least_named kept told mine other mine_is other_is =
     ap (λ x. lesser x other) mine_is
     ∙ ap (lesser (least_passing (differ_at kept told) (named_vlans kept))) (other_is ∙ ap (λ t. least_passing t (named_vlans told)) (differ_either_way kept told))
     ∙ sym (least_of_both (differ_at kept told) (named_vlans kept) (named_vlans told))
+
+-- ---- sums that are the same
+pub same_named : (xs ys : List VlanTotal) → length xs ≡ length ys → ((i : ℕ) (d : VlanTotal) → i < length xs → row_sum (get_or xs i d) ≡ row_sum (get_or ys i d)) → map row_sum xs ≡ map row_sum ys
+same_named [] [] counted same = refl
+same_named [] (y ∷ ys) counted same = absurd (omega (arith, counted))
+same_named (x ∷ xs) [] counted same = absurd (omega (arith, counted))
+same_named (x ∷ xs) (y ∷ ys) counted same =
+    ap₂ (λ r l. r ∷ l) (same 0 x (omega arith)) (same_named xs ys (omega (arith, counted)) (λ i d lt. same (suc i) d (omega (arith, lt))))
+
+pub same_counted : (xs ys : List VlanTotal) → map row_sum xs ≡ map row_sum ys → length xs ≡ length ys
+same_counted xs ys is = sym (length-map xs row_sum) ∙ ap length is ∙ length-map ys row_sum
+
+pub same_rows : (xs ys : List VlanTotal) → map row_sum xs ≡ map row_sum ys → (i : ℕ) (d e : VlanTotal) → i < length xs → row_sum (get_or xs i d) ≡ row_sum (get_or ys i e)
+same_rows [] ys is i d e lt = absurd (omega (arith, lt))
+same_rows (x ∷ xs) [] is i d e lt = absurd (let counted = same_counted (x ∷ xs) [] is in omega (arith, counted))
+same_rows (x ∷ xs) (y ∷ ys) is zero d e lt = ap (λ l. get_or l 0 (row_sum x)) is
+same_rows (x ∷ xs) (y ∷ ys) is (suc i) d e lt = same_rows xs ys (ap (drop 1) is) i d e (omega (arith, lt))

@@ -1,4 +1,4 @@
-ghost use Rattle.std.specs.Prelude.{◌≡◌};
+ghost use Rattle.std.specs.Prelude.{◌≡◌, ◌↔◌, IsTrue};
 ghost use Rattle.mesh_model.specs.Tables.Differences.{differ_at, first_difference, least_passing, lesser, named_vlans};
 ghost use Rattle.tt_table.specs.Sums.{named_sums};
 
@@ -18,6 +18,22 @@ impl Sums {
             kept: self.get(vid),
             told: told.get(vid),
         })
+    }
+
+    /// Whether these sums name the same VLANs as others, with the same checksums.
+    pub fn is_same(&self, others: &Sums) -> bool
+        ensures { IsTrue result ↔ (named_sums self.now ≡ named_sums others.now) }
+    {
+        if self.rows.len() != others.rows.len() {
+            return false;
+        }
+        for (place, row) in self.rows.iter().enumerate() {
+            let other = &others.rows[place];
+            if row.vid != other.vid || row.sum != other.sum {
+                return false;
+            }
+        }
+        true
     }
 
     // The first VLAN that these sums name whose checksum isn't the same in others.
