@@ -73,29 +73,31 @@ fn announce_all<L: Ledger>(
     ])
 }
 
-/// The outcomes of the answers of the worked row, one after another.
+/// The outcomes of the answers of the worked row, one after another, and whether the second made
+/// the tables agree.
 fn answer_all<L: Ledger>(
     alloc: Global,
     globals: &mut Globals,
     steps: &mut Steps<L>,
-) -> Result<[Taken; 3], NoMemory> {
+) -> Result<([Taken; 3], bool), NoMemory> {
     let orig = node(10);
     let sums = untagged(alloc, FIRST_SUM)?;
     let whole = one(alloc, client(1), false)?;
     let early = globals.take_full(orig, 2, &sums, &whole, steps)?;
     let full = globals.take_full(orig, 5, &sums, &whole, steps)?;
+    let ok = globals.is_ok(orig);
     let next = told(alloc, 6, FIRST_SUM, Changes::new(alloc))?;
     globals.announce(orig, &next, steps)?;
     let gone = one(alloc, client(9), true)?;
     let changes = globals.take_changes(orig, 6, &sums, &gone, steps)?;
-    Ok([early, full, changes])
+    Ok(([early, full, changes], ok))
 }
 
 /// All of the worked row, and what is known then.
 fn worked_row<L: Ledger>(
     alloc: Global,
     blank: Blank,
-) -> Result<([Heard; 6], [Taken; 3], Globals), NoMemory>
+) -> Result<([Heard; 6], ([Taken; 3], bool), Globals), NoMemory>
     requires name { blank.name ≡ L.name }
     requires parts { blank.parts ≡ L.parts }
     requires some { 0 < blank.parts }
@@ -139,7 +141,7 @@ fn each_answer_has_its_outcome(rt: HostRuntime) -> Result<(), NoMemory> {
         wanted: Some(5),
     };
     let clash = Taken::Clash { entry: client(9) };
-    assert_eq!(rt; taken, [early, Taken::Taken, clash]);
+    assert_eq!(rt; taken, ([early, Taken::Taken, clash], true));
     let row = GlobalRow {
         orig: node(10),
         held: Some(5),
