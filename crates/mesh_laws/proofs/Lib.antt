@@ -19,6 +19,8 @@ pub mod TableSums
 pub mod AnnouncedSums
 pub mod TableChanges
 pub mod PieceLemmas
+pub mod DifferenceLemmas
+pub mod KnownLemmas
 pub mod MachineInvariant
 pub mod MachineLemmas
 pub mod MisledWorld
