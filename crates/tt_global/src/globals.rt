@@ -1,11 +1,11 @@
-ghost use Rattle.std.specs.Prelude.{◌≡◌, ◌↔◌, ◌+◌, ◌≤◌, ℕ, [], ◌∷◌, length, slice_get, option_map, option_and_then, IfOk, IsNone, IsSome, OnErr, OnOk};
+ghost use Rattle.std.specs.Prelude.{◌≡◌, ◌↔◌, ◌+◌, ◌≤◌, ℕ, [], ◌∷◌, length, slice_get, option_map, option_and_then, IfOk, IfSome, IsNone, IsOk, IsSome, OnErr, OnOk, Some};
 ghost use Rattle.std.specs.Map.{lookup};
 ghost use Rattle.mesh_base.specs.declared.address.Mac.{Mac};
 ghost use Rattle.mesh_model.specs.Routes.Addresses.{same_mac};
 ghost use Rattle.mesh_model.specs.Tables.Judging.{InChanges, InFull, announcement_row, answer_row};
 ghost use Rattle.mesh_model.specs.Tables.Known.{Announced, Answered, Dropped, TableCalls, holders_by, is_agreed, known_by, originators_by, row_by, stamp_of};
 ghost use Rattle.tt_global.specs.Globals.{GlobalsStand, asked_version};
-ghost use Rattle.tt_global.specs.Kept.{IsHeld, IsTold, answer_of, held_in, row_in, stamp, stamp_in};
+ghost use Rattle.tt_global.specs.Kept.{IsHeld, IsTold, stamp, stamp_in, told_in};
 
 use crate::judging::{Judged, judge_announcement, judge_changes, judge_full};
 use crate::known::{HeldTable, KnownTable};
@@ -60,6 +60,13 @@ impl Globals {
             (stamp_in announced.now) announced.now.changes).outcome) }
         ensures err { OnErr result (self.new ≡ self.old) }
         ensures steps { steps.new ≤ steps.old + length announced.now.changes }
+
+        // No memory is wanted where the byte and the sums were told before, and what is held, if
+        // anything, is held under that byte.
+        ensures same { (calls : TableCalls) → GlobalsStand self.old calls →
+            stamp_of (known_by calls orig) ≡ Some (stamp_in announced.now) →
+            IfSome (known_by calls orig).held (λ held. held.byte ≡ announced.now.byte) →
+            IsOk result }
     {
         let held = self.known.get(&orig).and_then(|known| known.held.as_ref());
         let Judged { outcome, table } = judge_announcement(self.alloc, held, announced, steps)?;
@@ -189,6 +196,8 @@ impl Globals {
     fn tell(&mut self, orig: Mac, byte: u8, sums: &Sums) -> Result<(), NoMemory>
         ensures ok { OnOk result (IsTold orig (stamp byte sums.now) self.old self.new) }
         ensures err { OnErr result (self.new ≡ self.old) }
+        ensures same { told_in (lookup (same_mac orig) self.old) ≡ Some (stamp byte sums.now) →
+            IsOk result }
     {
         match self.known.get_mut(&orig) {
             Some(known) => {

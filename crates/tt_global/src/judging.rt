@@ -1,4 +1,4 @@
-ghost use Rattle.std.specs.Prelude.{◌≡◌, ◌+◌, ◌≤◌, [], length, option_map, IfErr, IfOk, None, Some};
+ghost use Rattle.std.specs.Prelude.{◌≡◌, ◌+◌, ◌≤◌, [], length, option_map, IfErr, IfOk, IfSome, IsOk, None, Some};
 ghost use Rattle.mesh_model.specs.Tables.Differences.{first_difference};
 ghost use Rattle.mesh_model.specs.Tables.Judging.{Carried, InChanges, InFull, announcement_row, becomes, carried_row, heard_trial, held_row, next_byte_row, same_byte_row, stays, taken_trial, trial, wanted_request};
 ghost use Rattle.mesh_model.specs.Tables.Sums.{sums_of};
@@ -52,6 +52,8 @@ pub(crate) fn judge_announcement<L: Ledger>(
     ensures row { IfOk result (λ judged. row_in judged
         ≡ announcement_row (option_map version_of (lent held.entry)) (stamp_in announced.now)
         announced.now.changes) }
+    ensures same { IfSome (option_map version_of (lent held.entry))
+        (λ held. held.byte ≡ announced.now.byte) → IsOk result }
     ensures steps { steps.new ≤ steps.old + length announced.now.changes }
 {
     if announced.sums.at(0).is_none() {
@@ -77,6 +79,7 @@ fn judge_held<L: Ledger>(
 ) -> Result<Judged<Heard>, NoMemory>
     ensures row { IfOk result (λ judged. row_in judged
         ≡ held_row (version_of held.now) (stamp_in announced.now) announced.now.changes) }
+    ensures same { held.now.byte ≡ announced.now.byte → IsOk result }
     ensures steps { steps.new ≤ steps.old + length announced.now.changes }
 {
     if held.byte == announced.byte {

@@ -1,6 +1,7 @@
-ghost use Rattle.std.specs.Prelude.{◌≡◌, OnErr, OnOk, Some};
+ghost use Rattle.std.specs.Prelude.{◌≡◌, IsOk, OnErr, OnOk, Some};
 ghost use Rattle.mesh_model.specs.Tables.Known.{agrees, names};
 ghost use Rattle.tt_global.specs.Kept.{held_in, kept_row, stamp, told_in};
+ghost use Rattle.tt_table.specs.Sums.{named_sums};
 
 use mesh_base::{Key, Mac, NoMemory};
 use mesh_model::GlobalRow;
@@ -57,11 +58,14 @@ impl KnownTable {
         }
     }
 
-    /// Notes what was announced. It takes no memory where the sums are those of before.
+    /// Notes what was announced.
     pub(crate) fn tell(&mut self, byte: u8, sums: &Sums) -> Result<(), NoMemory>
         ensures told { OnOk result (stamp self.new.byte self.new.sums ≡ stamp byte sums.now) }
         ensures held { self.new.held ≡ self.old.held }
         ensures err { OnErr result (self.new ≡ self.old) }
+
+        // No memory is wanted where the sums are those of before.
+        ensures same { named_sums self.old.sums ≡ named_sums sums.now → IsOk result }
     {
         if !self.sums.is_same(sums) {
             self.sums = sums.copy()?;

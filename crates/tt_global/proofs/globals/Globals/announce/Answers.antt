@@ -1,8 +1,9 @@
-use Rattle.std.proofs.Common.{rules, ap, sym, ◌∙◌, ◌≡◌, Some, None, option_map}
+use Rattle.std.proofs.Common.{rules, ap, subst, sym, IfSome, ◌∙◌, ◌≡◌, Some, None, option_map}
 use Rattle.std.specs.Map.{lookup}
 use Rattle.mesh_model.specs.Routes.Addresses.{same_mac}
 use Rattle.mesh_model.specs.Tables.Judging.{announcement_row}
 use Rattle.tt_global.specs.Kept.{held_in, lent, row_in, stamp_in, version_of}
+use Rattle.tt_global.proofs.PlaceLemmas.{not_refused}
 use Rattle.tt_global.proofs.StandLemmas.{announced_held, announced_kept, told_there}
 use Rattle.tt_global.proofs.globals.Globals.announce.Goals as goal
 
@@ -40,3 +41,11 @@ returns-in_default-clause-heard g c =
     let kept : lent c.get.result ≡ lookup (same_mac c.args.orig) c.args.self.now = c.get.ensures.value ∙ ap (lookup (same_mac c.args.orig)) c.self.view_is in
     let held : option_map version_of (lent c.and_then-held.result) ≡ held_in (lookup (same_mac c.args.orig) c.args.self.now) = search (rules, kept) in
     ap (λ r. r.outcome) c.in_ok-outcome.ensures.row ∙ ap (λ h. (announcement_row h (stamp_in c.args.announced.now) c.args.announced.now.changes).outcome) (held ∙ stands.held c.args.orig)
+
+pub returns-in_err-outcome-clause-same : goal.returns-in_err-outcome-clause-same
+returns-in_err-outcome-clause-same g c =
+    λ calls stands told held_under.
+    let kept : lent c.get.result ≡ lookup (same_mac c.args.orig) c.args.self.now = c.get.ensures.value ∙ ap (lookup (same_mac c.args.orig)) c.self.view_is in
+    let held : option_map version_of (lent c.and_then-held.result) ≡ held_in (lookup (same_mac c.args.orig) c.args.self.now) = search (rules, kept) in
+    let under = subst (λ h. IfSome h (λ v. v.byte ≡ c.args.announced.now.byte)) (sym (held ∙ stands.held c.args.orig)) held_under in
+    not_refused c.judge_announcement.result _ c.in_err-outcome.was (c.judge_announcement.ensures.same under)

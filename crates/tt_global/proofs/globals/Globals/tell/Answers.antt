@@ -9,6 +9,7 @@ use Rattle.mesh_laws.proofs.AscendingKeys.{inserted, sorted_from}
 use Rattle.mesh_laws.proofs.MacLemmas.{mac_exact, mac_total, same_by_order}
 use Rattle.tt_global.specs.Kept.{stamp, told_in}
 use Rattle.tt_global.specs.declared.known.KnownTable.{KnownTable}
+use Rattle.tt_global.proofs.PlaceLemmas.{not_refused, nothing_told, same_sums}
 use Rattle.tt_global.proofs.StandLemmas.{told_inserted, told_written}
 use Rattle.tt_global.proofs.globals.Globals.tell.Goals as goal
 
@@ -42,3 +43,21 @@ returns-in_ok-insert_sorted-in-None-clause-ok c =
     c.in_ok-insert_sorted-in-None.ensures.updates.0 other ∙ ap (λ es. cond (same_mac c.args.orig other) (Some row) (lookup (same_mac other) es)) same in
     told_inserted c.args.orig old new row (stamp c.args.byte c.args.sums.now) absent told refl updates
     (λ rise. inserted mac_total mac_exact same_mac (λ x y. sym (same_by_order x y)) old new c.args.orig row rise (sorted (sorted_from mac_total mac_exact old rise)) once updates)
+
+pub returns-in_err-tell-in-Some-clause-same : goal.returns-in_err-tell-in-Some-clause-same
+returns-in_err-tell-in-Some-clause-same c =
+    λ told.
+    let found : lookup (same_mac c.args.orig) c.args.self.now ≡ Some c.in-Some.known.now = search rules in
+    not_refused c.tell.result _ c.in_err-tell-in-Some.was (c.tell.ensures.same (same_sums _ c.in-Some.known.now (stamp c.args.byte c.args.sums.now) found told))
+
+pub returns-in_err-sums-in-None-clause-same : goal.returns-in_err-sums-in-None-clause-same
+returns-in_err-sums-in-None-clause-same c =
+    λ told.
+    let absent : lookup (same_mac c.args.orig) c.args.self.now ≡ None = search rules in
+    nothing_told _ (stamp c.args.byte c.args.sums.now) absent told
+
+pub returns-in_err-insert_sorted-in-None-clause-same : goal.returns-in_err-insert_sorted-in-None-clause-same
+returns-in_err-insert_sorted-in-None-clause-same c =
+    λ told.
+    let absent : lookup (same_mac c.args.orig) c.args.self.now ≡ None = search rules in
+    nothing_told _ (stamp c.args.byte c.args.sums.now) absent told
