@@ -1,5 +1,5 @@
-ghost use Rattle.std.specs.Prelude.{◌≡◌, ◌≢◌, ◌↔◌, ◌+◌, ◌≤◌, [], length, slice_get, IfErr, IfOk, IsNone, IsOk, OnErr, OnOk, Ok, Err};
-ghost use Rattle.mesh_model.specs.Tables.Changes.{flags_at, IsInKeyOrder};
+ghost use Rattle.std.specs.Prelude.{◌≡◌, ◌≢◌, ◌↔◌, ◌+◌, ◌≤◌, [], length, map, slice_get, IfErr, IfOk, IsNone, IsOk, OnErr, OnOk, Ok, Err};
+ghost use Rattle.mesh_model.specs.Tables.Changes.{addition, flags_at, IsInKeyOrder};
 ghost use Rattle.mesh_model.specs.Tables.Strict.{apply_strictly};
 ghost use Rattle.mesh_model.specs.Tables.Sums.{sums_of};
 ghost use Rattle.tt_table.specs.Entries.{HasRoom};
@@ -81,6 +81,14 @@ impl Table {
     {
         self.entries.tell_order();
         self.entries.at(i)
+    }
+
+    /// The changes that make this table of the empty one.
+    pub fn additions(&self) -> Result<Changes, NoMemory>
+        ensures { IfOk result (λ changes. changes ≡ map addition self.now.entries) }
+    {
+        let additions = self.entries.additions()?;
+        Ok(additions)
     }
 
     /// Makes room for so many changes.
