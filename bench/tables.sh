@@ -116,7 +116,9 @@ fn take_all<L: Ledger>(
     let mut taken = 0_u32;
     for _ in 0..ANSWERS {
         let outcome = globals.take_full(orig, 1, &announced.sums, records, steps)?;
-        taken = taken.wrapping_add((outcome == Taken::Taken) as u32);
+        if let Taken::Taken = outcome {
+            taken = taken.wrapping_add(1);
+        }
     }
     Ok(taken)
 }
@@ -131,7 +133,9 @@ fn hear_all<L: Ledger>(
     let mut same = 0_u32;
     for _ in 0..HEARINGS {
         let outcome = globals.announce(orig, announced, steps)?;
-        same = same.wrapping_add((outcome == Heard::Same) as u32);
+        if let Heard::Same = outcome {
+            same = same.wrapping_add(1);
+        }
     }
     Ok(same)
 }
@@ -160,6 +164,33 @@ fn measure<L: Ledger>(rt: HostRuntime, blank: Blank) -> io::Result<()>
     println!(rt; "tables: an entry takes {} bytes", std::mem::size_of::<Entry>())
 }
 
+// Measures full answers.
+fn measure_answers<L: Ledger>(
+    rt: HostRuntime,
+    globals: &mut Globals,
+    announced: &Announcement,
+    records: &Changes,
+    steps: &mut Steps<L>,
+) -> io::Result<()> {
+    let start = Instant::now(&rt)?;
+    let taken = take_all(globals, announced, records, steps) == Ok(ANSWERS);
+    let nanos = start.elapsed(&rt)?.as_nanos() / u128::from(ANSWERS);
+    println!(rt; "tables: a full answer of {WHOLE} clients takes {nanos} ns ({taken})")
+}
+
+// Measures announcements of the held table.
+fn measure_hearings<L: Ledger>(
+    rt: HostRuntime,
+    globals: &mut Globals,
+    announced: &Announcement,
+    steps: &mut Steps<L>,
+) -> io::Result<()> {
+    let start = Instant::now(&rt)?;
+    let same = hear_all(globals, announced, steps) == Ok(HEARINGS);
+    let nanos = start.elapsed(&rt)?.as_nanos() / u128::from(HEARINGS);
+    println!(rt; "tables: an announcement of the held table takes {nanos} ns ({same})")
+}
+
 // The same of what is known of an originator.
 fn measure_known<L: Ledger>(rt: HostRuntime, blank: Blank) -> io::Result<()>
     requires name { blank.name ≡ L.name }
@@ -168,18 +199,13 @@ fn measure_known<L: Ledger>(rt: HostRuntime, blank: Blank) -> io::Result<()>
 {
     let mut steps = Steps::<L>::new(blank);
     let mut globals = Globals::new(rt.alloc());
-    let Ok((announced, records)) = whole(rt.alloc(), &mut steps) else {
-        return println!(rt; "tables: out of memory");
-    };
-    let start = Instant::now(&rt)?;
-    let taken = take_all(&mut globals, &announced, &records, &mut steps);
-    let nanos = start.elapsed(&rt)?.as_nanos() / u128::from(ANSWERS);
-    println!(rt; "tables: a full answer of {WHOLE} clients takes {nanos} ns ({})", taken == Ok(ANSWERS))?;
-    let start = Instant::now(&rt)?;
-    let same = hear_all(&mut globals, &announced, &mut steps);
-    let nanos = start.elapsed(&rt)?.as_nanos() / u128::from(HEARINGS);
-    println!(rt; "tables: an announcement of the held table takes {nanos} ns ({})", same == Ok(HEARINGS))?;
-    Ok(())
+    match whole(rt.alloc(), &mut steps) {
+        Ok((announced, records)) => {
+            measure_answers(rt, &mut globals, &announced, &records, &mut steps)?;
+            measure_hearings(rt, &mut globals, &announced, &mut steps)
+        }
+        Err(_) => println!(rt; "tables: out of memory"),
+    }
 }
 
 fn main(rt: HostRuntime) -> io::Result<()> {

@@ -1,5 +1,5 @@
 -- Where two lists of sums differ: the least VLAN that passes a test, and what agreement says.
-use Rattle.std.proofs.Common.{◌≡◌, ◌↔◌, ◌≢◌, ◌<◌, ◌≤◌, ◌⊎◌, ℕ, Bool, true, false, cond, not, nat_eq, nat_lt, ◌&&◌, ◌||◌, List, [], ◌∷◌, ◌++◌, map, Option, Some, None, option_map, is_none, is_some, IsSome, refl, sym, ap, ap₂, ◌∙◌, subst, arith}
+use Rattle.std.proofs.Common.{◌≡◌, ◌≢◌, ◌<◌, ◌≤◌, ℕ, Bool, true, false, cond, not, nat_eq, nat_lt, ◌||◌, List, [], ◌∷◌, ◌++◌, Option, Some, None, option_map, is_none, is_some, refl, sym, ap, ap₂, ◌∙◌, subst, arith}
 use Rattle.std.proofs.Math.Path.{fun_ext}
 use Rattle.std.specs.List.{list_any}
 use Rattle.std.proofs.lemmas.Bool.{true≢false, false≢true, eq-eqb, and_from, and_parts}
@@ -7,10 +7,8 @@ use Rattle.std.proofs.lemmas.Bool.Decides.{nat_tests}
 use Rattle.mesh_base.specs.declared.client.Vid.{Vid}
 use Rattle.mesh_model.specs.Packets.Bodies.{VlanSum}
 use Rattle.mesh_model.specs.declared.table_outcome.Difference.{Difference}
-use Rattle.mesh_model.specs.Tables.Differences.{differ_at, difference_at, first_difference, least_passing, lesser, named_vlans, passing}
-use Rattle.mesh_model.specs.Tables.Known.{agrees}
+use Rattle.mesh_model.specs.Tables.Differences.{differ_at, difference_at, first_difference, least_passing, lesser, named_vlans}
 use Rattle.mesh_model.specs.Tables.Sums.{checksums, sum_at, sums_of}
-use Rattle.mesh_model.specs.Tables.Versions.{Stamp, Version}
 use Rattle.mesh_laws.specs.KnownLaws.{AgreesByChecksums, FindsEachDifference, FindsLeastDifference, IsLeastDifference}
 use Rattle.mesh_laws.proofs.AnnouncedSums.{announces_checksums}
 
@@ -90,6 +88,7 @@ same_at kept told vid named = go (is_among vid (named_vlans kept)) refl (is_amon
   where
     split : is_among vid (named_vlans kept ++ named_vlans told) ≡ (is_among vid (named_vlans kept) || is_among vid (named_vlans told))
     split = among_both vid (named_vlans kept) (named_vlans told)
+
     go : (a : Bool) → is_among vid (named_vlans kept) ≡ a → (b : Bool) → is_among vid (named_vlans told) ≡ b → sum_at kept vid ≡ sum_at told vid
     go true t b u = equal_numbers _ _ (named (split ∙ ap (λ x. x || is_among vid (named_vlans told)) t))
     go false t true u = equal_numbers _ _ (named (split ∙ ap₂ (λ x y. x || y) t u))
@@ -110,8 +109,8 @@ no_least kept told same (Some vid) f = absurd (true≢false (sym f.0 ∙ same_nu
 pub finds_each_difference : FindsEachDifference
 finds_each_difference kept told = (
   λ none.
-  let least : IsLeast (differ_at kept told) (both kept told) None = subst (IsLeast (differ_at kept told) (both kept told)) (none_only (difference_at kept told) _ none) (found_least (differ_at kept told) (both kept told)) in
-  fun_ext (λ vid. same_at kept told vid (least vid)),
+      let least : IsLeast (differ_at kept told) (both kept told) None = subst (IsLeast (differ_at kept told) (both kept told)) (none_only (difference_at kept told) _ none) (found_least (differ_at kept told) (both kept told)) in
+      fun_ext (λ vid. same_at kept told vid (least vid)),
   λ same. ap (option_map (difference_at kept told)) (no_least kept told same _ (found_least (differ_at kept told) (both kept told))),
 )
 
@@ -143,7 +142,7 @@ none_from (Some x) t = absurd (false≢true t)
 pub agrees_by_checksums : AgreesByChecksums
 agrees_by_checksums told held = (
   λ t.
-  let parts = and_parts (nat_eq held.byte told.byte) (is_none (first_difference (sums_of held.table) told.sums)) t in
-  (same_number held.byte told.byte parts.0, sym (announces_checksums held.table) ∙ (finds_each_difference (sums_of held.table) told.sums).0 (none_from _ parts.1)),
+      let parts = and_parts (nat_eq held.byte told.byte) (is_none (first_difference (sums_of held.table) told.sums)) t in
+      (same_number held.byte told.byte parts.0, sym (announces_checksums held.table) ∙ (finds_each_difference (sums_of held.table) told.sums).0 (none_from _ parts.1)),
   λ is. and_from _ _ (eq-eqb held.byte told.byte is.0) (ap is_none ((finds_each_difference (sums_of held.table) told.sums).1 (announces_checksums held.table ∙ is.1))),
 )

@@ -1,5 +1,5 @@
 -- When what is held changes, how, and that the right answer is taken.
-use Rattle.std.proofs.Common.{◌≡◌, ◌≢◌, ℕ, Ordering, arith, ok_or, option_map, Bool, true, false, cond, nat_eq, List, [], ◌∷◌, ◌++◌, map, Option, Some, None, is_some, Result, Ok, Err, IsTrue, bit_xor, is_eq, refl, sym, ap, ap₂, ◌∙◌, subst, Less, Equal, Greater}
+use Rattle.std.proofs.Common.{◌≡◌, ◌≢◌, ℕ, Ordering, arith, ok_or, option_map, Bool, true, false, cond, nat_eq, List, [], ◌∷◌, ◌++◌, map, Option, Some, None, is_some, Result, Ok, Err, is_eq, refl, sym, ap, ap₂, ◌∙◌, subst, Less, Equal, Greater}
 use Rattle.std.proofs.Math.Path.{fun_ext}
 use Rattle.std.specs.List.{AllByRecursion, IsDistinct}
 use Rattle.std.specs.Ordering.{match_ordering}
@@ -9,7 +9,6 @@ use Rattle.std.proofs.lemmas.Bool.Decides.{nat_tests}
 use Rattle.mesh_base.specs.KeyOrder.{key_order}
 use Rattle.mesh_base.specs.declared.client.Entry.{Entry}
 use Rattle.mesh_base.specs.declared.client.Key.{Key}
-use Rattle.mesh_base.specs.declared.client.Vid.{Vid}
 use Rattle.mesh_model.specs.Clients.Present.{same_key}
 use Rattle.mesh_model.specs.Packets.Bodies.{VlanSum}
 use Rattle.mesh_model.specs.declared.table_change.Change.{Change}
@@ -17,12 +16,12 @@ use Rattle.mesh_model.specs.declared.table_outcome.Difference.{Difference}
 use Rattle.mesh_model.specs.declared.table_outcome.Heard.{Heard}
 use Rattle.mesh_model.specs.declared.table_outcome.Heard.TheVariants.{Emptied, Unheld, Same, SumDiffers, Gap, Bare, Clash, Applied}
 use Rattle.mesh_model.specs.declared.table_outcome.Taken.{Taken}
-use Rattle.mesh_model.specs.declared.table_outcome.Taken.TheVariants.{NotTold, SumDiffers as SumsDiffer, Unheld as NothingHeld, Gap as NotNext, Clash as NotStrict, Taken as IsTaken}
+use Rattle.mesh_model.specs.declared.table_outcome.Taken.TheVariants.{NotTold, Gap as NotNext, Taken as IsTaken}
 use Rattle.mesh_model.specs.Tables.Changes.{addition, changed_entries}
 use Rattle.mesh_model.specs.Tables.Differences.{first_difference}
-use Rattle.mesh_model.specs.Tables.Judging.{Carried, Fails, Differs, InChanges, InFull, Leads, Row, Trial, announcement_row, answer_row, becomes, carried_row, changes_row, heard_trial, held_row, named_row, next_byte_row, row_by_vlans, same_byte_row, stays, taken_trial, told_row, trial, trial_of, unless_carried_differs, unless_differs}
-use Rattle.mesh_model.specs.Tables.Known.{Known, agrees, answered, held_after, is_agreed, stamp_of}
-use Rattle.mesh_model.specs.Tables.Strict.{additions, and_then, apply_strictly, change_each, change_one, deletions, with_entry}
+use Rattle.mesh_model.specs.Tables.Judging.{Carried, Fails, Differs, InChanges, InFull, Leads, Row, Trial, answer_row, becomes, carried_row, changes_row, heard_trial, named_row, next_byte_row, row_by_vlans, same_byte_row, stays, taken_trial, trial, trial_of, unless_carried_differs, unless_differs}
+use Rattle.mesh_model.specs.Tables.Known.{agrees, held_after, stamp_of}
+use Rattle.mesh_model.specs.Tables.Strict.{additions, and_then, apply_strictly, change_each, with_entry}
 use Rattle.mesh_model.specs.Tables.Sums.{checksums, sum_at, sums_of}
 use Rattle.mesh_model.specs.Tables.Versions.{Stamp, Version, next_byte}
 use Rattle.mesh_laws.specs.KnownLaws.{ChangesAsHeard, ChangesAsTaken, FullAnswerIsTaken, HaveDistinctKeys, IsAppliedOnward, IsEmptiedByNone, IsTakenOnward, IsTakenWhole, IsTold, LeadsOn, MakeWhole, heard_another, took_another}
@@ -143,6 +142,7 @@ led {X} before changes told leads fails differs = go (apply_strictly before chan
     by_sums : (table : List Entry) → apply_strictly before changes ≡ Ok table → (d : Option Difference) → first_difference (sums_of table) told ≡ d → X
     by_sums table is None e = leads table (record { applied = is; sums_are = sums_from table told e }) (ap (trial_of told) is ∙ ap (λ d. unless_differs d table) e)
     by_sums table is (Some d) e = differs d (ap (trial_of told) is ∙ ap (λ d. unless_differs d table) e)
+
     go : (r : Result (List Entry) Change) → apply_strictly before changes ≡ r → X
     go (Ok table) is = by_sums table is (first_difference (sums_of table) told) refl
     go (Err change) is = fails change.entry (ap (trial_of told) is)
@@ -198,9 +198,11 @@ never_named (Some held) stamp changes = go (nat_eq held.byte stamp.byte) (nat_eq
     same : (difference : Option Difference) → is_emptied (same_byte_row difference).outcome ≡ false
     same None = refl
     same (Some difference) = refl
+
     next_row : (cs : List Change) → is_emptied (next_byte_row held stamp cs).outcome ≡ false
     next_row [] = refl
     next_row (c ∷ cs) = never_heard (trial held.table (c ∷ cs) stamp.sums)
+
     go : (same_byte next : Bool) → is_emptied (cond same_byte (same_byte_row (first_difference (sums_of held.table) stamp.sums)) (cond next (next_byte_row held stamp changes) (stays (Gap held.byte stamp.byte)))).outcome ≡ false
     go true next = same (first_difference (sums_of held.table) stamp.sums)
     go false true = next_row changes
@@ -283,6 +285,7 @@ put_one entry (first ∷ table) apart = go (key_order entry.key first.key) refl 
   where
     place : Ordering → Option (List Entry)
     place = λ r. match_ordering r (Some (entry ∷ first ∷ table)) None (option_map (λ others. first ∷ others) (with_entry entry table))
+
     go : (r : Ordering) → key_order entry.key first.key ≡ r → With entry table → With entry (first ∷ table)
     go Less e w = record { after = entry ∷ first ∷ table; is = ap place e; keeps = λ key other a. (other, a) }
     go Equal e w = absurd (false≢true (sym apart.0 ∙ ap is_eq e))
@@ -330,9 +333,8 @@ full_answer_is_taken known told stamp entries is_told distinct sums =
     ap (λ t. answer_row t known.held stamp carried) is_told.told_is
     ∙ ap (λ b. cond b (unless_carried_differs (first_difference told.sums stamp.sums) (carried_row known.held told carried)) (stays (NotTold stamp.byte (Some told.byte)))) (eq-eqb told.byte stamp.byte is_told.byte_is)
     ∙ ap (λ d. unless_carried_differs d (carried_row known.held told carried)) same
-    ∙ ap taken_trial tried in
-    (
+    ∙ ap taken_trial tried in (
       ap (λ r. r.outcome) row,
       ap₂ (λ t h. agrees t h) is_told.told_is (ap (λ r. held_after stamp.byte r.table known.held) row)
-      ∙ (agrees_by_checksums told (record { byte = stamp.byte; table = table })).1 (sym is_told.byte_is, whole),
+          ∙ (agrees_by_checksums told (record { byte = stamp.byte; table = table })).1 (sym is_told.byte_is, whole),
     )

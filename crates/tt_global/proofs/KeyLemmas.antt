@@ -1,16 +1,16 @@
 -- The keys of what is kept, as it is written, and what a place of it says.
-use Rattle.std.proofs.Common.{◌≡◌, ◌↔◌, ◌≤◌, ℕ, Bool, true, false, not, cond, List, [], ◌∷◌, filter, length, slice_get, IsNone, IsSome, Option, Some, None, is_eq, refl, sym, ap, ◌∙◌, subst, arith, Ordering, Less, Equal, Greater}
+use Rattle.std.proofs.Common.{◌≡◌, ◌↔◌, ◌≤◌, ℕ, Bool, true, false, not, cond, List, [], ◌∷◌, filter, length, slice_get, IsNone, IsSome, Option, Some, is_eq, refl, sym, ap, ◌∙◌, subst, arith, Less, Equal, Greater}
 use Rattle.std.specs.BTreeMap.{insert_entry}
 use Rattle.std.specs.List.{AllByRecursion}
 use Rattle.std.specs.List.Sorted.{IsStrictlySortedBy}
 use Rattle.std.specs.Map.{keys_of, lookup, remove_entry}
 use Rattle.std.specs.Ordering.{match_ordering, ordering_reverse}
-use Rattle.std.proofs.lemmas.Bool.{true≢false, false≢true}
+use Rattle.std.proofs.lemmas.Bool.{false≢true}
 use Rattle.std.proofs.lemmas.Grind.{common_steps}
 use Rattle.std.proofs.lemmas.Option.{gets}
 use Rattle.mesh_base.specs.declared.address.Mac.{Mac}
 use Rattle.mesh_model.specs.Routes.Addresses.{insert_mac, mac_order, same_mac}
-use Rattle.mesh_laws.proofs.MacLemmas.{mac_total, mac_exact, same_by_order, same_equiv, same_exact, other_by_order}
+use Rattle.mesh_laws.proofs.MacLemmas.{mac_total, same_by_order, same_equiv, same_exact, other_by_order}
 
 module _ {X : Type 0} where
   -- an inserted key stands in order

@@ -1,5 +1,5 @@
 -- What is read of what is kept: by originator, and by place.
-use Rattle.std.proofs.Common.{◌≡◌, ℕ, Bool, true, false, cond, List, [], ◌∷◌, filter, filter_map, map, slice_get, Option, Some, None, is_some, option_map, option_and_then, Result, Err, IsOk, is_ok, refl, sym, ap, ap₂, ◌∙◌, Less}
+use Rattle.std.proofs.Common.{◌≡◌, ℕ, Bool, true, false, cond, List, [], ◌∷◌, filter, filter_map, slice_get, Option, Some, None, is_some, option_map, option_and_then, Result, Err, IsOk, is_ok, refl, sym, ap, ap₂, ◌∙◌, Less}
 use Rattle.std.proofs.Math.Path.{fun_ext}
 use Rattle.std.specs.List.{AllByRecursion, cons_option}
 use Rattle.std.specs.List.Sorted.{IsStrictlySortedBy}
@@ -11,7 +11,7 @@ use Rattle.mesh_base.specs.declared.client.Key.{Key}
 use Rattle.mesh_model.specs.declared.table_row.GlobalRow.{GlobalRow}
 use Rattle.mesh_model.specs.Packets.Bodies.{VlanSum}
 use Rattle.mesh_model.specs.Routes.Addresses.{mac_order, same_mac}
-use Rattle.mesh_model.specs.Tables.Known.{TableCalls, agrees, holders_by, known_by, names, originators_by, row_by, stamp_of}
+use Rattle.mesh_model.specs.Tables.Known.{TableCalls, agrees, holders_by, known_by, names, originators_by, row_by}
 use Rattle.mesh_model.specs.Tables.Versions.{Stamp, Version}
 use Rattle.mesh_laws.proofs.MacLemmas.{other_by_order, same_self}
 use Rattle.tt_global.specs.Globals.{GlobalsStand, Kept}

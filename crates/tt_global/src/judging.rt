@@ -34,10 +34,8 @@ pub fn wanted_request(heard: Heard) -> Option<Request>
 {
     match heard {
         Heard::Emptied | Heard::Same | Heard::Applied => None,
-        Heard::Unheld { .. }
-        | Heard::SumDiffers { .. }
-        | Heard::Gap { .. }
-        | Heard::Clash { .. } => Some(Request::Full),
+        Heard::Unheld { .. } | Heard::SumDiffers { .. } | Heard::Gap { .. } | Heard::Clash { .. } =>
+            Some(Request::Full),
         Heard::Bare { .. } => Some(Request::Changes),
     }
 }

@@ -149,7 +149,10 @@ fn each_answer_has_its_outcome(rt: HostRuntime) -> Result<(), NoMemory> {
         ok: false,
     };
     assert_eq!(rt; [0, 1].map(|i| globals.row_at(i)), [Some(row), None]);
-    assert_eq!(rt; (globals.told(node(10)), globals.told(node(11))), (Some(6), None));
+    assert_eq!(rt;
+        (globals.told(node(10)), globals.told(node(11))),
+        (Some(6), None)
+    );
     Ok(())
 }
 
@@ -182,9 +185,15 @@ fn holders_stand_by_address_until_they_are_dropped(rt: HostRuntime) -> Result<()
         .held(node(11))
         .map(|(byte, table)| (byte, table.get(key)));
     assert_eq!(rt; held, Some((255, Some(0))));
-    assert_eq!(rt; (globals.is_ok(node(11)), globals.is_ok(node(13))), (true, false));
+    assert_eq!(rt;
+        (globals.is_ok(node(11)), globals.is_ok(node(13))),
+        (true, false)
+    );
     globals.drop_orig(node(11));
-    assert_eq!(rt; (globals.holder(key, 0), globals.told(node(11))), (Some(node(12)), None));
+    assert_eq!(rt;
+        (globals.holder(key, 0), globals.told(node(11))),
+        (Some(node(12)), None)
+    );
     assert_eq!(rt; globals.holder(client(2).key, 0), None);
     Ok(())
 }

@@ -22,12 +22,7 @@ pub struct Reply {
 
 /// Answers in an originator's stead: with the table that is held of it, in full, where that has the
 /// asked byte and sums.
-pub fn answer_other(
-    globals: &Globals,
-    orig: Mac,
-    byte: u8,
-    sums: &Sums,
-) -> Result<Reply, AnswerErr>
+pub fn answer_other(globals: &Globals, orig: Mac, byte: u8, sums: &Sums) -> Result<Reply, AnswerErr>
     ensures ok { (calls : TableCalls) → GlobalsStand globals.now calls → IfOk result (λ reply.
         other_answer (known_by calls orig).held (stamp byte sums.now) ≡ Ok (answer_in reply)) }
     ensures cause { (calls : TableCalls) → GlobalsStand globals.now calls → IfErr result (λ e.

@@ -98,8 +98,14 @@ fn a_held_table_is_answered_under_its_byte_and_sums(rt: HostRuntime) -> Result<(
     let globals = one_held::<Brand>(alloc, Blank::new(1))?;
     let (entry, sums) = first(alloc)?;
     let reply = answer_other(&globals, node(11), 5, &sums)?;
-    assert_eq!(rt; (reply.full, reply.byte, reply.sums.at(0)), (true, 5, sums.at(0)));
-    assert_eq!(rt; reply.records.as_slice(), [Change { entry, del: false }].as_slice());
+    assert_eq!(rt;
+        (reply.full, reply.byte, reply.sums.at(0)),
+        (true, 5, sums.at(0))
+    );
+    assert_eq!(rt;
+        reply.records.as_slice(),
+        [Change { entry, del: false }].as_slice()
+    );
     let mut other = Sums::new(alloc);
     other.set(Vid::UNTAGGED, 1)?;
     for (orig, asked, sums, held, vid) in [

@@ -2,7 +2,7 @@
 -- table is held then, that table, both in one value, so that neither can be without the other. The
 -- first case that applies decides. The main words are `announcement_row` and `answer_row`;
 -- `wanted_request` is what a node asks for after an announcement.
-use Rattle.std.specs.Prelude.{ℕ, ◌==◌, List, [], ◌∷◌, Option, Some, None, Result, Ok, Err, if◌then◌else◌}
+use Rattle.std.specs.Prelude.{◌==◌, List, [], ◌∷◌, Option, Some, None, Result, Ok, Err, if◌then◌else◌}
 use Rattle.mesh_base.specs.declared.client.Entry.{Entry}
 use Rattle.mesh_model.specs.Packets.Bodies.{VlanSum}
 use Rattle.mesh_model.specs.declared.table_change.Change.{Change}

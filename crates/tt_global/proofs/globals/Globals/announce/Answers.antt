@@ -1,8 +1,8 @@
-use Rattle.std.proofs.Common.{rules, ap, subst, sym, IfSome, ◌∙◌, ◌≡◌, Some, None, option_map}
+use Rattle.std.proofs.Common.{rules, ap, subst, sym, IfSome, ◌∙◌, ◌≡◌, option_map}
 use Rattle.std.specs.Map.{lookup}
 use Rattle.mesh_model.specs.Routes.Addresses.{same_mac}
 use Rattle.mesh_model.specs.Tables.Judging.{announcement_row}
-use Rattle.tt_global.specs.Kept.{held_in, lent, row_in, stamp_in, version_of}
+use Rattle.tt_global.specs.Kept.{held_in, lent, stamp_in, version_of}
 use Rattle.tt_global.proofs.PlaceLemmas.{not_refused}
 use Rattle.tt_global.proofs.StandLemmas.{announced_held, announced_kept, told_there}
 use Rattle.tt_global.proofs.globals.Globals.announce.Goals as goal

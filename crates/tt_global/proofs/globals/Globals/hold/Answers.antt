@@ -1,9 +1,8 @@
-use Rattle.std.proofs.Common.{rules, subst, sym, is_some, ap, ◌∙◌, ◌≡◌, Option, Some, None, true}
+use Rattle.std.proofs.Common.{rules, sym, is_some, ap, ◌∙◌, ◌≡◌, Some, None}
 use Rattle.std.specs.Map.{lookup, set_value}
 use Rattle.std.proofs.lemmas.Bool.{false≢true}
 use Rattle.mesh_model.specs.Routes.Addresses.{same_mac}
 use Rattle.tt_global.specs.declared.known.HeldTable.{HeldTable}
-use Rattle.tt_global.specs.declared.known.KnownTable.{KnownTable}
 use Rattle.tt_global.proofs.StandLemmas.{held_written}
 use Rattle.tt_global.proofs.globals.Globals.hold.Goals as goal
 use Rattle.tt_global.proofs.globals.Globals.hold.Goals.{in-Some+in-Some-1, in-Some+in-None-1, in_default}

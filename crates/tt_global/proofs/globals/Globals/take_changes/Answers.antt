@@ -1,4 +1,4 @@
-use Rattle.std.proofs.Common.{ap, sym, ◌∙◌, ◌≡◌, Some, None, option_map}
+use Rattle.std.proofs.Common.{ap, sym, ◌∙◌, ◌≡◌, option_map}
 use Rattle.std.specs.Map.{lookup}
 use Rattle.mesh_model.specs.Routes.Addresses.{same_mac}
 use Rattle.mesh_model.specs.Tables.Judging.{InChanges}
