@@ -1,12 +1,13 @@
 #!/bin/sh
 # The speed of tables of clients: builds a program in a folder of its own, outside this repository,
 # and runs it. It takes entry sums, copies a table of 1,000 clients, and applies one change to it
-# over and over: a client comes, and goes again. With the bytes that an entry takes.
+# over and over: a client comes, and goes again. It takes full answers of 1,024 clients, and hears
+# an announcement of the held table again and again. With the bytes that an entry takes.
 set -e
 top=$(cd "$(dirname "$0")/.." && pwd)
 . "$top/bench/crate.sh"
 
-make_program mesh_base mesh_model mesh_laws tt_table <<'END'
+make_program mesh_base mesh_model mesh_laws tt_table tt_global <<'END'
 #![tactic(auto)]
 
 use mesh_base::{Entry, Key, Mac, NoMemory, Steps, Vid};
@@ -15,12 +16,16 @@ use std::io;
 use std::marker::Brand;
 use std::sync::ledger::{Blank, Ledger};
 use std::time::Instant;
-use tt_table::{ApplyErr, Change, Changes, Table, entry_sum};
+use tt_global::{Globals, Heard, Taken};
+use tt_table::{Announcement, ApplyErr, Change, Changes, Table, entry_sum};
 
 const CLIENTS: u16 = 1000;
 const SUMS: u32 = 10_000_000;
 const COPIES: u32 = 100_000;
 const CHANGES: u32 = 1_000_000;
+const WHOLE: u16 = 1024;
+const ANSWERS: u32 = 1_000;
+const HEARINGS: u32 = 10_000_000;
 
 fn client(place: u16) -> Entry {
     let [high, low] = place.to_be_bytes();
@@ -86,6 +91,55 @@ fn change_all<L: Ledger>(
     Ok(())
 }
 
+// What is announced of a table of 1,024 clients, and the records of its full answer.
+fn whole<L: Ledger>(alloc: Global, steps: &mut Steps<L>) -> Result<(Announcement, Changes), ApplyErr> {
+    let mut records = Changes::new(alloc);
+    for place in 0..WHOLE {
+        records.push(Change { entry: client(place), del: false })?;
+    }
+    let mut table = Table::new(alloc);
+    table.apply(&records, steps)?;
+    let sums = table.sums().copy()?;
+    let changes = Changes::new(alloc);
+    Ok((Announcement { byte: 1, sums, changes }, records))
+}
+
+// How many full answers are taken.
+fn take_all<L: Ledger>(
+    globals: &mut Globals,
+    announced: &Announcement,
+    records: &Changes,
+    steps: &mut Steps<L>,
+) -> Result<u32, NoMemory> {
+    let orig = Mac([2, 0, 0, 0, 0, 11]);
+    globals.announce(orig, announced, steps)?;
+    let mut taken = 0_u32;
+    for _ in 0..ANSWERS {
+        let outcome = globals.take_full(orig, 1, &announced.sums, records, steps)?;
+        if let Taken::Taken = outcome {
+            taken = taken.wrapping_add(1);
+        }
+    }
+    Ok(taken)
+}
+
+// How many announcements are of the held table.
+fn hear_all<L: Ledger>(
+    globals: &mut Globals,
+    announced: &Announcement,
+    steps: &mut Steps<L>,
+) -> Result<u32, NoMemory> {
+    let orig = Mac([2, 0, 0, 0, 0, 11]);
+    let mut same = 0_u32;
+    for _ in 0..HEARINGS {
+        let outcome = globals.announce(orig, announced, steps)?;
+        if let Heard::Same = outcome {
+            same = same.wrapping_add(1);
+        }
+    }
+    Ok(same)
+}
+
 fn measure<L: Ledger>(rt: HostRuntime, blank: Blank) -> io::Result<()>
     requires name { blank.name ≡ L.name }
     requires parts { blank.parts ≡ L.parts }
@@ -110,8 +164,53 @@ fn measure<L: Ledger>(rt: HostRuntime, blank: Blank) -> io::Result<()>
     println!(rt; "tables: an entry takes {} bytes", std::mem::size_of::<Entry>())
 }
 
+// Measures full answers.
+fn measure_answers<L: Ledger>(
+    rt: HostRuntime,
+    globals: &mut Globals,
+    announced: &Announcement,
+    records: &Changes,
+    steps: &mut Steps<L>,
+) -> io::Result<()> {
+    let start = Instant::now(&rt)?;
+    let taken = take_all(globals, announced, records, steps) == Ok(ANSWERS);
+    let nanos = start.elapsed(&rt)?.as_nanos() / u128::from(ANSWERS);
+    println!(rt; "tables: a full answer of {WHOLE} clients takes {nanos} ns ({taken})")
+}
+
+// Measures announcements of the held table.
+fn measure_hearings<L: Ledger>(
+    rt: HostRuntime,
+    globals: &mut Globals,
+    announced: &Announcement,
+    steps: &mut Steps<L>,
+) -> io::Result<()> {
+    let start = Instant::now(&rt)?;
+    let same = hear_all(globals, announced, steps) == Ok(HEARINGS);
+    let nanos = start.elapsed(&rt)?.as_nanos() / u128::from(HEARINGS);
+    println!(rt; "tables: an announcement of the held table takes {nanos} ns ({same})")
+}
+
+// The same of what is known of an originator.
+fn measure_known<L: Ledger>(rt: HostRuntime, blank: Blank) -> io::Result<()>
+    requires name { blank.name ≡ L.name }
+    requires parts { blank.parts ≡ L.parts }
+    requires some { 0 < blank.parts }
+{
+    let mut steps = Steps::<L>::new(blank);
+    let mut globals = Globals::new(rt.alloc());
+    match whole(rt.alloc(), &mut steps) {
+        Ok((announced, records)) => {
+            measure_answers(rt, &mut globals, &announced, &records, &mut steps)?;
+            measure_hearings(rt, &mut globals, &announced, &mut steps)
+        }
+        Err(_) => println!(rt; "tables: out of memory"),
+    }
+}
+
 fn main(rt: HostRuntime) -> io::Result<()> {
-    measure::<Brand>(rt, Blank::new(1))
+    measure::<Brand>(rt, Blank::new(1))?;
+    measure_known::<Brand>(rt, Blank::new(1))
 }
 END
 mkdir -p "$work/crates/bench/proofs/main"
@@ -120,5 +219,8 @@ use Rattle.bench.proofs.main.Given as goal
 
 abbrev pub ghosts-measure : goal.ghosts-measure
 ghosts-measure g a = record { name = a.blank.name; parts = a.blank.parts }
+
+abbrev pub ghosts-measure_known : goal.ghosts-measure_known
+ghosts-measure_known g a = record { name = a.blank.name; parts = a.blank.parts }
 END
 run_program 'tables:'

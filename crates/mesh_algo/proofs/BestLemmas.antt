@@ -7,7 +7,7 @@ use Rattle.std.proofs.lemmas.Bool.Decides.{nat_tests}
 use Rattle.mesh_base.specs.declared.address.Mac.{Mac}
 use Rattle.mesh_model.specs.Routes.Addresses.{mac_order, same_mac, is_smaller}
 use Rattle.mesh_model.specs.Routes.BestRoute.{better, best}
-use Rattle.mesh_algo.proofs.MacLemmas.{mac_total, mac_exact, same_exact, same_self}
+use Rattle.mesh_laws.proofs.MacLemmas.{mac_total, mac_exact, same_exact, same_self}
 
 -- a neighbour of a score isn't better than another: less, or as good and not smaller
 abbrev pub IsUpTo : (Mac → ℕ) → Mac → Mac → Type 0

@@ -1,5 +1,4 @@
 -- What the methods rest on.
-pub mod MacLemmas
 pub mod LifeLemmas
 pub mod BestLemmas
 pub mod IvLaws

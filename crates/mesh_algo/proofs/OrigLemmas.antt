@@ -8,7 +8,7 @@ use Rattle.mesh_base.specs.declared.address.Mac.{Mac}
 use Rattle.mesh_model.specs.Routes.Addresses.{mac_order, same_mac, insert_mac}
 use Rattle.mesh_model.specs.Routes.Life.{HeardOgm, of, is_live, heard_originators}
 use Rattle.mesh_laws.proofs.KeyLists.{same_items}
-use Rattle.mesh_algo.proofs.MacLemmas.{mac_total, mac_exact, same_by_order, same_equiv, same_exact}
+use Rattle.mesh_laws.proofs.MacLemmas.{mac_total, mac_exact, same_by_order, same_equiv, same_exact}
 
 above_insert : (low k : Mac) (ks : List Mac) → mac_order low k ≡ Less → AllByRecursion (λ y. mac_order low y ≡ Less) ks → AllByRecursion (λ y. mac_order low y ≡ Less) (insert_mac k ks)
 above_insert low k [] below above = (below, tt)

@@ -11,7 +11,7 @@ use Rattle.mesh_model.specs.Routes.BestRoute.{better, best, best_route}
 use Rattle.mesh_model.specs.Routes.Life.{HeardOgm, of, newest, numbers_from, value_at}
 use Rattle.mesh_model.specs.Routes.Numbers.{has, among, seen_among}
 use Rattle.mesh_model.specs.Routes.Quality.{average_quality, mean}
-use Rattle.mesh_algo.proofs.MacLemmas.{same_self, same_exact, same_equiv, same_by_order, other_by_order}
+use Rattle.mesh_laws.proofs.MacLemmas.{same_self, same_exact, same_equiv, same_by_order, other_by_order}
 use Rattle.mesh_algo.proofs.LifeLemmas.{and_false, or_parts, other_numbers}
 use Rattle.mesh_algo.proofs.BestLemmas.{is_among, best_is_top, one_top}
 use Rattle.mesh_iv.specs.declared.best.Best.{Best}

@@ -12,7 +12,7 @@ use Rattle.mesh_model.specs.Routes.Ogm.{passes, is_echo}
 use Rattle.mesh_model.specs.Routes.Quality.{echoes_from, own_ogms}
 use Rattle.mesh_model.specs.Routes.RouteLog.{RouteLog}
 use Rattle.mesh_laws.proofs.WindowLemmas.{window-cons}
-use Rattle.mesh_algo.proofs.MacLemmas.{same_exact, same_equiv, same_self}
+use Rattle.mesh_laws.proofs.MacLemmas.{same_exact, same_equiv, same_self}
 use Rattle.mesh_iv.specs.declared.ogm.OgmCame.{OgmCame}
 use Rattle.mesh_iv.specs.declared.path.Path.{Path}
 use Rattle.mesh_iv.specs.declared.row.Pair.{Pair}

@@ -16,7 +16,7 @@ use Rattle.mesh_model.specs.Routes.Quality.{average_quality, receive_quality, re
 use Rattle.mesh_model.specs.Routes.RouteLog.{RouteLog}
 use Rattle.mesh_laws.proofs.WindowLemmas.{among-window, greatest-window, has-window, window-cons}
 use Rattle.mesh_algo.proofs.LifeLemmas.{and_false, numbers-le, forwarded-le, next_newest, next_forwarded, own_numbers, of_other, of_same, since-life}
-use Rattle.mesh_algo.proofs.MacLemmas.{same_exact, same_equiv, same_self}
+use Rattle.mesh_laws.proofs.MacLemmas.{same_exact, same_equiv, same_self}
 use Rattle.mesh_iv.specs.declared.best.Best.{Best}
 use Rattle.mesh_iv.specs.declared.ogm.OgmCame.{OgmCame}
 use Rattle.mesh_iv.specs.declared.path.Path.{Path}

@@ -8,7 +8,7 @@ use Rattle.mesh_model.specs.Routes.Life.{HeardOgm, newest, numbers_from, is_firs
 use Rattle.mesh_model.specs.Routes.Numbers.{has, greatest, among, window}
 use Rattle.mesh_laws.proofs.WindowLemmas.{among-agree, has-le, greatest-window, window-cons}
 use Rattle.mesh_algo.proofs.LifeLemmas.{and_false, eq_back, numbers-le, other_numbers, late_numbers, own_numbers, late_newest, next_newest, late_forwarded, next_forwarded, other_value, again_value, first_value, unheard_value}
-use Rattle.mesh_algo.proofs.MacLemmas.{same_exact}
+use Rattle.mesh_laws.proofs.MacLemmas.{same_exact}
 use Rattle.mesh_iv.specs.declared.path.Path.{Path}
 use Rattle.mesh_iv.specs.declared.row.Life.{Life}
 use Rattle.mesh_iv.specs.Hears.{kept_row, newest_by, forwarded_by}

@@ -10,7 +10,7 @@ use Rattle.mesh_model.specs.Routes.Ogm.{Ogm, ogm_of_head, is_echo, passes}
 use Rattle.mesh_model.specs.Routes.Quality.{echo_quality, echoes_with, echoes_from, own_ogms}
 use Rattle.mesh_model.specs.Routes.RouteLog.{RouteLog, RouteInput, OwnTick, HeadCame}
 use Rattle.mesh_algo.proofs.LifeLemmas.{of_other, of_same, other_numbers}
-use Rattle.mesh_algo.proofs.MacLemmas.{same_equiv, same_exact}
+use Rattle.mesh_laws.proofs.MacLemmas.{same_equiv, same_exact}
 use Rattle.mesh_iv.specs.declared.row.Pair.{Pair}
 use Rattle.mesh_iv.specs.KeyLaw.{is_of, names_orig, names_pair, HasKeysOfOgms}
 use Rattle.mesh_iv.specs.Rows.{latest, life_row, row_of, path_row, echo_row, five, value_below}

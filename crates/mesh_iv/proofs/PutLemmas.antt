@@ -6,7 +6,7 @@ use Rattle.std.specs.Map.{keys_of, lookup}
 use Rattle.std.proofs.lemmas.Bool.{not-false, not-true}
 use Rattle.mesh_base.specs.declared.address.Mac.{Mac}
 use Rattle.mesh_model.specs.Routes.Addresses.{same_mac}
-use Rattle.mesh_algo.proofs.MacLemmas.{same_exact, same_equiv}
+use Rattle.mesh_laws.proofs.MacLemmas.{same_exact, same_equiv}
 use Rattle.mesh_iv.specs.declared.path.Path.{Path}
 use Rattle.mesh_iv.specs.declared.row.Life.{Life}
 use Rattle.mesh_iv.specs.declared.row.Pair.{Pair}

@@ -16,7 +16,7 @@ use Rattle.mesh_model.specs.Routes.Quality.{own_ogms, echoes_with, echoes_from, 
 use Rattle.mesh_model.specs.Routes.RouteLog.{RouteLog, RouteInput, OwnTick, HeadCame}
 use Rattle.mesh_laws.proofs.WindowLemmas.{among-window, greatest-window}
 use Rattle.mesh_algo.proofs.LifeLemmas.{numbers-le, of_other}
-use Rattle.mesh_algo.proofs.MacLemmas.{same_exact, same_self}
+use Rattle.mesh_laws.proofs.MacLemmas.{same_exact, same_self}
 use Rattle.mesh_iv.specs.declared.best.Best.{Best}
 use Rattle.mesh_iv.specs.declared.path.Path.{Path}
 use Rattle.mesh_iv.specs.declared.row.Life.{Life}

@@ -17,7 +17,7 @@ use Rattle.mesh_model.specs.Routes.Quality.{average_quality, echo_quality, echoe
 use Rattle.mesh_model.specs.Routes.RouteLog.{RouteLog}
 use Rattle.mesh_laws.proofs.WindowLemmas.{has-le}
 use Rattle.mesh_algo.proofs.LifeLemmas.{and_false, since-life, numbers-le, late_newest, next_newest, late_forwarded, next_forwarded}
-use Rattle.mesh_algo.proofs.MacLemmas.{same_exact, same_equiv}
+use Rattle.mesh_laws.proofs.MacLemmas.{same_exact, same_equiv}
 use Rattle.mesh_iv.specs.declared.ogm.OgmCame.{OgmCame}
 use Rattle.mesh_iv.specs.declared.path.Path.{Path}
 use Rattle.mesh_iv.specs.declared.row.Life.{Life}

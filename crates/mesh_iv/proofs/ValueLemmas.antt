@@ -13,7 +13,7 @@ use Rattle.mesh_model.specs.Routes.Quality.{echoes_from, receive_quality, receiv
 use Rattle.mesh_model.specs.Routes.RouteLog.{RouteLog}
 use Rattle.mesh_laws.proofs.WindowLemmas.{among-window, greatest-window, has-window, window-cons}
 use Rattle.mesh_algo.proofs.LifeLemmas.{numbers-le, next_newest, own_numbers, of_other, of_same, since-life}
-use Rattle.mesh_algo.proofs.MacLemmas.{same_exact, same_equiv}
+use Rattle.mesh_laws.proofs.MacLemmas.{same_exact, same_equiv}
 use Rattle.mesh_iv.specs.declared.ogm.OgmCame.{OgmCame}
 use Rattle.mesh_iv.specs.declared.path.Path.{Path}
 use Rattle.mesh_iv.specs.declared.row.Life.{Life}

@@ -9,7 +9,7 @@ use Rattle.std.proofs.lemmas.Bool.{cases_Bool, false≢true, true≢false}
 use Rattle.std.proofs.lemmas.Cmp.{alike_right, tied_back}
 use Rattle.mesh_base.specs.declared.address.Mac.{Mac}
 use Rattle.mesh_model.specs.Routes.Addresses.{mac_order, same_mac, is_smaller}
-use Rattle.mesh_algo.proofs.MacLemmas.{mac_total, mac_exact, same_by_order, other_by_order}
+use Rattle.mesh_laws.proofs.MacLemmas.{mac_total, mac_exact, same_by_order, other_by_order}
 use Rattle.mesh_iv.specs.declared.best.Best.{Best}
 use Rattle.mesh_iv.specs.declared.row.Pair.{Pair}
 use Rattle.mesh_iv.specs.declared.path.Path.{Path}

@@ -8,6 +8,7 @@ pub mod NumberLemmas
 pub mod WindowLemmas
 pub mod KeyTables
 pub mod AscendingKeys
+pub mod MacLemmas
 pub mod PresentLemmas
 pub mod MarkLemmas
 pub mod HeaderLemmas
@@ -18,6 +19,8 @@ pub mod TableSums
 pub mod AnnouncedSums
 pub mod TableChanges
 pub mod PieceLemmas
+pub mod DifferenceLemmas
+pub mod KnownLemmas
 pub mod MachineInvariant
 pub mod MachineLemmas
 pub mod MisledWorld

@@ -4,7 +4,8 @@ use Rattle.std.proofs.lemmas.Bool.{eqb-true, eq-eqb, ne_eqb}
 use Rattle.std.specs.List.Sorted.{IsStrictlySortedBy}
 use Rattle.mesh_model.specs.declared.table_change.Change.{Change}
 use Rattle.mesh_model.specs.Tables.Changes.{IsInKeyOrder}
-use Rattle.mesh_laws.specs.Machine.World.{Version, Saying, Announcement, Differences, Piece, Told, Node, World, start, first_commit, commit_numbered, IsCommit, WasSaid, with_commit, with_saying, with_node}
+use Rattle.mesh_model.specs.Tables.Versions.{Version}
+use Rattle.mesh_laws.specs.Machine.World.{Saying, Announcement, Differences, Piece, Told, Node, World, start, first_commit, commit_numbered, IsCommit, WasSaid, with_commit, with_saying, with_node}
 use Rattle.mesh_laws.specs.Machine.Moves.{AreLastChanges}
 use Rattle.mesh_laws.specs.Machine.Agreement.{AreOf, LeadTo, Agrees}
 

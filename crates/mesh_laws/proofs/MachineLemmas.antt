@@ -8,9 +8,10 @@ use Rattle.mesh_model.specs.declared.table_change.Change.{Change}
 use Rattle.mesh_model.specs.Tables.Changes.{IsInKeyOrder, addition}
 use Rattle.mesh_model.specs.Tables.Strict.{apply_strictly}
 use Rattle.mesh_model.specs.Tables.Sums.{checksums, sum_at}
+use Rattle.mesh_model.specs.Tables.Versions.{Version, next_byte}
 use Rattle.mesh_laws.specs.Machine.Pieces.{piece, piece_count, put_together}
-use Rattle.mesh_laws.specs.Machine.World.{Version, Announcement, Differences, Piece, Told, World, start, commit_numbered, IsCommit, silent_node}
-use Rattle.mesh_laws.specs.Machine.Moves.{Move, commits, announces, answers_changes, answers_piece, passes, is_told, takes_changes, takes_full, drops, Reaches, no_move, then_move, next_byte, AreLastChanges, announcement_of, differences_to, piece_of, held_when_told, WereOffered, PieceWasSaid, agreed_node}
+use Rattle.mesh_laws.specs.Machine.World.{Announcement, Differences, Piece, Told, World, start, commit_numbered, IsCommit, silent_node}
+use Rattle.mesh_laws.specs.Machine.Moves.{Move, commits, announces, answers_changes, answers_piece, passes, is_told, takes_changes, takes_full, drops, Reaches, no_move, then_move, AreLastChanges, announcement_of, differences_to, piece_of, held_when_told, WereOffered, PieceWasSaid, agreed_node}
 use Rattle.mesh_laws.specs.Machine.Agreement.{HasNoAlias, AreOf, LeadTo, Agrees}
 use Rattle.mesh_laws.specs.Machine.MachineLaws.{SayingsAgree, HeldAreCommits, ToldAreCommits, AgreedHoldTheTold}
 use Rattle.mesh_laws.proofs.AnnouncedSums.{announces_checksums, announces_none_of_empty}

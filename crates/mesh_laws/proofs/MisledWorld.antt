@@ -7,8 +7,9 @@ use Rattle.mesh_model.specs.Tables.Changes.{IsInKeyOrder, addition}
 use Rattle.mesh_model.specs.Tables.Checksum.{crc32c}
 use Rattle.mesh_model.specs.Tables.Strict.{apply_strictly}
 use Rattle.mesh_model.specs.Tables.Sums.{checksums, entries_in, entry_sum, xor_of, sums_of, sum_at}
+use Rattle.mesh_model.specs.Tables.Versions.{Version}
 use Rattle.mesh_laws.specs.Machine.Pieces.{piece_size, piece_count, piece, put_together}
-use Rattle.mesh_laws.specs.Machine.World.{Version, Piece, start, first_commit, commit_numbered, IsCommit}
+use Rattle.mesh_laws.specs.Machine.World.{Piece, start, first_commit, commit_numbered, IsCommit}
 use Rattle.mesh_laws.specs.Machine.Moves.{Reaches, no_move, then_move, commits, announces, answers_piece, passes, is_told, takes_changes, takes_full, PieceWasSaid, piece_of}
 use Rattle.mesh_laws.specs.Machine.Agreement.{Agrees}
 use Rattle.mesh_laws.specs.Machine.Misled.{one_client, other_client, third_client, one_commit, other_commit, third_commit, misled_version, told_of, told_and_holds, one_said, one_held, third_said, misled_world, IsMisled}

@@ -9,5 +9,6 @@ pub mod HappeningLaws
 pub mod MeshLaws
 pub mod LineLaws
 pub mod TableLaws
+pub mod KnownLaws
 pub mod Machine
 pub mod MarkLaws

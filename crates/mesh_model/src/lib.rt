@@ -18,6 +18,7 @@ pub mod probe;
 pub mod roaming_mark;
 pub mod route;
 pub mod table_change;
+pub mod table_outcome;
 pub mod table_row;
 
 pub use act::Act;
@@ -32,4 +33,5 @@ pub use probe::{OpenProbe, Probe, Told};
 pub use roaming_mark::RoamingMark;
 pub use route::{Beats, Hearing, LinkRow, OrigRow};
 pub use table_change::Change;
-pub use table_row::LocalRow;
+pub use table_outcome::{Difference, Heard, Request, Taken};
+pub use table_row::{GlobalRow, LocalRow};

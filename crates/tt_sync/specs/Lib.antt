@@ -1,2 +1,3 @@
 -- What the contracts cite.
 pub mod Sync
+pub mod Answers

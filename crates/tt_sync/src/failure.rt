@@ -1,4 +1,4 @@
-use mesh_base::Millis;
+use mesh_base::{Millis, NoMemory, Vid};
 use std::alloc::AllocFailed;
 use thiserror::Error;
 
@@ -43,5 +43,32 @@ impl<T: Drop> From<AllocFailed<T>> for AdviseErr {
 
     fn from(_error: AllocFailed<T>) -> AdviseErr {
         AdviseErr::Memory
+    }
+}
+
+/// Why a node doesn't answer in an originator's stead.
+#[derive(Clone, Copy, Debug, PartialEq, Eq, Error)]
+pub enum AnswerErr {
+    /// Nothing is held of it, or a table under another byte than the asked one, or under that byte
+    /// one whose sum of this VLAN isn't the asked one.
+    #[error("the asked table isn't held")]
+    NotHeld {
+        held: Option<u8>,
+        asked: u8,
+        vid: Option<Vid>,
+    },
+    /// Memory ran out.
+    #[error("out of memory")]
+    Memory,
+}
+
+impl From<NoMemory> for AnswerErr {
+    ghost use Rattle.std.specs.Prelude.{◌≡◌};
+    ghost use Rattle.tt_sync.specs.declared.failure.AnswerErr.TheVariants.{Memory};
+
+    ghost from_gives = { λ _ e. e ≡ Memory };
+
+    fn from(_error: NoMemory) -> AnswerErr {
+        AnswerErr::Memory
     }
 }

@@ -1,12 +1,15 @@
 //! What a node remembers of clients that roamed and of what it sent for tables: marks of clients,
-//! requests to originators, advertisements of clients.
+//! requests to originators, advertisements of clients. With the answer to a request for another's
+//! table.
 
 #![tactic(auto)]
 
+mod answers;
 mod failure;
 mod sync;
 
-pub use failure::{AdviseErr, AskErr};
+pub use answers::{Reply, answer_other};
+pub use failure::{AdviseErr, AnswerErr, AskErr};
 pub use mesh_model::RoamingMark;
 pub use sync::Sync;
 

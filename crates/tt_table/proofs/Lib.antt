@@ -1,6 +1,7 @@
 pub mod Crc
 pub mod OrderedLists
 pub mod SumsLemmas
+pub mod DifferenceLemmas
 pub mod EntriesLemmas
 pub mod StrictLemmas
 pub mod TakenBack

@@ -6,7 +6,8 @@ use Rattle.mesh_base.specs.declared.client.Entry.{Entry}
 use Rattle.mesh_model.specs.Tables.Changes.{IsInKeyOrder}
 use Rattle.mesh_model.specs.Tables.Strict.{additions, and_then, apply_strictly, change_each, change_one, deletions}
 use Rattle.mesh_model.specs.declared.table_change.Change.{Change}
-use Rattle.tt_table.specs.Entries.{Becomes, half, Tells}
+use Rattle.tt_table.specs.Entries.{half, Tells}
+use Rattle.tt_table.specs.Table.{Becomes}
 use Rattle.std.proofs.lemmas.List.{take-append-drop}
 use Rattle.std.proofs.lemmas.List.Elements.{filter-append, filter_more}
 use Rattle.tt_table.proofs.TakenBack.{order_each, undone_one}

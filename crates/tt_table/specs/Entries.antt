@@ -1,6 +1,6 @@
 -- What a list of entries is seen as, and what a change of it tells. No public clause cites this
 -- file.
-use Rattle.std.specs.Prelude.{◌≡◌, ℕ, ◌+◌, ◌≤◌, Bool, true, false, List, length, Option, Some, None, Result, Ok, Err}
+use Rattle.std.specs.Prelude.{◌≡◌, ℕ, ◌+◌, ◌≤◌, Bool, true, false, List, length, Option, Some, None}
 use Rattle.mesh_base.specs.declared.client.Entry.{Entry}
 use Rattle.mesh_base.specs.declared.client.Key.{Key}
 use Rattle.mesh_model.specs.declared.table_change.Change.{Change}
@@ -28,9 +28,3 @@ half false changes = additions changes
 -- there is room for so many more entries
 abbrev pub HasRoom : ℕ → EntriesView → Type 0
 HasRoom more view = length view.entries + more ≤ view.capacity
-
--- entries become what was wanted, or stay where the wanted changes fail at this one
-abbrev pub Becomes : Result (Unit {0}) Change → Result (List Entry) Change
-    → List Entry → List Entry → Type 0
-Becomes (Ok done) wanted old new = wanted ≡ Ok new
-Becomes (Err change) wanted old new = (wanted ≡ Err change) × (new ≡ old)

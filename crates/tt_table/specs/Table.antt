@@ -1,6 +1,7 @@
--- What a table is seen as: its entries in key order, and the room for changes, its spare; and what
--- each refusal of changes says of their strict application. The main word is `HasCause`.
-use Rattle.std.specs.Prelude.{◌≡◌, ℕ, ◌-◌, min, false, List, length, Result, Err, IsErrAnd, ⊤}
+-- What a table is seen as: its entries in key order, and the room for changes, its spare; what it
+-- becomes by changes, and what each refusal of them says of their strict application. The main
+-- words are `Becomes` and `HasCause`.
+use Rattle.std.specs.Prelude.{◌≡◌, ℕ, ◌-◌, min, false, List, length, Result, Ok, Err, IsErrAnd, ⊤}
 use Rattle.mesh_base.specs.declared.client.Entry.{Entry}
 use Rattle.mesh_model.specs.Tables.Changes.{deletion}
 use Rattle.mesh_model.specs.declared.table_change.Change.{Change}
@@ -18,6 +19,12 @@ pub record TableView : Type 0 where
 abbrev pub spare_of : EntriesView → SumsView → ℕ
 spare_of entries sums =
     min (entries.capacity - length entries.entries) (sums.capacity - length sums.rows)
+
+-- entries become what was wanted, or stay where the wanted changes fail at this one
+abbrev pub Becomes : Result (Unit {0}) Change → Result (List Entry) Change
+    → List Entry → List Entry → Type 0
+Becomes (Ok done) wanted old new = wanted ≡ Ok new
+Becomes (Err change) wanted old new = (wanted ≡ Err change) × (new ≡ old)
 
 -- the cause of a refusal: a deletion of this entry is the first change that fails, or an addition
 -- of this key is; want of memory is free

@@ -1,11 +1,13 @@
-ghost use Rattle.std.specs.Prelude.{◌≡◌, ◌↔◌, ◌+◌, ◌<◌, ◌≤◌, ◌^◌, [], length, slice_get, IfErr, IfOk, IsNone, IsOk, OnOk};
+ghost use Rattle.std.specs.Prelude.{◌≡◌, ◌↔◌, ◌+◌, ◌<◌, ◌≤◌, ◌^◌, [], length, map, slice_get, IfErr, IfOk, IsNone, IsOk, OnOk};
 ghost use Rattle.mesh_base.specs.KeyOrder.{key_order};
-ghost use Rattle.mesh_model.specs.Tables.Changes.{IsInKeyOrder, flags_at};
+ghost use Rattle.mesh_model.specs.Tables.Changes.{IsInKeyOrder, addition, flags_at};
 ghost use Rattle.mesh_model.specs.Tables.Strict.{with_entry, without_entry};
 ghost use Rattle.tt_table.specs.Entries.{entry_key, HasRoom, Tells};
 ghost use Rattle.tt_table.specs.Places.{IsGap, IsThere};
 
+use crate::changes::Changes;
 use mesh_base::{Entry, Key, NoMemory};
+use mesh_model::Change;
 use std::alloc::Global;
 use std::marker::Model;
 
@@ -73,6 +75,18 @@ impl Entries {
         ensures past_end { IsNone result ↔ (length self.now.entries ≤ i) }
     {
         self.entries.get(i).copied()
+    }
+
+    /// The additions of all entries, in their order.
+    pub(crate) fn additions(&self) -> Result<Changes, NoMemory>
+        ensures { IfOk result (λ changes. changes ≡ map addition self.now.entries) }
+    {
+        let mut additions = Changes::new(*self.entries.allocator());
+        for entry in &self.entries {
+            let entry = *entry;
+            additions.push(Change { entry, del: false })?;
+        }
+        Ok(additions)
     }
 
     /// Takes an entry away, and answers whether it was there with its flags.

@@ -6,6 +6,7 @@
 pub mod announcement;
 pub mod changes;
 pub mod checksum;
+mod difference;
 mod entries;
 pub mod failure;
 mod strict;
@@ -18,7 +19,7 @@ pub use announcement::Announcement;
 pub use changes::Changes;
 pub use checksum::{crc32c, entry_sum};
 pub use failure::ApplyErr;
-pub use mesh_model::Change;
+pub use mesh_model::{Change, Difference};
 pub use sums::Sums;
 pub use table::Table;
 

@@ -2,7 +2,8 @@ ghost use Rattle.std.specs.Prelude.{◌≡◌, ◌+◌, ◌≤◌, false, true, 
 ghost use Rattle.mesh_base.specs.declared.client.Entry.{Entry};
 ghost use Rattle.mesh_model.specs.Tables.Changes.{IsInKeyOrder};
 ghost use Rattle.mesh_model.specs.Tables.Strict.{apply_strictly, change_each, change_one};
-ghost use Rattle.tt_table.specs.Entries.{Becomes, half, HasRoom, Tells};
+ghost use Rattle.tt_table.specs.Entries.{half, HasRoom, Tells};
+ghost use Rattle.tt_table.specs.Table.{Becomes};
 
 use crate::entries::Entries;
 use mesh_model::Change;

@@ -1,10 +1,10 @@
-ghost use Rattle.std.specs.Prelude.{◌≡◌, ◌≢◌, ◌↔◌, ◌+◌, ◌≤◌, [], length, slice_get, IfErr, IfOk, IsNone, OnErr, OnOk, Ok, Err};
-ghost use Rattle.mesh_model.specs.Tables.Changes.{flags_at, IsInKeyOrder};
+ghost use Rattle.std.specs.Prelude.{◌≡◌, ◌≢◌, ◌↔◌, ◌+◌, ◌≤◌, [], length, map, slice_get, IfErr, IfOk, IsNone, IsOk, OnErr, OnOk, Ok, Err};
+ghost use Rattle.mesh_model.specs.Tables.Changes.{addition, flags_at, IsInKeyOrder};
 ghost use Rattle.mesh_model.specs.Tables.Strict.{apply_strictly};
 ghost use Rattle.mesh_model.specs.Tables.Sums.{sums_of};
 ghost use Rattle.tt_table.specs.Entries.{HasRoom};
 ghost use Rattle.tt_table.specs.Sums.{AreTotalsOf, HasRows, named_sums};
-ghost use Rattle.tt_table.specs.Table.{HasCause};
+ghost use Rattle.tt_table.specs.Table.{Becomes, HasCause};
 ghost use Rattle.tt_table.specs.declared.failure.ApplyErr.TheVariants.{Memory};
 
 use crate::changes::Changes;
@@ -83,6 +83,14 @@ impl Table {
         self.entries.at(i)
     }
 
+    /// The changes that make this table of the empty one.
+    pub fn additions(&self) -> Result<Changes, NoMemory>
+        ensures { IfOk result (λ changes. changes ≡ map addition self.now.entries) }
+    {
+        let additions = self.entries.additions()?;
+        Ok(additions)
+    }
+
     /// Makes room for so many changes.
     pub fn reserve(&mut self, changes: usize) -> Result<(), NoMemory>
         ensures ok { OnOk result (changes ≤ self.new.spare) }
@@ -111,6 +119,24 @@ impl Table {
         ensures room { length changes.now ≤ self.old.spare → result ≢ Err Memory }
         ensures steps { steps.new ≤ steps.old + length changes.now }
     {
+        if let Err(failed) = self.attempt(changes, steps)? {
+            return Err(ApplyErr::of(failed));
+        }
+        Ok(())
+    }
+
+    /// Applies changes strictly, or leaves the table as it is and answers the first that fails.
+    pub fn attempt<L: Ledger>(
+        &mut self,
+        changes: &Changes,
+        steps: &mut Steps<L>,
+    ) -> Result<Result<(), Change>, NoMemory>
+        ensures attempted { IfOk result (λ outcome. Becomes outcome
+            (apply_strictly self.old.entries changes.now) self.old.entries self.new.entries) }
+        ensures err { OnErr result (self.new.entries ≡ self.old.entries) }
+        ensures room { length changes.now ≤ self.old.spare → IsOk result }
+        ensures steps { steps.new ≤ steps.old + length changes.now }
+    {
         self.entries.tell_order();
         self.sums.tell_order();
         let outcome = apply_all(&mut self.entries, &mut self.sums, changes.as_slice(), steps);
@@ -119,29 +145,29 @@ impl Table {
     }
 }
 
-// Applies changes strictly to entries, and goes along in their sums.
+// Applies changes strictly to entries, and goes along in their sums, or leaves both and answers the
+// first that fails.
 fn apply_all<L: Ledger>(
     entries: &mut Entries,
     sums: &mut Sums,
     changes: &[Change],
     steps: &mut Steps<L>,
-) -> Result<(), ApplyErr>
+) -> Result<Result<(), Change>, NoMemory>
     requires totals { AreTotalsOf sums.old.rows entries.old.entries }
     ensures totals { AreTotalsOf sums.new.rows entries.new.entries }
-    ensures applied { OnOk result
-        (apply_strictly entries.old.entries changes.now ≡ Ok entries.new.entries) }
-    ensures cause { IfErr result (HasCause (apply_strictly entries.old.entries changes.now)) }
+    ensures attempted { IfOk result (λ outcome. Becomes outcome
+        (apply_strictly entries.old.entries changes.now) entries.old.entries entries.new.entries) }
     ensures err { OnErr result (entries.new.entries ≡ entries.old.entries) }
     ensures room { HasRoom (length changes.now) entries.old →
-        HasRows (length changes.now) sums.old → result ≢ Err Memory }
+        HasRows (length changes.now) sums.old → IsOk result }
     ensures steps { steps.new ≤ steps.old + length changes.now }
 {
     entries.reserve(changes.len())?;
     sums.name_all(changes)?;
     if let Err(failed) = entries.apply(changes) {
-        return Err(ApplyErr::of(failed));
+        return Ok(Err(failed));
     }
     sums.follow_all(changes, true, steps);
     sums.follow_all(changes, false, steps);
-    Ok(())
+    Ok(Ok(()))
 }

@@ -7,9 +7,9 @@ use Rattle.mesh_model.specs.Packets.Bodies.{VlanSum}
 use Rattle.mesh_model.specs.declared.table_change.Change.{Change}
 use Rattle.mesh_model.specs.Tables.Changes.{changeset}
 use Rattle.mesh_model.specs.Tables.Sums.{checksums, sums_of, sum_at}
+use Rattle.mesh_model.specs.Tables.Versions.{Version, next_byte}
 use Rattle.mesh_laws.specs.Machine.Pieces.{piece, piece_count}
-use Rattle.mesh_laws.specs.Machine.World.{Version, Saying, Announcement, Differences, Piece, Told, commit_numbered, IsCommit}
-use Rattle.mesh_laws.specs.Machine.Moves.{next_byte}
+use Rattle.mesh_laws.specs.Machine.World.{Saying, Announcement, Differences, Piece, Told, commit_numbered, IsCommit}
 
 -- commits of one byte and equal checksums have one table
 abbrev pub HasNoAlias : List Version → Type 0

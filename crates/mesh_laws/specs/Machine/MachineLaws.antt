@@ -3,8 +3,9 @@
 use Rattle.std.specs.Prelude.{◌≡◌, ℕ, ◌≤◌, List, [], ◌∷◌, length, map, replicate, Some}
 use Rattle.mesh_base.specs.declared.client.Entry.{Entry}
 use Rattle.mesh_model.specs.Tables.Changes.{addition}
+use Rattle.mesh_model.specs.Tables.Versions.{Version}
 use Rattle.mesh_laws.specs.Machine.Pieces.{piece, piece_count, put_together}
-use Rattle.mesh_laws.specs.Machine.World.{World, Saying, Version, Told, start, WasSaid, IsCommit, commit_numbered}
+use Rattle.mesh_laws.specs.Machine.World.{World, Saying, Told, start, WasSaid, IsCommit, commit_numbered}
 use Rattle.mesh_laws.specs.Machine.Moves.{Reaches}
 use Rattle.mesh_laws.specs.Machine.Agreement.{HasNoAlias, AreOf, Agrees, IsAgreed}
 

@@ -8,7 +8,8 @@ use Rattle.std.specs.Prelude.{◌≡◌, ℕ, List, [], ◌∷◌, Option, Some,
 use Rattle.mesh_base.specs.declared.client.Entry.{Entry}
 use Rattle.mesh_model.specs.Tables.Changes.{addition}
 use Rattle.mesh_model.specs.Tables.Sums.{sums_of}
-use Rattle.mesh_laws.specs.Machine.World.{Version, Told, World, start, WasSaid, IsCommit, with_commit, with_saying, with_node}
+use Rattle.mesh_model.specs.Tables.Versions.{Version}
+use Rattle.mesh_laws.specs.Machine.World.{Told, World, start, WasSaid, IsCommit, with_commit, with_saying, with_node}
 use Rattle.mesh_laws.specs.Machine.Moves.{Reaches, announcement_of, piece_of, agreed_node}
 use Rattle.mesh_laws.specs.Machine.Agreement.{HasNoAlias, Agrees, IsAgreed}
 

@@ -3,8 +3,7 @@
 -- node passes on what it holds, is told any announcement that was ever made, takes changes or a
 -- full answer that were ever said, or drops all. Nothing says when a move comes, nor that it does.
 -- The main words are `Move` and `Reaches`.
-pub use Rattle.mesh_model.specs.Commits.Versions.{next_byte}
-use Rattle.std.specs.Prelude.{◌≡◌, ◌⊎◌, ℕ, ◌+◌, ◌%◌, ◌<◌, List, [], ◌∷◌, length, Option, Some, Ok}
+use Rattle.std.specs.Prelude.{◌≡◌, ◌⊎◌, ℕ, ◌<◌, List, [], ◌∷◌, length, Option, Some, Ok}
 use Rattle.mesh_base.specs.declared.client.Entry.{Entry}
 use Rattle.mesh_base.specs.declared.client.Vid.{Vid}
 use Rattle.mesh_model.specs.Packets.Bodies.{VlanSum}
@@ -12,8 +11,9 @@ use Rattle.mesh_model.specs.declared.table_change.Change.{Change}
 use Rattle.mesh_model.specs.Tables.Changes.{IsInKeyOrder, changeset}
 use Rattle.mesh_model.specs.Tables.Strict.{apply_strictly}
 use Rattle.mesh_model.specs.Tables.Sums.{checksums, sums_of, sum_at}
+use Rattle.mesh_model.specs.Tables.Versions.{Version, next_byte}
 use Rattle.mesh_laws.specs.Machine.Pieces.{piece, piece_count, put_together}
-use Rattle.mesh_laws.specs.Machine.World.{Version, Saying, Announcement, Differences, Piece, Told, Node, World, WasSaid, silent_node, with_commit, with_saying, with_node}
+use Rattle.mesh_laws.specs.Machine.World.{Saying, Announcement, Differences, Piece, Told, Node, World, WasSaid, silent_node, with_commit, with_saying, with_node}
 
 -- changes are those of the last commit, from the one before it, which has the byte before
 abbrev pub AreLastChanges : List Version → List Change → Type 0

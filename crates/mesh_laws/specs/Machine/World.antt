@@ -2,11 +2,11 @@
 -- a byte; all that was ever said of them; and for each node what it was last told and what it
 -- holds. An announcement tells the number of its commit, which no packet does: how many commits are
 -- older. The main word is `World`; all begins at `start`.
-pub use Rattle.mesh_model.specs.Commits.Versions.{Version, first_commit, commit_numbered}
+pub use Rattle.mesh_model.specs.Commits.Versions.{first_commit, commit_numbered}
 use Rattle.std.specs.Prelude.{◌≡◌, ◌⊎◌, ℕ, ◌==◌, if◌then◌else◌, List, [], ◌∷◌, length, Option, Some, None}
-use Rattle.mesh_base.specs.declared.client.Entry.{Entry}
 use Rattle.mesh_model.specs.Packets.Bodies.{VlanSum}
 use Rattle.mesh_model.specs.declared.table_change.Change.{Change}
+use Rattle.mesh_model.specs.Tables.Versions.{Version}
 
 -- what was said of the originator's tables: an announcement of a commit by its number, with changes
 -- or with none; an answer in changes; or a piece of a full answer, by its place among so many

@@ -5,7 +5,8 @@ use Rattle.std.specs.Prelude.{ℕ, suc, ◌-◌, ◌==◌, ◌&&◌, Bool, true,
 use Rattle.std.specs.Option.{option_or}
 use Rattle.mesh_model.specs.Packets.Bodies.{VlanSum}
 use Rattle.mesh_model.specs.Tables.Sums.{sum_at, sums_of}
-use Rattle.mesh_model.specs.Commits.Versions.{Version, same_table}
+use Rattle.mesh_model.specs.Tables.Versions.{Version}
+use Rattle.mesh_model.specs.Commits.Versions.{same_table}
 
 -- whether sums have each checksum that others name
 abbrev pub have_sums : List VlanSum → List VlanSum → Bool

@@ -4,12 +4,12 @@
 -- the last commit at its root. The main words are `announcement` and `commit_at_root`.
 use Rattle.std.specs.Prelude.{ℕ, ◌==◌, ◌&&◌, nat_lt, nat_le, Bool, false, List, [], ◌∷◌, length, map, if◌then◌else◌}
 use Rattle.mesh_base.specs.declared.address.Mac.{Mac}
-use Rattle.mesh_base.specs.declared.client.Entry.{Entry}
 use Rattle.mesh_model.specs.Packets.Numbers.{ogm_diff_flag}
 use Rattle.mesh_model.specs.Packets.Bodies.{TtData, TtChange, change_of}
 use Rattle.mesh_model.specs.Clients.Log.{Given, Tick, LinkFrame, Frame, Gone, Join, Leave, Arp, Dhcp, Wifi, Log}
 use Rattle.mesh_model.specs.Tables.Sums.{sums_of}
-use Rattle.mesh_model.specs.Commits.Versions.{Version, last_commit, last_changes}
+use Rattle.mesh_model.specs.Tables.Versions.{Version}
+use Rattle.mesh_model.specs.Commits.Versions.{last_commit, last_changes}
 use Rattle.mesh_model.specs.Commits.History.{History, commits}
 use Rattle.mesh_model.specs.declared.table_change.Change.{Change}
 
@@ -25,7 +25,7 @@ carried_changes = 120
 abbrev pub announced_changes : History → List Change
 announced_changes history =
     if nat_lt history.sent carrying_messages
-        && nat_le (length (last_changes history.commits)) carried_changes
+    && nat_le (length (last_changes history.commits)) carried_changes
     then last_changes history.commits else []
 
 -- the record of a change

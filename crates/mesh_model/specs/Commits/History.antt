@@ -8,7 +8,8 @@ use Rattle.mesh_base.specs.declared.client.Entry.{Entry}
 use Rattle.mesh_model.specs.Clients.Log.{Given, Tick, LinkFrame, Frame, Gone, Join, Leave, Arp, Dhcp, Wifi, Log}
 use Rattle.mesh_model.specs.Clients.Mentions.{Mention, mentions}
 use Rattle.mesh_model.specs.Clients.Present.{present_clients}
-use Rattle.mesh_model.specs.Commits.Versions.{Version, first_commit, next_byte, last_commit, same_table}
+use Rattle.mesh_model.specs.Commits.Versions.{first_commit, last_commit, same_table}
+use Rattle.mesh_model.specs.Tables.Versions.{Version, next_byte}
 
 -- the commits of a node, newest first, and how many messages have announced the newest
 pub record History : Type 0 where

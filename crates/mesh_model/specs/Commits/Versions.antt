@@ -1,23 +1,15 @@
 -- The commits of a node, newest first: tables under bytes. The number of a commit is how many are
--- older; commit 0 is the empty table under byte 0, and each byte is one more than the one before,
--- modulo 256. The changes of a commit lead to it from the one before. The main word is `Version`.
-use Rattle.std.specs.Prelude.{ℕ, ◌+◌, ◌%◌, ◌==◌, ◌&&◌, Bool, true, false, List, [], ◌∷◌, length, Option, Some, None, if◌then◌else◌}
+-- older; commit 0 is the empty table under byte 0. The changes of a commit lead to it from the one
+-- before. The main words are `last_commit` and `last_changes`.
+use Rattle.std.specs.Prelude.{ℕ, ◌==◌, ◌&&◌, Bool, true, false, List, [], ◌∷◌, length, Option, Some, None, if◌then◌else◌}
 use Rattle.mesh_base.specs.declared.client.Entry.{Entry}
 use Rattle.mesh_model.specs.Tables.Changes.{changeset, same_entry}
+use Rattle.mesh_model.specs.Tables.Versions.{Version}
 use Rattle.mesh_model.specs.declared.table_change.Change.{Change}
-
--- a table under a byte: what a node commits, and what another holds
-pub record Version : Type 0 where
-  pub byte : ℕ
-  pub table : List Entry
 
 -- commit 0: the empty table under byte 0
 abbrev pub first_commit : Version
 first_commit = record { byte = 0; table = [] }
-
--- the byte after a byte
-abbrev pub next_byte : ℕ → ℕ
-next_byte byte = (byte + 1) % 256
 
 -- the last of some commits
 abbrev pub last_commit : List Version → Version

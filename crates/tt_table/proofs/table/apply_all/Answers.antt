@@ -6,9 +6,6 @@ use Rattle.tt_table.proofs.StrictLemmas.{between, halves_counted}
 use Rattle.tt_table.proofs.TotalsLemmas.{less_few, still_named, totals_renamed}
 use Rattle.tt_table.proofs.table.apply_all.Goals as goal
 
-pub returns-in-Err-clause-room : goal.returns-in-Err-clause-room
-returns-in-Err-clause-room g c = λ room rows same. c.of.ensures.strict cc
-
 pub follow_all-requires : goal.follow_all-requires
 follow_all-requires g c =
     let cs = c.args.changes.now in

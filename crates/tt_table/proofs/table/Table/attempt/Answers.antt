@@ -1,5 +1,5 @@
 use Rattle.std.proofs.Common.{length, ap, arith}
-use Rattle.tt_table.proofs.table.Table.apply.Goals as goal
+use Rattle.tt_table.proofs.table.Table.attempt.Goals as goal
 
 pub returns-clause-room : goal.returns-clause-room
 returns-clause-room g c = rw (← c.self.view_is)

@@ -1,0 +1,4 @@
+-- What the methods of `Globals` rest on.
+pub mod KeyLemmas
+pub mod StandLemmas
+pub mod PlaceLemmas

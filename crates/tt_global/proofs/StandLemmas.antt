@@ -1,0 +1,193 @@
+-- How what is kept goes along with what comes for an originator.
+use Rattle.std.proofs.Common.{◌≡◌, ℕ, Bool, true, false, not, cond, List, [], ◌∷◌, filter, IsSome, Option, Some, None, is_some, option_map, refl, sym, ap, ap₂, ◌∙◌, subst}
+use Rattle.std.specs.List.Sorted.{IsStrictlySortedBy}
+use Rattle.std.specs.BTreeMap.{insert_entry}
+use Rattle.std.specs.Map.{keys_of, lookup, remove_entry, set_value}
+use Rattle.std.proofs.lemmas.Bool.{false≢true}
+use Rattle.std.proofs.lemmas.Map.{keys-set_value, lookup-set_value}
+use Rattle.mesh_base.specs.declared.address.Mac.{Mac}
+use Rattle.mesh_base.specs.declared.client.Entry.{Entry}
+use Rattle.mesh_model.specs.declared.table_change.Change.{Change}
+use Rattle.mesh_model.specs.declared.table_outcome.Heard.{Heard}
+use Rattle.mesh_model.specs.Routes.Addresses.{insert_mac, mac_order, same_mac}
+use Rattle.mesh_model.specs.Tables.Judging.{Carried, Row, announcement_row, answer_row}
+use Rattle.mesh_model.specs.Tables.Known.{Announced, Answered, Dropped, Known, TableCalls, announced, answered, held_after, known_by, nothing, stamp_of}
+use Rattle.mesh_model.specs.Tables.Versions.{Stamp, Version}
+use Rattle.mesh_laws.proofs.AscendingKeys.{ascend_inserted, ascend_removed}
+use Rattle.mesh_laws.proofs.MacLemmas.{mac_exact, mac_total, same_equiv, same_exact, same_self}
+use Rattle.tt_global.specs.Globals.{GlobalsStand, Kept}
+use Rattle.tt_global.specs.Kept.{IsHeld, IsTold, answer_of, held_in, told_in, version_of}
+use Rattle.tt_global.specs.declared.known.HeldTable.{HeldTable}
+use Rattle.tt_global.specs.declared.known.KnownTable.{KnownTable}
+use Rattle.tt_global.proofs.KeyLemmas.{key_again, keys_inserted, keys_removed}
+
+-- what is kept of an originator
+abbrev pub at : Mac → Kept → Option KnownTable
+at orig kept = lookup (same_mac orig) kept
+
+-- nothing is kept
+pub nothing_stands : (kept : Kept) → kept ≡ [] → GlobalsStand kept []
+unfolding IsStrictlySortedBy
+nothing_stands kept is = subst (λ k. GlobalsStand k []) (sym is) (record { told = λ orig. refl; held = λ orig. refl; originators = refl; rise = tt })
+
+-- ---- announcements
+module _ (calls : TableCalls) (orig : Mac) (frame : ℕ) (stamp : Stamp) (changes : List Change) (old mid : Kept) (stands : GlobalsStand old calls) (is_told : IsTold orig stamp old mid) where
+  abbrev after : Mac → Known → Known
+  after other before = cond (same_mac orig other) (announced frame stamp changes before) before
+
+  told_then : (other : Mac) → told_in (at other mid) ≡ stamp_of (after other (known_by calls other))
+  told_then other =
+      is_told.told_is other
+      ∙ elim (same_mac orig other) as (λ b. cond b (Some stamp) (told_in (at other old)) ≡ stamp_of (cond b (announced frame stamp changes (known_by calls other)) (known_by calls other))) [
+        | true ↦ refl
+        | false ↦ stands.told other
+      ]
+
+  -- what is held once the row is known
+  abbrev row : Option Version → Row Heard
+  row held = announcement_row held stamp changes
+
+  held_then : (table : Option (List Entry)) → (row (held_in (at orig old))).table ≡ table → (other : Mac)
+      → cond (same_mac orig other) (held_after stamp.byte table (held_in (at other old))) (held_in (at other old)) ≡ (after other (known_by calls other)).held
+  held_then table is other = go (same_mac orig other) refl
+    where
+      go : (b : Bool) → same_mac orig other ≡ b → cond b (held_after stamp.byte table (held_in (at other old))) (held_in (at other old)) ≡ (cond b (announced frame stamp changes (known_by calls other)) (known_by calls other)).held
+      go true t =
+          ap (λ x. held_after stamp.byte x (held_in (at other old))) (sym is ∙ ap (λ o. (row (held_in (at o old))).table) (same_exact orig other t))
+          ∙ ap (λ h. held_after stamp.byte (row h).table h) (stands.held other)
+      go false t = stands.held other
+
+  pub announced_kept : (row (held_in (at orig old))).table ≡ None → GlobalsStand mid (Announced orig frame stamp changes ∷ calls)
+  announced_kept is = record {
+    told = told_then;
+    held = λ other. is_told.held_stays other ∙ unchanged (same_mac orig other) _ ∙ held_then None is other;
+    originators = is_told.keys_are stands.rise ∙ ap (insert_mac orig) stands.originators;
+    rise = is_told.rise stands.rise;
+  }
+    where
+      unchanged : (b : Bool) (h : Option Version) → h ≡ cond b (held_after stamp.byte None h) h
+      unchanged true h = refl
+      unchanged false h = refl
+
+  pub announced_held : (table : List Entry) (new : Kept) → (row (held_in (at orig old))).table ≡ Some table → IsHeld orig (record { byte = stamp.byte; table = table }) mid new → GlobalsStand new (Announced orig frame stamp changes ∷ calls)
+  announced_held table new is held = record {
+    told = λ other. held.told_stays other ∙ told_then other;
+    held = λ other. held.held_is other ∙ ap (cond (same_mac orig other) (Some (record { byte = stamp.byte; table = table }))) (is_told.held_stays other) ∙ held_then (Some table) is other;
+    originators = held.keys_stay ∙ is_told.keys_are stands.rise ∙ ap (insert_mac orig) stands.originators;
+    rise = subst (IsStrictlySortedBy mac_order) (sym held.keys_stay) (is_told.rise stands.rise);
+  }
+
+-- where something was told, something is kept
+pub told_there : (orig : Mac) (told : Stamp) (old new : Kept) → IsTold orig told old new → IsSome (at orig new)
+told_there orig told old new is_told =
+    some (at orig new) (is_told.told_is orig ∙ ap (λ b. cond b (Some told) (told_in (at orig old))) (same_self orig))
+  where
+    some : (kept : Option KnownTable) → told_in kept ≡ Some told → IsSome kept
+    some None is = absurd (false≢true (ap is_some is))
+    some (Some known) is = refl
+
+-- ---- answers
+-- an answer is taken only where something was told
+pub kept_taken : (kept : Option KnownTable) (stamp : Stamp) (carried : Carried) (table : List Entry) → (answer_of kept stamp carried).table ≡ Some table → IsSome kept
+kept_taken None stamp carried table is = absurd (false≢true (ap is_some is))
+kept_taken (Some known) stamp carried table is = refl
+
+module _ (calls : TableCalls) (orig : Mac) (stamp : Stamp) (carried : Carried) (old : Kept) (stands : GlobalsStand old calls) where
+  abbrev then : Mac → Known → Known
+  then other before = cond (same_mac orig other) (answered stamp carried before) before
+
+  stays_told : (other : Mac) → stamp_of (known_by calls other) ≡ stamp_of (then other (known_by calls other))
+  stays_told other = elim (same_mac orig other) as (λ b. stamp_of (known_by calls other) ≡ stamp_of (cond b (answered stamp carried (known_by calls other)) (known_by calls other))) [ true ↦ refl | false ↦ refl ]
+
+  held_answered : (table : Option (List Entry)) → (answer_of (at orig old) stamp carried).table ≡ table → (other : Mac)
+      → cond (same_mac orig other) (held_after stamp.byte table (held_in (at other old))) (held_in (at other old)) ≡ (then other (known_by calls other)).held
+  held_answered table is other = go (same_mac orig other) refl
+    where
+      go : (b : Bool) → same_mac orig other ≡ b → cond b (held_after stamp.byte table (held_in (at other old))) (held_in (at other old)) ≡ (cond b (answered stamp carried (known_by calls other)) (known_by calls other)).held
+      go true t =
+          ap (λ x. held_after stamp.byte x (held_in (at other old))) (sym is ∙ ap (λ o. (answer_of (at o old) stamp carried).table) (same_exact orig other t))
+          ∙ ap₂ (λ s h. held_after stamp.byte (answer_row s h stamp carried).table h) (stands.told other) (stands.held other)
+      go false t = stands.held other
+
+  -- the outcome
+  pub answer_is : (answer_of (at orig old) stamp carried).outcome ≡ (answer_row (stamp_of (known_by calls orig)) (known_by calls orig).held stamp carried).outcome
+  answer_is = ap₂ (λ s h. (answer_row s h stamp carried).outcome) (stands.told orig) (stands.held orig)
+
+  pub answered_kept : (answer_of (at orig old) stamp carried).table ≡ None → GlobalsStand old (Answered orig stamp carried ∷ calls)
+  answered_kept is = record {
+    told = λ other. stands.told other ∙ stays_told other;
+    held = λ other. unchanged (same_mac orig other) _ ∙ held_answered None is other;
+    originators = stands.originators;
+    rise = stands.rise;
+  }
+    where
+      unchanged : (b : Bool) (h : Option Version) → h ≡ cond b (held_after stamp.byte None h) h
+      unchanged true h = refl
+      unchanged false h = refl
+
+  pub answered_held : (table : List Entry) (new : Kept) → (answer_of (at orig old) stamp carried).table ≡ Some table → IsHeld orig (record { byte = stamp.byte; table = table }) old new → GlobalsStand new (Answered orig stamp carried ∷ calls)
+  answered_held table new is held = record {
+    told = λ other. held.told_stays other ∙ stands.told other ∙ stays_told other;
+    held = λ other. held.held_is other ∙ held_answered (Some table) is other;
+    originators = held.keys_stay ∙ stands.originators;
+    rise = subst (IsStrictlySortedBy mac_order) (sym held.keys_stay) stands.rise;
+  }
+
+-- ---- a life that ended
+pub dropped : (calls : TableCalls) (orig : Mac) (old new : Kept) → GlobalsStand old calls → new ≡ remove_entry (same_mac orig) old
+    → ((other : Mac) → at other new ≡ cond (same_mac orig other) None (at other old)) → GlobalsStand new (Dropped orig ∷ calls)
+dropped calls orig old new stands is updates = record {
+  told = λ other. ap told_in (updates other) ∙ elim (same_mac orig other) as (λ b. told_in (cond b None (at other old)) ≡ stamp_of (cond b nothing (known_by calls other))) [ true ↦ refl | false ↦ stands.told other ];
+  held = λ other. ap held_in (updates other) ∙ elim (same_mac orig other) as (λ b. held_in (cond b None (at other old)) ≡ (cond b nothing (known_by calls other)).held) [ true ↦ refl | false ↦ stands.held other ];
+  originators = ap keys_of is ∙ keys_removed orig old stands.rise ∙ ap (filter (λ other. not (same_mac orig other))) stands.originators;
+  rise = subst (λ es. IsStrictlySortedBy mac_order (keys_of es)) (sym is) (ascend_removed mac_total mac_exact (same_mac orig) old stands.rise);
+}
+
+-- ---- what is written
+-- of a row that is found this table is held
+pub held_written : (orig : Mac) (old new : Kept) (known : KnownTable) (held : HeldTable) → lookup (same_mac orig) old ≡ Some known
+    → new ≡ set_value (same_mac orig) old (record { byte = known.byte; sums = known.sums; held = Some held }) → IsHeld orig (version_of held) old new
+held_written orig old new known held found is =
+    let row : KnownTable = record { byte = known.byte; sums = known.sums; held = Some held } in
+    let some : IsSome (lookup (same_mac orig) old) = ap is_some found in
+    let updates : (other : Mac) → at other new ≡ cond (same_mac orig other) (Some row) (at other old) = λ other. ap (at other) is ∙ lookup-set_value same_equiv (same_mac orig) (same_equiv.congr orig) other row old some in record {
+      told_stays = λ other. ap told_in (updates other) ∙ go other (same_mac orig other) refl;
+      held_is = λ other. ap held_in (updates other) ∙ elim (same_mac orig other) as (λ b. held_in (cond b (Some row) (at other old)) ≡ cond b (Some (version_of held)) (held_in (at other old))) [ true ↦ refl | false ↦ refl ];
+      keys_stay = ap keys_of is ∙ keys-set_value (same_mac orig) old row;
+    }
+  where
+    go : (other : Mac) → (b : Bool) → same_mac orig other ≡ b → told_in (cond b (Some (record { byte = known.byte; sums = known.sums; held = Some held })) (at other old)) ≡ told_in (at other old)
+    go other true t = ap told_in (sym found ∙ ap (λ o. at o old) (same_exact orig other t))
+    go other false t = refl
+
+-- of a row that is found this was told
+pub told_written : (orig : Mac) (old new : Kept) (known row : KnownTable) (told : Stamp) → lookup (same_mac orig) old ≡ Some known → told_in (Some row) ≡ Some told → row.held ≡ known.held
+    → new ≡ set_value (same_mac orig) old row → IsTold orig told old new
+told_written orig old new known row told found row_told row_held is =
+    let some : IsSome (lookup (same_mac orig) old) = ap is_some found in
+    let updates : (other : Mac) → at other new ≡ cond (same_mac orig other) (Some row) (at other old) = λ other. ap (at other) is ∙ lookup-set_value same_equiv (same_mac orig) (same_equiv.congr orig) other row old some in
+    let keys : keys_of new ≡ keys_of old = ap keys_of is ∙ keys-set_value (same_mac orig) old row in record {
+      told_is = λ other. ap told_in (updates other) ∙ elim (same_mac orig other) as (λ b. told_in (cond b (Some row) (at other old)) ≡ cond b (Some told) (told_in (at other old))) [ true ↦ row_told | false ↦ refl ];
+      held_stays = λ other. ap held_in (updates other) ∙ go other (same_mac orig other) refl;
+      keys_are = λ rise. keys ∙ sym (key_again orig old rise some);
+      rise = λ rise. subst (IsStrictlySortedBy mac_order) (sym keys) rise;
+    }
+  where
+    go : (other : Mac) → (b : Bool) → same_mac orig other ≡ b → held_in (cond b (Some row) (at other old)) ≡ held_in (at other old)
+    go other true t = ap (option_map version_of) row_held ∙ ap held_in (sym found ∙ ap (λ o. at o old) (same_exact orig other t))
+    go other false t = refl
+
+-- of a new originator this was told
+pub told_inserted : (orig : Mac) (old new : Kept) (row : KnownTable) (told : Stamp) → lookup (same_mac orig) old ≡ None → told_in (Some row) ≡ Some told → row.held ≡ None
+    → ((other : Mac) → at other new ≡ cond (same_mac orig other) (Some row) (at other old))
+    → (IsStrictlySortedBy mac_order (keys_of old) → new ≡ insert_entry mac_order old orig row) → IsTold orig told old new
+told_inserted orig old new row told absent row_told row_held updates inserted = record {
+  told_is = λ other. ap told_in (updates other) ∙ elim (same_mac orig other) as (λ b. told_in (cond b (Some row) (at other old)) ≡ cond b (Some told) (told_in (at other old))) [ true ↦ row_told | false ↦ refl ];
+  held_stays = λ other. ap held_in (updates other) ∙ go other (same_mac orig other) refl;
+  keys_are = λ rise. ap keys_of (inserted rise) ∙ keys_inserted old orig row;
+  rise = λ rise. subst (λ es. IsStrictlySortedBy mac_order (keys_of es)) (sym (inserted rise)) (ascend_inserted mac_total mac_exact old orig row rise);
+}
+  where
+    go : (other : Mac) → (b : Bool) → same_mac orig other ≡ b → held_in (cond b (Some row) (at other old)) ≡ held_in (at other old)
+    go other true t = ap (option_map version_of) row_held ∙ ap held_in (sym absent ∙ ap (λ o. at o old) (same_exact orig other t))
+    go other false t = refl

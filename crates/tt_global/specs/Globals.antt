@@ -1,0 +1,30 @@
+-- How what is kept of originators stands for all that came for them. The main word is
+-- `GlobalsStand`.
+use Rattle.std.specs.Prelude.{◌≡◌, ℕ, List}
+use Rattle.std.specs.Borrow.{Bor}
+use Rattle.std.specs.List.Sorted.{IsStrictlySortedBy}
+use Rattle.std.specs.Map.{keys_of, lookup}
+use Rattle.mesh_base.specs.declared.address.Mac.{Mac}
+use Rattle.mesh_model.specs.Routes.Addresses.{mac_order, same_mac}
+use Rattle.mesh_model.specs.Tables.Known.{TableCalls, known_by, originators_by, stamp_of}
+use Rattle.mesh_model.specs.Tables.Versions.{Version}
+use Rattle.tt_global.specs.Kept.{held_in, told_in}
+use Rattle.tt_global.specs.declared.known.KnownTable.{KnownTable}
+use Rattle.tt_table.specs.Table.{TableView}
+
+-- what is kept, by originator
+abbrev pub Kept : Type 0
+Kept = List (Mac × KnownTable)
+
+-- what is kept is what came for each originator: what was told last, whatever frame told it, and
+-- what is held; those of which something was told stand in the order of their addresses
+pub record GlobalsStand (kept : Kept) (calls : TableCalls) : Type 0 where
+  pub told : (orig : Mac) →
+      told_in (lookup (same_mac orig) kept) ≡ stamp_of (known_by calls orig)
+  pub held : (orig : Mac) → held_in (lookup (same_mac orig) kept) ≡ (known_by calls orig).held
+  pub originators : keys_of kept ≡ originators_by calls
+  pub rise : IsStrictlySortedBy mac_order (keys_of kept)
+
+-- a table that is lent with its byte, as a version
+abbrev pub asked_version : ℕ × Bor TableView → Version
+asked_version held = record { byte = held.0; table = held.1.now.entries }

@@ -1,0 +1,91 @@
+-- What is kept of an originator, as the definitions see it: what was told, and what is held. No
+-- public clause cites this file but for `stamp` and `stamp_in`.
+use Rattle.std.specs.Prelude.{◌≡◌, ℕ, List, Option, Some, None, option_map, if◌then◌else◌}
+use Rattle.std.specs.Borrow.{Bor}
+use Rattle.std.specs.List.Sorted.{IsStrictlySortedBy}
+use Rattle.std.specs.Map.{keys_of, lookup}
+use Rattle.mesh_base.specs.declared.address.Mac.{Mac}
+use Rattle.mesh_model.specs.Routes.Addresses.{insert_mac, mac_order, same_mac}
+use Rattle.mesh_model.specs.declared.table_row.GlobalRow.{GlobalRow}
+use Rattle.mesh_model.specs.declared.table_outcome.Taken.{Taken}
+use Rattle.mesh_model.specs.Tables.Judging.{Carried, Row, Trial, Fails, Differs, Leads, answer_row}
+use Rattle.mesh_model.specs.Tables.Known.{agrees}
+use Rattle.mesh_model.specs.Tables.Versions.{Stamp, Version}
+use Rattle.tt_global.specs.declared.judging.Judged.{Judged}
+use Rattle.tt_global.specs.declared.judging.Trial.{Trial as TableTrial}
+use Rattle.tt_global.specs.declared.judging.Trial.TheVariants as tried
+use Rattle.tt_global.specs.declared.known.HeldTable.{HeldTable}
+use Rattle.tt_global.specs.declared.known.KnownTable.{KnownTable}
+use Rattle.tt_table.specs.Sums.{SumsView, named_sums}
+use Rattle.tt_table.specs.declared.announcement.Announcement.{Announcement}
+
+-- a byte and sums
+abbrev pub stamp : ℕ → SumsView → Stamp
+stamp byte sums = record { byte = byte; sums = named_sums sums }
+
+-- the byte and the sums of an announcement
+abbrev pub stamp_in : Announcement → Stamp
+stamp_in announced = stamp announced.byte announced.sums
+
+-- a table under a byte
+abbrev pub version_of : HeldTable → Version
+version_of held = record { byte = held.byte; table = held.table.entries }
+
+-- what was told, where something is kept
+abbrev pub told_in : Option KnownTable → Option Stamp
+told_in None = None
+told_in (Some known) = Some (stamp known.byte known.sums)
+
+-- what is held, where something is
+abbrev pub held_in : Option KnownTable → Option Version
+held_in None = None
+held_in (Some known) = option_map version_of known.held
+
+-- what is lent, as a value
+abbrev pub lent : {X : Type 0} → Option (Bor X) → Option X
+lent given = option_map (λ reference. reference.now) given
+
+-- an originator's row, by what is kept
+abbrev pub kept_row : Mac → KnownTable → GlobalRow
+kept_row orig known = record {
+  orig = orig;
+  held = option_map (λ held. held.byte) known.held;
+  told = known.byte;
+  ok = agrees (told_in (Some known)) (held_in (Some known));
+}
+
+-- what an answer makes of what is kept of an originator
+abbrev pub answer_of : Option KnownTable → Stamp → Carried → Row Taken
+answer_of kept stamp carried = answer_row (told_in kept) (held_in kept) stamp carried
+
+-- an outcome with its table
+abbrev pub row_in : {T : Type 0} → Judged T → Row T
+row_in judged = record {
+  outcome = judged.outcome;
+  table = option_map (λ table. table.entries) judged.table;
+}
+
+-- how changes did on a table
+abbrev pub trial_in : TableTrial → Trial
+trial_in (tried.Fails entry) = Fails entry
+trial_in (tried.Differs difference) = Differs difference
+trial_in (tried.Leads table) = Leads table.entries
+
+-- of one originator this was told, and all else is as before
+pub record IsTold (orig : Mac) (told : Stamp) (old new : List (Mac × KnownTable)) : Type 0 where
+  pub told_is : (other : Mac) → told_in (lookup (same_mac other) new)
+      ≡ (if same_mac orig other then Some told else told_in (lookup (same_mac other) old))
+  pub held_stays : (other : Mac) →
+      held_in (lookup (same_mac other) new) ≡ held_in (lookup (same_mac other) old)
+  pub keys_are : IsStrictlySortedBy mac_order (keys_of old) →
+      keys_of new ≡ insert_mac orig (keys_of old)
+  pub rise : IsStrictlySortedBy mac_order (keys_of old) →
+      IsStrictlySortedBy mac_order (keys_of new)
+
+-- of one originator this is held, and all else is as before
+pub record IsHeld (orig : Mac) (version : Version) (old new : List (Mac × KnownTable)) : Type 0 where
+  pub told_stays : (other : Mac) →
+      told_in (lookup (same_mac other) new) ≡ told_in (lookup (same_mac other) old)
+  pub held_is : (other : Mac) → held_in (lookup (same_mac other) new)
+      ≡ (if same_mac orig other then Some version else held_in (lookup (same_mac other) old))
+  pub keys_stay : keys_of new ≡ keys_of old

@@ -1,0 +1,226 @@
+ghost use Rattle.std.specs.Prelude.{◌≡◌, ◌↔◌, ◌+◌, ◌≤◌, ℕ, [], ◌∷◌, length, slice_get, option_map, option_and_then, IfOk, IfSome, IsNone, IsOk, IsSome, OnErr, OnOk, Some};
+ghost use Rattle.std.specs.Map.{lookup};
+ghost use Rattle.mesh_base.specs.declared.address.Mac.{Mac};
+ghost use Rattle.mesh_model.specs.Routes.Addresses.{same_mac};
+ghost use Rattle.mesh_model.specs.Tables.Judging.{InChanges, InFull, announcement_row, answer_row};
+ghost use Rattle.mesh_model.specs.Tables.Known.{Announced, Answered, Dropped, TableCalls, holders_by, is_agreed, known_by, originators_by, row_by, stamp_of};
+ghost use Rattle.tt_global.specs.Globals.{GlobalsStand, asked_version};
+ghost use Rattle.tt_global.specs.Kept.{IsHeld, IsTold, stamp, stamp_in, told_in};
+
+use crate::judging::{Judged, judge_announcement, judge_changes, judge_full};
+use crate::known::{HeldTable, KnownTable};
+use indexmap::IndexMap;
+use mesh_base::{Key, Mac, NoMemory, Steps};
+use mesh_model::{GlobalRow, Heard, Taken};
+use std::alloc::Global;
+use std::marker::Model;
+use std::sync::ledger::Ledger;
+use tt_table::{Announcement, Changes, Sums, Table};
+
+/// What is known of the tables of originators.
+#[derive(Debug, Drop)]
+pub struct Globals {
+    /// In the order of addresses.
+    known: IndexMap<Mac, KnownTable>,
+    alloc: Global,
+}
+
+impl Model for Globals {
+    ghost use Rattle.tt_global.specs.Globals.{Kept};
+
+    ghost Value = { Kept };
+
+    ghost view = { λ g. g.known.entries };
+}
+
+impl Globals {
+    /// Nothing is known.
+    pub fn new(alloc: Global) -> Globals
+        ensures { GlobalsStand result [] }
+    {
+        Globals {
+            known: IndexMap::new(alloc),
+            alloc,
+        }
+    }
+
+    /// Takes an announcement of an originator, and answers what it makes of the table that is held.
+    pub fn announce<L: Ledger>(
+        &mut self,
+        orig: Mac,
+        announced: &Announcement,
+        steps: &mut Steps<L>,
+    ) -> Result<Heard, NoMemory>
+        // The log may give the frame that brought it any number.
+        ensures ok { (calls : TableCalls) (frame : ℕ) → GlobalsStand self.old calls →
+            OnOk result (GlobalsStand self.new
+            (Announced orig frame (stamp_in announced.now) announced.now.changes ∷ calls)) }
+        ensures heard { (calls : TableCalls) → GlobalsStand self.old calls →
+            IfOk result (λ heard. heard ≡ (announcement_row (known_by calls orig).held
+            (stamp_in announced.now) announced.now.changes).outcome) }
+        ensures err { OnErr result (self.new ≡ self.old) }
+        ensures steps { steps.new ≤ steps.old + length announced.now.changes }
+
+        // No memory is wanted where the byte and the sums were told before, and what is held, if
+        // anything, is held under that byte.
+        ensures same { (calls : TableCalls) → GlobalsStand self.old calls →
+            stamp_of (known_by calls orig) ≡ Some (stamp_in announced.now) →
+            IfSome (known_by calls orig).held (λ held. held.byte ≡ announced.now.byte) →
+            IsOk result }
+    {
+        let held = self.known.get(&orig).and_then(|known| known.held.as_ref());
+        let Judged { outcome, table } = judge_announcement(self.alloc, held, announced, steps)?;
+        self.tell(orig, announced.byte, &announced.sums)?;
+        if let Some(table) = table {
+            self.hold(orig, announced.byte, table);
+        }
+        Ok(outcome)
+    }
+
+    /// Takes an answer with a whole table of an originator, under a byte and sums.
+    pub fn take_full<L: Ledger>(
+        &mut self,
+        orig: Mac,
+        byte: u8,
+        sums: &Sums,
+        records: &Changes,
+        steps: &mut Steps<L>,
+    ) -> Result<Taken, NoMemory>
+        ensures ok { (calls : TableCalls) → GlobalsStand self.old calls →
+            OnOk result (GlobalsStand self.new
+            (Answered orig (stamp byte sums.now) (InFull records.now) ∷ calls)) }
+        ensures taken { (calls : TableCalls) → GlobalsStand self.old calls →
+            IfOk result (λ taken. taken ≡ (answer_row (stamp_of (known_by calls orig))
+            (known_by calls orig).held (stamp byte sums.now) (InFull records.now)).outcome) }
+        ensures err { OnErr result (self.new ≡ self.old) }
+        ensures steps { steps.new ≤ steps.old + length records.now }
+    {
+        let kept = self.known.get(&orig);
+        let Judged { outcome, table } = judge_full(self.alloc, kept, byte, sums, records, steps)?;
+        if let Some(table) = table {
+            self.hold(orig, byte, table);
+        }
+        Ok(outcome)
+    }
+
+    /// Takes an answer with changes of an originator's table, which lead to a byte and sums.
+    pub fn take_changes<L: Ledger>(
+        &mut self,
+        orig: Mac,
+        byte: u8,
+        sums: &Sums,
+        records: &Changes,
+        steps: &mut Steps<L>,
+    ) -> Result<Taken, NoMemory>
+        ensures ok { (calls : TableCalls) → GlobalsStand self.old calls →
+            OnOk result (GlobalsStand self.new
+            (Answered orig (stamp byte sums.now) (InChanges records.now) ∷ calls)) }
+        ensures taken { (calls : TableCalls) → GlobalsStand self.old calls →
+            IfOk result (λ taken. taken ≡ (answer_row (stamp_of (known_by calls orig))
+            (known_by calls orig).held (stamp byte sums.now) (InChanges records.now)).outcome) }
+        ensures err { OnErr result (self.new ≡ self.old) }
+        ensures steps { steps.new ≤ steps.old + length records.now }
+    {
+        let kept = self.known.get(&orig);
+        let Judged { outcome, table } = judge_changes(kept, byte, sums, records, steps)?;
+        if let Some(table) = table {
+            self.hold(orig, byte, table);
+        }
+        Ok(outcome)
+    }
+
+    /// Drops all that is known of an originator.
+    pub fn drop_orig(&mut self, orig: Mac)
+        ensures { (calls : TableCalls) → GlobalsStand self.old calls →
+            GlobalsStand self.new (Dropped orig ∷ calls) }
+    {
+        self.known.shift_remove(&orig);
+    }
+
+    /// Whether the held table of an originator has the byte and the sums that it announced last.
+    pub fn is_ok(&self, orig: Mac) -> bool
+        ensures { (calls : TableCalls) → GlobalsStand self.now calls →
+            result ≡ is_agreed (known_by calls orig) }
+    {
+        match self.known.get(&orig) {
+            Some(known) => known.is_agreed(),
+            None => false,
+        }
+    }
+
+    /// The byte that an originator announced last, if any.
+    pub fn told(&self, orig: Mac) -> Option<u8>
+        ensures { (calls : TableCalls) → GlobalsStand self.now calls →
+            result ≡ option_map (λ told. told.byte) (stamp_of (known_by calls orig)) }
+    {
+        self.known.get(&orig).map(|known| known.byte)
+    }
+
+    /// The table that is held of an originator, if any, with its byte.
+    pub fn held(&self, orig: Mac) -> Option<(u8, &Table)>
+        ensures { (calls : TableCalls) → GlobalsStand self.now calls →
+            option_map asked_version result ≡ (known_by calls orig).held }
+    {
+        let held = self.known.get(&orig)?.held.as_ref()?;
+        Some((held.byte, &held.table))
+    }
+
+    /// Of the originators whose held tables have a client, by address, the one at this place, from
+    /// 0.
+    pub fn holder(&self, key: Key, i: usize) -> Option<Mac>
+        ensures at_place { (calls : TableCalls) → GlobalsStand self.now calls →
+            result ≡ slice_get (holders_by calls key) i }
+        ensures past_end { (calls : TableCalls) → GlobalsStand self.now calls →
+            IsNone result ↔ (length (holders_by calls key) ≤ i) }
+    {
+        self.known
+            .iter()
+            .filter_map(|(orig, known)| known.has(key).then_some(*orig))
+            .nth(i)
+    }
+
+    /// Of the originators that announced something, by address, the one at this place, from 0, with
+    /// what is known of its table.
+    pub fn row_at(&self, i: usize) -> Option<GlobalRow>
+        ensures at_place { (calls : TableCalls) → GlobalsStand self.now calls →
+            result ≡ option_and_then (λ orig. row_by orig (known_by calls orig))
+            (slice_get (originators_by calls) i) }
+        ensures past_end { (calls : TableCalls) → GlobalsStand self.now calls →
+            IsNone result ↔ (length (originators_by calls) ≤ i) }
+    {
+        let (orig, known) = self.known.get_index(i)?;
+        Some(known.row(*orig))
+    }
+
+    // Notes what an originator announced.
+    fn tell(&mut self, orig: Mac, byte: u8, sums: &Sums) -> Result<(), NoMemory>
+        ensures ok { OnOk result (IsTold orig (stamp byte sums.now) self.old self.new) }
+        ensures err { OnErr result (self.new ≡ self.old) }
+        ensures same { told_in (lookup (same_mac orig) self.old) ≡ Some (stamp byte sums.now) →
+            IsOk result }
+    {
+        match self.known.get_mut(&orig) {
+            Some(known) => {
+                known.tell(byte, sums)?;
+                Ok(())
+            }
+            None => {
+                let sums = sums.copy()?;
+                let held = None;
+                self.known
+                    .insert_sorted(orig, KnownTable { byte, sums, held })?;
+                Ok(())
+            }
+        }
+    }
+
+    // Notes the table that is held of an originator which announced something.
+    fn hold(&mut self, orig: Mac, byte: u8, table: Table)
+        ensures { IsSome (lookup (same_mac orig) self.old) →
+            IsHeld orig (record { byte = byte; table = table.entries }) self.old self.new }
+    {
+        if let Some(known) = self.known.get_mut(&orig) {
+            known.held = Some(HeldTable { byte, table });
+        }
+    }
+}

@@ -1,0 +1,289 @@
+ghost use Rattle.std.specs.Prelude.{◌≡◌, ◌+◌, ◌≤◌, [], length, option_map, IfErr, IfOk, IfSome, IsOk, None, Some};
+ghost use Rattle.mesh_model.specs.Tables.Differences.{first_difference};
+ghost use Rattle.mesh_model.specs.Tables.Judging.{Carried, InChanges, InFull, announcement_row, becomes, carried_row, heard_trial, held_row, next_byte_row, same_byte_row, stays, taken_trial, trial, wanted_request};
+ghost use Rattle.mesh_model.specs.Tables.Sums.{sums_of};
+ghost use Rattle.tt_global.specs.Kept.{answer_of, held_in, lent, row_in, stamp, stamp_in, trial_in, version_of};
+ghost use Rattle.tt_table.specs.Sums.{named_sums};
+
+use crate::known::{HeldTable, KnownTable};
+use mesh_base::{Entry, NoMemory, Steps};
+use mesh_model::{Difference, Heard, Request, Taken};
+use std::alloc::Global;
+use std::sync::ledger::Ledger;
+use tt_table::{Announcement, Changes, Sums, Table};
+
+/// An outcome, and the table that is held then where it is another than before.
+#[derive(Debug, Drop)]
+pub(crate) struct Judged<T> {
+    pub(crate) outcome: T,
+    pub(crate) table: Option<Table>,
+}
+
+/// How changes do on a table: the first that fails has this entry, the sums differ from the told
+/// ones, or they lead to this table.
+#[derive(Debug, Drop)]
+pub(crate) enum Trial {
+    Fails { entry: Entry },
+    Differs { difference: Difference },
+    Leads { table: Table },
+}
+
+/// What a node asks for after an announcement.
+pub fn wanted_request(heard: Heard) -> Option<Request>
+    ensures { result ≡ wanted_request heard }
+{
+    match heard {
+        Heard::Emptied | Heard::Same | Heard::Applied => None,
+        Heard::Unheld { .. } | Heard::SumDiffers { .. } | Heard::Gap { .. } | Heard::Clash { .. } =>
+            Some(Request::Full),
+        Heard::Bare { .. } => Some(Request::Changes),
+    }
+}
+
+/// What an announcement makes of what is held.
+pub(crate) fn judge_announcement<L: Ledger>(
+    alloc: Global,
+    held: Option<&HeldTable>,
+    announced: &Announcement,
+    steps: &mut Steps<L>,
+) -> Result<Judged<Heard>, NoMemory>
+    ensures row { IfOk result (λ judged. row_in judged
+        ≡ announcement_row (option_map version_of (lent held.entry)) (stamp_in announced.now)
+        announced.now.changes) }
+    ensures same { IfSome (option_map version_of (lent held.entry))
+        (λ held. held.byte ≡ announced.now.byte) → IsOk result }
+    ensures steps { steps.new ≤ steps.old + length announced.now.changes }
+{
+    if announced.sums.at(0).is_none() {
+        return Ok(becomes(Heard::Emptied, Table::new(alloc)));
+    }
+    match held {
+        Some(held) => {
+            let judged = judge_held(held, announced, steps)?;
+            Ok(judged)
+        }
+        None => {
+            let told = announced.byte;
+            Ok(stays(Heard::Unheld { told }))
+        }
+    }
+}
+
+// The same where VLANs are announced and a table is held.
+fn judge_held<L: Ledger>(
+    held: &HeldTable,
+    announced: &Announcement,
+    steps: &mut Steps<L>,
+) -> Result<Judged<Heard>, NoMemory>
+    ensures row { IfOk result (λ judged. row_in judged
+        ≡ held_row (version_of held.now) (stamp_in announced.now) announced.now.changes) }
+    ensures same { held.now.byte ≡ announced.now.byte → IsOk result }
+    ensures steps { steps.new ≤ steps.old + length announced.now.changes }
+{
+    if held.byte == announced.byte {
+        return Ok(stays(compare(&held.table, &announced.sums)));
+    }
+    if held.byte.wrapping_add(1) != announced.byte {
+        return Ok(stays(Heard::Gap {
+            held: held.byte,
+            told: announced.byte,
+        }));
+    }
+    let judged = judge_next(held, announced, steps)?;
+    Ok(judged)
+}
+
+// How a table does that is held under the announced byte.
+fn compare(table: &Table, sums: &Sums) -> Heard
+    ensures { stays result
+        ≡ same_byte_row (first_difference (sums_of table.now.entries) (named_sums sums.now)) }
+{
+    match table.sums().first_difference(sums) {
+        None => Heard::Same,
+        Some(Difference { vid, kept, told }) => Heard::SumDiffers { vid, kept, told },
+    }
+}
+
+// The same where the announced byte is the next.
+fn judge_next<L: Ledger>(
+    held: &HeldTable,
+    announced: &Announcement,
+    steps: &mut Steps<L>,
+) -> Result<Judged<Heard>, NoMemory>
+    ensures row { IfOk result (λ judged. row_in judged
+        ≡ next_byte_row (version_of held.now) (stamp_in announced.now) announced.now.changes) }
+    ensures steps { steps.new ≤ steps.old + length announced.now.changes }
+{
+    if announced.changes.len() == 0 {
+        return Ok(stays(Heard::Bare {
+            held: held.byte,
+            told: announced.byte,
+        }));
+    }
+    let table = held.table.copy()?;
+    let tried = try_changes(table, &announced.changes, &announced.sums, steps)?;
+    Ok(heard_of(tried))
+}
+
+// The outcome of an announcement's changes.
+fn heard_of(tried: Trial) -> Judged<Heard>
+    ensures { row_in result ≡ heard_trial (trial_in tried) }
+{
+    match tried {
+        Trial::Fails { entry } => stays(Heard::Clash { entry }),
+        Trial::Differs {
+            difference: Difference { vid, kept, told },
+        } => stays(Heard::SumDiffers { vid, kept, told }),
+        Trial::Leads { table } => becomes(Heard::Applied, table),
+    }
+}
+
+/// What an answer in full makes of what is kept of an originator.
+pub(crate) fn judge_full<L: Ledger>(
+    alloc: Global,
+    kept: Option<&KnownTable>,
+    byte: u8,
+    sums: &Sums,
+    records: &Changes,
+    steps: &mut Steps<L>,
+) -> Result<Judged<Taken>, NoMemory>
+    ensures row { IfOk result (λ judged. row_in judged
+        ≡ answer_of (lent kept.entry) (stamp byte sums.now) (InFull records.now)) }
+    ensures steps { steps.new ≤ steps.old + length records.now }
+{
+    match announced(kept, byte, sums) {
+        Err(outcome) => Ok(stays(outcome)),
+        Ok(known) => {
+            let tried = try_changes(Table::new(alloc), records, &known.sums, steps)?;
+            Ok(taken_of(tried))
+        }
+    }
+}
+
+/// What an answer in changes makes of what is kept of an originator.
+pub(crate) fn judge_changes<L: Ledger>(
+    kept: Option<&KnownTable>,
+    byte: u8,
+    sums: &Sums,
+    records: &Changes,
+    steps: &mut Steps<L>,
+) -> Result<Judged<Taken>, NoMemory>
+    ensures row { IfOk result (λ judged. row_in judged
+        ≡ answer_of (lent kept.entry) (stamp byte sums.now) (InChanges records.now)) }
+    ensures steps { steps.new ≤ steps.old + length records.now }
+{
+    match announced(kept, byte, sums) {
+        Err(outcome) => Ok(stays(outcome)),
+        Ok(known) => {
+            let judged = judge_carried(known, records, steps)?;
+            Ok(judged)
+        }
+    }
+}
+
+// The same where the answer has the announced byte and sums.
+fn judge_carried<L: Ledger>(
+    known: &KnownTable,
+    records: &Changes,
+    steps: &mut Steps<L>,
+) -> Result<Judged<Taken>, NoMemory>
+    ensures row { IfOk result (λ judged. row_in judged
+        ≡ carried_row (held_in (Some known.now)) (stamp known.now.byte known.now.sums)
+        (InChanges records.now)) }
+    ensures steps { steps.new ≤ steps.old + length records.now }
+{
+    let Some(held) = &known.held else {
+        return Ok(stays(Taken::Unheld));
+    };
+    if held.byte.wrapping_add(1) != known.byte {
+        return Ok(stays(Taken::Gap {
+            held: held.byte,
+            told: known.byte,
+        }));
+    }
+    let table = held.table.copy()?;
+    let tried = try_changes(table, records, &known.sums, steps)?;
+    Ok(taken_of(tried))
+}
+
+// What is kept of an originator where it announced this byte and these sums, or the outcome.
+fn announced<'a>(
+    kept: Option<&'a KnownTable>,
+    byte: u8,
+    sums: &Sums,
+) -> Result<&'a KnownTable, Taken>
+    ensures other { IfErr result (λ outcome. (carried : Carried) → stays outcome
+        ≡ answer_of (lent kept.entry) (stamp byte sums.now) carried) }
+    ensures announced { IfOk result (λ known. (carried : Carried) →
+        carried_row (held_in (Some known.now)) (stamp known.now.byte known.now.sums) carried
+        ≡ answer_of (lent kept.entry) (stamp byte sums.now) carried) }
+{
+    let told = byte;
+    let Some(known) = kept else {
+        let wanted = None;
+        return Err(Taken::NotTold { told, wanted });
+    };
+    if known.byte != byte {
+        let wanted = Some(known.byte);
+        return Err(Taken::NotTold { told, wanted });
+    }
+    if let Some(Difference { vid, kept, told }) = known.sums.first_difference(sums) {
+        return Err(Taken::SumDiffers { vid, kept, told });
+    }
+    Ok(known)
+}
+
+// The outcome of an answer's records.
+fn taken_of(tried: Trial) -> Judged<Taken>
+    ensures { row_in result ≡ taken_trial (trial_in tried) }
+{
+    match tried {
+        Trial::Fails { entry } => stays(Taken::Clash { entry }),
+        Trial::Differs {
+            difference: Difference { vid, kept, told },
+        } => stays(Taken::SumDiffers { vid, kept, told }),
+        Trial::Leads { table } => becomes(Taken::Taken, table),
+    }
+}
+
+// Tries changes on a table, and compares the result with the told sums.
+fn try_changes<L: Ledger>(
+    mut table: Table,
+    changes: &Changes,
+    told: &Sums,
+    steps: &mut Steps<L>,
+) -> Result<Trial, NoMemory>
+    ensures tried { IfOk result (λ tried. trial_in tried
+        ≡ trial table.entries changes.now (named_sums told.now)) }
+    ensures steps { steps.new ≤ steps.old + length changes.now }
+{
+    if let Err(failed) = table.attempt(changes, steps)? {
+        return Ok(Trial::Fails {
+            entry: failed.entry,
+        });
+    }
+    match table.sums().first_difference(told) {
+        Some(difference) => Ok(Trial::Differs { difference }),
+        None => Ok(Trial::Leads { table }),
+    }
+}
+
+// The table stays as it was.
+fn stays<T: Drop>(outcome: T) -> Judged<T>
+    ensures { row_in result ≡ stays outcome }
+{
+    Judged {
+        outcome,
+        table: None,
+    }
+}
+
+// This table is held.
+fn becomes<T: Drop>(outcome: T, table: Table) -> Judged<T>
+    ensures { row_in result ≡ becomes outcome table.entries }
+{
+    Judged {
+        outcome,
+        table: Some(table),
+    }
+}

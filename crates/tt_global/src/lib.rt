@@ -1,0 +1,15 @@
+//! What a node knows of the tables of others: what each originator announced last, and the table
+//! that is held of it, changed by announcements and by answers.
+
+#![tactic(auto)]
+
+mod globals;
+mod judging;
+mod known;
+
+pub use globals::Globals;
+pub use judging::wanted_request;
+pub use mesh_model::{GlobalRow, Heard, Request, Taken};
+
+#[cfg(test)]
+mod tests;

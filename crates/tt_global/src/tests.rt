@@ -1,0 +1,199 @@
+ghost use Rattle.std.specs.Prelude.{◌≡◌, ◌<◌};
+
+use super::{GlobalRow, Globals, Heard, Request, Taken, wanted_request};
+use mesh_base::{Entry, Key, Mac, NoMemory, Steps, Vid};
+use std::alloc::Global;
+use std::marker::Brand;
+use std::sync::ledger::{Blank, Ledger};
+use tt_table::{Announcement, Change, Changes, Sums};
+
+/// The sum of the first client's entry.
+const FIRST_SUM: u32 = 0x81a0_d314;
+/// Another sum.
+const OTHER_SUM: u32 = 0x92f0_20e0;
+
+fn node(last: u8) -> Mac {
+    Mac([2, 0, 0, 0, 0, last])
+}
+
+/// An untagged client without flags.
+fn client(last: u8) -> Entry {
+    let key = Key {
+        mac: Mac([2, 0, 0, 0, 1, last]),
+        vid: Vid::UNTAGGED,
+    };
+    Entry { key, flags: 0 }
+}
+
+/// The sums that name the untagged VLAN alone.
+fn untagged(alloc: Global, sum: u32) -> Result<Sums, NoMemory> {
+    let mut sums = Sums::new(alloc);
+    sums.set(Vid::UNTAGGED, sum)?;
+    Ok(sums)
+}
+
+/// The change of one client.
+fn one(alloc: Global, entry: Entry, del: bool) -> Result<Changes, NoMemory> {
+    let mut changes = Changes::new(alloc);
+    changes.push(Change { entry, del })?;
+    Ok(changes)
+}
+
+/// An announcement under a byte and a sum, with changes.
+fn told(alloc: Global, byte: u8, sum: u32, changes: Changes) -> Result<Announcement, NoMemory> {
+    let sums = untagged(alloc, sum)?;
+    Ok(Announcement {
+        byte,
+        sums,
+        changes,
+    })
+}
+
+/// The outcomes of the announcements of the worked row, one after another.
+fn announce_all<L: Ledger>(
+    alloc: Global,
+    globals: &mut Globals,
+    steps: &mut Steps<L>,
+) -> Result<[Heard; 6], NoMemory> {
+    let orig = node(10);
+    let none = || Changes::new(alloc);
+    let add = || one(alloc, client(1), false);
+    let empty = Announcement {
+        byte: 0,
+        sums: Sums::new(alloc),
+        changes: none(),
+    };
+    Ok([
+        globals.announce(orig, &empty, steps)?,
+        globals.announce(orig, &told(alloc, 1, FIRST_SUM, add()?)?, steps)?,
+        globals.announce(orig, &told(alloc, 1, OTHER_SUM, none())?, steps)?,
+        globals.announce(orig, &told(alloc, 2, FIRST_SUM, add()?)?, steps)?,
+        globals.announce(orig, &told(alloc, 2, FIRST_SUM, none())?, steps)?,
+        globals.announce(orig, &told(alloc, 5, FIRST_SUM, none())?, steps)?,
+    ])
+}
+
+/// The outcomes of the answers of the worked row, one after another, and whether the second made
+/// the tables agree.
+fn answer_all<L: Ledger>(
+    alloc: Global,
+    globals: &mut Globals,
+    steps: &mut Steps<L>,
+) -> Result<([Taken; 3], bool), NoMemory> {
+    let orig = node(10);
+    let sums = untagged(alloc, FIRST_SUM)?;
+    let whole = one(alloc, client(1), false)?;
+    let early = globals.take_full(orig, 2, &sums, &whole, steps)?;
+    let full = globals.take_full(orig, 5, &sums, &whole, steps)?;
+    let ok = globals.is_ok(orig);
+    let next = told(alloc, 6, FIRST_SUM, Changes::new(alloc))?;
+    globals.announce(orig, &next, steps)?;
+    let gone = one(alloc, client(9), true)?;
+    let changes = globals.take_changes(orig, 6, &sums, &gone, steps)?;
+    Ok(([early, full, changes], ok))
+}
+
+/// All of the worked row, and what is known then.
+fn worked_row<L: Ledger>(
+    alloc: Global,
+    blank: Blank,
+) -> Result<([Heard; 6], ([Taken; 3], bool), Globals), NoMemory>
+    requires name { blank.name ≡ L.name }
+    requires parts { blank.parts ≡ L.parts }
+    requires some { 0 < blank.parts }
+{
+    let mut steps = Steps::<L>::new(blank);
+    let mut globals = Globals::new(alloc);
+    let heard = announce_all(alloc, &mut globals, &mut steps)?;
+    let taken = answer_all(alloc, &mut globals, &mut steps)?;
+    Ok((heard, taken, globals))
+}
+
+#[test]
+fn each_announcement_has_its_outcome(rt: HostRuntime) -> Result<(), NoMemory> {
+    let (heard, _taken, _globals) = worked_row::<Brand>(rt.alloc(), Blank::new(1))?;
+    let differs = Heard::SumDiffers {
+        vid: Vid::UNTAGGED,
+        kept: FIRST_SUM,
+        told: OTHER_SUM,
+    };
+    let clash = Heard::Clash { entry: client(1) };
+    let wanted = [
+        Heard::Emptied,
+        Heard::Applied,
+        differs,
+        clash,
+        Heard::Bare { held: 1, told: 2 },
+        Heard::Gap { held: 1, told: 5 },
+    ];
+    assert_eq!(rt; heard, wanted);
+    let full = Some(Request::Full);
+    let requests = [None, None, full, full, Some(Request::Changes), full];
+    assert_eq!(rt; heard.map(wanted_request), requests);
+    Ok(())
+}
+
+#[test]
+fn each_answer_has_its_outcome(rt: HostRuntime) -> Result<(), NoMemory> {
+    let (_heard, taken, globals) = worked_row::<Brand>(rt.alloc(), Blank::new(1))?;
+    let early = Taken::NotTold {
+        told: 2,
+        wanted: Some(5),
+    };
+    let clash = Taken::Clash { entry: client(9) };
+    assert_eq!(rt; taken, ([early, Taken::Taken, clash], true));
+    let row = GlobalRow {
+        orig: node(10),
+        held: Some(5),
+        told: 6,
+        ok: false,
+    };
+    assert_eq!(rt; [0, 1].map(|i| globals.row_at(i)), [Some(row), None]);
+    assert_eq!(rt;
+        (globals.told(node(10)), globals.told(node(11))),
+        (Some(6), None)
+    );
+    Ok(())
+}
+
+/// Two originators whose tables have one client, by their full answers, the greater address first.
+fn two_holders<L: Ledger>(alloc: Global, blank: Blank) -> Result<Globals, NoMemory>
+    requires name { blank.name ≡ L.name }
+    requires parts { blank.parts ≡ L.parts }
+    requires some { 0 < blank.parts }
+{
+    let mut steps = Steps::<L>::new(blank);
+    let mut globals = Globals::new(alloc);
+    let sums = untagged(alloc, FIRST_SUM)?;
+    let whole = one(alloc, client(1), false)?;
+    for last in [12, 11] {
+        let orig = node(last);
+        let announced = told(alloc, 255, FIRST_SUM, Changes::new(alloc))?;
+        globals.announce(orig, &announced, &mut steps)?;
+        globals.take_full(orig, 255, &sums, &whole, &mut steps)?;
+    }
+    Ok(globals)
+}
+
+#[test]
+fn holders_stand_by_address_until_they_are_dropped(rt: HostRuntime) -> Result<(), NoMemory> {
+    let mut globals = two_holders::<Brand>(rt.alloc(), Blank::new(1))?;
+    let key = client(1).key;
+    let holders = [0, 1, 2].map(|i| globals.holder(key, i));
+    assert_eq!(rt; holders, [Some(node(11)), Some(node(12)), None]);
+    let held = globals
+        .held(node(11))
+        .map(|(byte, table)| (byte, table.get(key)));
+    assert_eq!(rt; held, Some((255, Some(0))));
+    assert_eq!(rt;
+        (globals.is_ok(node(11)), globals.is_ok(node(13))),
+        (true, false)
+    );
+    globals.drop_orig(node(11));
+    assert_eq!(rt;
+        (globals.holder(key, 0), globals.told(node(11))),
+        (Some(node(12)), None)
+    );
+    assert_eq!(rt; globals.holder(client(2).key, 0), None);
+    Ok(())
+}
