@@ -4,3 +4,4 @@ pub mod Written
 pub mod Rewritten
 pub mod Puts
 pub mod Taking
+pub mod PayloadLemmas

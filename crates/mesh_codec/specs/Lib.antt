@@ -3,5 +3,6 @@
 pub mod Decoding
 pub mod Encoding
 pub mod Frames
+pub mod Payloads
 pub mod Laws
 pub mod Inner

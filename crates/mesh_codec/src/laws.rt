@@ -1,6 +1,8 @@
-//! Laws of the packet grammar, each proved as the contract of a function that does nothing.
+//! Laws of the packet grammar and of client frames. Each is proved as the contract of a function that
+//! does nothing.
 
 ghost use Rattle.mesh_codec.specs.Laws.{HasOneReading, HasOneSpelling, IsReadBeforeMore, IsReadAlone, CanBeWritten, HasShapeSize};
+ghost use Rattle.mesh_codec.specs.Payloads.{IsFrameReadAgain};
 
 /// Bytes begin with one packet at most.
 pub fn bytes_begin_with_one_packet()
@@ -30,4 +32,9 @@ pub fn a_read_packet_can_be_written()
 /// Each header is as long as its shape says.
 pub fn a_header_has_its_size()
     ensures { HasShapeSize }
+{}
+
+/// A client frame that was written is read again.
+pub fn a_written_client_frame_is_read_again()
+    ensures { IsFrameReadAgain }
 {}

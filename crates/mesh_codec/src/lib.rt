@@ -10,6 +10,7 @@ mod header;
 pub mod laws;
 mod link_frame;
 pub mod numbers;
+mod payload;
 mod put;
 mod put_header;
 mod writing;
@@ -19,9 +20,12 @@ pub use failure::CodecErr;
 pub use first_packet::Packet;
 pub use link_frame::LinkFrame;
 pub use mesh_model::{Ending, Head, NoPacket, TvlvErr};
+pub use payload::{ClientFrame, read_client_frame, write_client_frame};
 pub use writing::encode;
 
 #[cfg(test)]
 mod link_frame_tests;
+#[cfg(test)]
+mod payload_tests;
 #[cfg(test)]
 mod tests;

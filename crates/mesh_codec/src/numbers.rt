@@ -1,5 +1,5 @@
 //! The type bytes, the version byte, and the sizes of headers with both of them
-//! (`batadv_packet.h`, compat version 15).
+//! (`batadv_packet.h`, compat version 15); and those of client frames.
 
 /// The version byte, the second of each packet.
 pub const VERSION: u8 = 15;
@@ -45,3 +45,15 @@ pub(crate) const ICMP_SIZE: usize = 20;
 pub(crate) const UTVLV_SIZE: usize = 20;
 /// The bytes of the longest header.
 pub(crate) const LONGEST_HEADER: usize = IV_OGM_SIZE;
+/// The bytes of the two addresses of a client frame.
+pub(crate) const ADDRESSES_SIZE: usize = 2 * ADDRESS;
+/// The bytes of the type of an Ethernet frame.
+pub(crate) const ETHERTYPE_SIZE: usize = 2;
+/// The bytes of the tag of a VLAN: a type, and the VLAN's number.
+pub(crate) const TAG_SIZE: usize = 4;
+/// The type that says that a VLAN's number follows (`ETH_P_8021Q`).
+pub(crate) const VLAN_ETHERTYPE: u16 = 0x8100;
+/// The type of a client frame.
+pub(crate) const CLIENT_ETHERTYPE: u16 = 0x88b5;
+/// The greatest number of a tagged VLAN.
+pub(crate) const LAST_VLAN: u16 = 4094;
