@@ -12,6 +12,7 @@ mod container_line;
 mod decoding;
 mod ending;
 mod event_line;
+mod global_table;
 mod local_table;
 mod packet;
 mod part;
@@ -20,6 +21,7 @@ mod whole_line;
 
 pub use decoding::decode_text;
 pub use event_line::line;
+pub use global_table::{entry_line, global_header, global_line, mark_line};
 pub use local_table::{local_header, local_line};
 pub use route_table::{iv_link_line, link_header, orig_header, orig_line, v_link_line};
 

@@ -4,6 +4,7 @@ ghost use Rattle.std.specs.Prelude.{◌≡◌, ◌/◌, ◌%◌, ◌++◌, ◌<�
 ghost use Rattle.hex.specs.Hex.{encode_lower, lower_digits};
 ghost use Rattle.mesh_base.specs.Address.{hex_of_byte, mac_text, pairs_text};
 ghost use Rattle.mesh_model.specs.Text.PacketLines.{named_number, named_address, named_flags};
+ghost use Rattle.mesh_model.specs.Text.GlobalTables.{byte_text};
 ghost use Rattle.mesh_model.specs.Text.Tables.{address_text, age_text, flag_text, flags_text, sum_text, vid_text};
 ghost use Rattle.batctl_text.specs.Inner.Parts.{part_text, Grows};
 
@@ -36,6 +37,8 @@ pub enum Part<'a> {
     Age(Option<Millis>),
     /// An address, or `-` for none.
     Hop(Option<Mac>),
+    /// A byte in decimal, or `-` for none.
+    Byte(Option<u8>),
     /// Bytes as two hex digits each.
     Hex(&'a [u8]),
 }
@@ -199,6 +202,17 @@ fn put_hop(out: &mut Vec<u8>, mac: Option<Mac>) -> Result<(), NoMemory>
     Ok(())
 }
 
+fn put_byte(out: &mut Vec<u8>, byte: Option<u8>) -> Result<(), NoMemory>
+    ensures ok { OnOk result (out.new.items ≡ out.old.items ++ byte_text byte) }
+    ensures err { OnErr result (out.new.items ≡ out.old.items) }
+{
+    match byte {
+        Some(byte) => put_number(out, u64::from(byte))?,
+        None => out.extend_from_slice(b"-")?,
+    }
+    Ok(())
+}
+
 fn put_hex(out: &mut Vec<u8>, bytes: &[u8]) -> Result<(), NoMemory>
     ensures ok { OnOk result (out.new.items ≡ out.old.items ++ encode_lower bytes.now) }
     ensures err { OnErr result (Grows out.old.items out.new.items) }
@@ -229,6 +243,7 @@ pub fn put_part(out: &mut Vec<u8>, part: &Part<'_>) -> Result<(), NoMemory>
         Part::Marks(flags) => put_marks(out, flags)?,
         Part::Age(age) => put_age(out, age)?,
         Part::Hop(mac) => put_hop(out, mac)?,
+        Part::Byte(byte) => put_byte(out, byte)?,
         Part::Hex(bytes) => put_hex(out, bytes)?,
     }
     Ok(())

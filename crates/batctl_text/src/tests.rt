@@ -289,3 +289,32 @@ fn originators_and_neighbours_have_a_header_and_a_line_each(rt: HostRuntime) -> 
     assert_eq!(rt; out.as_slice(), text.as_slice());
     Ok(())
 }
+
+#[test]
+fn what_is_known_has_a_line_for_each_originator_entry_and_mark(
+    rt: HostRuntime,
+) -> Result<(), Fail> {
+    let mut out = Vec::new(rt.alloc());
+    global_header(&mut out, b"C", 2)?;
+    global_line(&mut out, A, Some(0), 1, false, 0)?;
+    global_line(&mut out, B, Some(0), 0, true, 0)?;
+    global_header(&mut out, b"C", 2)?;
+    global_line(&mut out, A, Some(1), 1, true, 1)?;
+    entry_line(&mut out, C1, Vid::UNTAGGED, 0)?;
+    global_line(&mut out, B, None, 255, false, 0)?;
+    entry_line(&mut out, C2, Vid(0x8007), 0x30)?;
+    mark_line(&mut out, C1, Vid::UNTAGGED, B)?;
+    mark_line(&mut out, C9, Vid(0x8ffe), A)?;
+    let text = b"tg C count=2\n\
+        t 02:00:00:00:00:0a held=0 told=1 state=old entries=0\n\
+        t 02:00:00:00:00:0b held=0 told=0 state=ok entries=0\n\
+        tg C count=2\n\
+        t 02:00:00:00:00:0a held=1 told=1 state=ok entries=1\n\
+        e 02:00:00:00:01:01 - --\n\
+        t 02:00:00:00:00:0b held=- told=255 state=none entries=0\n\
+        e 02:00:00:00:01:02 7 wi\n\
+        r 02:00:00:00:01:01 - to=02:00:00:00:00:0b\n\
+        r 02:00:00:00:01:09 4094 to=02:00:00:00:00:0a\n";
+    assert_eq!(rt; out.as_slice(), text.as_slice());
+    Ok(())
+}
