@@ -1,5 +1,5 @@
-//! Laws of the packet grammar and of client frames. Each is proved as the contract of a function that
-//! does nothing.
+//! Laws of packets and of client frames, each proved as the contract of a function that does
+//! nothing.
 
 ghost use Rattle.mesh_codec.specs.Laws.{HasOneReading, HasOneSpelling, IsReadBeforeMore, IsReadAlone, CanBeWritten, HasShapeSize};
 ghost use Rattle.mesh_codec.specs.Payloads.{IsFrameReadAgain};

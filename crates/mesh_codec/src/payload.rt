@@ -29,7 +29,7 @@ fn begins_type(ethertype: u16, bytes: &[u8]) -> bool
     bytes.len() >= ETHERTYPE_SIZE && Cursor::new(bytes).u16() == ethertype
 }
 
-// The client frame in a VLAN whose addresses these bytes begin with, where its type and text follow.
+// The client frame in a VLAN whose addresses these bytes begin with, where type and text follow.
 fn frame_behind<'a>(bytes: &[u8], vid: Vid, after: &'a [u8]) -> Option<ClientFrame<'a>>
     requires { ADDRESSES_SIZE ≤ length bytes.now }
     ensures { option_map seen_frame result ≡ frame_behind bytes.now vid after.now }
