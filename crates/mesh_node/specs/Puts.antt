@@ -1,7 +1,7 @@
 -- What a call leaves of a port. Its acts are put in order: all of them, or those before the act at
--- which it stops, for a cause that holds of the port as it then stands. An input that passes a limit
--- of clients puts nothing. `takes`, `same` and `over` are the port's own words. The main words are
--- `Puts` and `Leaves`.
+-- which it stops, for a cause that holds of the port as it then stands. An input that passes a
+-- limit of clients puts nothing. `takes`, `same` and `over` are the port's own words. The main
+-- words are `Puts` and `Leaves`.
 use Rattle.std.specs.Prelude.{◌≡◌, ◌⊎◌, List, [], ◌∷◌, Option, Some, None, Result, Ok, Err}
 use Rattle.mesh_model.specs.declared.act.Act.{Act}
 use Rattle.mesh_model.specs.declared.ending.LimitName.{LimitName}

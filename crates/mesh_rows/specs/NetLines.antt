@@ -53,9 +53,11 @@ message_bytes last number containers =
 -- such a message, sent on by a neighbour for which it has no quality yet
 abbrev pub sent_on : ℕ → ℕ → List Container → Act
 sent_on last number containers = Link None None
-    (spelling (IvOgm 49 5 number (node_mac last) (node_mac last) 0) (containers_spelling containers))
+    (spelling (IvOgm 49 5 number (node_mac last) (node_mac last) 0)
+    (containers_spelling containers))
 
--- what node B puts that is given a link frame of these bytes by node A, and was given nothing before
+-- what node B puts that is given a link frame of these bytes by node A, and was given nothing
+-- before
 abbrev pub acts_on : List ℕ → List Act
 acts_on bytes = acts_of (iv_queries (node_mac 11)) (node_mac 11) [] 1001
     (LinkFrame 1 (node_mac 10) 10 bytes)

@@ -83,7 +83,8 @@ pub record IsTold (orig : Mac) (told : Stamp) (old new : List (Mac × KnownTable
       IsStrictlySortedBy mac_order (keys_of new)
 
 -- of one originator this is held, and all else is as before
-pub record IsHeld (orig : Mac) (version : Version) (old new : List (Mac × KnownTable)) : Type 0 where
+pub record IsHeld (orig : Mac) (version : Version) (old new : List (Mac × KnownTable))
+    : Type 0 where
   pub told_stays : (other : Mac) →
       told_in (lookup (same_mac other) new) ≡ told_in (lookup (same_mac other) old)
   pub held_is : (other : Mac) → held_in (lookup (same_mac other) new)
