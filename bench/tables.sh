@@ -10,6 +10,8 @@ top=$(cd "$(dirname "$0")/.." && pwd)
 make_program mesh_base mesh_model mesh_laws tt_table tt_global <<'END'
 #![tactic(auto)]
 
+ghost use Rattle.std.specs.Prelude.{◌≡◌, ◌<◌};
+
 use mesh_base::{Entry, Key, Mac, NoMemory, Steps, Vid};
 use std::alloc::Global;
 use std::io;
@@ -77,7 +79,7 @@ fn change_all<L: Ledger>(
     let mut comes = Vec::new(alloc);
     let mut goes = Vec::new(alloc);
     for place in 0..64_u16 {
-        let entry = client(place.wrapping_mul(31).wrapping_add(1));
+        let entry = client(place.wrapping_mul(62).wrapping_add(1));
         if comes.push(one(alloc, entry, false)?).is_err() || goes.push(one(alloc, entry, true)?).is_err() {
             return Err(ApplyErr::Memory);
         }
@@ -92,7 +94,10 @@ fn change_all<L: Ledger>(
 }
 
 // What is announced of a table of 1,024 clients, and the records of its full answer.
-fn whole<L: Ledger>(alloc: Global, steps: &mut Steps<L>) -> Result<(Announcement, Changes), ApplyErr> {
+fn whole<L: Ledger>(
+    alloc: Global,
+    steps: &mut Steps<L>,
+) -> Result<(Announcement, Changes), ApplyErr> {
     let mut records = Changes::new(alloc);
     for place in 0..WHOLE {
         records.push(Change { entry: client(place), del: false })?;
