@@ -1,3 +1,5 @@
 -- The lemmas of this crate.
 pub mod MacText
 pub mod Pieces
+pub mod AddressWords
+pub mod AddressOrder

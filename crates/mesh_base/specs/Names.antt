@@ -1,6 +1,6 @@
 -- The names of nodes, each with the node's address, and of LANs, which have numbers from 1 in the
 -- order in which they are named. The main words are `node_name` and `lan_name`.
-use Rattle.std.specs.Prelude.{ℕ, ◌-◌, ◌==◌, List, [], find, bytes_eq, slice_get, Option, None, option_map, if◌then◌else◌}
+use Rattle.std.specs.Prelude.{ℕ, Bool, ◌-◌, ◌==◌, List, [], find, bytes_eq, slice_get, Option, None, option_map, if◌then◌else◌}
 use Rattle.mesh_base.specs.declared.address.Mac.{Mac}
 use Rattle.mesh_base.specs.declared.names.NodeName.{NodeName}
 
@@ -17,6 +17,10 @@ no_names = record { nodes = []; lans = [] }
 abbrev pub node_name : List NodeName → Mac → Option (List ℕ)
 node_name nodes mac = option_map (λ (node : NodeName). node.name)
     (find (λ node. bytes_eq node.mac.0 mac.0) nodes)
+
+-- whether a node has this name
+abbrev pub is_node_name : List ℕ → NodeName → Bool
+is_node_name name node = bytes_eq node.name name
 
 -- the name of the LAN of this number, from 1
 abbrev pub lan_name : List (List ℕ) → ℕ → Option (List ℕ)

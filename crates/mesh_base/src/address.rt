@@ -1,11 +1,67 @@
-ghost use Rattle.std.specs.Prelude.{◌≡◌, true};
+ghost use Rattle.std.specs.Prelude.{◌≡◌, ◌∷◌, nat_eq, true, Some};
+ghost use Rattle.std.specs.Cmp.{partial_order_from_own_ties};
+ghost use Rattle.std.specs.Cmp.Lexicographic.{pointwise, slice_cmp};
+ghost use Rattle.std.specs.Ordering.{nat_cmp};
+ghost use Rattle.std.specs.Cmp.Rules.{comparing, hashing};
+ghost use Rattle.std.specs.Hash as fed;
+ghost use Rattle.std.specs.Int.{from_be_bytes, to_be_bytes, w64};
+ghost use Rattle.std.proofs.Common.{rules};
 ghost use Rattle.mesh_base.specs.Address.{mac_of_text, is_broadcast, is_group, is_zero};
 
 use hex::FromHex;
+use std::cmp::Ordering;
+use std::hash::{Hash, Hasher};
 
 /// A hardware address of 48 bits, its bytes in the order in which they are sent (IEEE 802, EUI-48).
-#[derive(Clone, Copy, Debug, PartialEq, Eq, PartialOrd, Ord, Hash)]
+#[derive(Clone, Copy, Debug, Eq)]
 pub struct Mac(pub [u8; 6]);
+
+// Addresses are compared and hashed as one word each, since tables are looked up by them all the
+// time.
+impl PartialEq for Mac {
+    ghost eq = { λ a b. pointwise nat_eq a.0 b.0 };
+
+    ghost laws = { Prim.search (comparing, rules) };
+
+    fn eq(&self, other: &Mac) -> bool {
+        self.word() == other.word()
+    }
+}
+
+impl PartialOrd for Mac {
+    ghost partial_cmp = { λ a b. Some (slice_cmp nat_cmp a.0 b.0) };
+
+    ghost laws = { partial_order_from_own_ties (Prim.search (comparing, rules))
+        (Prim.search (comparing, rules)) };
+
+    fn partial_cmp(&self, other: &Mac) -> Option<Ordering> {
+        Some(self.cmp(other))
+    }
+}
+
+impl Ord for Mac {
+    ghost cmp = { λ a b. slice_cmp nat_cmp a.0 b.0 };
+
+    ghost total = { Prim.search (comparing, rules) };
+
+    ghost matches_partial_cmp = { Prim.search (comparing, rules) };
+
+    ghost matches_eq = { Prim.search (comparing, rules) };
+
+    fn cmp(&self, other: &Mac) -> Ordering {
+        self.word().cmp(&other.word())
+    }
+}
+
+impl Hash for Mac {
+    ghost hash_input = { λ mac. fed.u64 (from_be_bytes w64 (0 ∷ 0 ∷ mac.0)) };
+
+    ghost respects_eq = { Prim.search (hashing, rules) };
+
+    fn hash<H: Hasher>(&self, state: &mut H) {
+        state.write_u64(self.word());
+    }
+}
 
 impl Mac {
     /// The address of all stations.
@@ -43,6 +99,15 @@ impl Mac {
         };
         let bytes = <[u8; 6]>::from_hex([a, b, c, d, e, f, g, h, i, j, k, l]).ok()?;
         Some(Mac(bytes))
+    }
+
+    // The bytes as a number, the first the highest.
+    fn word(self) -> u64
+        ensures value { result ≡ from_be_bytes w64 (0 ∷ 0 ∷ self.0) }
+        ensures bytes { to_be_bytes w64 result ≡ 0 ∷ 0 ∷ self.0 }
+    {
+        let [a, b, c, d, e, f] = self.0;
+        u64::from_be_bytes([0, 0, a, b, c, d, e, f])
     }
 
     /// Whether the address is one of a group, which all stations is too.

@@ -1,5 +1,5 @@
-ghost use Rattle.std.specs.Prelude.{◌≡◌, ◌++◌, ◌∷◌, [], option_map, OnOk, OnErr};
-ghost use Rattle.mesh_base.specs.Names.{NamesGiven, no_names, node_name, lan_name};
+ghost use Rattle.std.specs.Prelude.{◌≡◌, ◌++◌, ◌∷◌, [], position, option_map, OnOk, OnErr};
+ghost use Rattle.mesh_base.specs.Names.{NamesGiven, no_names, node_name, is_node_name, lan_name};
 
 use crate::address::Mac;
 use crate::byte_list::Bytes;
@@ -72,6 +72,15 @@ impl Names {
     {
         let node = self.nodes.iter().find(|node| node.mac == mac)?;
         Some(node.name.as_slice())
+    }
+
+    /// The place of the first node with this name, from 0, or `None` where there is none.
+    pub fn node_place(&self, name: &[u8]) -> Option<usize>
+        ensures { result ≡ position (is_node_name name.now) self.now.nodes }
+    {
+        self.nodes
+            .iter()
+            .position(|node| node.name.as_slice() == name)
     }
 
     /// The name of the LAN with this number, from 1, or `None` where there is none.

@@ -96,6 +96,9 @@ fn a_node_has_the_first_name_of_its_address(rt: HostRuntime) -> Result<(), Fail>
     assert_eq!(rt; is_found(names.node_name(a), b"A"), true);
     assert_eq!(rt; is_found(names.node_name(b), b"B"), true);
     assert_eq!(rt; names.node_name(Mac::BROADCAST).is_none(), true);
+    assert_eq!(rt; names.node_place(b"B"), Some(1));
+    assert_eq!(rt; names.node_place(b"again"), Some(2));
+    assert_eq!(rt; names.node_place(b"first"), None);
     Ok(())
 }
 
