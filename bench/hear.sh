@@ -2,7 +2,8 @@
 # Hearings per second of algorithm IV on one core: builds a program in a folder of its own, outside
 # this repository, and runs it. A node has 16 neighbours, which sent an own OGM of it back. 64
 # originators are heard over each of them, a number a second. So each hearing is the first of its
-# number from its neighbour, is looked up among 1,024 rows, has a value and asks for the best of 16.
+# number from its neighbour, is looked up among 1,024 rows and has a value. The best neighbour is
+# asked for until a number is sent on: once where it comes first, and 16 times where it comes last.
 set -e
 top=$(cd "$(dirname "$0")/.." && pwd)
 . "$top/bench/crate.sh"
@@ -26,15 +27,15 @@ fn node(number: u8) -> Mac {
     Mac([2, 0, 0, 0, 0, number])
 }
 
-// An OGM as it comes from a neighbour.
-fn ogm(seq: u32, orig: Mac, from: Mac) -> Head {
+// An OGM as it comes from a neighbour, which says this of its path.
+fn ogm(seq: u32, orig: Mac, from: Mac, tq: u8) -> Head {
     Head::IvOgm {
         ttl: 50,
         flags: 0,
         seq,
         orig,
         prev: from,
-        tq: 200,
+        tq,
     }
 }
 
@@ -50,8 +51,9 @@ fn echo(from: Mac) -> Head {
     }
 }
 
-// How many OGMs were heard, and how many of them were accepted and sent on.
-fn hear_all(alloc: Global) -> Result<(u64, u64, u64), NoMemory> {
+// How many OGMs were heard, and how many of them were accepted and sent on. This neighbour is the
+// best.
+fn hear_all(alloc: Global, best: u8) -> Result<(u64, u64, u64), NoMemory> {
     let mut iv = Iv::new(alloc, ME);
     let _beats = iv.tick(1000, 2);
     for k in 0..NEIGHBOURS {
@@ -64,7 +66,8 @@ fn hear_all(alloc: Global) -> Result<(u64, u64, u64), NoMemory> {
         let now = 1000_u64.wrapping_mul(seq as u64);
         for number in 0..ORIGINATORS {
             for k in 0..NEIGHBOURS {
-                let head = ogm(seq, node(number), node(k));
+                let tq = if k == best { 255 } else { 200 };
+                let head = ogm(seq, node(number), node(k), tq);
                 let answer = iv.hear(now, node(k), 0, &head)?;
                 heard = heard.wrapping_add(1);
                 if answer.accepted {
@@ -79,15 +82,21 @@ fn hear_all(alloc: Global) -> Result<(u64, u64, u64), NoMemory> {
     Ok((heard, accepted, sent_on))
 }
 
-fn main(rt: HostRuntime) -> io::Result<()> {
+// Measures hearings where this neighbour is the best.
+fn measure(rt: HostRuntime, best: u8) -> io::Result<()> {
     let start = Instant::now(&rt)?;
-    let Ok((heard, accepted, sent_on)) = hear_all(rt.alloc()) else {
-        return println!(rt; "out of memory");
+    let Ok((heard, accepted, sent_on)) = hear_all(rt.alloc(), best) else {
+        return println!(rt; "hear: out of memory");
     };
     let micros = start.elapsed(&rt)?.as_micros().max(1);
     let each_second = u128::from(heard) * 1_000_000 / micros;
     println!(rt; "{heard} heard, {accepted} accepted, {sent_on} sent on, in {micros} us")?;
-    println!(rt; "{each_second} hearings/s")
+    println!(rt; "{each_second} hearings/s, the neighbour at {best} of {NEIGHBOURS} the best")
+}
+
+fn main(rt: HostRuntime) -> io::Result<()> {
+    measure(rt, 0)?;
+    measure(rt, NEIGHBOURS - 1)
 }
 END
 

@@ -1,12 +1,12 @@
 -- The average of a path by its row: the values of the last five numbers, whichever of them were heard.
-use Rattle.std.proofs.Common.{◌≡◌, ◌⊎◌, ⊎_elim, ℕ, zero, suc, ◌+◌, ◌-◌, ◌/◌, ◌<◌, ◌≤◌, nat_eq, nat_lt, nat_le, ◌==◌, Bool, true, false, cond, ◌&&◌, List, [], ◌∷◌, length, map, filter, take, sum, count_by, Option, Some, None, arith, refl, sym, ap, ap₂, ◌∙◌, subst}
-use Rattle.std.proofs.lemmas.Bool.{cases_Bool, cases_lt, cases_eq, le-leb, leb-true, leb-false, lt-leb, lt-ltb, le-ltb, ltb-true, ltb-false, ne_eqb}
+use Rattle.std.proofs.Common.{◌≡◌, ⊎_elim, ℕ, zero, suc, ◌+◌, ◌-◌, ◌/◌, ◌<◌, ◌≤◌, nat_lt, nat_le, ◌==◌, Bool, true, false, cond, ◌&&◌, List, [], ◌∷◌, length, map, filter, take, sum, count_by, Some, arith, refl, sym, ap, ap₂, ◌∙◌}
+use Rattle.std.proofs.lemmas.Bool.{cases_Bool, cases_lt, lt-ltb, le-ltb, ltb-false, ne_eqb}
 use Rattle.std.proofs.lemmas.Bool.Decides.{nat_tests}
 use Rattle.std.proofs.lemmas.List.Sums.{sum_by-cons}
 use Rattle.mesh_base.specs.declared.address.Mac.{Mac}
 use Rattle.mesh_model.specs.Routes.Life.{HeardOgm, newest, numbers_from, value_at}
-use Rattle.mesh_model.specs.Routes.Numbers.{has, greatest, among, seen_among, window}
-use Rattle.mesh_model.specs.Routes.Quality.{mean, good_values, average_quality}
+use Rattle.mesh_model.specs.Routes.Numbers.{has, greatest, among, window}
+use Rattle.mesh_model.specs.Routes.Quality.{mean, average_quality}
 use Rattle.mesh_laws.proofs.WindowLemmas.{has-le, greatest-window}
 use Rattle.mesh_algo.proofs.LifeLemmas.{and_false, numbers-le, unheard_value}
 use Rattle.mesh_iv.specs.declared.path.Path.{Path}

@@ -1,17 +1,17 @@
 -- The walk over an originator's rows finds the best route of the originator's last life.
-use Rattle.std.proofs.Common.{◌≡◌, ◌⊎◌, ⊎_elim, ℕ, zero, suc, ◌-◌, ◌<◌, ◌≤◌, nat_eq, nat_lt, nat_le, Bool, true, false, cond, ◌&&◌, ◌||◌, List, [], ◌∷◌, map, filter, is_some, Option, Some, None, option_map, is_lt, is_eq, arith, refl, sym, ap, ap₂, ◌∙◌, subst, Ordering, Less, Equal, Greater}
+use Rattle.std.proofs.Common.{◌≡◌, ℕ, zero, suc, ◌-◌, nat_eq, nat_lt, nat_le, Bool, true, false, cond, ◌&&◌, ◌||◌, List, [], ◌∷◌, map, filter, is_some, Option, Some, None, option_map, is_lt, refl, sym, ap, ap₂, ◌∙◌, Less, Equal, Greater}
 use Rattle.std.specs.List.{AllByRecursion}
 use Rattle.std.specs.List.Sorted.{IsStrictlySortedBy}
 use Rattle.std.specs.Map.{keys_of, lookup}
 use Rattle.std.specs.Ordering.{ordering_then}
-use Rattle.std.proofs.lemmas.Bool.{cases_Bool, true≢false, false≢true}
+use Rattle.std.proofs.lemmas.Bool.{true≢false, false≢true}
 use Rattle.mesh_base.specs.declared.address.Mac.{Mac}
 use Rattle.mesh_model.specs.Routes.Addresses.{mac_order, same_mac, is_smaller}
 use Rattle.mesh_model.specs.Routes.BestRoute.{better, best, best_route}
 use Rattle.mesh_model.specs.Routes.Life.{HeardOgm, of, newest, numbers_from, value_at}
 use Rattle.mesh_model.specs.Routes.Numbers.{has, among, seen_among}
 use Rattle.mesh_model.specs.Routes.Quality.{average_quality, mean}
-use Rattle.mesh_laws.proofs.MacLemmas.{same_self, same_exact, same_equiv, same_by_order, other_by_order}
+use Rattle.mesh_laws.proofs.MacLemmas.{same_self, same_exact, same_equiv, other_by_order}
 use Rattle.mesh_algo.proofs.LifeLemmas.{and_false, or_parts, other_numbers}
 use Rattle.mesh_algo.proofs.BestLemmas.{is_among, best_is_top, one_top}
 use Rattle.mesh_iv.specs.declared.best.Best.{Best}
@@ -19,7 +19,7 @@ use Rattle.mesh_iv.specs.declared.path.Path.{Path}
 use Rattle.mesh_iv.specs.declared.row.Pair.{Pair}
 use Rattle.mesh_iv.specs.Answers.{best_in}
 use Rattle.mesh_iv.specs.Rows.{average_of, latest, row_of, path_row, echo_row}
-use Rattle.mesh_iv.specs.Tables.{path_at, PathsStand}
+use Rattle.mesh_iv.specs.Tables.{PathsStand}
 use Rattle.mesh_iv.specs.Walk.{pair_order, same_pair, better_row, walk}
 use Rattle.mesh_iv.proofs.AverageLemmas.{average_row}
 

@@ -1,28 +1,27 @@
 -- The tables after an OGM that isn't heard: an echo, or one that changes nothing.
-use Rattle.std.proofs.Common.{◌≡◌, ◌⊎◌, ⊎_elim, ℕ, nat_lt, nat_le, Bool, true, false, cond, ◌&&◌, List, [], ◌∷◌, unwrap_or, Option, Some, None, arith, refl, sym, ap, ap₂, ◌∙◌, subst}
+use Rattle.std.proofs.Common.{◌≡◌, ⊎_elim, ℕ, Bool, true, false, cond, ◌&&◌, List, ◌∷◌, unwrap_or, Some, refl, sym, ap, ap₂, ◌∙◌, subst}
 use Rattle.std.specs.List.Sorted.{IsStrictlySortedBy}
 use Rattle.std.specs.Map.{keys_of, lookup}
 use Rattle.std.proofs.lemmas.Bool.{cases_Bool}
 use Rattle.mesh_base.specs.declared.address.Mac.{Mac}
 use Rattle.mesh_model.specs.Routes.Addresses.{same_mac}
 use Rattle.mesh_model.specs.Routes.Hearings.{heard}
-use Rattle.mesh_model.specs.Routes.Life.{HeardOgm, of}
+use Rattle.mesh_model.specs.Routes.Life.{of}
 use Rattle.mesh_model.specs.Routes.Numbers.{window}
 use Rattle.mesh_model.specs.Routes.Ogm.{passes, is_echo}
 use Rattle.mesh_model.specs.Routes.Quality.{echoes_from, own_ogms}
 use Rattle.mesh_model.specs.Routes.RouteLog.{RouteLog}
 use Rattle.mesh_laws.proofs.WindowLemmas.{window-cons}
-use Rattle.mesh_laws.proofs.MacLemmas.{same_exact, same_equiv, same_self}
+use Rattle.mesh_laws.proofs.MacLemmas.{same_exact, same_equiv}
 use Rattle.mesh_iv.specs.declared.ogm.OgmCame.{OgmCame}
 use Rattle.mesh_iv.specs.declared.path.Path.{Path}
 use Rattle.mesh_iv.specs.declared.row.Pair.{Pair}
 use Rattle.mesh_iv.specs.Came.{ogm_in}
 use Rattle.mesh_iv.specs.Hears.{input_of, hearing_of}
-use Rattle.mesh_iv.specs.Rows.{blank, five, latest, path_row, row_of, echo_row}
+use Rattle.mesh_iv.specs.Rows.{blank, five, latest, path_row, echo_row}
 use Rattle.mesh_iv.specs.Tables.{Tables, StandsFor, LivesStand, path_at}
 use Rattle.mesh_iv.specs.Walk.{pair_order, same_pair}
 use Rattle.mesh_iv.proofs.HeardRows.{unwrapped}
-use Rattle.mesh_iv.proofs.StandLemmas.{echo_at}
 
 module _ (me : Mac) (log : RouteLog) (came : OgmCame) where
   unheard_is : (tp : ℕ) → passes me (ogm_in came) ≡ false → heard me (input_of came tp ∷ log) ≡ heard me log

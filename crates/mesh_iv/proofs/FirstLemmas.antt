@@ -1,39 +1,34 @@
 -- An OGM that is the first of its number from its neighbour: its value, whether it is sent on, and the
 -- tables after it.
-use Rattle.std.proofs.Common.{◌≡◌, ◌⊎◌, ⊎_elim, ℕ, ◌+◌, ◌-◌, ◌<◌, ◌≤◌, max, nat_lt, nat_le, Bool, true, false, cond, not, ◌&&◌, ◌||◌, List, [], ◌∷◌, length, is_none, option_map, Option, Some, None, arith, refl, sym, ap, ap₂, ◌∙◌, subst}
-use Rattle.std.specs.List.Sorted.{IsStrictlySortedBy}
-use Rattle.std.specs.Map.{keys_of, lookup}
-use Rattle.std.proofs.lemmas.Bool.{cases_Bool, and_parts, leb-false, lt-ltb, not-false, not-true, true≢false}
+use Rattle.std.proofs.Common.{◌≡◌, ⊎_elim, ℕ, ◌+◌, ◌-◌, ◌<◌, max, nat_lt, Bool, true, false, cond, not, ◌&&◌, ◌||◌, List, [], ◌∷◌, is_none, option_map, Option, Some, None, arith, refl, sym, ap, ap₂, ◌∙◌}
+use Rattle.std.specs.Map.{lookup}
+use Rattle.std.proofs.lemmas.Bool.{cases_Bool, and_parts, leb-false, lt-ltb, not-true}
 use Rattle.mesh_base.specs.declared.address.Mac.{Mac}
-use Rattle.mesh_model.specs.Routes.Addresses.{mac_order, same_mac}
-use Rattle.mesh_model.specs.Routes.AlgorithmIv.{answer_to, forward_head, iv_route}
+use Rattle.mesh_model.specs.Routes.Addresses.{same_mac}
+use Rattle.mesh_model.specs.Routes.AlgorithmIv.{answer_to, iv_route}
 use Rattle.mesh_model.specs.Routes.BestRoute.{best_route, is_over}
-use Rattle.mesh_model.specs.Routes.Hearings.{before, heard, in_time, sends_on}
-use Rattle.mesh_model.specs.Routes.Life.{HeardOgm, life_span, of, since, life, newest, numbers_from, is_first, is_accepted, forwarded}
-use Rattle.mesh_model.specs.Routes.Numbers.{has, greatest, among, seen_among, window, window_length}
-use Rattle.mesh_model.specs.Routes.Ogm.{passes}
-use Rattle.mesh_model.specs.Routes.Quality.{average_quality, receive_quality, received_in, transmit_quality, echo_quality}
+use Rattle.mesh_model.specs.Routes.Life.{HeardOgm, of, newest, is_first, is_accepted, forwarded}
+use Rattle.mesh_model.specs.Routes.Numbers.{has, greatest, among, window}
+use Rattle.mesh_model.specs.Routes.Quality.{average_quality}
 use Rattle.mesh_model.specs.Routes.RouteLog.{RouteLog}
-use Rattle.mesh_laws.proofs.WindowLemmas.{among-window, greatest-window, has-window, window-cons}
-use Rattle.mesh_algo.proofs.LifeLemmas.{and_false, numbers-le, forwarded-le, next_newest, next_forwarded, own_numbers, of_other, of_same, since-life}
+use Rattle.mesh_laws.proofs.WindowLemmas.{has-window, window-cons}
+use Rattle.mesh_algo.proofs.LifeLemmas.{forwarded-le, next_newest, next_forwarded, of_same}
 use Rattle.mesh_laws.proofs.MacLemmas.{same_exact, same_equiv, same_self}
-use Rattle.mesh_iv.specs.declared.best.Best.{Best}
 use Rattle.mesh_iv.specs.declared.ogm.OgmCame.{OgmCame}
 use Rattle.mesh_iv.specs.declared.path.Path.{Path}
 use Rattle.mesh_iv.specs.declared.row.Life.{Life}
 use Rattle.mesh_iv.specs.declared.row.Pair.{Pair}
 use Rattle.mesh_iv.specs.Answers.{best_in}
-use Rattle.mesh_iv.specs.Came.{ogm_in}
-use Rattle.mesh_iv.specs.Hears.{IsHeard, input_of, life_before, hearing_of, kept_row, newest_by, forwarded_by, is_best, goes_on, flags_on, head_on, sent_on_as, life_with}
+use Rattle.mesh_iv.specs.Hears.{IsHeard, input_of, life_before, hearing_of, kept_row, newest_by, forwarded_by, is_best, goes_on, head_on, sent_on_as}
 use Rattle.mesh_iv.specs.Rows.{latest, life_row, path_row, path_with, echo_row}
-use Rattle.mesh_iv.specs.Tables.{Tables, StandsFor, LivesStand, PathsStand, path_at}
-use Rattle.mesh_iv.specs.Walk.{pair_order, same_pair, walk}
-use Rattle.mesh_iv.specs.Writing.{IsWritten, is_over_after, life_then, path_put, rows_kept}
+use Rattle.mesh_iv.specs.Tables.{Tables, StandsFor, PathsStand}
+use Rattle.mesh_iv.specs.Walk.{same_pair, walk}
+use Rattle.mesh_iv.specs.Writing.{IsWritten, is_over_after, life_then, rows_kept}
 use Rattle.mesh_iv.proofs.BestWalk.{walk_best}
 use Rattle.mesh_iv.proofs.HeardRows.{first_row, other_row, newest_by_row, forwarded_by_row}
 use Rattle.mesh_iv.proofs.PutLemmas.{kept_other, kept_own}
 use Rattle.mesh_iv.proofs.StandLemmas.{life_is_latest, no_life}
-use Rattle.mesh_iv.proofs.StepLemmas.{hearings, echoes, h, alive, v, before_is, valued_before_is, other_orig, lives_step, paths_step, step_stands}
+use Rattle.mesh_iv.proofs.StepLemmas.{hearings, echoes, v, before_is, valued_before_is, other_orig, lives_step, paths_step, step_stands}
 
 -- the mark of being sent on changes no route
 marked_route : (g : HeardOgm) (b : Bool) (l : List HeardOgm) → iv_route (record g { sent_on = b } ∷ l) ≡ iv_route (g ∷ l)

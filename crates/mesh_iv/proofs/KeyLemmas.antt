@@ -1,19 +1,18 @@
 -- Where hearings and echoes come from: each is of an OGM in the log.
-use Rattle.std.proofs.Common.{◌≡◌, ◌⊎◌, ⊎_elim, ℕ, ◌-◌, nat_lt, Bool, true, false, cond, not, ◌&&◌, ◌||◌, List, [], ◌∷◌, is_some, IsSome, IsTrue, Option, Some, None, refl, sym, ap, ap₂, ◌∙◌, subst}
-use Rattle.std.specs.Map.{lookup}
-use Rattle.std.proofs.lemmas.Bool.{cases_Bool, and_parts, or_cases, false≢true, true≢false}
+use Rattle.std.proofs.Common.{◌≡◌, ⊎_elim, ℕ, ◌-◌, nat_lt, Bool, true, false, cond, ◌&&◌, ◌||◌, List, [], ◌∷◌, is_some, IsSome, Option, Some, None, refl, sym, ap, ap₂, ◌∙◌}
+use Rattle.std.proofs.lemmas.Bool.{cases_Bool, and_parts, or_cases, false≢true}
 use Rattle.mesh_base.specs.declared.address.Mac.{Mac}
 use Rattle.mesh_model.specs.Routes.Addresses.{same_mac}
 use Rattle.mesh_model.specs.Routes.Hearings.{hearing, heard, heard_with}
 use Rattle.mesh_model.specs.Routes.Life.{HeardOgm, life_span, of, since, is_live, numbers_from}
 use Rattle.mesh_model.specs.Routes.Ogm.{Ogm, ogm_of_head, is_echo, passes}
 use Rattle.mesh_model.specs.Routes.Quality.{echo_quality, echoes_with, echoes_from, own_ogms}
-use Rattle.mesh_model.specs.Routes.RouteLog.{RouteLog, RouteInput, OwnTick, HeadCame}
+use Rattle.mesh_model.specs.Routes.RouteLog.{RouteLog, OwnTick, HeadCame}
 use Rattle.mesh_algo.proofs.LifeLemmas.{of_other, of_same, other_numbers}
 use Rattle.mesh_laws.proofs.MacLemmas.{same_equiv, same_exact}
 use Rattle.mesh_iv.specs.declared.row.Pair.{Pair}
 use Rattle.mesh_iv.specs.KeyLaw.{is_of, names_orig, names_pair, HasKeysOfOgms}
-use Rattle.mesh_iv.specs.Rows.{latest, life_row, row_of, path_row, echo_row, five, value_below}
+use Rattle.mesh_iv.specs.Rows.{latest, row_of, path_row, echo_row}
 use Rattle.mesh_iv.specs.Tables.{StandsFor, Tables, path_at}
 use Rattle.mesh_iv.proofs.TableLemmas.{some_row}
 

@@ -7,6 +7,7 @@ pub mod BestWalk
 pub mod StandLemmas
 pub mod HeardRows
 pub mod PutLemmas
+pub mod AskLemmas
 pub mod StepLemmas
 pub mod FirstLemmas
 pub mod ValueLemmas

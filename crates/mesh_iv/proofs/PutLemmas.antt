@@ -1,5 +1,5 @@
 -- The rows of pairs without those of an originator, and with one more.
-use Rattle.std.proofs.Common.{◌≡◌, ◌⊎◌, ⊎_elim, Bool, true, false, cond, not, ◌&&◌, List, [], ◌∷◌, filter, is_some, is_none, Option, Some, None, arith, refl, sym, ap, ap₂, ◌∙◌, subst, Less}
+use Rattle.std.proofs.Common.{◌≡◌, Bool, true, false, cond, not, ◌&&◌, List, [], ◌∷◌, filter, is_some, is_none, Option, Some, None, refl, sym, ap, ◌∙◌, Less}
 use Rattle.std.specs.List.{AllByRecursion}
 use Rattle.std.specs.List.Sorted.{IsStrictlySortedBy}
 use Rattle.std.specs.Map.{keys_of, lookup}

@@ -1,29 +1,28 @@
 -- What tables that stand for a log answer.
-use Rattle.std.proofs.Common.{◌≡◌, ◌⊎◌, ⊎_elim, ℕ, suc, ◌-◌, ◌%◌, ◌==◌, ◌<◌, ◌≤◌, max, nat_lt, nat_le, Bool, true, false, cond, not, ◌&&◌, List, [], ◌∷◌, length, Option, Some, None, option_and_then, arith, refl, sym, ap, ap₂, ◌∙◌, subst}
+use Rattle.std.proofs.Common.{◌≡◌, ◌⊎◌, ⊎_elim, ℕ, suc, ◌-◌, ◌%◌, ◌==◌, ◌≤◌, max, nat_lt, nat_le, Bool, true, false, cond, not, ◌&&◌, List, [], ◌∷◌, length, Option, Some, None, arith, refl, sym, ap, ◌∙◌, subst}
 use Rattle.std.specs.List.Sorted.{IsStrictlySortedBy}
 use Rattle.std.specs.Map.{keys_of, lookup}
-use Rattle.std.proofs.lemmas.Bool.{cases_Bool, and_parts, leb-true, true≢false, false≢true, not-true}
+use Rattle.std.proofs.lemmas.Bool.{cases_Bool, and_parts, leb-true, not-true}
 use Rattle.mesh_base.specs.declared.address.Mac.{Mac}
 use Rattle.mesh_model.specs.Routes.Addresses.{mac_order, same_mac}
-use Rattle.mesh_model.specs.Routes.AlgorithmIv.{iv_life, iv_route}
+use Rattle.mesh_model.specs.Routes.AlgorithmIv.{iv_life}
 use Rattle.mesh_model.specs.Routes.BestRoute.{best_route}
 use Rattle.mesh_model.specs.Routes.Hearings.{hearing, heard, heard_with}
 use Rattle.mesh_model.specs.Routes.Life.{HeardOgm, life_span, of, since, life, newest, numbers_from}
-use Rattle.mesh_model.specs.Routes.Numbers.{has, greatest, among, seen_among, window, window_length}
+use Rattle.mesh_model.specs.Routes.Numbers.{has, greatest, seen_among, window, window_length}
 use Rattle.mesh_model.specs.Routes.Ogm.{Ogm, ogm_of_head, is_echo, passes, has_flag}
 use Rattle.mesh_model.specs.Packets.Numbers.{directlink_flag}
 use Rattle.mesh_model.specs.Routes.Quality.{own_ogms, echoes_with, echoes_from, echo_quality, receive_quality, received_in}
-use Rattle.mesh_model.specs.Routes.RouteLog.{RouteLog, RouteInput, OwnTick, HeadCame}
+use Rattle.mesh_model.specs.Routes.RouteLog.{RouteLog, OwnTick, HeadCame}
 use Rattle.mesh_laws.proofs.WindowLemmas.{among-window, greatest-window}
 use Rattle.mesh_algo.proofs.LifeLemmas.{numbers-le, of_other}
 use Rattle.mesh_laws.proofs.MacLemmas.{same_exact, same_self}
-use Rattle.mesh_iv.specs.declared.best.Best.{Best}
 use Rattle.mesh_iv.specs.declared.path.Path.{Path}
 use Rattle.mesh_iv.specs.declared.row.Life.{Life}
 use Rattle.mesh_iv.specs.declared.row.Pair.{Pair}
 use Rattle.mesh_iv.specs.Answers.{best_in, count_of}
-use Rattle.mesh_iv.specs.Rows.{latest, life_row, life_at, row_of, path_row, echo_row}
-use Rattle.mesh_iv.specs.Tables.{StandsFor, Tables, LivesStand, PathsStand, path_at}
+use Rattle.mesh_iv.specs.Rows.{latest, life_row, row_of, path_row, echo_row}
+use Rattle.mesh_iv.specs.Tables.{StandsFor, Tables, path_at}
 use Rattle.mesh_iv.specs.Walk.{pair_order, same_pair, walk}
 use Rattle.mesh_iv.proofs.BestWalk.{none_among, walk_best}
 

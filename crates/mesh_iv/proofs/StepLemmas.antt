@@ -1,15 +1,15 @@
 -- The tables after an OGM is heard: what each part has to have, and an OGM that only keeps a life up.
-use Rattle.std.proofs.Common.{◌≡◌, ◌⊎◌, ⊎_elim, ℕ, ◌<◌, ◌≤◌, max, nat_lt, nat_le, Bool, true, false, cond, not, ◌&&◌, ◌||◌, List, [], ◌∷◌, Option, Some, None, arith, refl, sym, ap, ap₂, ◌∙◌, subst}
+use Rattle.std.proofs.Common.{◌≡◌, ⊎_elim, ℕ, max, nat_lt, nat_le, true, false, cond, not, ◌&&◌, ◌||◌, List, [], ◌∷◌, Option, Some, None, arith, refl, sym, ap, ap₂, ◌∙◌, subst}
 use Rattle.std.specs.List.Sorted.{IsStrictlySortedBy}
 use Rattle.std.specs.Map.{keys_of, lookup}
-use Rattle.std.proofs.lemmas.Bool.{cases_Bool, and_parts, le-ltb, not-false, not-true, true≢false}
+use Rattle.std.proofs.lemmas.Bool.{cases_Bool, and_parts, le-ltb, not-false, not-true}
 use Rattle.mesh_base.specs.declared.address.Mac.{Mac}
 use Rattle.mesh_model.specs.Routes.Addresses.{mac_order, same_mac}
 use Rattle.mesh_model.specs.Routes.AlgorithmIv.{answer_to, forward_head}
 use Rattle.mesh_model.specs.Routes.BestRoute.{best_route, is_over}
 use Rattle.mesh_model.specs.Routes.Hearings.{before, heard, sends_on, valued}
-use Rattle.mesh_model.specs.Routes.Life.{HeardOgm, of, since, life, newest, numbers_from, is_first, is_accepted, forwarded}
-use Rattle.mesh_model.specs.Routes.Numbers.{has, greatest, window}
+use Rattle.mesh_model.specs.Routes.Life.{HeardOgm, of, since, newest, numbers_from, is_first, is_accepted, forwarded}
+use Rattle.mesh_model.specs.Routes.Numbers.{has, window}
 use Rattle.mesh_model.specs.Routes.Ogm.{passes, has_flag}
 use Rattle.mesh_model.specs.Packets.Numbers.{directlink_flag}
 use Rattle.mesh_model.specs.Routes.Queries.{unheard}
@@ -17,7 +17,7 @@ use Rattle.mesh_model.specs.Routes.Quality.{average_quality, echo_quality, echoe
 use Rattle.mesh_model.specs.Routes.RouteLog.{RouteLog}
 use Rattle.mesh_laws.proofs.WindowLemmas.{has-le}
 use Rattle.mesh_algo.proofs.LifeLemmas.{and_false, since-life, numbers-le, late_newest, next_newest, late_forwarded, next_forwarded}
-use Rattle.mesh_laws.proofs.MacLemmas.{same_exact, same_equiv}
+use Rattle.mesh_laws.proofs.MacLemmas.{same_exact}
 use Rattle.mesh_iv.specs.declared.ogm.OgmCame.{OgmCame}
 use Rattle.mesh_iv.specs.declared.path.Path.{Path}
 use Rattle.mesh_iv.specs.declared.row.Life.{Life}
@@ -28,7 +28,7 @@ use Rattle.mesh_iv.specs.Rows.{latest, life_row, path_row, echo_row}
 use Rattle.mesh_iv.specs.Tables.{Tables, StandsFor, LivesStand, PathsStand, path_at}
 use Rattle.mesh_iv.specs.Walk.{pair_order, same_pair}
 use Rattle.mesh_iv.proofs.HeardRows.{touched_row}
-use Rattle.mesh_iv.proofs.StandLemmas.{life_is_latest, newest_of_row}
+use Rattle.mesh_iv.proofs.StandLemmas.{life_is_latest}
 
 -- what isn't the first of its number isn't sent on
 first_to_send : (g : HeardOgm) (l : List HeardOgm) → is_first g l ≡ false → sends_on g l ≡ false

@@ -1,5 +1,5 @@
 -- The keys of the table of originators, and what the readers by place rest on.
-use Rattle.std.proofs.Common.{◌≡◌, ◌↔◌, ◌≤◌, ℕ, suc, ◌%◌, ◌==◌, Bool, true, false, cond, ◌||◌, List, [], ◌∷◌, length, slice_get, is_some, IsNone, Option, Some, None, arith, refl, sym, ap, ◌∙◌}
+use Rattle.std.proofs.Common.{◌≡◌, ◌↔◌, ◌≤◌, ℕ, suc, ◌%◌, ◌==◌, Bool, true, false, cond, ◌||◌, List, [], ◌∷◌, length, slice_get, is_some, IsNone, Option, Some, arith, refl, ap, ◌∙◌}
 use Rattle.std.specs.List.{list_any}
 use Rattle.std.specs.Map.{keys_of, lookup}
 use Rattle.std.proofs.lemmas.Grind.{common_steps}
@@ -11,7 +11,7 @@ use Rattle.mesh_model.specs.Routes.Addresses.{same_mac}
 use Rattle.mesh_model.specs.Routes.Hearings.{heard}
 use Rattle.mesh_model.specs.Routes.Life.{HeardOgm, of, is_live, heard_originators}
 use Rattle.mesh_model.specs.Routes.Quality.{own_ogms}
-use Rattle.mesh_model.specs.Routes.RouteLog.{RouteLog, RouteInput, OwnTick, HeadCame, own_ticks}
+use Rattle.mesh_model.specs.Routes.RouteLog.{RouteLog, OwnTick, HeadCame, own_ticks}
 use Rattle.mesh_algo.proofs.OrigLemmas.{keys_are_heard}
 use Rattle.mesh_iv.specs.declared.row.Life.{Life}
 use Rattle.mesh_iv.specs.Rows.{latest, life_row}

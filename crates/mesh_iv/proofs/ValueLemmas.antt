@@ -1,7 +1,7 @@
 -- What is computed for an OGM that is heard: the row before it, whether it is the first of its number,
 -- and its value.
-use Rattle.std.proofs.Common.{◌≡◌, ◌⊎◌, ⊎_elim, ℕ, ◌+◌, ◌-◌, ◌<◌, ◌≤◌, max, nat_lt, nat_le, Bool, true, false, cond, not, ◌&&◌, ◌||◌, List, [], ◌∷◌, length, unwrap_or, is_some, is_none, Option, Some, None, arith, refl, sym, ap, ap₂, ◌∙◌, subst}
-use Rattle.std.proofs.lemmas.Bool.{cases_Bool, and_from, and_parts, leb-false, leb-true, lt-leb, lt-ltb, not-false, not-true, true≢false}
+use Rattle.std.proofs.Common.{◌≡◌, ℕ, ◌+◌, ◌-◌, ◌≤◌, max, nat_lt, nat_le, Bool, true, false, cond, not, ◌&&◌, List, [], ◌∷◌, length, unwrap_or, is_some, Option, Some, None, arith, refl, sym, ap, ap₂, ◌∙◌}
+use Rattle.std.proofs.lemmas.Bool.{and_parts, leb-false, lt-leb, lt-ltb, not-true, true≢false}
 use Rattle.mesh_base.specs.declared.address.Mac.{Mac}
 use Rattle.mesh_model.specs.Routes.Addresses.{same_mac}
 use Rattle.mesh_model.specs.Routes.AlgorithmIv.{answer_to}
@@ -15,7 +15,6 @@ use Rattle.mesh_laws.proofs.WindowLemmas.{among-window, greatest-window, has-win
 use Rattle.mesh_algo.proofs.LifeLemmas.{numbers-le, next_newest, own_numbers, of_other, of_same, since-life}
 use Rattle.mesh_laws.proofs.MacLemmas.{same_exact, same_equiv}
 use Rattle.mesh_iv.specs.declared.ogm.OgmCame.{OgmCame}
-use Rattle.mesh_iv.specs.declared.path.Path.{Path}
 use Rattle.mesh_iv.specs.declared.row.Life.{Life}
 use Rattle.mesh_iv.specs.Came.{ogm_in}
 use Rattle.mesh_iv.specs.Hears.{IsHeard, life_before, hearing_of, kept_row, newest_by}

@@ -1,15 +1,14 @@
 -- The walk over the rows of one originator, which stand together in the order of pairs.
-use Rattle.std.proofs.Common.{◌≡◌, ◌⊎◌, inl, inr, ⊎_elim, ℕ, zero, suc, ◌<◌, ◌≤◌, Bool, true, false, cond, List, [], ◌∷◌, length, get_or, drop, Option, Some, None, is_eq, is_lt, arith, refl, sym, ap, ◌∙◌, subst, Ordering, Less, Equal, Greater}
-use Rattle.std.specs.Cmp.{IsTotalOrder}
+use Rattle.std.proofs.Common.{◌≡◌, ◌⊎◌, inl, inr, ⊎_elim, ℕ, zero, suc, ◌<◌, ◌≤◌, true, false, cond, List, [], ◌∷◌, length, get_or, drop, Option, is_eq, is_lt, arith, refl, sym, ap, ◌∙◌, Ordering, Less, Equal, Greater}
 use Rattle.std.specs.List.{AllByRecursion}
 use Rattle.std.specs.List.Sorted.{IsStrictlySortedBy, IsPartitionedBy}
 use Rattle.std.specs.Map.{keys_of}
 use Rattle.std.specs.Ordering.{ordering_then, ordering_reverse}
-use Rattle.std.proofs.lemmas.Bool.{cases_Bool, false≢true, true≢false}
-use Rattle.std.proofs.lemmas.Cmp.{alike_right, tied_back}
+use Rattle.std.proofs.lemmas.Bool.{false≢true, true≢false}
+use Rattle.std.proofs.lemmas.Cmp.{alike_right}
 use Rattle.mesh_base.specs.declared.address.Mac.{Mac}
 use Rattle.mesh_model.specs.Routes.Addresses.{mac_order, same_mac, is_smaller}
-use Rattle.mesh_laws.proofs.MacLemmas.{mac_total, mac_exact, same_by_order, other_by_order}
+use Rattle.mesh_laws.proofs.MacLemmas.{mac_total, same_by_order, other_by_order}
 use Rattle.mesh_iv.specs.declared.best.Best.{Best}
 use Rattle.mesh_iv.specs.declared.row.Pair.{Pair}
 use Rattle.mesh_iv.specs.declared.path.Path.{Path}

@@ -1,6 +1,5 @@
 -- What the tables answer. No public clause cites this module.
-use Rattle.std.specs.Prelude.{ℕ, max, List, [], length, Option, Some, None, option_map}
-use Rattle.mesh_base.specs.declared.address.Mac.{Mac}
+use Rattle.std.specs.Prelude.{ℕ, max, List, length, Option, Some, None, option_map}
 use Rattle.mesh_model.specs.Routes.AlgorithmIv.{iv_route}
 use Rattle.mesh_model.specs.Routes.Life.{HeardOgm}
 use Rattle.mesh_model.specs.Routes.Numbers.{greatest, seen_among, window_length}

@@ -1,6 +1,4 @@
 -- An OGM that came, as the definitions see it. The main words are `ogm_in` and `head_of`.
-use Rattle.std.specs.Prelude.{ℕ, Bool}
-use Rattle.mesh_base.specs.declared.address.Mac.{Mac}
 use Rattle.mesh_model.specs.declared.packet.Head.{Head}
 use Rattle.mesh_model.specs.declared.packet.Head.TheVariants.{IvOgm}
 use Rattle.mesh_model.specs.Routes.Ogm.{Ogm}

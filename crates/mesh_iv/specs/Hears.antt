@@ -1,11 +1,11 @@
 -- What is known of an OGM that is heard, and what is made of it. The main word is `IsHeard`.
-use Rattle.std.specs.Prelude.{◌≡◌, ℕ, suc, ◌+◌, ◌-◌, ◌&&◌, ◌||◌, nat_lt, max, Bool, true, false, not, List, [], ◌∷◌, Option, Some, None, if◌then◌else◌}
+use Rattle.std.specs.Prelude.{◌≡◌, ℕ, ◌+◌, ◌-◌, ◌&&◌, ◌||◌, nat_lt, max, Bool, true, false, not, List, [], ◌∷◌, Option, Some, None, if◌then◌else◌}
 use Rattle.mesh_base.specs.declared.address.Mac.{Mac}
 use Rattle.mesh_model.specs.declared.packet.Head.{Head}
 use Rattle.mesh_model.specs.declared.packet.Head.TheVariants.{IvOgm}
 use Rattle.mesh_model.specs.Routes.Addresses.{same_mac}
 use Rattle.mesh_model.specs.Routes.AlgorithmIv.{iv_life, after_hop}
-use Rattle.mesh_model.specs.Routes.Hearings.{in_time, hearing, heard}
+use Rattle.mesh_model.specs.Routes.Hearings.{hearing, heard}
 use Rattle.mesh_model.specs.Routes.Life.{HeardOgm, is_first, numbers_from}
 use Rattle.mesh_model.specs.Routes.Numbers.{has, window}
 use Rattle.mesh_model.specs.Routes.Ogm.{ogm_of_head, passes}

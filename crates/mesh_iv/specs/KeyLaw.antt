@@ -1,14 +1,14 @@
 -- Each key of the two tables is the originator, or the originator and the neighbour, of an OGM in
 -- the log. So the tables grow with originators times neighbours alone. The main word is
 -- `HasKeysOfOgms`.
-use Rattle.std.specs.Prelude.{◌&&◌, ◌||◌, Bool, false, List, [], ◌∷◌, Option, Some, None, IsSome, IsTrue}
+use Rattle.std.specs.Prelude.{◌&&◌, ◌||◌, Bool, false, [], ◌∷◌, Option, Some, None, IsSome, IsTrue}
 use Rattle.std.specs.Map.{lookup}
 use Rattle.mesh_base.specs.declared.address.Mac.{Mac}
 use Rattle.mesh_model.specs.Routes.Addresses.{same_mac}
 use Rattle.mesh_model.specs.Routes.Ogm.{Ogm, ogm_of_head}
-use Rattle.mesh_model.specs.Routes.RouteLog.{RouteLog, RouteInput, OwnTick, HeadCame}
+use Rattle.mesh_model.specs.Routes.RouteLog.{RouteLog, OwnTick, HeadCame}
 use Rattle.mesh_iv.specs.declared.row.Pair.{Pair}
-use Rattle.mesh_iv.specs.Tables.{StandsFor, Tables}
+use Rattle.mesh_iv.specs.Tables.{Tables}
 use Rattle.mesh_iv.specs.Walk.{same_pair}
 
 -- whether an OGM is of an originator

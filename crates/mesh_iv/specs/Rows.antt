@@ -1,6 +1,6 @@
 -- The rows of the two tables, and what each says of the hearings. The main words are `life_row` and
 -- `path_row`.
-use Rattle.std.specs.Prelude.{ℕ, zero, suc, ◌-◌, ◌/◌, ◌==◌, nat_lt, nat_le, max, List, [], ◌∷◌, take, sum, count_by, slice_index, Option, Some, None, if◌then◌else◌}
+use Rattle.std.specs.Prelude.{ℕ, ◌-◌, ◌/◌, ◌==◌, nat_lt, nat_le, max, List, [], ◌∷◌, take, sum, count_by, slice_index, Option, Some, None, if◌then◌else◌}
 use Rattle.mesh_base.specs.declared.address.Mac.{Mac}
 use Rattle.mesh_model.specs.Routes.Life.{HeardOgm, since, life_span, newest, numbers_from, forwarded, value_at}
 use Rattle.mesh_model.specs.Routes.Numbers.{greatest, window}

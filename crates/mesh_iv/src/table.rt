@@ -21,10 +21,11 @@ pub(crate) fn put<K: Copy + Ord + Hash, V: Copy>(
     ensures room { 0 < spare table.old → IsOk result }
     ensures err { OnErr result (table.new.entries ≡ table.old.entries) }
 {
-    if table.contains_key(&key) {
-        table.insert(key, value)?;
-    } else {
-        table.insert_sorted(key, value)?;
+    match table.get_mut(&key) {
+        Some(row) => *row = value,
+        None => {
+            table.insert_sorted(key, value)?;
+        }
     }
     Ok(())
 }

@@ -1,9 +1,9 @@
-ghost use Rattle.std.specs.Prelude.{◌≡◌, ◌<◌, ◌∷◌, IsOk, IfOk, OnOk, OnErr, if◌then◌else◌};
+ghost use Rattle.std.specs.Prelude.{◌≡◌, ◌<◌, ◌∷◌, ◌&&◌, true, IsOk, IfOk, OnOk, OnErr, if◌then◌else◌};
 ghost use Rattle.std.specs.List.Sorted.{IsStrictlySortedBy};
 ghost use Rattle.std.specs.Map.{lookup};
 ghost use Rattle.indexmap.specs.IndexMap.{keys, spare};
 ghost use Rattle.mesh_model.specs.Routes.Numbers.{window};
-ghost use Rattle.mesh_iv.specs.Hears.{forwarded_by, life_with, newest_by, sent_on_as};
+ghost use Rattle.mesh_iv.specs.Hears.{forwarded_by, goes_on, life_with, newest_by, sent_on_as};
 ghost use Rattle.mesh_iv.specs.Walk.{pair_order, same_pair};
 ghost use Rattle.mesh_iv.specs.Writing.{IsWritten, is_over_after, path_put, rows_kept};
 ghost use Rattle.mesh_iv.specs.declared.row.Pair.{Pair};
@@ -39,11 +39,24 @@ pub(crate) fn write(
     lives.reserve(1)?;
     paths.reserve(1)?;
     put_path(paths, ogm, life.is_none(), row)?;
-    let newest = newest_of(life).max(ogm.seq);
-    let over = is_best(ogm.from, &best_of(paths, ogm.orig, newest));
+    let over = is_over(paths, ogm, life, value);
     let sent = goes_on(ogm, value, life, over);
     put(lives, ogm.orig, life_after(ogm, life, sent))?;
     Ok(sent.then_some(head_on(ogm, value, over)))
+}
+
+// Whether the best neighbour is that from which an OGM came. It is looked for only where the OGM is
+// sent on if it is.
+fn is_over(paths: &IndexMap<Pair, Path>, ogm: &OgmCame, life: &Option<Life>, value: u8) -> bool
+    ensures { IsStrictlySortedBy pair_order (keys paths.now) →
+        result ≡ (goes_on ogm.now value (forwarded_by life.now) true
+        && is_over_after ogm.now life.now paths.now.entries) }
+{
+    if !goes_on(ogm, value, life, true) {
+        return false;
+    }
+    let newest = newest_of(life).max(ogm.seq);
+    is_best(ogm.from, &best_of(paths, ogm.orig, newest))
 }
 
 // Puts the row of an originator and a neighbour; the originator's others go if a life begins.

@@ -1,5 +1,4 @@
-use Rattle.std.proofs.Common.{ap, ap₂, ◌∙◌, ◌*◌, ◌-◌, ◌/◌, arith}
-use Rattle.mesh_model.specs.Routes.Quality.{link_quality, asymmetry}
+use Rattle.std.proofs.Common.{arith}
 use Rattle.mesh_iv.proofs.QualityLemmas.{value_fits, value_none, value_some}
 use Rattle.mesh_iv.proofs.quality.transmit_quality.Goals as goal
 

@@ -1,14 +1,11 @@
-use Rattle.std.proofs.Common.{◌≡◌, ◌∙◌, ap, ap₂, sym, subst, cond, max, None, Some}
+use Rattle.std.proofs.Common.{◌≡◌, ◌∙◌, ap, ap₂, sym, subst, cond, true, ◌&&◌, Some}
 use Rattle.std.specs.List.Sorted.{IsStrictlySortedBy}
 use Rattle.std.specs.Map.{keys_of, lookup}
-use Rattle.mesh_base.specs.declared.address.Mac.{Mac}
 use Rattle.mesh_model.specs.Routes.Addresses.{mac_order, same_mac}
-use Rattle.mesh_iv.specs.declared.path.Path.{Path}
-use Rattle.mesh_iv.specs.declared.row.Life.{Life}
-use Rattle.mesh_iv.specs.declared.row.Pair.{Pair}
-use Rattle.mesh_iv.specs.Walk.{pair_order, walk}
-use Rattle.mesh_iv.specs.Hears.{forwarded_by, goes_on, is_best, life_with, newest_by}
+use Rattle.mesh_iv.specs.Walk.{pair_order}
+use Rattle.mesh_iv.specs.Hears.{forwarded_by, goes_on, life_with}
 use Rattle.mesh_iv.specs.Writing.{is_over_after, life_then, path_put, rows_kept}
+use Rattle.mesh_iv.proofs.AskLemmas.{asked_goes}
 use Rattle.mesh_iv.proofs.PutLemmas.{none_test}
 use Rattle.mesh_iv.proofs.writing.write.Goals as goal
 
@@ -20,11 +17,10 @@ returns-clause-written c =
     let same_lives : c.reserve.new.self.entries ≡ c.args.lives.now.entries = c.reserve.ensures.entries in
     let rises : IsStrictlySortedBy pair_order (keys_of c.args.paths.now.entries) → IsStrictlySortedBy pair_order (keys_of c.put_path.new.paths.entries)
     = λ sorted. c.in_ok-put_path.ensures.rises (subst (λ rows. IsStrictlySortedBy pair_order (keys_of rows)) (sym same_paths) sorted) in
-    let newest : c.max-newest.result ≡ max (newest_by life) came.seq = c.max-newest.ensures ∙ ap (λ n. max n came.seq) c.newest_of.ensures in
-    let over : IsStrictlySortedBy pair_order (keys_of c.args.paths.now.entries) → c.is_best-over.result ≡ is_over_after came life c.put_path.new.paths.entries
-    = λ sorted. c.is_best-over.ensures ∙ ap (λ b. is_best came.from b) (c.best_of.ensures (rises sorted) ∙ ap (λ n. walk n came.orig None c.put_path.new.paths.entries) newest) in
+    let over : IsStrictlySortedBy pair_order (keys_of c.args.paths.now.entries) → c.is_over-over.result ≡ (goes_on came c.args.value (forwarded_by life) true && is_over_after came life c.put_path.new.paths.entries)
+    = λ sorted. c.is_over-over.ensures (rises sorted) in
     let row : IsStrictlySortedBy pair_order (keys_of c.args.paths.now.entries) → c.life_after.result ≡ life_then came life c.args.value c.put_path.new.paths.entries
-    = λ sorted. c.life_after.ensures ∙ ap (λ b. life_with came life b) (c.goes_on-sent.ensures ∙ ap (λ b. goes_on came c.args.value (forwarded_by life) b) (over sorted)) in
+    = λ sorted. c.life_after.ensures ∙ ap (λ b. life_with came life b) (c.goes_on-sent.ensures ∙ ap (λ b. goes_on came c.args.value (forwarded_by life) b) (over sorted) ∙ asked_goes came c.args.value (forwarded_by life) (is_over_after came life c.put_path.new.paths.entries)) in
     record {
       paths_are = λ pair. c.in_ok-put_path.ensures.updated pair ∙ ap₂ (λ b rows. path_put came c.args.row (rows_kept b came.orig rows) pair) (none_test life c.is_none.result c.is_none.ensures) same_paths;
       paths_rise = rises;

@@ -1,5 +1,5 @@
 use Rattle.std.proofs.Common.{◌≡◌, ◌∷◌, sym, subst}
-use Rattle.mesh_model.specs.Routes.RouteLog.{RouteInput, HeadCame}
+use Rattle.mesh_model.specs.Routes.RouteLog.{HeadCame}
 use Rattle.mesh_iv.specs.Hears.{input_of}
 use Rattle.mesh_iv.specs.Tables.{StandsFor}
 use Rattle.mesh_iv.proofs.answers.IvAlgo.hear.Goals as goal

@@ -1,4 +1,4 @@
-use Rattle.std.proofs.Common.{◌≡◌, ◌∙◌, ap, sym, cond, true, false, Bool, rules}
+use Rattle.std.proofs.Common.{◌≡◌, ◌∙◌, ap, sym, cond, true, false, rules}
 use Rattle.mesh_model.specs.Routes.AlgorithmIv.{answer_to}
 use Rattle.mesh_model.specs.Routes.Hearings.{before, heard}
 use Rattle.mesh_model.specs.Routes.Life.{is_first}

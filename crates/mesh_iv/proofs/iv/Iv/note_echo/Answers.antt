@@ -2,11 +2,9 @@ use Rattle.std.proofs.Common.{◌≡◌, ◌∙◌, ap, ap₂, sym, subst, cond,
 use Rattle.std.specs.List.Sorted.{IsStrictlySortedBy}
 use Rattle.std.specs.Map.{keys_of, lookup}
 use Rattle.mesh_model.specs.Routes.Hearings.{heard}
-use Rattle.mesh_model.specs.Routes.Numbers.{window}
 use Rattle.mesh_model.specs.Routes.Ogm.{is_echo}
 use Rattle.mesh_model.specs.Routes.Quality.{echoes_from, own_ogms}
 use Rattle.mesh_iv.specs.declared.path.Path.{Path}
-use Rattle.mesh_iv.specs.declared.row.Pair.{Pair}
 use Rattle.mesh_iv.specs.Came.{ogm_in}
 use Rattle.mesh_iv.specs.Rows.{blank, echo_row}
 use Rattle.mesh_iv.specs.Tables.{Tables, path_at}

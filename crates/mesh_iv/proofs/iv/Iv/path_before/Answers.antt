@@ -1,5 +1,4 @@
-use Rattle.std.proofs.Common.{◌∙◌, ap, ap₂, unwrap_or}
-use Rattle.mesh_iv.specs.Rows.{blank}
+use Rattle.std.proofs.Common.{◌∙◌, ap₂, unwrap_or}
 use Rattle.mesh_iv.proofs.ValueLemmas.{kept_none, kept_some, none_is}
 use Rattle.mesh_iv.proofs.iv.Iv.path_before.Goals as goal
 
