@@ -3,6 +3,7 @@ pub mod GatewayLemmas
 pub mod IpLemmas
 pub mod OptionsLemmas
 pub mod RefusesLemmas
+pub mod SpellLemmas
 pub mod TermsLemmas
 pub mod OffsetLemmas
 pub mod WordsLemmas
