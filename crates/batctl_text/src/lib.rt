@@ -2,8 +2,7 @@
 //! happens in a run.
 //!
 //! Each call appends whole lines to a buffer, or leaves it as it was where memory runs out. A line
-//! is a list of parts, which `put_line` appends one after the other and takes back where one
-//! doesn't fit.
+//! is a list of parts: `put_line` puts their texts together, and then appends the line.
 
 #![tactic(auto)]
 
@@ -13,6 +12,7 @@ mod decoding;
 mod ending;
 mod event_line;
 mod global_table;
+mod line_text;
 mod local_table;
 mod packet;
 mod part;

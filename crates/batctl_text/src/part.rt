@@ -1,13 +1,14 @@
 //! The parts of a line: texts, numbers, addresses, VLANs, flags, checksums and ages.
 
-ghost use Rattle.std.specs.Prelude.{◌≡◌, ◌/◌, ◌%◌, ◌++◌, ◌<◌, decimal, slice_index, codes, List, [], ◌∷◌, OnOk, OnErr};
+ghost use Rattle.std.specs.Prelude.{◌≡◌, ◌/◌, ◌%◌, ◌++◌, ◌<◌, decimal, slice_index, codes, List, [], ◌∷◌, OnOk};
 ghost use Rattle.hex.specs.Hex.{encode_lower, lower_digits};
 ghost use Rattle.mesh_base.specs.Address.{hex_of_byte, mac_text, pairs_text};
 ghost use Rattle.mesh_model.specs.Text.PacketLines.{named_number, named_address, named_flags};
 ghost use Rattle.mesh_model.specs.Text.GlobalTables.{byte_text};
 ghost use Rattle.mesh_model.specs.Text.Tables.{address_text, age_text, flag_text, flags_text, sum_text, vid_text};
-ghost use Rattle.batctl_text.specs.Inner.Parts.{part_text, Grows};
+ghost use Rattle.batctl_text.specs.Inner.Parts.{part_text};
 
+use crate::line_text::LineText;
 use mesh_base::{Mac, Millis, NoMemory, Vid};
 use mesh_tvlv::layout::{ISOLATED, WIFI};
 
@@ -43,50 +44,49 @@ pub enum Part<'a> {
     Hex(&'a [u8]),
 }
 
-fn put_number(out: &mut Vec<u8>, number: u64) -> Result<(), NoMemory>
-    ensures ok { OnOk result (out.new.items ≡ out.old.items ++ decimal number) }
-    ensures err { OnErr result (out.new.items ≡ out.old.items) }
+fn put_number(line: &mut LineText, number: u64) -> Result<(), NoMemory>
+    ensures { OnOk result (line.new ≡ line.old ++ decimal number) }
 {
+    if number < 10 {
+        line.put(&[b'0' + number as u8])?;
+        return Ok(());
+    }
     let mut digits = itoa::Buffer::new();
-    out.extend_from_slice(digits.format(number).as_bytes())?;
+    line.put(digits.format(number).as_bytes())?;
     Ok(())
 }
 
-fn put_named_number(out: &mut Vec<u8>, name: &[u8], number: u64) -> Result<(), NoMemory>
-    ensures ok { OnOk result (out.new.items ≡ out.old.items ++ named_number name.now number) }
-    ensures err { OnErr result (Grows out.old.items out.new.items) }
+fn put_named_number(line: &mut LineText, name: &[u8], number: u64) -> Result<(), NoMemory>
+    ensures { OnOk result (line.new ≡ line.old ++ named_number name.now number) }
 {
-    out.extend_from_slice(name)?;
-    put_number(out, number)?;
+    line.put(name)?;
+    put_number(line, number)?;
     Ok(())
 }
 
-fn put_named_address(out: &mut Vec<u8>, name: &[u8], mac: Mac) -> Result<(), NoMemory>
-    ensures ok { OnOk result (out.new.items ≡ out.old.items ++ named_address name.now mac) }
-    ensures err { OnErr result (Grows out.old.items out.new.items) }
+fn put_named_address(line: &mut LineText, name: &[u8], mac: Mac) -> Result<(), NoMemory>
+    ensures { OnOk result (line.new ≡ line.old ++ named_address name.now mac) }
 {
-    out.extend_from_slice(name)?;
-    out.extend_from_slice(&mac_digits(mac.0))?;
+    line.put(name)?;
+    line.put(&mac_digits(mac.0))?;
     Ok(())
 }
 
-fn put_named_flags(out: &mut Vec<u8>, name: &[u8], flags: u8) -> Result<(), NoMemory>
-    ensures ok { OnOk result (out.new.items ≡ out.old.items ++ named_flags name.now flags) }
-    ensures err { OnErr result (Grows out.old.items out.new.items) }
+fn put_named_flags(line: &mut LineText, name: &[u8], flags: u8) -> Result<(), NoMemory>
+    ensures { OnOk result (line.new ≡ line.old ++ named_flags name.now flags) }
 {
-    out.extend_from_slice(name)?;
-    out.extend_from_slice(&[high_digit(flags), low_digit(flags)])?;
+    line.put(name)?;
+    line.put(&[high_digit(flags), low_digit(flags)])?;
     Ok(())
 }
 
-fn put_container(out: &mut Vec<u8>, kind: u8, version: u8, len: usize) -> Result<(), NoMemory>
-    ensures ok { OnOk result (out.new.items ≡ out.old.items ++ (named_number (codes "tvlv ") kind
+fn put_container(line: &mut LineText, kind: u8, version: u8, len: usize) -> Result<(), NoMemory>
+    ensures { OnOk result (line.new ≡ line.old ++ (named_number (codes "tvlv ") kind
         ++ named_number (codes " version=") version ++ named_number (codes " len=") len)) }
-    ensures err { OnErr result (Grows out.old.items out.new.items) }
 {
-    put_named_number(out, b"tvlv ", u64::from(kind))?;
-    put_named_number(out, b" version=", u64::from(version))?;
-    put_named_number(out, b" len=", len as u64)?;
+    put_named_number(line, b"tvlv ", u64::from(kind))?;
+    put_named_number(line, b" version=", u64::from(version))?;
+    put_named_number(line, b" len=", len as u64)?;
     Ok(())
 }
 
@@ -131,31 +131,29 @@ fn low_digit(byte: u8) -> u8
 }
 
 #[tactic(auto, unfolding(mesh_model::specs::Text::Tables::vid_text))]
-fn put_vid(out: &mut Vec<u8>, vid: Vid) -> Result<(), NoMemory>
-    ensures ok { OnOk result (out.new.items ≡ out.old.items ++ vid_text vid) }
-    ensures err { OnErr result (Grows out.old.items out.new.items) }
+fn put_vid(line: &mut LineText, vid: Vid) -> Result<(), NoMemory>
+    ensures { OnOk result (line.new ≡ line.old ++ vid_text vid) }
 {
     if vid == Vid::UNTAGGED {
-        out.extend_from_slice(b"-")?;
+        line.put(b"-")?;
     } else if vid.0 >= Vid::TAGGED {
-        put_number(out, u64::from(vid.0 - Vid::TAGGED))?;
+        put_number(line, u64::from(vid.0 - Vid::TAGGED))?;
     } else {
-        out.extend_from_slice(b"raw:")?;
-        put_number(out, u64::from(vid.0))?;
+        line.put(b"raw:")?;
+        put_number(line, u64::from(vid.0))?;
     }
     Ok(())
 }
 
 #[tactic(auto, unfolding(mesh_model::specs::Text::Tables::sum_text))]
-fn put_sum(out: &mut Vec<u8>, sum: u32) -> Result<(), NoMemory>
-    ensures ok { OnOk result (out.new.items ≡ out.old.items ++ sum_text sum) }
-    ensures err { OnErr result (out.new.items ≡ out.old.items) }
+fn put_sum(line: &mut LineText, sum: u32) -> Result<(), NoMemory>
+    ensures { OnOk result (line.new ≡ line.old ++ sum_text sum) }
 {
     let mut digits = [0; 8];
     let Ok(()) = hex::encode_to_slice(sum.to_be_bytes().as_slice(), &mut digits) else {
         unreachable!()
     };
-    out.extend_from_slice(&digits)?;
+    line.put(&digits)?;
     Ok(())
 }
 
@@ -168,11 +166,10 @@ fn flag_letter(flags: u8, flag: u8, letter: u8) -> u8
 }
 
 #[tactic(auto, unfolding(mesh_model::specs::Text::Tables::flags_text))]
-fn put_marks(out: &mut Vec<u8>, flags: u8) -> Result<(), NoMemory>
-    ensures ok { OnOk result (out.new.items ≡ out.old.items ++ flags_text flags) }
-    ensures err { OnErr result (out.new.items ≡ out.old.items) }
+fn put_marks(line: &mut LineText, flags: u8) -> Result<(), NoMemory>
+    ensures { OnOk result (line.new ≡ line.old ++ flags_text flags) }
 {
-    out.extend_from_slice(&[
+    line.put(&[
         flag_letter(flags, WIFI, b'w'),
         flag_letter(flags, ISOLATED, b'i'),
     ])?;
@@ -180,71 +177,62 @@ fn put_marks(out: &mut Vec<u8>, flags: u8) -> Result<(), NoMemory>
 }
 
 #[tactic(auto, unfolding(mesh_model::specs::Text::Tables::age_text))]
-fn put_age(out: &mut Vec<u8>, age: Option<Millis>) -> Result<(), NoMemory>
-    ensures ok { OnOk result (out.new.items ≡ out.old.items ++ age_text age) }
-    ensures err { OnErr result (out.new.items ≡ out.old.items) }
+fn put_age(line: &mut LineText, age: Option<Millis>) -> Result<(), NoMemory>
+    ensures { OnOk result (line.new ≡ line.old ++ age_text age) }
 {
     match age {
-        Some(age) => put_number(out, age)?,
-        None => out.extend_from_slice(b"-")?,
+        Some(age) => put_number(line, age)?,
+        None => line.put(b"-")?,
     }
     Ok(())
 }
 
-fn put_hop(out: &mut Vec<u8>, mac: Option<Mac>) -> Result<(), NoMemory>
-    ensures ok { OnOk result (out.new.items ≡ out.old.items ++ address_text mac) }
-    ensures err { OnErr result (out.new.items ≡ out.old.items) }
+fn put_hop(line: &mut LineText, mac: Option<Mac>) -> Result<(), NoMemory>
+    ensures { OnOk result (line.new ≡ line.old ++ address_text mac) }
 {
     match mac {
-        Some(mac) => out.extend_from_slice(&mac_digits(mac.0))?,
-        None => out.extend_from_slice(b"-")?,
+        Some(mac) => line.put(&mac_digits(mac.0))?,
+        None => line.put(b"-")?,
     }
     Ok(())
 }
 
-fn put_byte(out: &mut Vec<u8>, byte: Option<u8>) -> Result<(), NoMemory>
-    ensures ok { OnOk result (out.new.items ≡ out.old.items ++ byte_text byte) }
-    ensures err { OnErr result (out.new.items ≡ out.old.items) }
+fn put_byte(line: &mut LineText, byte: Option<u8>) -> Result<(), NoMemory>
+    ensures { OnOk result (line.new ≡ line.old ++ byte_text byte) }
 {
     match byte {
-        Some(byte) => put_number(out, u64::from(byte))?,
-        None => out.extend_from_slice(b"-")?,
+        Some(byte) => put_number(line, u64::from(byte))?,
+        None => line.put(b"-")?,
     }
     Ok(())
 }
 
-fn put_hex(out: &mut Vec<u8>, bytes: &[u8]) -> Result<(), NoMemory>
-    ensures ok { OnOk result (out.new.items ≡ out.old.items ++ encode_lower bytes.now) }
-    ensures err { OnErr result (Grows out.old.items out.new.items) }
+fn put_hex(line: &mut LineText, bytes: &[u8]) -> Result<(), NoMemory>
+    ensures { OnOk result (line.new ≡ line.old ++ encode_lower bytes.now) }
 {
-    let start = out.len();
-    let digits = bytes.len().checked_mul(2).ok_or(NoMemory)?;
-    let end = start.checked_add(digits).ok_or(NoMemory)?;
-    out.resize(end, 0)?;
-    let Ok(()) = hex::encode_to_slice(bytes, out.slice_mut(start..)) else {
-        unreachable!()
-    };
+    for byte in bytes {
+        line.put(&[high_digit(*byte), low_digit(*byte)])?;
+    }
     Ok(())
 }
 
-/// Appends a part. Where memory runs out, a front of it may stay.
-pub fn put_part(out: &mut Vec<u8>, part: &Part<'_>) -> Result<(), NoMemory>
-    ensures ok { OnOk result (out.new.items ≡ out.old.items ++ part_text part.now) }
-    ensures err { OnErr result (Grows out.old.items out.new.items) }
+/// Appends a part.
+pub fn put_part(line: &mut LineText, part: &Part<'_>) -> Result<(), NoMemory>
+    ensures { OnOk result (line.new ≡ line.old ++ part_text part.now) }
 {
     match *part {
-        Part::Text(text) => out.extend_from_slice(text)?,
-        Part::Number(name, value) => put_named_number(out, name, value)?,
-        Part::Address(name, mac) => put_named_address(out, name, mac)?,
-        Part::Flags(name, flags) => put_named_flags(out, name, flags)?,
-        Part::Container { kind, version, len } => put_container(out, kind, version, len)?,
-        Part::Vlan(vid) => put_vid(out, vid)?,
-        Part::Sum(sum) => put_sum(out, sum)?,
-        Part::Marks(flags) => put_marks(out, flags)?,
-        Part::Age(age) => put_age(out, age)?,
-        Part::Hop(mac) => put_hop(out, mac)?,
-        Part::Byte(byte) => put_byte(out, byte)?,
-        Part::Hex(bytes) => put_hex(out, bytes)?,
+        Part::Text(text) => line.put(text)?,
+        Part::Number(name, value) => put_named_number(line, name, value)?,
+        Part::Address(name, mac) => put_named_address(line, name, mac)?,
+        Part::Flags(name, flags) => put_named_flags(line, name, flags)?,
+        Part::Container { kind, version, len } => put_container(line, kind, version, len)?,
+        Part::Vlan(vid) => put_vid(line, vid)?,
+        Part::Sum(sum) => put_sum(line, sum)?,
+        Part::Marks(flags) => put_marks(line, flags)?,
+        Part::Age(age) => put_age(line, age)?,
+        Part::Hop(mac) => put_hop(line, mac)?,
+        Part::Byte(byte) => put_byte(line, byte)?,
+        Part::Hex(bytes) => put_hex(line, bytes)?,
     }
     Ok(())
 }

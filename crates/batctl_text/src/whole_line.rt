@@ -1,20 +1,20 @@
 //! A line, whole or not at all.
 
 ghost use Rattle.std.specs.Prelude.{◌≡◌, ◌++◌, OnOk, OnErr};
-ghost use Rattle.batctl_text.specs.Inner.Parts.{parts_line, Grows};
+ghost use Rattle.batctl_text.specs.Inner.Parts.{parts_line};
 
+use crate::line_text::LineText;
 use crate::part::{Part, put_part};
 use mesh_base::NoMemory;
 
-// Appends parts and a newline. Where memory runs out, some of them may stay.
-fn put_parts(out: &mut Vec<u8>, parts: &[Part<'_>]) -> Result<(), NoMemory>
-    ensures ok { OnOk result (out.new.items ≡ out.old.items ++ parts_line parts.now) }
-    ensures err { OnErr result (Grows out.old.items out.new.items) }
+// Appends parts and a newline.
+fn put_parts(line: &mut LineText, parts: &[Part<'_>]) -> Result<(), NoMemory>
+    ensures { OnOk result (line.new ≡ line.old ++ parts_line parts.now) }
 {
     for part in parts {
-        put_part(out, part)?;
+        put_part(line, part)?;
     }
-    out.extend_from_slice(b"\n")?;
+    line.put(b"\n")?;
     Ok(())
 }
 
@@ -23,10 +23,8 @@ pub fn put_line(out: &mut Vec<u8>, parts: &[Part<'_>]) -> Result<(), NoMemory>
     ensures ok { OnOk result (out.new.items ≡ out.old.items ++ parts_line parts.now) }
     ensures err { OnErr result (out.new.items ≡ out.old.items) }
 {
-    let before = out.len();
-    if let Err(NoMemory) = put_parts(out, parts) {
-        out.truncate(before);
-        return Err(NoMemory);
-    }
+    let mut line = LineText::new(*out.allocator());
+    put_parts(&mut line, parts)?;
+    line.append_to(out)?;
     Ok(())
 }

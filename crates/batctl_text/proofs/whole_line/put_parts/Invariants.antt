@@ -4,4 +4,4 @@ use Rattle.batctl_text.specs.Inner.Parts.{part_text}
 use Rattle.batctl_text.proofs.whole_line.put_parts.Given as goal
 
 abbrev pub invariant-loop-part : goal.invariant-loop-part
-invariant-loop-part l = l.out.items ≡ l.initial.out.items ++ flat_map part_text (take l.part-index l.parts)
+invariant-loop-part l = l.line ≡ l.initial.line ++ flat_map part_text (take l.part-index l.parts)
