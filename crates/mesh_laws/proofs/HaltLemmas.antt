@@ -4,6 +4,7 @@ use Rattle.std.proofs.Common.{◌≡◌, ℕ, ◌+◌, ◌-◌, ◌<◌, ◌≤�
 use Rattle.std.specs.Prelude.{nat_lt, nat_le}
 use Rattle.std.specs.List.{concat}
 use Rattle.std.proofs.lemmas.List.{get_or_at}
+use Rattle.mesh_model.specs.declared.frame_choice.FrameChoice.{FrameChoice}
 use Rattle.mesh_model.specs.Run.Halting.{halting_byte, halting_place, numbered_line}
 use Rattle.std.proofs.lemmas.Bool.Decides.{nat_tests}
 use Rattle.mesh_model.specs.declared.ending.LimitName.TheVariants.{Line, Input}
@@ -68,11 +69,11 @@ after_lines-halts run line rest after stop going is =
 
 -- ---- the run of an input that was cut
 
-pub plain_run-cut : (read : List ℕ) (lines : List (List ℕ)) (rest more : List ℕ) → IsCut read lines rest
-    → plain_run (read ++ more) ≡ after_lines (after_lines start lines) (lines_of (rest ++ more))
+pub plain_run-cut : (choice : FrameChoice) (read : List ℕ) (lines : List (List ℕ)) (rest more : List ℕ) → IsCut read lines rest
+    → plain_run choice (read ++ more) ≡ after_lines (after_lines (start choice) lines) (lines_of (rest ++ more))
 unfolding plain_run
-plain_run-cut read lines rest more cut =
-    ap (after_lines start) (lines_of-cut read lines rest more cut) ∙ after_lines-append start lines (lines_of (rest ++ more))
+plain_run-cut choice read lines rest more cut =
+    ap (after_lines (start choice)) (lines_of-cut read lines rest more cut) ∙ after_lines-append (start choice) lines (lines_of (rest ++ more))
 
 -- ---- what a run that goes on has counted
 
@@ -111,19 +112,19 @@ after_lines-counts run (line ∷ lines) begun going =
 -- ---- where the run of an input halts
 
 -- the run of an input halts at the line that follows these, for this cause
-pub record HaltsAfter (input : List ℕ) (lines : List (List ℕ)) (line : List ℕ) (after : State) (stop : Stop) : Type 0 where
-  pub run_is : plain_run input ≡ record (after_lines start lines) { state = after; halt = Some (record { line = (after_lines start lines).lines + 1; stop = stop }) }
-  pub place : halting_byte input (record { line = (after_lines start lines).lines + 1; stop = stop }) ≡ halting_place (after_lines start lines).bytes line stop
+pub record HaltsAfter (choice : FrameChoice) (input : List ℕ) (lines : List (List ℕ)) (line : List ℕ) (after : State) (stop : Stop) : Type 0 where
+  pub run_is : plain_run choice input ≡ record (after_lines (start choice) lines) { state = after; halt = Some (record { line = (after_lines (start choice) lines).lines + 1; stop = stop }) }
+  pub place : halting_byte choice input (record { line = (after_lines (start choice) lines).lines + 1; stop = stop }) ≡ halting_place (after_lines (start choice) lines).bytes line stop
 
-pub halts_after : (input : List ℕ) (lines : List (List ℕ)) (line : List ℕ) (later : List (List ℕ)) (after : State) (stop : Stop)
-    → lines_of input ≡ lines ++ line ∷ later → (after_lines start lines).halt ≡ None
-    → line_outcome (after_lines start lines).state (after_lines start lines).bytes line ≡ Ends after stop → HaltsAfter input lines line after stop
+pub halts_after : (choice : FrameChoice) (input : List ℕ) (lines : List (List ℕ)) (line : List ℕ) (later : List (List ℕ)) (after : State) (stop : Stop)
+    → lines_of input ≡ lines ++ line ∷ later → (after_lines (start choice) lines).halt ≡ None
+    → line_outcome (after_lines (start choice) lines).state (after_lines (start choice) lines).bytes line ≡ Ends after stop → HaltsAfter choice input lines line after stop
 unfolding plain_run
-halts_after input lines line later after stop are going is =
-    let run = after_lines start lines in
+halts_after choice input lines line later after stop are going is =
+    let run = after_lines (start choice) lines in
     let halt : Halt = record { line = run.lines + 1; stop = stop } in
-    let counts = after_lines-counts start lines refl going in
-    let run_is = ap (after_lines start) are ∙ after_lines-append start lines (line ∷ later) ∙ after_lines-halts run line later after stop going is in
+    let counts = after_lines-counts (start choice) lines refl going in
+    let run_is = ap (after_lines (start choice)) are ∙ after_lines-append (start choice) lines (line ∷ later) ∙ after_lines-halts run line later after stop going is in
     let at : run.lines + 1 - 1 ≡ length lines = omega (arith, counts.lines_are) in
     let numbered : numbered_line input (run.lines + 1) ≡ line =
     ap (λ ls. get_or ls (run.lines + 1 - 1) []) are ∙ get_or_at lines line later [] (run.lines + 1 - 1) (sym at) in

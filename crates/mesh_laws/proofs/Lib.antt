@@ -1,4 +1,6 @@
 -- What the laws rest on.
+pub mod Schedule
+pub mod Lines
 pub mod CutLemmas
 pub mod RunLemmas
 pub mod HaltLemmas
@@ -24,8 +26,6 @@ pub mod KnownLemmas
 pub mod MachineInvariant
 pub mod MachineLemmas
 pub mod MisledWorld
-pub mod Schedule
-pub mod Lines
 pub mod FoundLemmas
 pub mod FrameLemmas
 pub mod BadLineLemmas

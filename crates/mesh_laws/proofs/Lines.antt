@@ -7,3 +7,6 @@ pub mod Ways
 pub mod Printing
 pub mod Keeping
 pub mod Quiet
+pub mod ReadRange
+pub mod Slices
+pub mod Seen

@@ -1,30 +1,22 @@
 -- Lemmas on the runs of lists of lines.
-use Rattle.std.proofs.Common.{◌≡◌, ℕ, true, false, List, [], ◌∷◌, ◌++◌, Option, Some, None, is_some, IsSome, Bool, if◌then◌else◌, Ok, Err, refl, sym, ap, ◌∙◌, append_assoc, append-nil}
-use Rattle.std.specs.Prelude.{⊤, flat_map}
+use Rattle.std.proofs.Common.{◌≡◌, ℕ, true, false, List, [], ◌∷◌, ◌++◌, is_some, IsSome, Bool, if◌then◌else◌, Ok, Err, refl, sym, ap, ◌∙◌, append_assoc, append-nil}
+use Rattle.std.specs.Prelude.{flat_map}
 use Rattle.std.specs.List.{concat}
-use Rattle.std.specs.Option.{option_map, option_map_or}
 use Rattle.std.proofs.lemmas.List.Sums.{fold-append}
-use Rattle.std.proofs.lemmas.List.Concat.{flat_map-append}
-use Rattle.mesh_base.specs.Address.{is_broadcast}
-use Rattle.mesh_model.specs.declared.ending.Refusal.{Refusal}
 use Rattle.mesh_model.specs.declared.ending.Stop.{Stop}
 use Rattle.mesh_model.specs.declared.ending.LimitName.TheVariants.{Line, Input}
 use Rattle.mesh_model.specs.declared.ending.Stop.TheVariants.{Limit}
-use Rattle.mesh_model.specs.declared.line_form.Command.{Command}
-use Rattle.mesh_model.specs.declared.line_form.Command.TheVariants.{Nothing, Algo, Node, Link, Lan, Frame, Gone, Join, Leave, Arp, Dhcp, Wifi, GwOff, GwServer, GwClient, Mcast, Dat, Alfred, Put, Get, Ping, Trace, Deliver, Show, Decode}
-use Rattle.mesh_model.specs.declared.line_form.Command.TheVariants.{Run as RunLine}
+use Rattle.mesh_model.specs.declared.frame_choice.FrameChoice.{FrameChoice}
 use Rattle.mesh_laws.specs.Cuts.{AreLines}
-use Rattle.mesh_model.specs.Clients.Log.{Given}
-use Rattle.mesh_model.specs.Clients.Log.{Frame as GivenFrame}
 use Rattle.mesh_model.specs.Scenario.Commands.{command_of_line}
 use Rattle.mesh_model.specs.Scenario.Readings.{Reading}
 use Rattle.mesh_model.specs.Scenario.Lines.{content, lines_of}
 use Rattle.mesh_model.specs.Run.Outcome.{Outcome, Goes, Ends, reached}
 use Rattle.mesh_model.specs.Run.PlainRun.{Run, start, after_line, after_lines, after_outcome, after_reading, line_outcome, passes_input, passes_line, plain_run, output}
-use Rattle.mesh_model.specs.Run.Rules.{after_step, first_refused_rule, unless_refused}
-use Rattle.mesh_model.specs.Run.State.{Decoded, NodeLog, Printed, State, node_named, place_of, printed_text, text_of}
-use Rattle.mesh_model.specs.Run.Steps.{Step, after_print, after_show, frame_step, input_at, shown, step_of}
+use Rattle.mesh_model.specs.Run.Rules.{iv_setup}
+use Rattle.mesh_model.specs.Run.State.{State, printed_text, text_of}
 use Rattle.mesh_laws.proofs.CutLemmas.{lines_of-lines_then}
+use Rattle.mesh_laws.proofs.Lines.Printing.{Grows, grows, grows_by_none, text_of_more}
 
 pub after_lines-append : (run : Run) (a b : List (List ℕ)) → after_lines run (a ++ b) ≡ after_lines (after_lines run a) b
 after_lines-append run a b = fold-append after_line run a b
@@ -38,80 +30,20 @@ after_lines-halted run (line ∷ lines) halted =
 
 -- ---- what is printed stays
 
--- what was printed before an outcome is a front of what is printed after it
+-- an outcome keeps what was printed before it, and the choice
 abbrev pub PrintsOn : State → Outcome → Type 0
-PrintsOn before outcome = (more : List Printed) × ((reached outcome).printed ≡ before.printed ++ more)
+PrintsOn before outcome = Grows before (reached outcome)
 
 -- nothing more is printed
-pub PrintsOn-none : (state : State) → PrintsOn state (Goes state)
-PrintsOn-none state = ([], sym (append-nil state.printed))
-
--- each step prints on
-abbrev pub StepPrintsOn : Option Step → Type 0
-StepPrintsOn None = ⊤
-StepPrintsOn (Some step) = (state : State) → PrintsOn state (step state)
-
-input-prints : (state : State) (given : Given) (place : Option ℕ) → PrintsOn state (Goes (option_map_or (input_at state given) place state))
-input-prints state given None = PrintsOn-none state
-input-prints state given (Some place) = PrintsOn-none state
-
-frame-prints : (to_all : Bool) (place : List ℕ) (given : Given) → StepPrintsOn (frame_step to_all place given)
-frame-prints true place given = λ state. input-prints state given (place_of state place)
-frame-prints false place given = tt
-
-show-prints : (state : State) (print : ℕ → NodeLog → Printed) (node : Option NodeLog)
-    → PrintsOn state (Goes (option_map_or (λ n. after_print state (print state.clock n)) node state))
-show-prints state print None = PrintsOn-none state
-show-prints state print (Some node) = (print state.clock node ∷ [], refl)
-
-shown-prints : (name : List ℕ) (print : Option (ℕ → NodeLog → Printed)) → StepPrintsOn (option_map (λ p state. Goes (after_show state name p)) print)
-shown-prints name None = tt
-shown-prints name (Some print) = λ state. show-prints state print (node_named state name)
-
-pub step-prints : (command : Command) → StepPrintsOn (step_of command)
-step-prints Nothing = PrintsOn-none
-step-prints (Algo algorithm) = tt
-step-prints (Node name mac) = λ state. ([], sym (append-nil state.printed))
-step-prints (Link from to delay pattern throughput) = tt
-step-prints (Lan name gateways) = tt
-step-prints (Frame place src dst vid text) = frame-prints (is_broadcast dst) place (GivenFrame src dst vid text)
-step-prints (Gone place key) = tt
-step-prints (Join node key) = tt
-step-prints (Leave node key) = tt
-step-prints (Arp node mac own asked vid) = tt
-step-prints (Dhcp node key text) = tt
-step-prints (Wifi node on) = tt
-step-prints (GwOff node) = tt
-step-prints (GwServer node down up) = tt
-step-prints (GwClient node policy) = tt
-step-prints (Mcast node flags) = tt
-step-prints (Dat node on) = tt
-step-prints (Alfred node mode) = tt
-step-prints (Put node type_no version text) = tt
-step-prints (Get node type_no) = tt
-step-prints (Ping node target) = tt
-step-prints (Trace node target) = tt
-step-prints (RunLine time) = tt
-step-prints (Deliver number) = tt
-step-prints (Show node table) = shown-prints node (shown table)
-step-prints (Decode bytes) = λ state. (Decoded bytes ∷ [], refl)
-
-after_step-prints : (state : State) (step : Option Step) → StepPrintsOn step → PrintsOn state (after_step state step)
-after_step-prints state None h = PrintsOn-none state
-after_step-prints state (Some step) h = h state
-
-unless_refused-prints : (state : State) (refusal : Option Refusal) (outcome : Outcome) → PrintsOn state outcome → PrintsOn state (unless_refused state refusal outcome)
-unless_refused-prints state None outcome h = h
-unless_refused-prints state (Some refusal) outcome h = ([], sym (append-nil state.printed))
+pub PrintsOn-none : (state : State) → Grows state state
+PrintsOn-none state = grows_by_none state state refl refl
 
 pub after_reading-prints : (state : State) (reading : Reading) → PrintsOn state (after_reading state reading)
-after_reading-prints state (Ok command) =
-    unless_refused-prints state (first_refused_rule state command) (after_step state (step_of command))
-    (after_step-prints state (step_of command) (step-prints command))
-after_reading-prints state (Err stop) = ([], sym (append-nil state.printed))
+after_reading-prints state (Ok command) = grows iv_setup state command
+after_reading-prints state (Err stop) = PrintsOn-none state
 
 unless-prints : (state : State) (test : Bool) (stop : Stop) (outcome : Outcome) → PrintsOn state outcome → PrintsOn state (if test then Ends state stop else outcome)
-unless-prints state true stop outcome h = ([], sym (append-nil state.printed))
+unless-prints state true stop outcome h = PrintsOn-none state
 unless-prints state false stop outcome h = h
 
 pub line_outcome-prints : (state : State) (before : ℕ) (line : List ℕ) → PrintsOn state (line_outcome state before line)
@@ -122,12 +54,12 @@ line_outcome-prints state before line =
     (unless-prints state (passes_input before line) (Limit Input) (after_reading state reading) (after_reading-prints state reading))
 
 -- the text of what was printed is a front of that of more
-pub text-grows : (old new : State) (more : List Printed) → new.printed ≡ old.printed ++ more → text_of new ≡ text_of old ++ flat_map printed_text more
-text-grows old new more h = ap (flat_map printed_text) h ∙ flat_map-append printed_text old.printed more
+pub text-grows : (old new : State) → Grows old new → (printed : List ℕ) × (text_of new ≡ text_of old ++ printed)
+text-grows old new g = (flat_map (printed_text old.choice) g.more, text_of_more old new g)
 
 after_outcome-grows : (run : Run) (line : List ℕ) (outcome : Outcome) → PrintsOn run.state outcome → (printed : List ℕ) × (output (after_outcome run line outcome) ≡ output run ++ printed)
-after_outcome-grows run line (Goes state) h = (flat_map printed_text h.0, text-grows run.state state h.0 h.1)
-after_outcome-grows run line (Ends state stop) h = (flat_map printed_text h.0, text-grows run.state state h.0 h.1)
+after_outcome-grows run line (Goes state) h = text-grows run.state state h
+after_outcome-grows run line (Ends state stop) h = text-grows run.state state h
 
 halted_or-grows : (run : Run) (line : List ℕ) (halted : Bool) → (printed : List ℕ) × (output (if halted then run else after_outcome run line (line_outcome run.state run.bytes line)) ≡ output run ++ printed)
 halted_or-grows run line true = ([], sym (append-nil (output run)))
@@ -145,7 +77,8 @@ after_lines-grows run (line ∷ lines) =
 
 -- ---- the run of an input that was cut
 
-pub plain_run-lines : (lines : List (List ℕ)) (rest : List ℕ) → AreLines lines → plain_run (concat lines ++ rest) ≡ after_lines (after_lines start lines) (lines_of rest)
+pub plain_run-lines : (choice : FrameChoice) (lines : List (List ℕ)) (rest : List ℕ) → AreLines lines
+    → plain_run choice (concat lines ++ rest) ≡ after_lines (after_lines (start choice) lines) (lines_of rest)
 unfolding plain_run
-plain_run-lines lines rest are =
-    ap (after_lines start) (lines_of-lines_then lines rest are) ∙ after_lines-append start lines (lines_of rest)
+plain_run-lines choice lines rest are =
+    ap (after_lines (start choice)) (lines_of-lines_then lines rest are) ∙ after_lines-append (start choice) lines (lines_of rest)

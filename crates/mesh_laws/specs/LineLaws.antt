@@ -2,7 +2,8 @@
 -- happening; its end is where the clock stands. What is printed only grows. A line that is refused
 -- changes nothing, and neither does one that passes a limit, unless it is a run. What holds of all
 -- states that are reached is kept by each command, and nothing is due between lines.
-use Rattle.std.specs.Prelude.{◌≡◌, ℕ, ◌≤◌, ◌⊎◌, List, ◌++◌, Some}
+use Rattle.std.specs.Prelude.{◌≡◌, ℕ, ◌≤◌, ◌⊎◌, true, List, ◌++◌, Some, Ok}
+use Rattle.std.specs.Fn.{iterate}
 use Rattle.mesh_model.specs.declared.ending.Refusal.{Refusal}
 use Rattle.mesh_model.specs.declared.ending.Stop.{Stop}
 use Rattle.mesh_model.specs.declared.ending.Stop.TheVariants.{Refused}
@@ -10,12 +11,16 @@ use Rattle.mesh_model.specs.declared.frame_choice.FrameChoice.{FrameChoice}
 use Rattle.mesh_model.specs.declared.line_form.Command.{Command}
 use Rattle.mesh_model.specs.declared.line_form.Command.TheVariants.{Link, Run}
 use Rattle.mesh_model.specs.Net.Limits.{clock_limit}
-use Rattle.mesh_model.specs.Net.Mesh.{Setup}
+use Rattle.mesh_model.specs.Net.Mesh.{Mesh, Setup}
 use Rattle.mesh_model.specs.Net.Next.{IsQuiet}
-use Rattle.mesh_model.specs.NetRun.State.{Printed, State, first_state, text_of}
-use Rattle.mesh_model.specs.NetRun.Outcome.{Goes, Ends, reached, and_then}
-use Rattle.mesh_model.specs.NetRun.Passing.{run_until, one_happening}
-use Rattle.mesh_model.specs.NetRun.Rules.{carried_out, first_refused_rule}
+use Rattle.mesh_model.specs.Net.Runs.{begin, turn, going_on, run_to}
+use Rattle.mesh_model.specs.Scenario.Commands.{command_of_line}
+use Rattle.mesh_model.specs.Scenario.LinkOptions.{least_delay, delay_limit, least_throughput, throughput_limit}
+use Rattle.mesh_model.specs.Scenario.Terms.{is_pattern}
+use Rattle.mesh_model.specs.Run.State.{Printed, State, first_state, text_of}
+use Rattle.mesh_model.specs.Run.Outcome.{Goes, Ends, reached, and_then}
+use Rattle.mesh_model.specs.Run.Passing.{gone_on, run_until, one_happening}
+use Rattle.mesh_model.specs.Run.Rules.{carried_out, first_refused_rule}
 use Rattle.mesh_laws.specs.Soundness.{FitsPlaces, IsSound, KeepsBytes}
 
 -- what holds of every state that is reached
@@ -42,6 +47,24 @@ GoesOn = (setup : Setup) (first last : ℕ) (state : State) → CanPass setup fi
 abbrev pub GoesByHappenings : Type 0
 GoesByHappenings = (setup : Setup) (t : ℕ) (state : State) → CanPass setup t state →
     run_until setup t state ≡ and_then (one_happening setup t state) (run_until setup t)
+
+-- a mesh stands behind so many turns of another's run until a moment, and the run goes on there
+pub record IsBehind (setup : Setup) (t : ℕ) (before after : Mesh) : Type 0 where
+  pub count : ℕ
+  pub taken : iterate (turn setup t) count (begin before) ≡ begin after
+  pub goes : run_to setup t before ≡ going_on setup t (begin after)
+
+-- a run goes on from each state behind some of its happenings, wherever the clock stands meanwhile
+abbrev pub GoesOnBehind : Type 0
+GoesOnBehind = (setup : Setup) (t now : ℕ) (state : State) (after : Mesh) →
+    IsBehind setup t state.mesh after →
+    run_until setup t state ≡ run_until setup t (gone_on state now after)
+
+-- it is at its end where nothing is due any more
+abbrev pub EndsWhereQuiet : Type 0
+EndsWhereQuiet = (setup : Setup) (t : ℕ) (state : State) (after : Mesh) →
+    IsBehind setup t state.mesh after → IsSound after → IsQuiet t after →
+    run_until setup t state ≡ Goes (gone_on state t after)
 
 -- the clock stands at the end of a run that no limit ends
 abbrev pub ClockStandsAtTheEnd : Type 0
@@ -88,6 +111,24 @@ EndsChangeNothing = (setup : Setup) (state after : State) (command : Command) (s
 abbrev pub HasDelay : Command → Type 0
 HasDelay command = (from to pattern : List ℕ) (delay throughput : ℕ) →
     command ≡ Link from to delay pattern throughput → 1 ≤ delay
+
+-- the delay, the pattern and the throughput of a link line
+pub record HasLinkRanges (delay : ℕ) (pattern : List ℕ) (throughput : ℕ) : Type 0 where
+  pub least : least_delay ≤ delay
+  pub most : delay ≤ delay_limit
+  pub pattern_is : is_pattern pattern ≡ true
+  pub least_throughput_is : least_throughput ≤ throughput
+  pub most_throughput : throughput ≤ throughput_limit
+
+-- a command, where it is a link, is one of a line
+abbrev pub IsInRange : Command → Type 0
+IsInRange command = (from to pattern : List ℕ) (delay throughput : ℕ) →
+    command ≡ Link from to delay pattern throughput → HasLinkRanges delay pattern throughput
+
+-- what is read is in range
+abbrev pub ReadLinksAreInRange : Type 0
+ReadLinksAreInRange = (line : List ℕ) (command : Command) →
+    command_of_line line ≡ Ok command → IsInRange command
 
 -- the state before the first line is reached
 abbrev pub FirstIsReached : Type 0

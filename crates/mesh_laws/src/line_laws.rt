@@ -1,13 +1,14 @@
-//! What holds of the states that lines lead to, as long as the net is carried out beside the plain
-//! run of the program.
+//! What holds of the states that lines lead to.
 
-ghost use Rattle.mesh_laws.specs.LineLaws.{ClockStandsAtTheEnd, CommandsAreReached, EndsChangeNothing, FirstIsReached, GoesByHappenings, GoesOn, HappeningsAreReached, NothingIsDueBetweenLines, PrintedGrows, RefusedChangesNothing, RunsAreReached, TextGrows};
+ghost use Rattle.mesh_laws.specs.LineLaws.{ClockStandsAtTheEnd, CommandsAreReached, EndsChangeNothing, EndsWhereQuiet, FirstIsReached, GoesByHappenings, GoesOn, GoesOnBehind, HappeningsAreReached, NothingIsDueBetweenLines, PrintedGrows, ReadLinksAreInRange, RefusedChangesNothing, RunsAreReached, TextGrows};
 
-/// A run of a state may be cut at a moment, and behind its first happening; what it prints is the
-/// same.
+/// A run of a state may be cut at a moment, and behind its first or any of its happenings; what it
+/// prints is the same.
 pub fn a_run_may_be_cut()
     ensures slices { GoesOn }
     ensures happenings { GoesByHappenings }
+    ensures behind { GoesOnBehind }
+    ensures quiet { EndsWhereQuiet }
 {}
 
 /// The clock stands at the end of a run, and nothing is due there.
@@ -35,4 +36,9 @@ pub fn what_is_printed_grows()
 pub fn a_refused_line_changes_nothing()
     ensures refused { RefusedChangesNothing }
     ensures ends { EndsChangeNothing }
+{}
+
+/// A link that is read has a delay, a pattern and a throughput in their ranges.
+pub fn links_that_are_read_are_in_range()
+    ensures { ReadLinksAreInRange }
 {}

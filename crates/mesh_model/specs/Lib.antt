@@ -11,4 +11,3 @@ pub mod Text
 pub mod Acts
 pub mod Net
 pub mod Run
-pub mod NetRun

@@ -12,11 +12,11 @@ use Rattle.mesh_model.specs.Acts.Choosing.{acts_of}
 use Rattle.mesh_model.specs.Clients.Limits.{limit_beside}
 use Rattle.mesh_model.specs.Clients.Log.{LinkFrame}
 use Rattle.mesh_model.specs.Net.Mesh.{NetLink, empty_mesh}
-use Rattle.mesh_model.specs.NetRun.State.{first_state}
-use Rattle.mesh_model.specs.NetRun.Steps.{link_step}
 use Rattle.mesh_model.specs.Packets.Containers.{Container, containers_spelling}
 use Rattle.mesh_model.specs.Packets.Layout.{spelling}
 use Rattle.mesh_model.specs.Routes.AlgorithmIv.{iv_queries, own_ogm}
+use Rattle.mesh_model.specs.Run.State.{first_state}
+use Rattle.mesh_model.specs.Run.Steps.{link_step}
 use Rattle.mesh_rows.specs.NetRows.{stop_of}
 
 -- the lines of two nodes with a link each way

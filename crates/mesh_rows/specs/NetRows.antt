@@ -7,11 +7,9 @@ use Rattle.mesh_model.specs.declared.ending.Stop.{Stop}
 use Rattle.mesh_model.specs.declared.frame_choice.FrameChoice.{FrameChoice}
 use Rattle.mesh_model.specs.Clients.Log.{Given, Tick, LinkFrame, Frame, Gone, Join, Leave, Arp, Dhcp, Wifi, Log}
 use Rattle.mesh_model.specs.Net.Mesh.{Setup}
-use Rattle.mesh_model.specs.Net.Limits.{scenario_setup}
-use Rattle.mesh_model.specs.NetRun.State.{State, first_state, node_named, text_of}
-use Rattle.mesh_model.specs.NetRun.Outcome.{Outcome, Goes, Ends, reached}
-use Rattle.mesh_model.specs.NetRun.Rules.{carried_out}
-use Rattle.mesh_model.specs.Routes.AlgorithmIv.{iv_queries}
+use Rattle.mesh_model.specs.Run.State.{State, first_state, node_named, text_of}
+use Rattle.mesh_model.specs.Run.Outcome.{Outcome, Goes, Ends, reached}
+use Rattle.mesh_model.specs.Run.Rules.{carried_out, iv_setup}
 use Rattle.mesh_model.specs.Scenario.Commands.{command_of_line}
 use Rattle.mesh_model.specs.Scenario.Readings.{Reading}
 use Rattle.mesh_rows.specs.Rows.{lines}
@@ -56,10 +54,6 @@ EndsWith setup choice texts printed number stop =
     (stop_of (run_of setup choice texts).outcome ≡ Some stop)
     × ((run_of setup choice texts).lines ≡ number)
     × (text_of (reached (run_of setup choice texts).outcome) ≡ lines printed)
-
--- the setup of a scenario under algorithm IV
-abbrev pub iv_setup : Setup
-iv_setup = scenario_setup iv_queries
 
 -- the scenario is carried out and prints this
 abbrev pub Prints : FrameChoice → List (List ℕ) → List (List ℕ) → Type 0

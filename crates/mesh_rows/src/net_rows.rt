@@ -7,9 +7,10 @@ ghost use Rattle.mesh_model.specs.declared.ending.Refusal.TheVariants.{LinkTaken
 ghost use Rattle.mesh_model.specs.declared.ending.Stop.TheVariants.{Limit, Refused};
 ghost use Rattle.mesh_model.specs.declared.frame_choice.FrameChoice.TheVariants.{All, Client, Hidden, Ogm};
 ghost use Rattle.mesh_model.specs.Acts.OwnContainers.{arp_table_container, own_containers};
-ghost use Rattle.mesh_model.specs.NetRun.Outcome.{reached};
+ghost use Rattle.mesh_model.specs.Run.Outcome.{reached};
+ghost use Rattle.mesh_model.specs.Run.Rules.{iv_setup};
 ghost use Rattle.mesh_rows.specs.NetLines.{acts_on, duo, forwarded_line, is_full_after, limit_after, many_nodes, many_vlans, message_bytes, message_line, node_mac, sent_on};
-ghost use Rattle.mesh_rows.specs.NetRows.{iv_setup, run_of, with_limits, EndsAt, EndsWith, Prints, Takes};
+ghost use Rattle.mesh_rows.specs.NetRows.{run_of, with_limits, EndsAt, EndsWith, Prints, Takes};
 
 /// Two nodes send their first originator messages at their second ticks, in the order of their
 /// lines.

@@ -4,8 +4,8 @@ use Rattle.std.proofs.Math.Seq.{drop-append_seam}
 use Rattle.mesh_base.specs.declared.event.Event.{Event}
 use Rattle.mesh_model.specs.Net.Mesh.{Mesh, Setup}
 use Rattle.mesh_model.specs.Net.Runs.{PassedLimit, Course, begin, turn, going_on}
-use Rattle.mesh_model.specs.NetRun.State.{names_of}
-use Rattle.mesh_model.specs.NetRun.Passing.{events_since}
+use Rattle.mesh_model.specs.Run.State.{names_of}
+use Rattle.mesh_model.specs.Run.Passing.{events_since}
 use Rattle.mesh_laws.specs.Soundness.{FitsPlaces}
 use Rattle.mesh_laws.proofs.Schedule.Order.{moments}
 use Rattle.mesh_laws.proofs.Schedule.Due.{due_is_next}

@@ -5,11 +5,11 @@ use Rattle.mesh_model.specs.declared.happening.Happening.{Happening}
 use Rattle.mesh_model.specs.declared.line_form.Command.{Command}
 use Rattle.mesh_model.specs.Net.Mesh.{NodeLog, NetLink, Mesh, Setup}
 use Rattle.mesh_model.specs.Net.Next.{Has}
-use Rattle.mesh_model.specs.NetRun.State.{Printed, State, first_state}
-use Rattle.mesh_model.specs.NetRun.Outcome.{Outcome, reached}
-use Rattle.mesh_model.specs.NetRun.Passing.{gone_on}
-use Rattle.mesh_model.specs.NetRun.Shown.{after_print}
-use Rattle.mesh_model.specs.NetRun.Steps.{with_node, with_link}
+use Rattle.mesh_model.specs.Run.State.{Printed, State, first_state}
+use Rattle.mesh_model.specs.Run.Outcome.{Outcome, reached}
+use Rattle.mesh_model.specs.Run.Passing.{gone_on}
+use Rattle.mesh_model.specs.Run.Shown.{after_print}
+use Rattle.mesh_model.specs.Run.Steps.{with_node, with_link}
 use Rattle.mesh_laws.specs.LineLaws.{IsReached, CanPass, HasDelay}
 use Rattle.mesh_laws.specs.Soundness.{FitsPlaces, GivesItsBytes, KeepsBytes}
 use Rattle.mesh_laws.proofs.Schedule.Members.{get_last}

@@ -6,9 +6,9 @@ use Rattle.mesh_model.specs.Net.Mesh.{Mesh, Setup}
 use Rattle.mesh_model.specs.Net.Due.{next_due}
 use Rattle.mesh_model.specs.Net.Limits.{clock_limit}
 use Rattle.mesh_model.specs.Net.Runs.{PassedLimit, Course, begin, turn, going_on, run_to}
-use Rattle.mesh_model.specs.NetRun.State.{Printed, Happened, State, names_of}
-use Rattle.mesh_model.specs.NetRun.Outcome.{Goes, Ends, and_then}
-use Rattle.mesh_model.specs.NetRun.Passing.{events_since, gone_on, course_outcome, after_course, run_until, clock_behind, one_happening}
+use Rattle.mesh_model.specs.Run.State.{Printed, Happened, State, names_of}
+use Rattle.mesh_model.specs.Run.Outcome.{Goes, Ends, and_then}
+use Rattle.mesh_model.specs.Run.Passing.{events_since, gone_on, course_outcome, after_course, run_until, clock_behind, one_happening}
 use Rattle.mesh_laws.specs.LineLaws.{CanPass}
 use Rattle.mesh_laws.proofs.Schedule.Runs.{Fine, slices, done_stays, after_turn}
 use Rattle.mesh_laws.proofs.Schedule.Kept.{fine_start}

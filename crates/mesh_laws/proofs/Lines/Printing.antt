@@ -8,27 +8,27 @@ use Rattle.mesh_model.specs.declared.ending.Stop.TheVariants.{Refused}
 use Rattle.mesh_model.specs.declared.line_form.Command.{Command}
 use Rattle.mesh_model.specs.Net.Mesh.{Mesh, Setup}
 use Rattle.mesh_model.specs.Net.Runs.{PassedLimit, run_to}
-use Rattle.mesh_model.specs.NetRun.State.{Printed, Happened, State, names_of, printed_text, text_of}
-use Rattle.mesh_model.specs.NetRun.Outcome.{Outcome, Goes, Ends, reached}
-use Rattle.mesh_model.specs.NetRun.Passing.{events_since, gone_on, course_outcome}
-use Rattle.mesh_model.specs.NetRun.Steps.{step_of}
-use Rattle.mesh_model.specs.NetRun.Rules.{first_refused_rule, unless_refused, after_step, carried_out}
+use Rattle.mesh_model.specs.Run.State.{Printed, Happened, State, names_of, printed_text, text_of}
+use Rattle.mesh_model.specs.Run.Outcome.{Outcome, Goes, Ends, reached}
+use Rattle.mesh_model.specs.Run.Passing.{events_since, gone_on, course_outcome}
+use Rattle.mesh_model.specs.Run.Steps.{step_of}
+use Rattle.mesh_model.specs.Run.Rules.{first_refused_rule, unless_refused, after_step, carried_out}
 use Rattle.mesh_laws.specs.LineLaws.{IsRun}
 use Rattle.mesh_laws.proofs.Lines.Ways.{Led, ended, printed, stayed, noded, linked, given, again, passed, led}
 
 -- more is printed, by the same choice
-record Grows (state after : State) : Type 0 where
-  more : List Printed
-  grows : after.printed ≡ state.printed ++ more
-  choice : after.choice ≡ state.choice
+pub record Grows (state after : State) : Type 0 where
+  pub more : List Printed
+  pub grows : after.printed ≡ state.printed ++ more
+  pub choice : after.choice ≡ state.choice
 
-grows_by_none : (state after : State) → after.printed ≡ state.printed → after.choice ≡ state.choice → Grows state after
+pub grows_by_none : (state after : State) → after.printed ≡ state.printed → after.choice ≡ state.choice → Grows state after
 grows_by_none state after p c = record { more = []; grows = p ∙ sym (append-nil state.printed); choice = c }
 
-gone_on_grows : (state : State) (t : ℕ) (mesh : Mesh) → Grows state (gone_on state t mesh)
+pub gone_on_grows : (state : State) (t : ℕ) (mesh : Mesh) → Grows state (gone_on state t mesh)
 gone_on_grows state t mesh = record { more = map (Happened (names_of mesh.nodes)) (events_since state.mesh mesh); grows = refl; choice = refl }
 
-course_grows : (state : State) (t : ℕ) (mesh : Mesh) (stop : Option PassedLimit) → Grows state (reached (course_outcome state t mesh stop))
+pub course_grows : (state : State) (t : ℕ) (mesh : Mesh) (stop : Option PassedLimit) → Grows state (reached (course_outcome state t mesh stop))
 course_grows state t mesh None = gone_on_grows state t mesh
 course_grows state t mesh (Some p) = gone_on_grows state p.moment mesh
 
@@ -43,13 +43,13 @@ outcome_grows setup state command outcome (again place after g e) = subst (λ o.
 outcome_grows setup state command outcome (passed time run low e) = subst (λ o. Grows state (reached o)) (sym e)
     (course_grows state (state.clock + time) (run_to setup (state.clock + time) state.mesh).mesh (run_to setup (state.clock + time) state.mesh).stop)
 
-grows : (setup : Setup) (state : State) (command : Command) → Grows state (reached (carried_out setup state command))
+pub grows : (setup : Setup) (state : State) (command : Command) → Grows state (reached (carried_out setup state command))
 grows setup state command = outcome_grows setup state command (carried_out setup state command) (led setup state command)
 
 pub printed_grows : (setup : Setup) (state : State) (command : Command) → (more : List Printed) × ((reached (carried_out setup state command)).printed ≡ state.printed ++ more)
 printed_grows setup state command = let g = grows setup state command in (g.more, g.grows)
 
-text_of_more : (state after : State) → (g : Grows state after) → text_of after ≡ text_of state ++ flat_map (printed_text state.choice) g.more
+pub text_of_more : (state after : State) → (g : Grows state after) → text_of after ≡ text_of state ++ flat_map (printed_text state.choice) g.more
 text_of_more state after g =
     ap (λ c. flat_map (printed_text c) after.printed) g.choice
     ∙ ap (flat_map (printed_text state.choice)) g.grows

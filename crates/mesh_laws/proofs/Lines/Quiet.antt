@@ -7,11 +7,11 @@ use Rattle.mesh_model.specs.Net.Happenings.{Before}
 use Rattle.mesh_model.specs.Net.Mesh.{NodeLog, Mesh, Setup}
 use Rattle.mesh_model.specs.Net.Next.{Happens, IsQuiet}
 use Rattle.mesh_model.specs.Net.Runs.{PassedLimit, Course, begin, run_to}
-use Rattle.mesh_model.specs.NetRun.State.{State}
-use Rattle.mesh_model.specs.NetRun.Outcome.{Outcome, Goes, Ends}
-use Rattle.mesh_model.specs.NetRun.Passing.{gone_on, course_outcome, run_until}
-use Rattle.mesh_model.specs.NetRun.Shown.{after_print}
-use Rattle.mesh_model.specs.NetRun.Steps.{with_node, with_link}
+use Rattle.mesh_model.specs.Run.State.{State}
+use Rattle.mesh_model.specs.Run.Outcome.{Outcome, Goes, Ends}
+use Rattle.mesh_model.specs.Run.Passing.{gone_on, course_outcome, run_until}
+use Rattle.mesh_model.specs.Run.Shown.{after_print}
+use Rattle.mesh_model.specs.Run.Steps.{with_node, with_link}
 use Rattle.mesh_laws.specs.LineLaws.{IsReached, CanPass, HasDelay, IsQuietNow}
 use Rattle.mesh_laws.specs.Soundness.{FitsPlaces, IsSound}
 use Rattle.mesh_laws.proofs.Schedule.Steps.{Effect, delivered_effect, no_ticks, tickless}

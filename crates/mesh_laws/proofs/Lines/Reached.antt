@@ -5,9 +5,9 @@ use Rattle.mesh_model.specs.Net.Mesh.{Mesh, Setup}
 use Rattle.mesh_model.specs.Net.Due.{next_due}
 use Rattle.mesh_model.specs.Net.Limits.{clock_limit}
 use Rattle.mesh_model.specs.Net.Runs.{PassedLimit, Course, begin, turn, run_to}
-use Rattle.mesh_model.specs.NetRun.State.{State}
-use Rattle.mesh_model.specs.NetRun.Outcome.{reached}
-use Rattle.mesh_model.specs.NetRun.Passing.{course_outcome, run_until, clock_behind, one_happening}
+use Rattle.mesh_model.specs.Run.State.{State}
+use Rattle.mesh_model.specs.Run.Outcome.{reached}
+use Rattle.mesh_model.specs.Run.Passing.{course_outcome, run_until, clock_behind, one_happening}
 use Rattle.mesh_laws.specs.LineLaws.{IsReached, CanPass}
 use Rattle.mesh_laws.specs.Soundness.{KeepsBytes}
 use Rattle.mesh_laws.proofs.Schedule.Steps.{step_is}

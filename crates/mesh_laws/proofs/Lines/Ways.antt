@@ -17,12 +17,12 @@ use Rattle.mesh_model.specs.Net.Inputs.{given_to}
 use Rattle.mesh_model.specs.Net.Due.{ticks_by}
 use Rattle.mesh_model.specs.Net.Limits.{nodes_limit, links_limit, clock_limit}
 use Rattle.mesh_model.specs.Net.Runs.{delivered}
-use Rattle.mesh_model.specs.NetRun.State.{Printed, Decoded, State, node_named, place_of}
-use Rattle.mesh_model.specs.NetRun.Outcome.{Outcome, Goes, Ends}
-use Rattle.mesh_model.specs.NetRun.Passing.{gone_on, run_until, after_attempt}
-use Rattle.mesh_model.specs.NetRun.Shown.{after_print, shown}
-use Rattle.mesh_model.specs.NetRun.Steps.{Step, at_node, new_node, with_node, with_link, link_step, input_step, show_step, step_of}
-use Rattle.mesh_model.specs.NetRun.Rules.{first_refused_rule, unless_refused, after_step, carried_out}
+use Rattle.mesh_model.specs.Run.State.{Printed, Decoded, State, node_named, place_of}
+use Rattle.mesh_model.specs.Run.Outcome.{Outcome, Goes, Ends}
+use Rattle.mesh_model.specs.Run.Passing.{gone_on, run_until, after_attempt}
+use Rattle.mesh_model.specs.Run.Shown.{after_print, shown}
+use Rattle.mesh_model.specs.Run.Steps.{Step, at_node, new_node, with_node, with_link, link_step, input_step, show_step, step_of}
+use Rattle.mesh_model.specs.Run.Rules.{first_refused_rule, unless_refused, after_step, carried_out}
 use Rattle.mesh_laws.specs.LineLaws.{HasDelay}
 use Rattle.mesh_laws.specs.Soundness.{GivesItsBytes}
 

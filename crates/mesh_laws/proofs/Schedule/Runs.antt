@@ -80,10 +80,10 @@ pub fine_turns : (setup : Setup) (t depth : ℕ) (o : Course) → FitsPlaces set
 fine_turns setup t depth o fits fine = turns_keep setup t (Fine t) (λ o fine. fine_turn setup t o (turn setup t o) fits fine (turned setup t o)) depth o fine
 
 -- ---- the end
-abbrev Progress : ℕ → Course → ℕ → Course → Type 0
+abbrev pub Progress : ℕ → Course → ℕ → Course → Type 0
 Progress t o n after = (is_done t after ≡ true) ⊎ (rank o.mesh.last + n ≤ rank after.mesh.last)
 
-turn_progress : (setup : Setup) (t : ℕ) (o after : Course) → Fine t o → Turned setup t o after → Progress t o 1 after
+pub turn_progress : (setup : Setup) (t : ℕ) (o after : Course) → Fine t o → Turned setup t o after → Progress t o 1 after
 turn_progress setup t o after fine (rests p e) = inl (ap (is_done t) e ∙ p)
 turn_progress setup t o after fine (goes h mesh s n c e) =
     let rise = rank_rises t o.mesh h fine.sound (due_is_next t o.mesh fine.sound h n) in
@@ -109,7 +109,7 @@ class_low : (c : Class) → class_number c ≤ 2
 class_low LinkDelivery = omega arith
 class_low NodeTick = omega arith
 
-rank_low : (t : ℕ) (o : Course) → Fine t o → rank o.mesh.last < (t + 1) * 1099511627776
+pub rank_low : (t : ℕ) (o : Course) → Fine t o → rank o.mesh.last < (t + 1) * 1099511627776
 rank_low t o fine =
     let c = class_low o.mesh.last.class in let p = fine.sound.low_last in let w = fine.within in
     omega (arith, c, p, w)

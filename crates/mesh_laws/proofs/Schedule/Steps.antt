@@ -12,7 +12,7 @@ use Rattle.mesh_model.specs.Net.Inputs.{noting, noted_at, noted, with_entry, ent
 use Rattle.mesh_model.specs.Net.Due.{ticks_by, ticks_in}
 use Rattle.mesh_model.specs.Net.Next.{Has}
 use Rattle.mesh_model.specs.Net.Runs.{throughput_between, frame_over, frame_given, delivered, tick_given, effect, with_last, after_happening}
-use Rattle.mesh_model.specs.NetRun.State.{names_of}
+use Rattle.mesh_model.specs.Run.State.{names_of}
 use Rattle.mesh_laws.specs.Soundness.{GivesItsBytes}
 use Rattle.mesh_laws.proofs.Schedule.Members.{one_some}
 use Rattle.mesh_laws.proofs.Schedule.Sends.{as_ok, ok_one, on_ok_ok, Adds, adds_nothing, acts_send}

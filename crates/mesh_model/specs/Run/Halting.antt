@@ -7,6 +7,7 @@ use Rattle.std.specs.List.{concat}
 use Rattle.mesh_model.specs.declared.ending.LimitName.TheVariants.{Line, Input, Nodes, Links, Clients, Vlans, Frames, FrameBytes, Clock}
 use Rattle.mesh_model.specs.declared.ending.Stop.{Stop}
 use Rattle.mesh_model.specs.declared.ending.Stop.TheVariants.{Refused, Limit}
+use Rattle.mesh_model.specs.declared.frame_choice.FrameChoice.{FrameChoice}
 use Rattle.mesh_model.specs.Scenario.Lines.{line_limit, input_limit, lines_of, is_complete, complete_lines}
 use Rattle.mesh_model.specs.Scenario.Halt.{Halt}
 use Rattle.mesh_model.specs.Run.PlainRun.{start, after_lines, plain_run}
@@ -29,16 +30,16 @@ abbrev pub numbered_line : List ℕ → ℕ → List ℕ
 numbered_line input number = slice_index_or (lines_of input) (number - 1) []
 
 -- how many bytes of an input end at the one at which its run halts
-abbrev pub halting_byte : List ℕ → Halt → ℕ
-halting_byte input halt =
-    halting_place (plain_run input).bytes (numbered_line input halt.line) halt.stop
+abbrev pub halting_byte : FrameChoice → List ℕ → Halt → ℕ
+halting_byte choice input halt =
+    halting_place (plain_run choice input).bytes (numbered_line input halt.line) halt.stop
 
 -- what has come of a line whose newline hasn't
 abbrev pub unfinished_line : List ℕ → List ℕ
 unfinished_line bytes = concat (filter (λ line. not (is_complete line)) (lines_of bytes))
 
 -- no line of what has come halts the run, and neither does what has come of the next one
-pub record GoesOn (bytes : List ℕ) : Type 0 where
-  pub going : (after_lines start (complete_lines bytes)).halt ≡ None
+pub record GoesOn (choice : FrameChoice) (bytes : List ℕ) : Type 0 where
+  pub going : (after_lines (start choice) (complete_lines bytes)).halt ≡ None
   pub short : length (unfinished_line bytes) ≤ line_limit
   pub within : length bytes ≤ input_limit

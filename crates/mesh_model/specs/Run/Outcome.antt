@@ -1,5 +1,6 @@
--- What a line leaves: the state that was reached and, where it ended the run there, the stop. The
--- main word is `Outcome`.
+-- What a line leaves: the state that was reached and, where it ended the run there, the stop. What
+-- the first part of a run prints is printed, also where a limit ends it. The main word is
+-- `Outcome`.
 use Rattle.mesh_model.specs.declared.ending.Stop.{Stop}
 use Rattle.mesh_model.specs.Run.State.{State}
 
@@ -12,3 +13,8 @@ pub data Outcome : Type 0 where
 abbrev pub reached : Outcome → State
 reached (Goes state) = state
 reached (Ends state stop) = state
+
+-- an outcome, and what follows it where it goes on
+abbrev pub and_then : Outcome → (State → Outcome) → Outcome
+and_then (Goes state) next = next state
+and_then (Ends state stop) next = Ends state stop

@@ -1,18 +1,19 @@
--- The plain run of an input: its lines are carried out one after another, each as a whole, and the
--- first that is refused or at which a quantity would pass its limit ends the run there. The limit
--- `line` is reached at the byte past 4,096 before a line's newline, `input` at the byte past
--- 67,108,864 of the input, whichever comes first; where one byte is both, it is `line`. The main
--- words are `plain_run` and `output`.
+-- The plain run of an input, by the choice of frames: its lines are carried out one after another,
+-- each as a whole, and the first that is refused or at which a quantity would pass its limit ends
+-- the run there. What was printed up to then stays printed. The limit `line` is reached at the byte
+-- past 4,096 before a line's newline, `input` at the byte past 67,108,864 of the input, whichever
+-- comes first; where one byte is both, it is `line`. The main words are `plain_run` and `output`.
 use Rattle.std.specs.Prelude.{ℕ, ◌+◌, ◌&&◌, nat_lt, nat_le, Bool, List, length, fold, Option, Some, None, is_some, Ok, Err, if◌then◌else◌}
 use Rattle.mesh_model.specs.declared.ending.LimitName.TheVariants.{Line, Input}
 use Rattle.mesh_model.specs.declared.ending.Stop.TheVariants.{Limit}
+use Rattle.mesh_model.specs.declared.frame_choice.FrameChoice.{FrameChoice}
 use Rattle.mesh_model.specs.Scenario.Commands.{command_of_line}
 use Rattle.mesh_model.specs.Scenario.Halt.{Halt}
 use Rattle.mesh_model.specs.Scenario.Lines.{line_limit, input_limit, lines_of, before_newline, content}
 use Rattle.mesh_model.specs.Scenario.Readings.{Reading}
 use Rattle.mesh_model.specs.Run.Outcome.{Outcome, Goes, Ends}
-use Rattle.mesh_model.specs.Run.Rules.{carried_out}
-use Rattle.mesh_model.specs.Run.State.{State, no_nodes, text_of}
+use Rattle.mesh_model.specs.Run.Rules.{carried_out, iv_setup}
+use Rattle.mesh_model.specs.Run.State.{State, first_state, text_of}
 
 -- a run so far: its state, how many lines and bytes were carried out, and where it halted
 pub record Run : Type 0 where
@@ -22,8 +23,8 @@ pub record Run : Type 0 where
   pub halt : Option Halt
 
 -- before the first line
-abbrev pub start : Run
-start = record { state = no_nodes; lines = 0; bytes = 0; halt = None }
+abbrev pub start : FrameChoice → Run
+start choice = record { state = first_state choice; lines = 0; bytes = 0; halt = None }
 
 -- whether a line's byte past 4,096 stands within the input's limit or right past it, after so many
 -- bytes
@@ -37,7 +38,7 @@ passes_input before line = nat_lt input_limit (before + length line)
 
 -- the outcome of a line that was read
 abbrev pub after_reading : State → Reading → Outcome
-after_reading state (Ok command) = carried_out state command
+after_reading state (Ok command) = carried_out iv_setup state command
 after_reading state (Err stop) = Ends state stop
 
 -- the outcome of a line that follows so many bytes
@@ -64,8 +65,8 @@ abbrev pub after_lines : Run → List (List ℕ) → Run
 after_lines run lines = fold after_line run lines
 
 -- the plain run of an input
-unfoldable pub plain_run : List ℕ → Run
-plain_run input = after_lines start (lines_of input)
+unfoldable pub plain_run : FrameChoice → List ℕ → Run
+plain_run choice input = after_lines (start choice) (lines_of input)
 
 -- what a run prints
 abbrev pub output : Run → List ℕ

@@ -1,54 +1,60 @@
--- The state of a plain run. A node keeps its log alone; the clock stands at a moment in
--- milliseconds; what was printed stands in order. A node is found by its place, which counts from 0
--- in the order of the nodes' lines. The main words are `State` and `text_of`.
-use Rattle.std.specs.Prelude.{ℕ, Bool, List, [], flat_map, position, slice_get, bytes_eq, Option, option_and_then}
-use Rattle.mesh_base.specs.declared.address.Mac.{Mac}
-use Rattle.mesh_model.specs.Clients.Log.{Log}
+-- The state of a scenario's run: the mesh, the clock, which link frames are printed, and what is
+-- printed so far. An event is kept with the names that the nodes have when it comes. The main words
+-- are `State` and `text_of`.
+use Rattle.std.specs.Prelude.{ℕ, Bool, List, [], flat_map, map, bytes_eq, position, slice_get, Option, option_and_then}
+use Rattle.mesh_base.specs.declared.event.Event.{Event}
+use Rattle.mesh_base.specs.declared.names.NodeName.{NodeName}
+use Rattle.mesh_model.specs.declared.frame_choice.FrameChoice.{FrameChoice}
+use Rattle.mesh_model.specs.Net.Mesh.{NodeLog, Mesh, empty_mesh}
 use Rattle.mesh_model.specs.Text.Decode.{decode_text}
-use Rattle.mesh_model.specs.Text.Tables.{LocalTable, table_text}
+use Rattle.mesh_model.specs.Text.Events.{event_text}
+use Rattle.mesh_model.specs.Text.Tables.{LinkTable, LocalTable, OrigTable, link_table_text, orig_table_text, table_text}
 
--- a node: its name, its address and its log
-pub record NodeLog : Type 0 where
-  pub name : List ℕ
-  pub mac : Mac
-  pub log : Log
-
--- what a run prints: a table that is shown, or the packets in bytes that are decoded
+-- what a run prints: a table that is shown, the packets in bytes that are decoded, or an event, by
+-- names of nodes
 pub data Printed : Type 0 where
   LocalsShown : LocalTable → Printed
+  OriginatorsShown : OrigTable → Printed
+  NeighborsShown : LinkTable → Printed
   Decoded : List ℕ → Printed
+  Happened : List NodeName → Event → Printed
 
--- the nodes in the order of their lines, the clock, and what was printed so far
+-- the mesh, the clock in milliseconds, the choice of frames, and what was printed so far
 pub record State : Type 0 where
-  pub nodes : List NodeLog
+  pub mesh : Mesh
   pub clock : ℕ
+  pub choice : FrameChoice
   pub printed : List Printed
 
 -- before the first line
-abbrev pub no_nodes : State
-no_nodes = record { nodes = []; clock = 0; printed = [] }
+abbrev pub first_state : FrameChoice → State
+first_state choice =
+    record { mesh = empty_mesh; clock = 0; choice = choice; printed = [] }
 
 -- whether a node has this name
 abbrev pub is_named : List ℕ → NodeLog → Bool
 is_named name node = bytes_eq node.name name
 
--- whether a node has this address
-abbrev pub has_address : Mac → NodeLog → Bool
-has_address mac node = bytes_eq node.mac.0 mac.0
-
 -- the place of the node of this name
 abbrev pub place_of : State → List ℕ → Option ℕ
-place_of state name = position (is_named name) state.nodes
+place_of state name = position (is_named name) state.mesh.nodes
 
 -- the node of this name
 abbrev pub node_named : State → List ℕ → Option NodeLog
-node_named state name = option_and_then (slice_get state.nodes) (place_of state name)
+node_named state name = option_and_then (slice_get state.mesh.nodes) (place_of state name)
+
+-- the names of nodes
+abbrev pub names_of : List NodeLog → List NodeName
+names_of nodes = map (λ (node : NodeLog). record { mac = node.mac; name = node.name }) nodes
 
 -- the text of what is printed at once
-abbrev pub printed_text : Printed → List ℕ
-printed_text (LocalsShown table) = table_text table
-printed_text (Decoded bytes) = decode_text bytes
+abbrev pub printed_text : FrameChoice → Printed → List ℕ
+printed_text choice (LocalsShown table) = table_text table
+printed_text choice (OriginatorsShown table) = orig_table_text table
+printed_text choice (NeighborsShown table) = link_table_text table
+printed_text choice (Decoded bytes) = decode_text bytes
+printed_text choice (Happened names event) = event_text choice names event
 
 -- the text of all that was printed
 abbrev pub text_of : State → List ℕ
-text_of state = flat_map printed_text state.printed
+text_of state = flat_map (printed_text state.choice) state.printed

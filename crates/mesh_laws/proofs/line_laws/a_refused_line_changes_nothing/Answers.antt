@@ -1,4 +1,4 @@
-use Rattle.mesh_model.specs.NetRun.Rules.{carried_out}
+use Rattle.mesh_model.specs.Run.Rules.{carried_out}
 use Rattle.mesh_laws.proofs.Lines.Printing.{ends_change_nothing, refused_changes_nothing}
 use Rattle.mesh_laws.proofs.Lines.Ways.{led}
 use Rattle.mesh_laws.proofs.line_laws.a_refused_line_changes_nothing.Goals as goal

@@ -1,4 +1,4 @@
-use Rattle.mesh_model.specs.NetRun.Rules.{carried_out}
+use Rattle.mesh_model.specs.Run.Rules.{carried_out}
 use Rattle.mesh_laws.proofs.Lines.Keeping.{first_is_reached, outcome_reached}
 use Rattle.mesh_laws.proofs.Lines.Reached.{happenings_are_reached, runs_are_reached}
 use Rattle.mesh_laws.proofs.Lines.Ways.{led}

@@ -1,4 +1,4 @@
-use Rattle.mesh_model.specs.NetRun.Rules.{carried_out}
+use Rattle.mesh_model.specs.Run.Rules.{carried_out}
 use Rattle.mesh_laws.proofs.Lines.Quiet.{clock_at_end, goes_quiet}
 use Rattle.mesh_laws.proofs.Lines.Ways.{led}
 use Rattle.mesh_laws.proofs.line_laws.the_clock_stands_at_the_end.Goals as goal

@@ -13,7 +13,7 @@ use Rattle.mesh_model.specs.Clients.Log.{Given, LogEntry}
 use Rattle.mesh_model.specs.Clients.Log.{Tick, LinkFrame, Frame as GivenFrame, Gone as GivenGone, Join as GivenJoin, Leave as GivenLeave, Arp as GivenArp, Dhcp as GivenDhcp, Wifi as GivenWifi}
 use Rattle.mesh_model.specs.Net.Mesh.{NodeLog, NetLink, has_address}
 use Rattle.mesh_model.specs.Net.Runs.{leads}
-use Rattle.mesh_model.specs.NetRun.State.{State, place_of}
+use Rattle.mesh_model.specs.Run.State.{State, place_of}
 
 -- a new node's name and address, the names of a new link's ends, the name of the node of a client
 -- frame, time, the number of a link frame, or nothing

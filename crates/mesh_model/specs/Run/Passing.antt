@@ -9,8 +9,8 @@ use Rattle.mesh_model.specs.Net.Mesh.{Mesh, Setup}
 use Rattle.mesh_model.specs.Net.Sending.{Attempt}
 use Rattle.mesh_model.specs.Net.Due.{next_due}
 use Rattle.mesh_model.specs.Net.Runs.{Course, PassedLimit, begin, turn, run_to}
-use Rattle.mesh_model.specs.NetRun.State.{Happened, State, names_of}
-use Rattle.mesh_model.specs.NetRun.Outcome.{Outcome, Goes, Ends}
+use Rattle.mesh_model.specs.Run.State.{Happened, State, names_of}
+use Rattle.mesh_model.specs.Run.Outcome.{Outcome, Goes, Ends}
 
 -- the events of a mesh that an earlier one didn't have
 abbrev pub events_since : Mesh → Mesh → List Event
