@@ -1,0 +1,365 @@
+-- The end of a step: what was sent stands behind the others, and the net stands for the mesh after
+-- the step.
+use Rattle.std.proofs.Common.{◌≡◌, ◌↔◌, ℕ, suc, ◌+◌, ◌*◌, ◌<◌, ◌≤◌, ◌⊎◌, inl, inr, true, false, List, [], ◌∷◌, ◌++◌, filter, length, take, drop, slice_get, Some, Result, Ok, Err, is_ok, refl, sym, ap, ◌∙◌, subst, arith, append-nil}
+use Rattle.std.proofs.Math.Seq.{drop-append_seam}
+use Rattle.std.specs.Result.{OnOk, OnErr, IfOk, IfErr}
+use Rattle.mesh_base.specs.declared.address.Mac.{Mac}
+use Rattle.mesh_base.specs.declared.event.Event.{Event}
+use Rattle.mesh_model.specs.declared.frame_choice.FrameChoice.{FrameChoice}
+use Rattle.mesh_model.specs.declared.happening.Class.{Class}
+use Rattle.mesh_model.specs.declared.happening.Class.TheVariants.{LinkDelivery, NodeTick}
+use Rattle.mesh_model.specs.declared.happening.Happening.{Happening}
+use Rattle.mesh_model.specs.Net.Due.{deliveries, first_ticks, next_happening, tick_at, tick_time, ticks_in}
+use Rattle.mesh_model.specs.Net.Happenings.{Before, is_before}
+use Rattle.mesh_model.specs.Net.Limits.{clock_limit, scenario_setup}
+use Rattle.mesh_model.specs.Net.Mesh.{NodeLog, Mesh, Setup}
+use Rattle.mesh_model.specs.Net.Next.{Has, IsNext}
+use Rattle.mesh_model.specs.Net.Runs.{after_happening, delivered, effect, with_last}
+use Rattle.mesh_model.specs.Net.Inputs.{given_to}
+use Rattle.mesh_model.specs.Net.Sending.{Attempt, on_ok}
+use Rattle.mesh_model.specs.Clients.Log.{Given}
+use Rattle.mesh_model.specs.Routes.Queries.{Queries}
+use Rattle.mesh_model.specs.Routes.RouteLog.{RouteLog}
+use Rattle.mesh_laws.specs.Soundness.{IsSound}
+use Rattle.mesh_laws.proofs.Schedule.Due.{finds_next, next_due_some}
+use Rattle.mesh_laws.proofs.Schedule.Steps.{Was, delivered_effect, no_ticks, step_is, tickless, ticks_of}
+use Rattle.mesh_node.specs.declared.failure.NodeErr.{NodeErr}
+use Rattle.mesh_node.specs.declared.failure.NodeErr.TheVariants as node_errors
+use Rattle.mesh_net.specs.declared.failure.NetErr.{NetErr}
+use Rattle.mesh_net.specs.declared.failure.NetErr.TheVariants as net_errors
+use Rattle.mesh_net.specs.declared.net.Net.{Net}
+use Rattle.mesh_net.specs.declared.post.Post.{Post}
+use Rattle.mesh_net.specs.declared.row.Sending.{Sending}
+use Rattle.mesh_net.specs.Given.{GiveTells}
+use Rattle.mesh_net.specs.Kept.{FramesAre}
+use Rattle.mesh_net.specs.declared.seat.Seat.{Seat}
+use Rattle.std.specs.Global.{Vec}
+use Rattle.mesh_model.specs.Text.Events.{is_shown}
+use Rattle.mesh_net.specs.NetStands.{NetStands, SeatsStand, IsNet, IsLive}
+use Rattle.mesh_net.proofs.PopLemmas.{popped_next, popped_waits, ticker_is, all_others, tick_or_later, ticks_next}
+use Rattle.mesh_net.specs.Reached.{IsReached, is_given, is_delivered, happens, IsOfLine}
+use Rattle.mesh_net.specs.Sent.{InStep, Logged, Grew}
+use Rattle.mesh_net.specs.Steps.{AreOnLinks, Begun, Gave, HasNodes, KeepsNet, MayTickAt, Settled, SettleTells, StepFails, Stepped, net_error, ticks_amid}
+use Rattle.mesh_net.specs.Tells.{Carried, Gains, StepTells}
+use Rattle.mesh_net.specs.Waiting.{IsPopped}
+use Rattle.mesh_net.proofs.LookUps.{some_one}
+use Rattle.mesh_net.proofs.ReachedLemmas.{reached, of_line}
+use Rattle.mesh_net.proofs.TickLemmas.{may_tick, not_before}
+
+-- ---- logs
+pub gains : (choice : FrameChoice) (before after : Mesh) (old new : List Event) → Logged choice before after old new → Gains choice before after old new
+gains choice before after old new l =
+    subst (λ more. new ≡ old ++ filter (is_shown choice) more) (sym (ap (drop (length before.events)) l.came ∙ drop-append_seam before.events l.more)) l.told
+
+-- what a refused step told is taken back
+pub cut_back : (old new : List Event) (n : ℕ) → n ≡ length old → Grew old new → take n new ≡ old
+cut_back old new n e g = ap (λ k. take k new) e ∙ ap (take (length old)) g.is ∙ front old g.more
+  where
+    front : {X : Type 0} (xs ys : List X) → take (length xs) (xs ++ ys) ≡ xs
+    front [] ys = refl
+    front (x ∷ xs) ys = ap (λ r. x ∷ r) (front xs ys)
+
+-- ---- first ticks
+pub ticks_same : (a b : List NodeLog) → length b ≡ length a → ((i : ℕ) (n : NodeLog) → slice_get b i ≡ Some n → (m : NodeLog) × (slice_get a i ≡ Some m) × (n.made ≡ m.made) × (ticks_in n.log ≡ ticks_in m.log)) → (start : ℕ) → first_ticks start b ≡ first_ticks start a
+ticks_same [] [] l same start = refl
+ticks_same [] (n ∷ b) l same start = absurd (omega (arith, l))
+ticks_same (m ∷ a) [] l same start = absurd (omega (arith, l))
+ticks_same (m ∷ a) (n ∷ b) l same start =
+    let p = same 0 n refl in
+    let e : p.0 ≡ m = some_one p.0 m (sym p.1) in
+    ap (λ x. record { moment = x + tick_time * suc (ticks_in n.log); class = NodeTick; place = start } ∷ first_ticks (suc start) b) (p.2 ∙ ap (λ (x : NodeLog). x.made) e)
+    ∙ ap (λ k. record { moment = m.made + tick_time * suc k; class = NodeTick; place = start } ∷ first_ticks (suc start) b) (p.3 ∙ ap (λ (x : NodeLog). ticks_in x.log) e)
+    ∙ ap (λ hs. tick_at start m (suc (ticks_in m.log)) ∷ hs) (ticks_same a b (omega (arith, l)) (λ i x f. same (suc i) x f) (suc start))
+
+abbrev pub Were : Mesh → Mesh → (ℕ → ℕ) → Type 0
+Were mesh after extra = (place : ℕ) (node : NodeLog) → slice_get after.nodes place ≡ Some node → Was mesh.nodes after.frames (extra place) place node
+
+pub tickless_same : (mesh after : Mesh) → Were mesh after no_ticks → length after.nodes ≡ length mesh.nodes → first_ticks 0 after.nodes ≡ first_ticks 0 mesh.nodes
+tickless_same mesh after were count = ticks_same mesh.nodes after.nodes count (λ i n found. let w = were i n found in (w.node, w.found, w.grew.made, w.grew.ticks ∙ none (ticks_in w.node.log))) 0
+  where
+    none : (n : ℕ) → 0 + n ≡ n
+    none n = omega arith
+
+-- ---- what waits
+pub step_ticks : (post : Post) (older : List Sending) (last : Happening) (a b : List Happening) (mesh : Mesh) → ((x : Happening) → Has a x ↔ Has b x) → InStep post older last a mesh → InStep post older last b mesh
+step_ticks post older last a b mesh same step = record {
+  amid = record {
+    stands = step.amid.stands;
+    waits = λ x. (λ h. to x ((step.amid.waits x).0 h), λ h. (step.amid.waits x).1 (from x h));
+  };
+  older_is = step.older_is;
+}
+  where
+    Comes : Happening → Type 0
+    Comes x = Has (deliveries mesh.links 0 mesh.frames) x × Before last x
+
+    to : (x : Happening) → Comes x ⊎ Has a x → Comes x ⊎ Has b x
+    to x (inl p) = inl p
+    to x (inr p) = inr ((same x).0 p)
+
+    from : (x : Happening) → Comes x ⊎ Has b x → Comes x ⊎ Has a x
+    from x (inl p) = inl p
+    from x (inr p) = inr ((same x).1 p)
+
+-- the mesh after a step, with its last happening
+abbrev pub with_happening : Happening → Mesh → Mesh
+with_happening h mesh = record mesh { last = h }
+
+pub step_last : (post : Post) (older : List Sending) (last h : Happening) (ticks : List Happening) (mesh : Mesh) → InStep post older last ticks mesh → InStep post older last ticks (with_happening h mesh)
+step_last post older last h ticks mesh step = record {
+  amid = record {
+    stands = record {
+      rows = step.amid.stands.rows;
+      turns = step.amid.stands.turns;
+      ways = step.amid.stands.ways;
+      frames = step.amid.stands.frames;
+      bytes = step.amid.stands.bytes;
+      few = step.amid.stands.few;
+      small = step.amid.stands.small;
+    };
+    waits = step.amid.waits;
+  };
+  older_is = step.older_is;
+}
+
+-- ---- settled
+abbrev pub settled_post : Post → Post → Post
+settled_post old new = record old { fresh = new.fresh; older = new.older }
+
+module _ {A : Type 0} where
+  pub settled_step : (a b : Net A) (last : Happening) (ticks : List Happening) (mesh : Mesh) → Settled a b → InStep a.post a.sent.items last ticks mesh → InStep b.post b.sent.items last ticks mesh
+  settled_step a b last ticks mesh s step = subst (λ p. InStep p b.sent.items last ticks mesh) (sym s.post) (record {
+    amid = record {
+      stands = record {
+        rows = step.amid.stands.rows;
+        turns = step.amid.stands.turns;
+        ways = step.amid.stands.ways;
+        frames = subst (λ ss. FramesAre ss mesh.frames a.post.frames.items) sendings step.amid.stands.frames;
+        bytes = step.amid.stands.bytes;
+        few = step.amid.stands.few;
+        small = step.amid.stands.small;
+      };
+      waits = step.amid.waits;
+    };
+    older_is = s.older;
+  })
+    where
+      sendings : a.sent.items ++ a.post.fresh.items ≡ b.sent.items ++ b.post.fresh.items
+      sendings = sym s.sent ∙ sym (append-nil b.sent.items) ∙ ap (λ fs. b.sent.items ++ fs) (sym s.fresh)
+
+  -- a net that has all but the clock and the last happening of another
+  pub record SameBut (a b : Net A) : Type 0 where
+    pub post : b.post ≡ a.post
+    pub sent : b.sent ≡ a.sent
+    pub seats : b.seats ≡ a.seats
+    pub dead : b.dead ≡ a.dead
+
+  -- the net stands for the mesh after a step
+  pub stands_for : (queries : Mac → Queries) (stands : A → Mac → RouteLog → Type 0) (net done end : Net A) (choice : FrameChoice) (last : Happening) (ticks : List Happening) (clock : ℕ) (after : Mesh)
+      → Settled net done → SameBut done end → net.dead ≡ false → net.post.choice ≡ choice → end.clock ≡ clock → end.last ≡ last → after.last ≡ last → last.moment ≤ clock → clock ≤ clock_limit
+      → SeatsStand stands net.seats.items after.nodes → InStep net.post net.sent.items last ticks after → ((x : Happening) → Has ticks x ↔ Has (first_ticks 0 after.nodes) x) → IsReached (scenario_setup queries) clock after
+      → NetStands queries stands end choice clock after
+  stands_for queries stands net done end choice last ticks clock after s b alive choice_is clock_is last_is is past low seats step same way = record {
+    alive = b.dead ∙ s.dead ∙ alive;
+    choice_is = ap (λ (p : Post). p.choice) (b.post ∙ s.post) ∙ choice_is;
+    clock_is = clock_is;
+    last_is = last_is ∙ sym is;
+    past = subst (λ (h : Happening). h.moment ≤ clock) (sym is) past;
+    low = low;
+    seats = subst (λ (v : Vec (Seat A)). SeatsStand stands v.items after.nodes) (sym (b.seats ∙ s.seats)) seats;
+    kept = subst (λ p. InStep p end.sent.items after.last (first_ticks 0 after.nodes) after) (sym b.post)
+        (subst (λ (v : Vec Sending). InStep done.post v.items after.last (first_ticks 0 after.nodes) after) (sym b.sent)
+        (subst (λ h. InStep done.post done.sent.items h (first_ticks 0 after.nodes) after) (sym is) (step_ticks done.post done.sent.items last ticks (first_ticks 0 after.nodes) after same (settled_step net done last ticks after s step))));
+    settled = ap (λ (p : Post). p.fresh.items) b.post ∙ s.fresh;
+    reached = way;
+  }
+
+-- ---- causes
+pub ok_has : {X : Type 0} (r : Result Unit NodeErr) → is_ok r ≡ true → OnOk r X → X
+ok_has (Ok done) e x = x
+ok_has (Err error) e x = cc
+
+refused_tells : (attempt : Attempt) (refused : NodeErr) → GiveTells attempt refused → StepTells attempt (net_error refused)
+refused_tells attempt node_errors.Memory t = tt
+refused_tells attempt node_errors.Clients t = t
+refused_tells attempt node_errors.Vlans t = t
+refused_tells attempt node_errors.Frames t = t
+refused_tells attempt node_errors.FrameBytes t = t
+refused_tells attempt node_errors.Dead t = t
+
+pub settle_tells : (attempt : Attempt) (r : Result Unit NodeErr) (error : NetErr) → SettleTells r error → IfErr r (GiveTells attempt) → StepTells attempt error
+settle_tells attempt (Ok done) error s t = subst (StepTells attempt) (sym s) tt
+settle_tells attempt (Err refused) error s t = subst (StepTells attempt) (sym s) (refused_tells attempt refused t)
+
+pub happening_tells : (setup : Setup) (mesh : Mesh) (h : Happening) (error : NetErr) → StepTells (effect setup h.class h.place h.moment mesh) error → StepTells (after_happening setup h mesh) error
+happening_tells setup mesh h (net_errors.Limit limit) t = ap (on_ok (with_last h)) t
+happening_tells setup mesh h net_errors.Dead t = t
+happening_tells setup mesh h net_errors.Memory t = tt
+
+module _ {A : Type 0} (queries : Mac → Queries) (stands : A → Mac → RouteLog → Type 0) where
+  -- ---- a line, and a frame that is delivered again
+  pub begun_now : (net : Net A) (choice : FrameChoice) (mesh : Mesh) → NetStands queries stands net choice net.clock mesh → Begun stands net choice mesh.last (first_ticks 0 mesh.nodes) net.clock mesh
+  begun_now net choice mesh s = record {
+    choice_is = s.choice_is;
+    settled = s.settled;
+    stage = record { seats_stand = s.seats; step = s.kept; late = s.past; soon = s.low };
+  }
+
+  pub on_links : (net : Net A) (choice : FrameChoice) (clock : ℕ) (mesh : Mesh) → NetStands queries stands net choice clock mesh → AreOnLinks mesh
+  on_links net choice clock mesh s = (reached queries clock mesh s.reached).sound.on_links
+
+  same_has : (a b : List Happening) → b ≡ a → (x : Happening) → Has a x ↔ Has b x
+  same_has a b e x = (λ p. subst (λ hs. Has hs x) (sym e) p, λ p. subst (λ hs. Has hs x) e p)
+
+  pub carried : (net amid done : Net A) (choice : FrameChoice) (mesh : Mesh) (old new new' : List Event) (attempt : Attempt)
+      → NetStands queries stands net choice net.clock mesh → KeepsNet net amid → Settled amid done → new' ≡ new → (g : Gave stands amid choice mesh.last (first_ticks 0 mesh.nodes) mesh old new attempt)
+      → first_ticks 0 g.after.nodes ≡ first_ticks 0 mesh.nodes → g.after.last ≡ mesh.last → IsReached (scenario_setup queries) net.clock g.after
+      → Carried queries stands done choice net.clock mesh old new' attempt
+  carried net amid done choice mesh old new new' attempt s k d told g same last way = record {
+    after = g.after;
+    is = g.is;
+    standing = stands_for queries stands amid done done choice mesh.last (first_ticks 0 mesh.nodes) net.clock g.after d (record { post = refl; sent = refl; seats = refl; dead = refl })
+        (k.dead ∙ s.alive) g.choice_is (d.clock ∙ k.clock) (d.last ∙ k.last ∙ s.last_is) last s.past s.low g.seats_stand g.step (same_has (first_ticks 0 mesh.nodes) (first_ticks 0 g.after.nodes) same) way;
+    gains = gains choice mesh g.after old new' (subst (Logged choice mesh g.after old) (sym told) g.logged);
+  }
+
+  pub carried_line : (net amid done : Net A) (choice : FrameChoice) (mesh : Mesh) (old new new' : List Event) (place : ℕ) (given : Given)
+      → NetStands queries stands net choice net.clock mesh → KeepsNet net amid → Settled amid done → new' ≡ new → IsOfLine given
+      → Gave stands amid choice mesh.last (first_ticks 0 mesh.nodes) mesh old new (given_to (scenario_setup queries) place net.clock 0 given mesh)
+      → Carried queries stands done choice net.clock mesh old new' (given_to (scenario_setup queries) place net.clock 0 given mesh)
+  carried_line net amid done choice mesh old new new' place given s k d told line g =
+      let l = of_line mesh.frames given line in
+      let e = tickless (scenario_setup queries) mesh place net.clock 0 given g.after l.0 l.1 g.is in
+      carried net amid done choice mesh old new new' (given_to (scenario_setup queries) place net.clock 0 given mesh) s k d told g
+      (tickless_same mesh g.after e.nodes e.count) e.last (is_given net.clock mesh g.after place given s.reached line g.is)
+
+  pub carried_frame : (net amid done : Net A) (choice : FrameChoice) (mesh : Mesh) (old new new' : List Event) (place : ℕ)
+      → NetStands queries stands net choice net.clock mesh → KeepsNet net amid → Settled amid done → new' ≡ new
+      → Gave stands amid choice mesh.last (first_ticks 0 mesh.nodes) mesh old new (delivered (scenario_setup queries) place net.clock mesh)
+      → Carried queries stands done choice net.clock mesh old new' (delivered (scenario_setup queries) place net.clock mesh)
+  carried_frame net amid done choice mesh old new new' place s k d told g =
+      let e = delivered_effect (scenario_setup queries) mesh place net.clock g.after g.is in
+      carried net amid done choice mesh old new new' (delivered (scenario_setup queries) place net.clock mesh) s k d told g
+      (tickless_same mesh g.after e.nodes e.count) e.last (is_delivered net.clock mesh g.after place s.reached g.is)
+
+  -- a net that isn't dead stands for something
+  pub live_of : (net : Net A) → IsNet queries stands net → net.dead ≡ false → IsLive queries stands net
+  live_of net (inl dead) alive = clash (sym dead ∙ alive)
+    where
+      clash : {X : Type 0} → true ≡ false → X
+      clash e = cc
+  live_of net (inr live) alive = live
+
+  pub has_nodes : (net : Net A) → IsLive queries stands net → HasNodes stands net
+  has_nodes net live = record { nodes = live.mesh.nodes; seats_stand = live.standing.seats }
+
+  -- ---- a happening
+  abbrev pub popped_net : Net A → List Happening → Net A
+  popped_net net rest = record net { post = record net.post { queue = rest } }
+
+  module _ (net : Net A) (rest : List Happening) (t : ℕ) (h : Happening) (choice : FrameChoice) (clock : ℕ) (mesh : Mesh) (s : NetStands queries stands net choice clock mesh) (popped : IsPopped net.post.queue rest t h) (soon : t ≤ clock_limit) where
+    sound : IsSound mesh
+    sound = (reached queries clock mesh s.reached).sound
+
+    abbrev pub waiting_ticks : List Happening
+    waiting_ticks = filter (is_before h) (first_ticks 0 mesh.nodes)
+
+    pub next_is : IsNext t mesh h
+    next_is = popped_next net.post.queue rest t h mesh sound s.kept.amid.waits popped
+
+    h_low : h.moment ≤ clock_limit
+    h_low = let w = popped.within in omega (arith, w, soon)
+
+    pub begun_step : Begun stands (popped_net net rest) choice h waiting_ticks h.moment mesh
+    begun_step = record {
+      choice_is = s.choice_is;
+      settled = s.settled;
+      stage = record {
+        seats_stand = s.seats;
+        step = record {
+          amid = record {
+            stands = record {
+              rows = s.kept.amid.stands.rows;
+              turns = s.kept.amid.stands.turns;
+              ways = s.kept.amid.stands.ways;
+              frames = s.kept.amid.stands.frames;
+              bytes = s.kept.amid.stands.bytes;
+              few = s.kept.amid.stands.few;
+              small = s.kept.amid.stands.small;
+            };
+            waits = popped_waits net.post.queue rest t h mesh sound s.kept.amid.waits popped;
+          };
+          older_is = s.kept.older_is;
+        };
+        late = omega arith;
+        soon = h_low;
+      };
+    }
+
+    pub tick_due : h.class ≡ NodeTick → MayTickAt stands (popped_net net rest) h.place
+    tick_due class =
+        let k = ticker_is net.post.queue rest t h mesh sound s.kept.amid.waits popped class in
+        let m : h.moment ≡ k.node.made + tick_time * suc (ticks_in k.node.log) = ap (λ (y : Happening). y.moment) k.is in
+        let l = h_low in
+        let few : ticks_in k.node.log < 4294967295 = omega (arith, m, l) in
+        record { nodes = mesh.nodes; seats_stand = s.seats; row = k.node; found = k.found; may = may_tick queries clock mesh h.place k.node s.reached k.found few; few = few }
+
+    ticks_match : (after : Mesh) (class : Class) → h.class ≡ class → after_happening (scenario_setup queries) h mesh ≡ Ok after → (x : Happening) → Has (ticks_amid h.class h.place h.moment waiting_ticks) x ↔ Has (first_ticks 0 after.nodes) x
+    ticks_match after LinkDelivery e is x =
+        let step = step_is (scenario_setup queries) mesh h after is in
+        let same = tickless_same mesh after (λ place n f. subst (λ c. Was mesh.nodes after.frames (ticks_of c h.place place) place n) e (step.nodes place n f)) step.count in
+        let both = all_others net.post.queue rest t h mesh sound s.kept.amid.waits popped e x in
+        subst (λ c. Has (ticks_amid c h.place h.moment waiting_ticks) x ↔ Has (first_ticks 0 after.nodes) x) (sym e)
+        (λ p. subst (λ hs. Has hs x) (sym same) (both.0 p), λ p. both.1 (subst (λ hs. Has hs x) same p))
+    ticks_match after NodeTick e is x =
+        let step = step_is (scenario_setup queries) mesh h after is in
+        let k = ticker_is net.post.queue rest t h mesh sound s.kept.amid.waits popped e in
+        subst (λ c. Has (ticks_amid c h.place h.moment waiting_ticks) x ↔ Has (first_ticks 0 after.nodes) x) (sym e)
+        (ticks_next mesh after h k.node k.found k.is (λ place n f. subst (λ c. Was mesh.nodes after.frames (ticks_of c h.place place) place n) e (step.nodes place n f)) step.count (tick_or_later net.post.queue rest t h mesh sound s.kept.amid.waits popped) x)
+
+    pub stepped : (amid done end : Net A) (old new new' : List Event) → KeepsNet (popped_net net rest) amid → Settled amid done → SameBut done end → end.clock ≡ h.moment → end.last ≡ h → new' ≡ new
+        → Gave stands amid choice h (ticks_amid h.class h.place h.moment waiting_ticks) mesh old new (effect (scenario_setup queries) h.class h.place h.moment mesh)
+        → Stepped queries stands end choice mesh t old new'
+    stepped amid done end old new new' k d b clock_is last_is told g =
+        let is : after_happening (scenario_setup queries) h mesh ≡ Ok (with_happening h g.after) = ap (on_ok (with_last h)) g.is in
+        let next = next_is in
+        let due = next_due_some t mesh h (next_happening mesh) refl (((finds_next t mesh sound).0 h).1 next) in
+        record {
+          happening = h;
+          next = next;
+          after = with_happening h g.after;
+          is = is;
+          standing = stands_for queries stands amid done end choice h (ticks_amid h.class h.place h.moment waiting_ticks) h.moment (with_happening h g.after) d b (k.dead ∙ s.alive) g.choice_is clock_is last_is refl (omega arith) h_low
+              g.seats_stand (step_last amid.post amid.sent.items h h (ticks_amid h.class h.place h.moment waiting_ticks) g.after g.step) (ticks_match (with_happening h g.after) h.class refl is)
+              (happens clock mesh (with_happening h g.after) h s.reached due.0 (not_before queries clock mesh s.reached h next.happens next.after) h_low is);
+          logged = subst (Logged choice mesh (with_happening h g.after) old) (sym told) (record { more = g.logged.more; came = g.logged.came; told = g.logged.told });
+        }
+
+    pub failed : (r : Result Unit NodeErr) (error : NetErr) → SettleTells r error → IfErr r (GiveTells (effect (scenario_setup queries) h.class h.place h.moment mesh)) → StepFails queries mesh t error
+    failed r error tells given = record {
+      happening = h;
+      next = next_is;
+      tells = happening_tells (scenario_setup queries) mesh h error (settle_tells (effect (scenario_setup queries) h.class h.place h.moment mesh) r error tells given);
+    }
+
+-- ---- results
+pub on_ok_map : {X : Type 0} {P Q : Type 0} (r : Result X NetErr) → (P → Q) → OnOk r P → OnOk r Q
+on_ok_map (Ok done) f p = f p
+on_ok_map (Err error) f p = tt
+
+pub on_err_map : {X : Type 0} {P Q : Type 0} (r : Result X NetErr) → (P → Q) → OnErr r P → OnErr r Q
+on_err_map (Ok done) f p = tt
+on_err_map (Err error) f p = f p
+
+pub if_err_map : {X : Type 0} {P Q : NetErr → Type 0} (r : Result X NetErr) → ((e : NetErr) → P e → Q e) → IfErr r P → IfErr r Q
+if_err_map (Ok done) f p = tt
+if_err_map (Err error) f p = f error p
+
+pub if_ok_map : {X : Type 0} {P Q : X → Type 0} (r : Result X NetErr) → ((x : X) → P x → Q x) → IfOk r P → IfOk r Q
+if_ok_map (Ok done) f p = f done p
+if_ok_map (Err error) f p = tt
+
+-- a net as a call leaves it
+pub net_by : {X : Type 0} {P Q : Type 0} (r : Result X NetErr) → OnErr r P → OnOk r Q → P ⊎ Q
+net_by (Ok done) p q = inr q
+net_by (Err error) p q = inl p

@@ -1,0 +1,163 @@
+-- What a node may be given amid a step: what a line gives it, a frame that is kept, its next tick.
+use Rattle.std.proofs.Common.{◌≡◌, ℕ, zero, suc, ◌<◌, List, [], ◌∷◌, ◌++◌, length, slice_get, Option, Some, None, Ok, refl, sym, ap, ◌∙◌, subst, arith, append-nil}
+use Rattle.mesh_base.specs.declared.address.Mac.{Mac}
+use Rattle.mesh_model.specs.declared.frame_choice.FrameChoice.{FrameChoice}
+use Rattle.mesh_model.specs.declared.happening.Happening.{Happening}
+use Rattle.mesh_model.specs.Acts.RouteInputs.{route_log}
+use Rattle.mesh_model.specs.Clients.Log as log
+use Rattle.mesh_model.specs.Net.Due.{ticks_in}
+use Rattle.mesh_model.specs.Net.Inputs.{given_to}
+use Rattle.mesh_model.specs.Net.Mesh.{NodeLog, NetLink, SentFrame, Mesh, Setup, address_at}
+use Rattle.mesh_model.specs.Net.Runs.{delivered, frame_given, frame_over, tick_given, ticked, throughput_between}
+use Rattle.mesh_model.specs.Routes.RouteLog.{RouteLog, MayTick}
+use Rattle.mesh_node.specs.declared.input.Input.{Input}
+use Rattle.mesh_node.specs.declared.input.Input.TheVariants.{Tick, Link, Frame, Wifi}
+use Rattle.mesh_node.specs.NodeStands.{MayTake, MayFollow, given_by}
+use Rattle.mesh_net.specs.declared.row.Arrival.{Arrival}
+use Rattle.mesh_net.specs.declared.row.Sending.{Sending}
+use Rattle.mesh_net.specs.declared.net.Net.{Net}
+use Rattle.mesh_net.specs.declared.seat.Seat.{Seat}
+use Rattle.mesh_net.specs.Lanes.{ArrivalIs}
+use Rattle.mesh_net.specs.NetStands.{SeatsStand}
+use Rattle.mesh_net.specs.Reached.{IsOfLine}
+use Rattle.mesh_net.specs.Steps.{AreOnLinks, Begun, Counts, HasNodes, MayTickAt}
+use Rattle.mesh_net.proofs.LookUps.{some_one, got_there}
+use Rattle.mesh_net.proofs.SeatLemmas.{seat_at, seats_length}
+
+-- ---- what a line gives
+pub line_counts : (ticks number : ℕ) (input : Input) → IsOfLine (given_by number input) → Counts ticks input
+line_counts ticks number (Tick index) line = absurd line
+line_counts ticks number (Link from tp bytes) line = absurd line
+line_counts ticks number (Frame src dst vid text) line = tt
+line_counts ticks number (Wifi on) line = tt
+
+line_follows : (before : RouteLog) (number : ℕ) (input : Input) → IsOfLine (given_by number input) → MayFollow before input
+line_follows before number (Tick index) line = absurd line
+line_follows before number (Link from tp bytes) line = absurd line
+line_follows before number (Frame src dst vid text) line = tt
+line_follows before number (Wifi on) line = tt
+
+module _ {A : Type 0} (stands : A → Mac → RouteLog → Type 0) where
+  -- a node takes what follows on each log
+  may_take : (seats : List (Seat A)) (nodes : List NodeLog) (place : ℕ) (seat : Seat A) (input : Input) → SeatsStand stands seats nodes → slice_get seats place ≡ Some seat
+      → ((row : NodeLog) → slice_get nodes place ≡ Some row → MayFollow (route_log row.log) input) → MayTake stands seat.node input
+  may_take seats nodes place seat input stand found follows =
+      let row = seat_at stands seats nodes place seat stand found in
+      record { me = row.0.mac; log = row.0.log; stand = row.2.node; follows = follows row.0 row.1 }
+
+  pub line_taken : (net : Net A) (place number : ℕ) (input : Input) → HasNodes stands net → IsOfLine (given_by number input) → (seat : Seat A) → slice_get net.seats.items place ≡ Some seat → MayTake stands seat.node input
+  line_taken net place number input has line seat found = may_take net.seats.items has.nodes place seat input has.seats_stand found (λ row e. line_follows (route_log row.log) number input line)
+
+  pub link_taken : (net : Net A) (place : ℕ) (input : Input) → HasNodes stands net → ((before : RouteLog) → MayFollow before input) → (seat : Seat A) → slice_get net.seats.items place ≡ Some seat → MayTake stands seat.node input
+  link_taken net place input has any seat found = may_take net.seats.items has.nodes place seat input has.seats_stand found (λ row e. any (route_log row.log))
+
+  -- ---- a tick
+  -- the node that ticks
+  pub record Ticker (seats : List (Seat A)) (place index : ℕ) : Type 0 where
+    pub seat : Seat A
+    pub found : slice_get seats place ≡ Some seat
+    pub low : seat.ticks < 4294967296
+    pub may : (index ≡ suc seat.ticks) → MayTake stands seat.node (Tick index)
+
+  pub ticker : (net : Net A) (place index : ℕ) → MayTickAt stands net place → Ticker net.seats.items place index
+  ticker net place index may =
+      let l : place < length net.seats.items = subst (λ n. place < n) (sym (seats_length stands net.seats.items may.nodes may.seats_stand)) (got_low may.nodes place may.row may.found) in
+      let there = got_there net.seats.items place l in
+      let row = seat_at stands net.seats.items may.nodes place there.0 may.seats_stand there.1 in
+      let same : may.row ≡ row.0 = some_one may.row row.0 (sym may.found ∙ row.1) in
+      let ticks_is : there.0.ticks ≡ ticks_in may.row.log = row.2.ticks ∙ ap (λ (r : NodeLog). ticks_in r.log) (sym same) in
+      let few = may.few in
+      record {
+        seat = there.0;
+        found = there.1;
+        low = omega (arith, few, ticks_is);
+        may = λ e. record {
+          me = row.0.mac;
+          log = row.0.log;
+          stand = row.2.node;
+          follows = subst (λ (r : NodeLog). MayTick (route_log r.log) index) same (subst (MayTick (route_log may.row.log)) (sym (e ∙ ap suc ticks_is)) may.may);
+        };
+      }
+    where
+      got_low : {X : Type 0} (xs : List X) (i : ℕ) (x : X) → slice_get xs i ≡ Some x → i < length xs
+      got_low [] i x e = cc
+      got_low (y ∷ ys) zero x e = omega arith
+      got_low (y ∷ ys) (suc i) x e = let l = got_low ys i x e in omega (arith, l)
+
+  pub tick_taken : (seats : List (Seat A)) (place index : ℕ) (t : Ticker seats place index) → index ≡ suc t.seat.ticks → (seat : Seat A) → slice_get seats place ≡ Some seat → MayTake stands seat.node (Tick index)
+  tick_taken seats place index t e seat found = subst (λ (s : Seat A). MayTake stands s.node (Tick index)) (some_one t.seat seat (sym t.found ∙ found)) (t.may e)
+
+  -- the index counts on
+  pub tick_counts : (seats : List (Seat A)) (nodes : List NodeLog) (place index : ℕ) (t : Ticker seats place index) → index ≡ suc t.seat.ticks → SeatsStand stands seats nodes → (row : NodeLog) → slice_get nodes place ≡ Some row → index ≡ suc (ticks_in row.log)
+  tick_counts seats nodes place index t e stand row found =
+      let r = seat_at stands seats nodes place t.seat stand t.found in
+      e ∙ ap suc (r.2.ticks ∙ ap (λ (x : NodeLog). ticks_in x.log) (some_one r.0 row (sym r.1 ∙ found)))
+
+  -- a tick gives its node the index
+  pub ticked_is : (setup : Setup) (seats : List (Seat A)) (mesh : Mesh) (place now index : ℕ) (t : Ticker seats place index) → index ≡ suc t.seat.ticks → SeatsStand stands seats mesh.nodes
+      → ticked setup place now mesh ≡ given_to setup place now index (log.Tick index) mesh
+  ticked_is setup seats mesh place now index t e stand =
+      let r = seat_at stands seats mesh.nodes place t.seat stand t.found in
+      let i : suc (ticks_in r.0.log) ≡ index = sym (e ∙ ap suc r.2.ticks) in
+      ap (λ o. tick_given setup place now o mesh) r.1 ∙ ap (λ n. given_to setup place now n (log.Tick n) mesh) i
+
+  -- ---- a frame
+  pub record Comes (setup : Setup) (net : Net A) (mesh : Mesh) (place now : ℕ) (arrival : Arrival) : Type 0 where
+    pub sending : Sending
+    pub found : slice_get net.sent.items arrival.sending ≡ Some sending
+    pub is : delivered setup place now mesh ≡ given_to setup arrival.to now sending.root (log.LinkFrame (suc place) arrival.from arrival.tp sending.bytes) mesh
+
+  delivered_is : (setup : Setup) (mesh : Mesh) (place now : ℕ) (frame : SentFrame) (link : NetLink) → slice_get mesh.frames place ≡ Some frame → slice_get mesh.links frame.link ≡ Some link
+      → delivered setup place now mesh ≡ given_to setup link.to now frame.root (log.LinkFrame (suc place) (address_at link.from mesh.nodes) (throughput_between link.to link.from mesh.links) frame.bytes) mesh
+  delivered_is setup mesh place now frame link found on = ap (λ o. frame_given setup place now o mesh) found ∙ ap (λ o. frame_over setup place now frame o mesh) on
+
+  comes_at : (setup : Setup) (net : Net A) (choice : FrameChoice) (last : Happening) (ticks : List Happening) (now : ℕ) (mesh : Mesh) (place : ℕ) (frame : SentFrame) (link : NetLink) (arrival : Arrival) → Begun stands net choice last ticks now mesh
+      → slice_get mesh.frames place ≡ Some frame → slice_get mesh.links frame.link ≡ Some link → ArrivalIs (net.sent.items ++ net.post.fresh.items) mesh frame link arrival → Comes setup net mesh place now arrival
+  comes_at setup net choice last ticks now mesh place frame link arrival begun found on a = record {
+    sending = a.sending;
+    found = subst (λ ss. slice_get ss arrival.sending ≡ Some a.sending) (ap (λ fs. net.sent.items ++ fs) begun.settled ∙ append-nil net.sent.items) a.found;
+    is = delivered_is setup mesh place now frame link found on
+        ∙ ap (λ n. given_to setup n now frame.root (log.LinkFrame (suc place) (address_at link.from mesh.nodes) (throughput_between link.to link.from mesh.links) frame.bytes) mesh) (sym a.to)
+        ∙ ap (λ n. given_to setup arrival.to now n (log.LinkFrame (suc place) (address_at link.from mesh.nodes) (throughput_between link.to link.from mesh.links) frame.bytes) mesh) (sym a.root)
+        ∙ ap (λ n. given_to setup arrival.to now a.sending.root (log.LinkFrame (suc place) n (throughput_between link.to link.from mesh.links) frame.bytes) mesh) (sym a.from)
+        ∙ ap (λ n. given_to setup arrival.to now a.sending.root (log.LinkFrame (suc place) arrival.from n frame.bytes) mesh) (sym a.throughput)
+        ∙ ap (λ n. given_to setup arrival.to now a.sending.root (log.LinkFrame (suc place) arrival.from arrival.tp n) mesh) (sym a.bytes);
+  }
+
+  by_frame : {X : Type 0} (o : Option SentFrame) → (o ≡ None → X) → ((frame : SentFrame) → o ≡ Some frame → X) → X
+  by_frame None f h = f refl
+  by_frame (Some frame) f h = h frame refl
+
+  none_some : {X Y : Type 0} (x : X) (o : Option X) → o ≡ None → o ≡ Some x → Y
+  none_some x o a b = cc
+
+  -- what comes is kept
+  pub comes : (setup : Setup) (net : Net A) (choice : FrameChoice) (last : Happening) (ticks : List Happening) (now : ℕ) (mesh : Mesh) (place : ℕ) (o : Option Arrival) (arrival : Arrival) → o ≡ Some arrival → Begun stands net choice last ticks now mesh → AreOnLinks mesh
+      → ((frame : SentFrame) (link : NetLink) → slice_get mesh.frames place ≡ Some frame → slice_get mesh.links frame.link ≡ Some link → (a : Arrival) × (o ≡ Some a) × ArrivalIs (net.sent.items ++ net.post.fresh.items) mesh frame link a)
+      → (slice_get mesh.frames place ≡ None → o ≡ None) → Comes setup net mesh place now arrival
+  comes setup net choice last ticks now mesh place o arrival is begun on some none = by_frame (slice_get mesh.frames place)
+      (λ e. none_some arrival o (none e) is)
+      (λ frame e.
+      let link = got_there mesh.links frame.link (on place frame e) in
+      let a = some frame link.0 e link.1 in
+      comes_at setup net choice last ticks now mesh place frame link.0 arrival begun e link.1 (subst (ArrivalIs (net.sent.items ++ net.post.fresh.items) mesh frame link.0) (some_one a.0 arrival (sym a.1 ∙ is)) a.2))
+
+  -- where nothing comes, nothing happens
+  pub comes_none : (setup : Setup) (mesh : Mesh) (place now : ℕ) (sendings : List Sending) (o : Option Arrival) → o ≡ None → AreOnLinks mesh
+      → ((frame : SentFrame) (link : NetLink) → slice_get mesh.frames place ≡ Some frame → slice_get mesh.links frame.link ≡ Some link → (a : Arrival) × (o ≡ Some a) × ArrivalIs sendings mesh frame link a)
+      → delivered setup place now mesh ≡ Ok mesh
+  comes_none setup mesh place now sendings o is on some = by_frame (slice_get mesh.frames place)
+      (λ e. ap (λ f. frame_given setup place now f mesh) e)
+      (λ frame e.
+      let link = got_there mesh.links frame.link (on place frame e) in
+      let a = some frame link.0 e link.1 in
+      none_some a.0 o is a.1)
+
+  -- what is given is what comes
+  pub link_is : (setup : Setup) (net : Net A) (mesh : Mesh) (place now : ℕ) (arrival : Arrival) (sending : Sending) (bytes : List ℕ) → Comes setup net mesh place now arrival → slice_get net.sent.items arrival.sending ≡ Some sending → bytes ≡ sending.bytes
+      → given_to setup arrival.to now sending.root (log.LinkFrame (suc place) arrival.from arrival.tp bytes) mesh ≡ delivered setup place now mesh
+  link_is setup net mesh place now arrival sending bytes it found same =
+      let s : it.sending ≡ sending = some_one it.sending sending (sym it.found ∙ found) in
+      ap (λ b. given_to setup arrival.to now sending.root (log.LinkFrame (suc place) arrival.from arrival.tp b) mesh) same
+      ∙ ap (λ (x : Sending). given_to setup arrival.to now x.root (log.LinkFrame (suc place) arrival.from arrival.tp x.bytes) mesh) (sym s)
+      ∙ sym it.is

@@ -1,0 +1,73 @@
+-- A net after a node or a link was to join it, when it noted whether that was refused.
+use Rattle.std.proofs.Common.{◌≡◌, ℕ, inl, inr, Bool, false, [], Result, Ok, Err, is_err}
+use Rattle.std.specs.Result.{IfOk, OnOk}
+use Rattle.mesh_base.specs.declared.address.Mac.{Mac}
+use Rattle.mesh_model.specs.declared.frame_choice.FrameChoice.{FrameChoice}
+use Rattle.mesh_model.specs.Net.Mesh.{NetLink, Mesh}
+use Rattle.mesh_model.specs.Routes.Queries.{Queries}
+use Rattle.mesh_model.specs.Routes.RouteLog.{RouteLog}
+use Rattle.mesh_model.specs.Run.Steps.{new_node}
+use Rattle.mesh_net.specs.declared.failure.NetErr.{NetErr}
+use Rattle.mesh_net.specs.declared.net.Net.{Net}
+use Rattle.mesh_net.specs.NetStands.{NetStands, IsNet}
+use Rattle.mesh_net.specs.Reached.{with_node, with_link}
+use Rattle.mesh_net.specs.Tells.{HasJoined, HasLinked}
+
+module _ {A : Type 0} (queries : Mac → Queries) (stands : A → Mac → RouteLog → Type 0) where
+  -- a net that notes whether it is dead
+  abbrev noting : Net A → Bool → Net A
+  noting net dead = record net { dead = dead }
+
+  still : (net : Net A) (dead : Bool) (choice : FrameChoice) (clock : ℕ) (mesh : Mesh) → dead ≡ false → NetStands queries stands net choice clock mesh → NetStands queries stands (noting net dead) choice clock mesh
+  still net dead choice clock mesh alive st = record {
+    alive = alive;
+    choice_is = st.choice_is;
+    clock_is = st.clock_is;
+    last_is = st.last_is;
+    past = st.past;
+    low = st.low;
+    seats = st.seats;
+    kept = st.kept;
+    settled = st.settled;
+    reached = st.reached;
+  }
+
+  pub still_joined : (r : Result ℕ NetErr) (net : Net A) (dead : Bool) (choice : FrameChoice) (clock : ℕ) (mesh : Mesh) (mac : Mac) → dead ≡ is_err r
+      → IfOk r (HasJoined queries stands net choice clock mesh mac) → IfOk r (HasJoined queries stands (noting net dead) choice clock mesh mac)
+  still_joined (Ok place) net dead choice clock mesh mac is h = record {
+    place_is = h.place_is;
+    room = h.room;
+    standing = λ name. still net dead choice clock (with_node (new_node name mac clock) mesh) is (h.standing name);
+  }
+  still_joined (Err error) net dead choice clock mesh mac is h = tt
+
+  pub still_linked : (r : Result Unit NetErr) (net : Net A) (dead : Bool) (choice : FrameChoice) (clock : ℕ) (mesh : Mesh) (link : NetLink) → dead ≡ is_err r
+      → OnOk r (HasLinked queries stands net choice clock mesh link) → OnOk r (HasLinked queries stands (noting net dead) choice clock mesh link)
+  still_linked (Ok done) net dead choice clock mesh link is h = record { room = h.room; standing = still net dead choice clock (with_link link mesh) is h.standing }
+  still_linked (Err error) net dead choice clock mesh link is h = tt
+
+  -- it stands for the mesh with the node, or it is dead
+  pub joined_net : (r : Result ℕ NetErr) (old new : Net A) (dead : Bool) (mac : Mac) → IsNet queries stands old → old.dead ≡ false → dead ≡ is_err r
+      → ((choice : FrameChoice) (clock : ℕ) (mesh : Mesh) → NetStands queries stands old choice clock mesh → IfOk r (HasJoined queries stands new choice clock mesh mac))
+      → IsNet queries stands (noting new dead)
+  joined_net (Err error) old new dead mac net alive is joins = inl is
+  joined_net (Ok place) old new dead mac (inl gone) alive is joins = absurd (cc)
+  joined_net (Ok place) old new dead mac (inr live) alive is joins = inr (record {
+    choice = live.choice;
+    clock = live.clock;
+    mesh = with_node (new_node [] mac live.clock) live.mesh;
+    standing = still new dead live.choice live.clock (with_node (new_node [] mac live.clock) live.mesh) is ((joins live.choice live.clock live.mesh live.standing).standing []);
+  })
+
+  -- it stands for the mesh with the link, or it is dead
+  pub linked_net : (r : Result Unit NetErr) (old new : Net A) (dead : Bool) (link : NetLink) → IsNet queries stands old → old.dead ≡ false → dead ≡ is_err r
+      → ((choice : FrameChoice) (clock : ℕ) (mesh : Mesh) → NetStands queries stands old choice clock mesh → OnOk r (HasLinked queries stands new choice clock mesh link))
+      → IsNet queries stands (noting new dead)
+  linked_net (Err error) old new dead link net alive is joins = inl is
+  linked_net (Ok done) old new dead link (inl gone) alive is joins = absurd (cc)
+  linked_net (Ok done) old new dead link (inr live) alive is joins = inr (record {
+    choice = live.choice;
+    clock = live.clock;
+    mesh = with_link link live.mesh;
+    standing = still new dead live.choice live.clock (with_link link live.mesh) is (joins live.choice live.clock live.mesh live.standing).standing;
+  })

@@ -1,0 +1,20 @@
+-- What the methods rest on.
+pub mod QueueLemmas
+pub mod LookUps
+pub mod PostLemmas
+pub mod Chosen
+pub mod Ways
+pub mod Midway
+pub mod ActLemmas
+pub mod GiveLemmas
+pub mod Back
+pub mod ReachedLemmas
+pub mod SeatLemmas
+pub mod StepLemmas
+pub mod InputLemmas
+pub mod TickLemmas
+pub mod PopLemmas
+pub mod Ends
+pub mod Slices
+pub mod JoinLemmas
+pub mod JoinCalls

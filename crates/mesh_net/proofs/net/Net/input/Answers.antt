@@ -1,0 +1,49 @@
+use Rattle.std.proofs.Common.{sym, ◌∙◌, subst}
+use Rattle.std.specs.Result.{OnOk, IfErr}
+use Rattle.mesh_model.specs.Net.Due.{first_ticks}
+use Rattle.mesh_model.specs.Net.Inputs.{given_to}
+use Rattle.mesh_model.specs.Net.Limits.{scenario_setup}
+use Rattle.mesh_node.specs.NodeStands.{given_by}
+use Rattle.mesh_net.specs.NetStands.{NetStands}
+use Rattle.mesh_net.specs.Tells.{Carried, StepTells}
+use Rattle.mesh_net.proofs.Ends.{begun_now, carried_line, cut_back, has_nodes, if_err_map, live_of, net_by, ok_has, on_err_map, on_ok_map, settle_tells}
+use Rattle.mesh_net.proofs.net.Net.input.Goals as goal
+
+pub input_at-given-requires-clause-nodes : goal.input_at-given-requires-clause-nodes
+input_at-given-requires-clause-nodes g c =
+    has_nodes g.A.Algo.queries g.A.Algo.stands c.args.self.now (live_of g.A.Algo.queries g.A.Algo.stands c.args.self.now c.requires.net c.if-self.false)
+
+pub returns-clause-carried : goal.returns-clause-carried
+returns-clause-carried g c = λ choice clock mesh s.
+    let q = g.A.Algo.queries in
+    let st = g.A.Algo.stands in
+    let net = c.args.self.now in
+    let s' = subst (λ k. NetStands q st net choice k mesh) (sym s.clock_is) s in
+    let begun = begun_now q st net choice mesh s' in
+    subst (λ k. OnOk c.settle.result (Carried q st c.settle.new.self choice k mesh c.args.log.now c.settle.new.log (given_to (scenario_setup q) c.args.node k 0 (given_by 0 c.args.input.now) mesh))) s.clock_is
+    (on_ok_map c.settle.result (λ ok. carried_line q st net c.input_at-given.new.self c.settle.new.self choice mesh c.args.log.now c.input_at-given.new.log c.settle.new.log c.args.node (given_by 0 c.args.input.now) s' c.input_at-given.ensures.kept ok.1 ok.2 c.requires.line
+    (ok_has c.input_at-given.result ok.0 (c.input_at-given.ensures.given choice mesh.last (first_ticks 0 mesh.nodes) mesh begun))) c.settle.ensures.ok)
+
+pub returns-clause-cause : goal.returns-clause-cause
+returns-clause-cause g c = λ choice clock mesh s.
+    let q = g.A.Algo.queries in
+    let st = g.A.Algo.stands in
+    let net = c.args.self.now in
+    let s' = subst (λ k. NetStands q st net choice k mesh) (sym s.clock_is) s in
+    let begun = begun_now q st net choice mesh s' in
+    subst (λ k. IfErr c.settle.result (StepTells (given_to (scenario_setup q) c.args.node k 0 (given_by 0 c.args.input.now) mesh))) s.clock_is
+    (if_err_map c.settle.result (λ e tells. settle_tells (given_to (scenario_setup q) c.args.node net.clock 0 (given_by 0 c.args.input.now) mesh) c.input_at-given.result e tells (c.input_at-given.ensures.cause choice mesh.last (first_ticks 0 mesh.nodes) mesh begun)) c.settle.ensures.cause)
+
+pub returns-clause-as_before : goal.returns-clause-as_before
+returns-clause-as_before g c =
+    on_err_map c.settle.result (λ cut. cut ∙ cut_back c.args.log.now c.input_at-given.new.log c.len-before.result c.len-before.ensures c.input_at-given.ensures.grew) c.settle.ensures.cut
+
+pub returns-clause-net : goal.returns-clause-net
+returns-clause-net g c =
+    let live = live_of g.A.Algo.queries g.A.Algo.stands c.args.self.now c.requires.net c.if-self.false in
+    net_by c.settle.result c.settle.ensures.refused (on_ok_map c.settle.result (λ done. record {
+      choice = live.choice;
+      clock = live.clock;
+      mesh = done.after;
+      standing = done.standing;
+    }) (returns-clause-carried g c live.choice live.clock live.mesh live.standing))

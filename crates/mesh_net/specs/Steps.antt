@@ -1,0 +1,251 @@
+-- Amid a step: from the popping of a happening, or the begin of a line, to the settling of what was
+-- sent. The main words are `Begun` and `Gave`.
+use Rattle.std.specs.Prelude.{◌≡◌, ℕ, suc, ◌+◌, ◌<◌, ◌≤◌, true, false, Bool, List, [], ◌∷◌, ◌++◌, ◌⊎◌, length, slice_get, Some, Ok, Err, Result, ⊤}
+use Rattle.std.specs.Fn.{iterate}
+use Rattle.mesh_base.specs.declared.address.Mac.{Mac}
+use Rattle.mesh_base.specs.declared.event.Event.{Event}
+use Rattle.mesh_model.specs.declared.ending.LimitName.{LimitName}
+use Rattle.mesh_model.specs.declared.ending.LimitName.TheVariants as limits
+use Rattle.mesh_model.specs.declared.frame_choice.FrameChoice.{FrameChoice}
+use Rattle.mesh_model.specs.declared.happening.Class.{Class}
+use Rattle.mesh_model.specs.declared.happening.Class.TheVariants.{LinkDelivery, NodeTick}
+use Rattle.mesh_model.specs.declared.happening.Happening.{Happening}
+use Rattle.mesh_model.specs.Acts.RouteInputs.{route_log}
+use Rattle.mesh_model.specs.Net.Due.{tick_time, ticks_in}
+use Rattle.mesh_model.specs.Net.Limits.{clock_limit, scenario_setup}
+use Rattle.mesh_model.specs.Net.Mesh.{NodeLog, SentFrame, Mesh, Setup}
+use Rattle.mesh_model.specs.Net.Next.{IsNext, IsQuiet}
+use Rattle.mesh_model.specs.Net.Runs.{after_happening, begin, turn, going_on, run_to}
+use Rattle.mesh_laws.specs.Soundness.{rank}
+use Rattle.mesh_model.specs.Net.Sending.{Attempt}
+use Rattle.mesh_model.specs.Routes.Queries.{Queries}
+use Rattle.mesh_model.specs.Routes.RouteLog.{RouteLog, MayTick}
+use Rattle.mesh_node.specs.declared.failure.NodeErr.{NodeErr}
+use Rattle.mesh_node.specs.declared.failure.NodeErr.TheVariants as node_errors
+use Rattle.mesh_node.specs.declared.input.Input.{Input}
+use Rattle.mesh_node.specs.declared.input.Input.TheVariants.{Tick, Link, Frame, Wifi}
+use Rattle.mesh_net.specs.declared.failure.NetErr.{NetErr}
+use Rattle.mesh_net.specs.declared.failure.NetErr.TheVariants as net_errors
+use Rattle.mesh_net.specs.declared.net.Net.{Net}
+use Rattle.mesh_net.specs.declared.post.Post.{Post}
+use Rattle.mesh_net.specs.declared.row.Sending.{Sending}
+use Rattle.mesh_net.specs.declared.seat.Seat.{Seat}
+use Rattle.mesh_net.specs.NetStands.{SeatsStand, NetStands}
+use Rattle.mesh_net.specs.Sent.{InStep, Logged}
+use Rattle.mesh_net.specs.Tells.{Ran, StepTells}
+
+-- ---- one node
+-- how many ticks a node had with an input
+abbrev pub ticks_with : ℕ → Input → ℕ
+ticks_with ticks (Tick index) = index
+ticks_with ticks (Link from tp bytes) = ticks
+ticks_with ticks (Frame src dst vid text) = ticks
+ticks_with ticks (Wifi on) = ticks
+
+-- an input's index, where it is a tick, is that of the next tick after so many
+abbrev pub Counts : ℕ → Input → Type 0
+Counts ticks (Tick index) = index ≡ suc ticks
+Counts ticks (Link from tp bytes) = ⊤
+Counts ticks (Frame src dst vid text) = ⊤
+Counts ticks (Wifi on) = ⊤
+
+-- nodes and what is kept besides, amid a step at a moment in a mesh
+pub record Stage {A : Type 0} (stands : A → Mac → RouteLog → Type 0) (seats : List (Seat A))
+    (post : Post) (older : List Sending) (last : Happening) (ticks : List Happening) (now : ℕ)
+    (mesh : Mesh) : Type 0 where
+  pub seats_stand : SeatsStand stands seats mesh.nodes
+  pub step : InStep post older last ticks mesh
+  pub late : last.moment ≤ now
+  pub soon : now ≤ clock_limit
+
+-- the input counts on at the node at a place
+abbrev pub CountsOn : ℕ → Input → Mesh → Type 0
+CountsOn place input mesh =
+    (row : NodeLog) → slice_get mesh.nodes place ≡ Some row → Counts (ticks_in row.log) input
+
+-- something was tried amid a step: the mesh after it
+pub record Tried {A : Type 0} (stands : A → Mac → RouteLog → Type 0) (seats : List (Seat A))
+    (post : Post) (choice : FrameChoice) (older : List Sending) (last : Happening)
+    (ticks : List Happening) (before : Mesh) (old new : List Event) (attempt : Attempt) : Type 0
+  where
+    pub after : Mesh
+    pub is : attempt ≡ Ok after
+    pub choice_is : post.choice ≡ choice
+    pub seats_stand : SeatsStand stands seats after.nodes
+    pub step : InStep post older last ticks after
+    pub logged : Logged choice before after old new
+
+-- ---- the net
+-- the nodes of a net stand for some
+pub record HasNodes {A : Type 0} (stands : A → Mac → RouteLog → Type 0) (net : Net A) : Type 0 where
+  pub nodes : List NodeLog
+  pub seats_stand : SeatsStand stands net.seats.items nodes
+
+-- a step at a moment begins in a mesh, when a happening is the last and these ticks wait
+pub record Begun {A : Type 0} (stands : A → Mac → RouteLog → Type 0) (net : Net A)
+    (choice : FrameChoice) (last : Happening) (ticks : List Happening) (now : ℕ) (mesh : Mesh)
+    : Type 0 where
+  pub choice_is : net.post.choice ≡ choice
+  pub settled : net.post.fresh.items ≡ []
+  pub stage : Stage stands net.seats.items net.post net.sent.items last ticks now mesh
+
+-- something was tried in such a step of a net
+abbrev pub Gave : {A : Type 0} → (A → Mac → RouteLog → Type 0) → Net A → FrameChoice → Happening
+    → List Happening → Mesh → List Event → List Event → Attempt → Type 0
+Gave stands net choice last ticks before old new attempt =
+    Tried stands net.seats.items net.post choice net.sent.items last ticks before old new attempt
+
+-- what a step leaves as it is, until it is settled
+pub record KeepsNet {A : Type 0} (old new : Net A) : Type 0 where
+  pub sent : new.sent ≡ old.sent
+  pub clock : new.clock ≡ old.clock
+  pub last : new.last ≡ old.last
+  pub dead : new.dead ≡ old.dead
+
+-- each frame was sent over a link
+abbrev pub AreOnLinks : Mesh → Type 0
+AreOnLinks mesh = (place : ℕ) (frame : SentFrame) → slice_get mesh.frames place ≡ Some frame
+    → frame.link < length mesh.links
+
+-- the node at a place of a net may tick
+pub record MayTickAt {A : Type 0} (stands : A → Mac → RouteLog → Type 0) (net : Net A)
+    (place : ℕ) : Type 0 where
+  pub nodes : List NodeLog
+  pub seats_stand : SeatsStand stands net.seats.items nodes
+  pub row : NodeLog
+  pub found : slice_get nodes place ≡ Some row
+  pub may : MayTick (route_log row.log) (suc (ticks_in row.log))
+  pub few : ticks_in row.log < 4294967295
+
+-- the tick of the node at a place that is due at a moment
+abbrev pub tick_now : ℕ → ℕ → Happening
+tick_now place now = record { moment = now; class = NodeTick; place = place }
+
+-- the ticks that wait amid a step, by the class of its happening: behind a tick, the next one of the
+-- node too
+abbrev pub ticks_amid : Class → ℕ → ℕ → List Happening → List Happening
+ticks_amid LinkDelivery place now others = others
+ticks_amid NodeTick place now others = tick_now place (now + tick_time) ∷ others
+
+-- ---- the end of a step
+-- what a refusal of a node is in its net
+abbrev pub net_error : NodeErr → NetErr
+net_error node_errors.Memory = net_errors.Memory
+net_error node_errors.Clients = net_errors.Limit limits.Clients
+net_error node_errors.Vlans = net_errors.Limit limits.Vlans
+net_error node_errors.Frames = net_errors.Limit limits.Frames
+net_error node_errors.FrameBytes = net_errors.Limit limits.FrameBytes
+net_error node_errors.Dead = net_errors.Dead
+
+-- why the sendings of a step aren't kept: what it tried was refused, or memory ran out
+abbrev pub SettleTells : Result Unit NodeErr → NetErr → Type 0
+SettleTells (Ok done) error = error ≡ net_errors.Memory
+SettleTells (Err refused) error = error ≡ net_error refused
+
+-- the sendings of a step stand behind the others
+pub record Settled {A : Type 0} (old new : Net A) : Type 0 where
+  pub sent : new.sent.items ≡ old.sent.items ++ old.post.fresh.items
+  pub fresh : new.post.fresh.items ≡ []
+  pub older : new.post.older ≡ length new.sent.items
+  pub post : new.post ≡ record old.post { fresh = new.post.fresh; older = new.post.older }
+  pub seats : new.seats ≡ old.seats
+  pub clock : new.clock ≡ old.clock
+  pub last : new.last ≡ old.last
+  pub dead : new.dead ≡ old.dead
+
+-- the next happening until a moment was carried out
+pub record Stepped {A : Type 0} (queries : Mac → Queries) (stands : A → Mac → RouteLog → Type 0)
+    (net : Net A) (choice : FrameChoice) (before : Mesh) (t : ℕ) (old new : List Event) : Type 0
+  where
+    pub happening : Happening
+    pub next : IsNext t before happening
+    pub after : Mesh
+    pub is : after_happening (scenario_setup queries) happening before ≡ Ok after
+    pub standing : NetStands queries stands net choice happening.moment after
+    pub logged : Logged choice before after old new
+
+-- nothing was due until a moment, and all is as it was
+pub record Rested {A : Type 0} (queries : Mac → Queries) (stands : A → Mac → RouteLog → Type 0)
+    (net : Net A) (choice : FrameChoice) (clock : ℕ) (before : Mesh) (t : ℕ)
+    (old new : List Event) : Type 0 where
+  pub quiet : IsQuiet t before
+  pub standing : NetStands queries stands net choice clock before
+  pub as_before : new ≡ old
+
+-- what a step tells by whether a happening was carried out
+abbrev pub StepLeaves : {A : Type 0} → (Mac → Queries) → (A → Mac → RouteLog → Type 0) → Net A
+    → FrameChoice → ℕ → Mesh → ℕ → List Event → List Event → Bool → Type 0
+StepLeaves queries stands net choice clock before t old new true =
+    Stepped queries stands net choice before t old new
+StepLeaves queries stands net choice clock before t old new false =
+    Rested queries stands net choice clock before t old new
+
+-- the next happening until a moment was refused
+pub record StepFails (queries : Mac → Queries) (before : Mesh) (t : ℕ) (error : NetErr) : Type 0
+  where
+    pub happening : Happening
+    pub next : IsNext t before happening
+    pub tells : StepTells (after_happening (scenario_setup queries) happening before) error
+
+-- ---- a run
+-- so many happenings until a moment were carried out: the mesh and the clock behind them
+pub record Went {A : Type 0} (queries : Mac → Queries) (stands : A → Mac → RouteLog → Type 0)
+    (net : Net A) (choice : FrameChoice) (clock : ℕ) (before : Mesh) (t count : ℕ)
+    (old new : List Event) : Type 0 where
+  pub after : Mesh
+  pub now : ℕ
+  pub standing : NetStands queries stands net choice now after
+  pub logged : Logged choice before after old new
+  pub goes : run_to (scenario_setup queries) t before
+      ≡ going_on (scenario_setup queries) t (begin after)
+  pub taken : iterate (turn (scenario_setup queries) t) count (begin before) ≡ begin after
+  pub risen : rank before.last + count ≤ rank after.last
+  pub now_is : ((count ≡ 0) × (now ≡ clock)) ⊎ (now ≡ after.last.moment)
+  pub within : now ≤ t
+
+-- at most so many were, and fewer only where no more are due
+pub record WentUpTo {A : Type 0} (queries : Mac → Queries) (stands : A → Mac → RouteLog → Type 0)
+    (net : Net A) (choice : FrameChoice) (clock : ℕ) (before : Mesh) (t most : ℕ)
+    (old new : List Event) : Type 0 where
+  pub count : ℕ
+  pub few : count ≤ most
+  pub went : Went queries stands net choice clock before t count old new
+  pub full : (count ≡ most) ⊎ IsQuiet t went.after
+
+-- so they were, and where no more are due, the time passed
+pub record RanOn {A : Type 0} (queries : Mac → Queries) (stands : A → Mac → RouteLog → Type 0)
+    (net : Net A) (choice : FrameChoice) (clock : ℕ) (before : Mesh) (t most : ℕ)
+    (old new : List Event) (more : Bool) : Type 0 where
+  pub ran : Ran queries stands (scenario_setup queries) net choice clock before t most old new more
+  pub logged : Logged choice before ran.after old new
+  pub risen : rank before.last + ran.count ≤ rank ran.after.last
+  pub within_now : ran.now ≤ t
+
+-- a run until a moment is refused since it is past the last moment
+abbrev pub IsLate : ℕ → NetErr → Type 0
+IsLate t (net_errors.Limit limit) = (limit ≡ limits.Clock) × (clock_limit < t)
+IsLate t net_errors.Dead = ⊥
+IsLate t net_errors.Memory = ⊥
+
+-- a run until a moment passes a limit
+pub record StoppedAt (setup : Setup) (choice : FrameChoice) (before : Mesh) (t : ℕ)
+    (old new : List Event) (limit : LimitName) : Type 0 where
+  pub after : Mesh
+  pub moment : ℕ
+  pub goes : run_to setup t before
+      ≡ record { mesh = after; stop = Some (record { moment = moment; limit = limit }) }
+  pub logged : Logged choice before after old new
+
+-- a run until a moment lacks memory
+pub record BrokeOffAt (setup : Setup) (choice : FrameChoice) (before : Mesh) (t : ℕ)
+    (old new : List Event) : Type 0 where
+  pub after : Mesh
+  pub goes : run_to setup t before ≡ going_on setup t (begin after)
+  pub logged : Logged choice before after old new
+
+-- why a run that began is refused, and what the log gained
+abbrev pub SliceTells : Setup → FrameChoice → Mesh → ℕ → List Event → List Event → NetErr → Type 0
+SliceTells setup choice before t old new (net_errors.Limit limit) =
+    StoppedAt setup choice before t old new limit
+SliceTells setup choice before t old new net_errors.Dead = ⊥
+SliceTells setup choice before t old new net_errors.Memory = BrokeOffAt setup choice before t old new

@@ -1,0 +1,139 @@
+-- What the calls of a net tell: what a step or a run leaves in the log of events, how far a run
+-- came, and what each refusal means. The main words are `Ran` and `RunTells`.
+use Rattle.std.specs.Prelude.{◌≡◌, ℕ, ◌<◌, ◌≤◌, ◌⊎◌, Bool, true, false, List, ◌++◌, filter, length, Some, Ok, Err}
+use Rattle.std.specs.Fn.{iterate}
+use Rattle.mesh_base.specs.declared.address.Mac.{Mac}
+use Rattle.mesh_base.specs.declared.event.Event.{Event}
+use Rattle.mesh_model.specs.declared.ending.LimitName.{LimitName}
+use Rattle.mesh_model.specs.declared.ending.LimitName.TheVariants.{Nodes, Links, Clock}
+use Rattle.mesh_model.specs.declared.frame_choice.FrameChoice.{FrameChoice}
+use Rattle.mesh_model.specs.Net.Mesh.{NetLink, Mesh, Setup}
+use Rattle.mesh_model.specs.Net.Sending.{Attempt}
+use Rattle.mesh_model.specs.Net.Runs.{begin, turn, going_on, run_to}
+use Rattle.mesh_model.specs.Net.Next.{IsQuiet}
+use Rattle.mesh_model.specs.Net.Limits.{nodes_limit, links_limit, clock_limit}
+use Rattle.mesh_model.specs.Routes.Queries.{Queries}
+use Rattle.mesh_model.specs.Routes.RouteLog.{RouteLog}
+use Rattle.mesh_model.specs.Run.Passing.{events_since}
+use Rattle.mesh_model.specs.Run.Steps.{new_node}
+use Rattle.mesh_model.specs.Text.Events.{is_shown}
+use Rattle.mesh_net.specs.declared.failure.NetErr.{NetErr}
+use Rattle.mesh_net.specs.declared.failure.NetErr.TheVariants.{Limit, Dead, Memory}
+use Rattle.mesh_net.specs.declared.net.Net.{Net}
+use Rattle.mesh_net.specs.NetStands.{NetStands}
+use Rattle.mesh_net.specs.Reached.{with_node, with_link}
+
+-- a log that gained the events that a mesh has and an earlier one hadn't, as far as the choice shows
+-- them
+abbrev pub Gains : FrameChoice → Mesh → Mesh → List Event → List Event → Type 0
+Gains choice before after old new =
+    new ≡ old ++ filter (is_shown choice) (events_since before after)
+
+-- a step at the clock was carried out: what the net stands for then, and what the log gained
+pub record Carried {A : Type 0} (queries : Mac → Queries) (stands : A → Mac → RouteLog → Type 0)
+    (net : Net A) (choice : FrameChoice) (clock : ℕ) (before : Mesh) (old new : List Event)
+    (attempt : Attempt) : Type 0 where
+  pub after : Mesh
+  pub is : attempt ≡ Ok after
+  pub standing : NetStands queries stands net choice clock after
+  pub gains : Gains choice before after old new
+
+-- why a step at the clock is refused
+abbrev pub StepTells : Attempt → NetErr → Type 0
+StepTells attempt (Limit limit) = attempt ≡ Err limit
+StepTells attempt Dead = ⊥
+StepTells attempt Memory = Unit
+
+-- a node joined at a place, whatever its name is
+pub record HasJoined {A : Type 0} (queries : Mac → Queries) (stands : A → Mac → RouteLog → Type 0)
+    (net : Net A) (choice : FrameChoice) (clock : ℕ) (before : Mesh) (mac : Mac) (place : ℕ)
+    : Type 0 where
+  pub place_is : place ≡ length before.nodes
+  pub room : length before.nodes < nodes_limit
+  pub standing : (name : List ℕ)
+      → NetStands queries stands net choice clock (with_node (new_node name mac clock) before)
+
+-- a link joined
+pub record HasLinked {A : Type 0} (queries : Mac → Queries) (stands : A → Mac → RouteLog → Type 0)
+    (net : Net A) (choice : FrameChoice) (clock : ℕ) (before : Mesh) (link : NetLink)
+    : Type 0 where
+  pub room : length before.links < links_limit
+  pub standing : NetStands queries stands net choice clock (with_link link before)
+
+-- why a node doesn't join so many
+abbrev pub NodeTells : ℕ → NetErr → Type 0
+NodeTells count (Limit limit) = (limit ≡ Nodes) × (nodes_limit ≤ count)
+NodeTells count Dead = ⊥
+NodeTells count Memory = count < nodes_limit
+
+-- why a link doesn't join so many
+abbrev pub LinkTells : ℕ → NetErr → Type 0
+LinkTells count (Limit limit) = (limit ≡ Links) × (links_limit ≤ count)
+LinkTells count Dead = ⊥
+LinkTells count Memory = count < links_limit
+
+-- a run until a moment went on: how many happenings were carried out, at most so many; the mesh and
+-- the clock behind them; and whether more are due
+pub record Ran {A : Type 0} (queries : Mac → Queries) (stands : A → Mac → RouteLog → Type 0)
+    (setup : Setup) (net : Net A) (choice : FrameChoice) (clock : ℕ) (before : Mesh) (t most : ℕ)
+    (old new : List Event) (more : Bool) : Type 0 where
+  pub after : Mesh
+  pub now : ℕ
+  pub standing : NetStands queries stands net choice now after
+  pub gains : Gains choice before after old new
+  -- the run from the mesh before is the run from the mesh behind them
+  pub goes : run_to setup t before ≡ going_on setup t (begin after)
+  -- so many turns of it were taken
+  pub count : ℕ
+  pub few : count ≤ most
+  pub taken : iterate (turn setup t) count (begin before) ≡ begin after
+  -- where more are due, the most were carried out, and the clock is at the last of them
+  pub broke_off : more ≡ true
+      → (count ≡ most) × (IsQuiet t after → ⊥)
+      × (((count ≡ 0) × (now ≡ clock)) ⊎ (now ≡ after.last.moment))
+  -- where none is, nothing is due until the moment, and the clock is there
+  pub ended : more ≡ false → IsQuiet t after × (now ≡ t)
+  pub within : t ≤ clock_limit
+
+-- a run until a moment came to its end
+pub record RanAll {A : Type 0} (queries : Mac → Queries) (stands : A → Mac → RouteLog → Type 0)
+    (setup : Setup) (net : Net A) (choice : FrameChoice) (before : Mesh) (t : ℕ)
+    (old new : List Event) : Type 0 where
+  pub after : Mesh
+  pub standing : NetStands queries stands net choice t after
+  pub gains : Gains choice before after old new
+  pub goes : run_to setup t before ≡ begin after
+  pub quiet : IsQuiet t after
+  pub within : t ≤ clock_limit
+
+-- a run until a moment passes a limit: it stops there, and the log gained the events of the steps
+-- before
+pub record Stopped (setup : Setup) (choice : FrameChoice) (before : Mesh) (t : ℕ)
+    (old new : List Event) (limit : LimitName) : Type 0 where
+  pub after : Mesh
+  pub moment : ℕ
+  pub goes : run_to setup t before
+      ≡ record { mesh = after; stop = Some (record { moment = moment; limit = limit }) }
+  pub gains : Gains choice before after old new
+  pub within : t ≤ clock_limit
+
+-- a run until a moment lacks memory: the log gained the events of the steps before
+pub record BrokeOff (setup : Setup) (choice : FrameChoice) (before : Mesh) (t : ℕ)
+    (old new : List Event) : Type 0 where
+  pub after : Mesh
+  pub goes : run_to setup t before ≡ going_on setup t (begin after)
+  pub gains : Gains choice before after old new
+  pub within : t ≤ clock_limit
+
+-- a run until a moment that is too late isn't begun
+pub record IsTooLate (t : ℕ) (old new : List Event) (limit : LimitName) : Type 0 where
+  pub limit_is : limit ≡ Clock
+  pub late : clock_limit < t
+  pub as_before : new ≡ old
+
+-- why a run until a moment is refused, and what the log then holds
+abbrev pub RunTells : Setup → FrameChoice → Mesh → ℕ → List Event → List Event → NetErr → Type 0
+RunTells setup choice before t old new (Limit limit) =
+    IsTooLate t old new limit ⊎ Stopped setup choice before t old new limit
+RunTells setup choice before t old new Dead = ⊥
+RunTells setup choice before t old new Memory = BrokeOff setup choice before t old new

@@ -1,0 +1,97 @@
+ghost use Rattle.std.specs.Prelude.{◌≡◌, ℕ, ◌≤◌, List, false, slice_get, Some, OnOk, IfErr};
+ghost use Rattle.mesh_model.specs.declared.happening.Happening.{Happening};
+ghost use Rattle.mesh_model.specs.Net.Inputs.{given_to};
+ghost use Rattle.mesh_model.specs.Net.Limits.{scenario_setup, clock_limit};
+ghost use Rattle.mesh_model.specs.Net.Mesh.{NodeLog, Mesh};
+ghost use Rattle.mesh_node.specs.NodeStands.{NodeStands, MayTake, given_by, is_dead};
+ghost use Rattle.mesh_net.specs.declared.row.Sending.{Sending};
+ghost use Rattle.mesh_net.specs.declared.seat.Seat.{Seat};
+ghost use Rattle.mesh_net.specs.Given.{HasGiven, GiveTells};
+ghost use Rattle.mesh_net.specs.Sent.{Grew, InStep, MaySend};
+ghost use Rattle.mesh_net.specs.Steps.{Stage, Tried, CountsOn, ticks_with};
+
+use crate::port::NetPort;
+use crate::post::Post;
+use crate::row::{Occasion, Sender};
+use crate::seat::Seat;
+use mesh_algo::Algo;
+use mesh_base::Events;
+use mesh_node::{Input, Node, NodeErr};
+
+// Gives a node something: its acts are carried out.
+pub(crate) fn give<A: Algo>(
+    node: &mut Node<A>,
+    post: &mut Post,
+    log: &mut Events,
+    sender: Sender,
+    input: &Input<'_>,
+) -> Result<(), NodeErr>
+    requires { is_dead node.old ≡ false → MayTake A.stands node.old input.now }
+    ensures given { (older : List Sending) (last : Happening) (ticks : List Happening)
+        (mesh : Mesh) (row : NodeLog) (number : ℕ) →
+        slice_get mesh.nodes sender.place ≡ Some row →
+        NodeStands A.stands node.old row.mac row.log → sender.mac ≡ row.mac →
+        InStep post.old older last ticks mesh → MaySend sender last mesh →
+        OnOk result (HasGiven A.queries A.stands node.new post.old.choice sender
+        (given_by number input.now) post.new older last ticks row mesh log.old log.new) }
+    ensures cause { (older : List Sending) (last : Happening) (ticks : List Happening)
+        (mesh : Mesh) (row : NodeLog) (number : ℕ) →
+        slice_get mesh.nodes sender.place ≡ Some row →
+        NodeStands A.stands node.old row.mac row.log → sender.mac ≡ row.mac →
+        InStep post.old older last ticks mesh → MaySend sender last mesh →
+        IfErr result (GiveTells (given_to (scenario_setup A.queries) sender.place sender.now
+        sender.root (given_by number input.now) mesh)) }
+    ensures grew { Grew log.old log.new }
+{
+    let now = sender.now;
+    let mut port = NetPort { post, log, sender };
+    node.take(&mut port, now, input)
+}
+
+// Gives the node at a place something, where there is one.
+pub(crate) fn give_at<A: Algo>(
+    seats: &mut Vec<Seat<A>>,
+    post: &mut Post,
+    log: &mut Events,
+    at: Occasion,
+    input: &Input<'_>,
+) -> Result<(), NodeErr>
+    requires { (seat : Seat A) → slice_get seats.old.items at.place ≡ Some seat →
+        MayTake A.stands seat.node input.now }
+    ensures given { (older : List Sending) (last : Happening) (ticks : List Happening)
+        (mesh : Mesh) (number : ℕ) →
+        Stage A.stands seats.old.items post.old older last ticks at.now mesh →
+        CountsOn at.place input.now mesh →
+        OnOk result (Tried A.stands seats.new.items post.new post.old.choice older last ticks mesh
+        log.old log.new (given_to (scenario_setup A.queries) at.place at.now at.root
+        (given_by number input.now) mesh)) }
+    ensures cause { (older : List Sending) (last : Happening) (ticks : List Happening)
+        (mesh : Mesh) (number : ℕ) →
+        Stage A.stands seats.old.items post.old older last ticks at.now mesh →
+        CountsOn at.place input.now mesh →
+        IfErr result (GiveTells (given_to (scenario_setup A.queries) at.place at.now at.root
+        (given_by number input.now) mesh)) }
+    ensures grew { Grew log.old log.new }
+{
+    let Some(seat) = seats.get_mut(at.place as usize) else {
+        return Ok(());
+    };
+    seat.ticks = ticks_with(seat.ticks, input);
+    let sender = Sender {
+        place: at.place,
+        mac: seat.mac,
+        now: at.now,
+        root: at.root,
+    };
+    give(&mut seat.node, post, log, sender, input)
+}
+
+// How many ticks a node had with an input.
+fn ticks_with(ticks: u64, input: &Input<'_>) -> u64
+    ensures { result ≡ ticks_with ticks input.now }
+{
+    match *input {
+        Input::Tick { index } => index,
+        Input::Link { .. } | Input::Frame { .. } | Input::Wifi(_) => ticks,
+    }
+}
