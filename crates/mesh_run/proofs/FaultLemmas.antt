@@ -1,5 +1,6 @@
 -- Lemmas on the faults that end a run.
 use Rattle.std.proofs.Common.{◌≡◌, ℕ, ◌+◌, ◌<◌, ◌≤◌, List, [], ◌∷◌, ◌++◌, length, Option, sym, ap, ◌∙◌, subst, length-append, arith}
+use Rattle.mesh_model.specs.declared.frame_choice.FrameChoice.{FrameChoice}
 use Rattle.mesh_model.specs.declared.ending.LimitName.TheVariants.{Line, Input, Nodes, Links, Clients, Vlans, Frames, FrameBytes, Clock}
 use Rattle.mesh_model.specs.declared.ending.Stop.{Stop}
 use Rattle.mesh_model.specs.declared.ending.Stop.TheVariants.{Refused, Limit}
@@ -36,46 +37,46 @@ halting_place-newline before least rest (Limit FrameBytes) is short within = ome
 halting_place-newline before least rest (Limit Clock) is short within = omega (arith, is, length-append rest (newline ∷ []))
 
 -- the run of any longer input prints what a line leaves printed, and more
-line-grows : (base : Option (List ℕ)) (runner : Runner) (old : Option (List ℕ)) (read more : List ℕ) (outcome : Outcome) → (stands : Stands base old runner read)
-    → line_outcome (after_lines start stands.lines).state (after_lines start stands.lines).bytes (runner.line.items ++ newline ∷ []) ≡ outcome
-    → (later : List ℕ) × (output (plain_run ((read ++ newline ∷ []) ++ more)) ≡ text_of (reached outcome) ++ later)
-line-grows base runner old read more outcome stands is =
+line-grows : (choice : FrameChoice) (base : Option (List ℕ)) (runner : Runner) (old : Option (List ℕ)) (read more : List ℕ) (outcome : Outcome) → (stands : Stands choice base old runner read)
+    → line_outcome (after_lines (start choice) stands.lines).state (after_lines (start choice) stands.lines).bytes (runner.line.items ++ newline ∷ []) ≡ outcome
+    → (later : List ℕ) × (output (plain_run choice ((read ++ newline ∷ []) ++ more)) ≡ text_of (reached outcome) ++ later)
+line-grows choice base runner old read more outcome stands is =
     let line = runner.line.items ++ newline ∷ [] in
-    let run = after_lines start stands.lines in
-    let next = after_lines-newline stands.lines line outcome stands.going is in
+    let run = after_lines (start choice) stands.lines in
+    let next = after_lines-newline choice stands.lines line outcome stands.going is in
     let cut = IsCut-newline read stands.lines runner.line.items stands.cut in
     let all_lines = stands.lines ++ line ∷ [] in
-    let grown = after_lines-grows (after_lines start all_lines) (lines_of ([] ++ more)) in (
+    let grown = after_lines-grows (after_lines (start choice) all_lines) (lines_of ([] ++ more)) in (
       grown.0,
-      ap output (plain_run-cut (read ++ newline ∷ []) all_lines [] more cut) ∙ grown.1
+      ap output (plain_run-cut choice (read ++ newline ∷ []) all_lines [] more cut) ∙ grown.1
           ∙ ap (λ text. text ++ grown.0) (ap output next ∙ output-after_outcome run line outcome),
     )
 
 -- the fault of a line that its newline ended
-pub Fails-newline : (base old new : Option (List ℕ)) (runner : Runner) (read : List ℕ) (fault : Fault) → (stands : Stands base old runner read)
+pub Fails-newline : (choice : FrameChoice) (base old new : Option (List ℕ)) (runner : Runner) (read : List ℕ) (fault : Fault) → (stands : Stands choice base old runner read)
     → length runner.line.items ≤ 4096 → runner.taken < 67108864
-    → CarryFails (after_reading (after_lines start stands.lines).state (command_of_line (without_carriage_return runner.line.items)))
+    → CarryFails (after_reading (after_lines (start choice) stands.lines).state (command_of_line (without_carriage_return runner.line.items)))
     base new (runner.lines + 1) fault
-    → Fails base new (length read + 1) (read ++ newline ∷ []) fault
-Fails-newline base old new runner read (Halted line stop) stands short within h = λ more.
+    → Fails choice base new (length read + 1) (read ++ newline ∷ []) fault
+Fails-newline choice base old new runner read (Halted line stop) stands short within h = λ more.
     let rest = runner.line.items in
-    let run = after_lines start stands.lines in
-    let before = cut-length read stands.lines rest stands.cut stands.going in
+    let run = after_lines (start choice) stands.lines in
+    let before = cut-length choice read stands.lines rest stands.cut stands.going in
     let outcome = line_outcome-newline run.state run.bytes rest short (omega (arith, before, stands.taken, within)) ∙ h.ended in
-    let halts = halts_newline read stands.lines rest more h.after stop stands.cut stands.going outcome in
+    let halts = halts_newline choice read stands.lines rest more h.after stop stands.cut stands.going outcome in
     let late = halting_place-newline run.bytes (length read + 1) rest stop (omega (arith, before)) short (omega (arith, stands.taken, within)) in
-    let P : ℕ → Type 0 = λ number. HaltsFrom base new (length read + 1) ((read ++ newline ∷ []) ++ more) number stop in
+    let P : ℕ → Type 0 = λ number. HaltsFrom choice base new (length read + 1) ((read ++ newline ∷ []) ++ more) number stop in
     subst P (sym h.numbered)
-    (HaltsFrom-after base new (length read + 1) runner.lines ((read ++ newline ∷ []) ++ more) stands.lines (rest ++ newline ∷ []) h.after stop halts
+    (HaltsFrom-after choice base new (length read + 1) runner.lines ((read ++ newline ∷ []) ++ more) stands.lines (rest ++ newline ∷ []) h.after stop halts
     h.printed stands.lines_are late)
-Fails-newline base old new runner read Read stands short within h = λ more. h
-Fails-newline base old new runner read Write stands short within h = λ more.
-    let run = after_lines start stands.lines in
-    let before = cut-length read stands.lines runner.line.items stands.cut stands.going in
-    let grown = line-grows base runner old read more _ stands (line_outcome-newline run.state run.bytes runner.line.items short (omega (arith, before, stands.taken, within))) in
+Fails-newline choice base old new runner read Read stands short within h = λ more. h
+Fails-newline choice base old new runner read Write stands short within h = λ more.
+    let run = after_lines (start choice) stands.lines in
+    let before = cut-length choice read stands.lines runner.line.items stands.cut stands.going in
+    let grown = line-grows choice base runner old read more _ stands (line_outcome-newline run.state run.bytes runner.line.items short (omega (arith, before, stands.taken, within))) in
     less-more base new _ grown.0 _ h grown.1
-Fails-newline base old new runner read Memory stands short within h = λ more.
-    let run = after_lines start stands.lines in
-    let before = cut-length read stands.lines runner.line.items stands.cut stands.going in
-    let grown = line-grows base runner old read more _ stands (line_outcome-newline run.state run.bytes runner.line.items short (omega (arith, before, stands.taken, within))) in
+Fails-newline choice base old new runner read Memory stands short within h = λ more.
+    let run = after_lines (start choice) stands.lines in
+    let before = cut-length choice read stands.lines runner.line.items stands.cut stands.going in
+    let grown = line-grows choice base runner old read more _ stands (line_outcome-newline run.state run.bytes runner.line.items short (omega (arith, before, stands.taken, within))) in
     front-more base new _ grown.0 _ h grown.1

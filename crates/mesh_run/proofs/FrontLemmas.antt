@@ -1,13 +1,12 @@
 -- Lemmas on fronts of what is printed.
 use Rattle.std.proofs.Common.{◌≡◌, ℕ, ◌+◌, ◌≤◌, List, ◌++◌, length, take, Option, refl, sym, ap, ◌∙◌, subst, length-append, arith}
-use Rattle.std.specs.Prelude.{flat_map}
 use Rattle.std.specs.Io.KnownBytes.{Appends}
 use Rattle.std.proofs.KnownBytes.{Appends-trans}
 use Rattle.std.proofs.Math.Seq.{take-append-add}
 use Rattle.std.proofs.lemmas.List.{take_at, take-append-le}
 use Rattle.mesh_base.specs.Writes.{AppendsFront}
 use Rattle.mesh_model.specs.Run.Outcome.{Outcome, reached}
-use Rattle.mesh_model.specs.Run.State.{State, printed_text, text_of}
+use Rattle.mesh_model.specs.Run.State.{State, text_of}
 use Rattle.mesh_run.specs.Outcome.{AppendsLess}
 use Rattle.mesh_laws.proofs.RunLemmas.{PrintsOn, text-grows}
 
@@ -56,5 +55,5 @@ less-after base old new first second all printed less is =
 pub front-before : (base now : Option (List ℕ)) (before : State) (outcome : Outcome) → PrintsOn before outcome → Appends base now (text_of before)
     → AppendsFront base now (text_of (reached outcome))
 front-before base now before outcome grown printed =
-    front-appends base now (text_of before) (text_of (reached outcome)) (flat_map printed_text grown.0) printed
-    (text-grows before (reached outcome) grown.0 grown.1)
+    let more = text-grows before (reached outcome) grown in
+    front-appends base now (text_of before) (text_of (reached outcome)) more.0 printed more.1

@@ -2,9 +2,13 @@
 pub mod FrontLemmas
 pub mod ProgressLemmas
 pub mod FaultLemmas
-pub mod NodesLemmas
-pub mod SceneLemmas
 pub mod PieceLemmas
 pub mod EndLemmas
 pub mod ReadLemmas
 pub mod InputLemmas
+pub mod RowLemmas
+pub mod NetLemmas
+pub mod PlaceLemmas
+pub mod StepLemmas
+pub mod PassLemmas
+pub mod SliceLemmas

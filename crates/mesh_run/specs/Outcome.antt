@@ -1,12 +1,14 @@
 -- What a run of the program leaves, by its status: what out took since the call, and what was read
 -- from the intake. The main words are `Finishes`, `IsRefused`, `IsLimited`, `PrintsTaken`,
--- `PrintsLessOf` and `PrintsFrontOf`, each over the bytes of the input, and `TellsStatus`.
-use Rattle.std.specs.Prelude.{◌≡◌, ℕ, ◌+◌, ◌<◌, ◌≤◌, ◌⊎◌, List, length, take, Option, Some, None, IfSome}
+-- `PrintsLessOf` and `PrintsFrontOf`, each over the choice of frames and
+-- the bytes of the input, and `TellsStatus`.
+use Rattle.std.specs.Prelude.{◌≡◌, ℕ, ◌+◌, ◌<◌, ◌≤◌, ◌⊎◌, List, length, map, take, Option, Some, None, IfSome, String, string_bytes}
 use Rattle.std.specs.Io.KnownBytes.{Appends, Consumes, Keeps}
 use Rattle.mesh_base.specs.Writes.{AppendsFront}
 use Rattle.mesh_model.specs.declared.ending.LimitName.{LimitName}
 use Rattle.mesh_model.specs.declared.ending.Refusal.{Refusal}
 use Rattle.mesh_model.specs.declared.ending.Stop.TheVariants.{Refused, Limit}
+use Rattle.mesh_model.specs.declared.frame_choice.FrameChoice.{FrameChoice}
 use Rattle.mesh_model.specs.Scenario.Halt.{Halt}
 use Rattle.mesh_model.specs.Scenario.Lines.{complete_lines}
 use Rattle.mesh_model.specs.Text.Messages.{halt_text, memory_text, read_fault_text, usage_text, write_fault_text}
@@ -14,36 +16,46 @@ use Rattle.mesh_model.specs.Run.Halting.{GoesOn, halting_byte}
 use Rattle.mesh_model.specs.Run.PlainRun.{start, after_lines, plain_run, output}
 use Rattle.mesh_model.specs.Run.Statuses.{limited_status, memory_status, read_fault_status, refused_status, stop_status, usage_status, write_fault_status}
 
+-- ---- the words of the call
+
+-- words as bytes
+abbrev pub texts : {A : Type 0} → List (String A) → List (List ℕ)
+texts words = map string_bytes words
+
 -- ---- the end of a run
 
 -- the plain run comes to its end, and out took what it prints
-pub record Finishes (old new : Option (List ℕ)) (input : List ℕ) : Type 0 where
-  pub halt : (plain_run input).halt ≡ None
-  pub printed : Appends old new (output (plain_run input))
+pub record Finishes (choice : FrameChoice) (old new : Option (List ℕ)) (input : List ℕ) : Type 0
+  where
+    pub halt : (plain_run choice input).halt ≡ None
+    pub printed : Appends old new (output (plain_run choice input))
 
 -- the most bytes that are read past the one at which a run halts
 abbrev pub most_read_past : ℕ
 most_read_past = 4095
 
 -- the plain run halts there, out took what it prints, and what was read ends near the byte there
-pub record HaltsNear (old new left : Option (List ℕ)) (input : List ℕ) (halt : Halt) : Type 0 where
-  pub halts : (plain_run input).halt ≡ Some halt
-  pub printed : Appends old new (output (plain_run input))
+pub record HaltsNear (choice : FrameChoice) (old new left : Option (List ℕ)) (input : List ℕ)
+    (halt : Halt) : Type 0 where
+  pub halts : (plain_run choice input).halt ≡ Some halt
+  pub printed : Appends old new (output (plain_run choice input))
   pub read : List ℕ
   pub took : Consumes (Some input) left read
-  pub near : length read ≤ halting_byte input halt + most_read_past
+  pub near : length read ≤ halting_byte choice input halt + most_read_past
 
 -- the plain run is refused at a line
-pub record IsRefused (old new left : Option (List ℕ)) (input : List ℕ) : Type 0 where
+pub record IsRefused (choice : FrameChoice) (old new left : Option (List ℕ)) (input : List ℕ)
+    : Type 0 where
   pub line : ℕ
   pub refusal : Refusal
-  pub halted : HaltsNear old new left input (record { line = line; stop = Refused refusal })
+  pub halted : HaltsNear choice old new left input (record { line = line; stop = Refused refusal })
 
 -- the plain run reaches a limit at a line
-pub record IsLimited (old new left : Option (List ℕ)) (input : List ℕ) : Type 0 where
+pub record IsLimited (choice : FrameChoice) (old new left : Option (List ℕ)) (input : List ℕ)
+    : Type 0 where
   pub line : ℕ
   pub name : LimitName
-  pub halted : HaltsNear old new left input (record { line = line; stop = Limit name })
+  pub halted : HaltsNear choice old new left input (record { line = line; stop = Limit name })
 
 -- ---- faults
 
@@ -53,28 +65,28 @@ pub record IsUnopened (old new first left : Option (List ℕ)) : Type 0 where
   pub unprinted : Keeps old new
 
 -- what was read of these bytes goes on, and out took what its complete lines print
-pub record PrintsRead (old new first left : Option (List ℕ)) : Type 0 where
+pub record PrintsRead (choice : FrameChoice) (old new first left : Option (List ℕ)) : Type 0 where
   pub read : List ℕ
   pub took : Consumes first left read
-  pub goes_on : GoesOn read
-  pub printed : Appends old new (output (after_lines start (complete_lines read)))
+  pub goes_on : GoesOn choice read
+  pub printed : Appends old new (output (after_lines (start choice) (complete_lines read)))
 
 -- the opening failed, or a read of the input did
-abbrev pub PrintsTaken : (old new first left : Option (List ℕ)) → List ℕ → Type 0
-PrintsTaken old new first left input =
-    IsUnopened old new first left ⊎ PrintsRead old new (Some input) left
+abbrev pub PrintsTaken : FrameChoice → (old new first left : Option (List ℕ)) → List ℕ → Type 0
+PrintsTaken choice old new first left input =
+    IsUnopened old new first left ⊎ PrintsRead choice old new (Some input) left
 
 -- known bytes grow by a front of bs that isn't all of it
 abbrev pub AppendsLess : (old new : Option (List ℕ)) → List ℕ → Type 0
 AppendsLess old new bs = (n : ℕ) × (n < length bs) × Appends old new (take n bs)
 
 -- less than the whole output was written
-abbrev pub PrintsLessOf : (old new : Option (List ℕ)) → List ℕ → Type 0
-PrintsLessOf old new input = AppendsLess old new (output (plain_run input))
+abbrev pub PrintsLessOf : FrameChoice → (old new : Option (List ℕ)) → List ℕ → Type 0
+PrintsLessOf choice old new input = AppendsLess old new (output (plain_run choice input))
 
 -- a front of the whole output was written
-abbrev pub PrintsFrontOf : (old new : Option (List ℕ)) → List ℕ → Type 0
-PrintsFrontOf old new input = AppendsFront old new (output (plain_run input))
+abbrev pub PrintsFrontOf : FrameChoice → (old new : Option (List ℕ)) → List ℕ → Type 0
+PrintsFrontOf choice old new input = AppendsFront old new (output (plain_run choice input))
 
 -- ---- the status
 
@@ -85,17 +97,19 @@ IsStatusOr status wanted = (status ≡ wanted) ⊎ (status ≡ read_fault_status
 
 -- the error output gained the text of a halt of this status: where the input is told, the one at
 -- which its plain run halts
-pub record TellsHalt (status : ℕ) (named old new : Option (List ℕ)) : Type 0 where
-  pub halt : Halt
-  pub status_is : stop_status halt.stop ≡ status
-  pub text : Appends old new (halt_text halt)
-  pub plain : IfSome named (λ input. (plain_run input).halt ≡ Some halt)
+pub record TellsHalt (choice : FrameChoice) (status : ℕ) (named old new : Option (List ℕ)) : Type 0
+  where
+    pub halt : Halt
+    pub status_is : stop_status halt.stop ≡ status
+    pub text : Appends old new (halt_text halt)
+    pub plain : IfSome named (λ input. (plain_run choice input).halt ≡ Some halt)
 
 -- the error output gained the text of a status
-pub record TellsStatus (status : ℕ) (named old new : Option (List ℕ)) : Type 0 where
-  pub refused : status ≡ refused_status → TellsHalt status named old new
+pub record TellsStatus (choice : FrameChoice) (status : ℕ) (named old new : Option (List ℕ))
+    : Type 0 where
+  pub refused : status ≡ refused_status → TellsHalt choice status named old new
   pub usage : status ≡ usage_status → Appends old new usage_text
   pub read_fault : status ≡ read_fault_status → Appends old new read_fault_text
   pub write_fault : status ≡ write_fault_status → Appends old new write_fault_text
   pub memory : status ≡ memory_status → Appends old new memory_text
-  pub limited : status ≡ limited_status → TellsHalt status named old new
+  pub limited : status ≡ limited_status → TellsHalt choice status named old new

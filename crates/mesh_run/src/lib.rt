@@ -3,17 +3,28 @@
 #![tactic(auto)]
 
 mod carrying;
+mod command;
+mod ends;
+mod event_text;
 mod fault;
+mod giving;
 mod input;
+mod joining;
+mod line_fault;
 mod local_table;
-mod node;
+mod passage;
+mod passing;
 mod program;
 mod putting;
 mod reader;
 mod reading;
 mod report;
+mod route_table;
 mod runner;
+mod running;
 mod scene;
+mod showing;
+mod words;
 
 pub use program::{
     FINISHED, LIMITED, OUT_OF_MEMORY, READ_FAULT, REFUSED, USAGE, WRITE_FAULT, batmesh,

@@ -1,14 +1,16 @@
-ghost use Rattle.std.specs.Prelude.{◌≡◌, ◌<◌, ◌⊎◌, ◌↔◌, [], length, None, IfSome};
+ghost use Rattle.std.specs.Prelude.{◌≡◌, ◌⊎◌, ◌↔◌, None, IfSome, IsSome};
 ghost use Rattle.std.specs.Io.KnownBytes.{IsAtEnd};
 ghost use Rattle.mesh_base.specs.Faults.{Rose};
 ghost use Rattle.mesh_model.specs.Run.PlainRun.{plain_run};
 ghost use Rattle.mesh_model.specs.Run.Statuses.{IsStatus, finished_status, limited_status, memory_status, plain_status, read_fault_status, refused_status, usage_status, write_fault_status};
+ghost use Rattle.mesh_model.specs.Run.Words.{choice_of, words_of};
 ghost use Rattle.mesh_run.specs.Inner.Reading.{fault_status};
-ghost use Rattle.mesh_run.specs.Outcome.{Finishes, IsLimited, IsRefused, IsStatusOr, PrintsFrontOf, PrintsLessOf, PrintsTaken, TellsStatus};
+ghost use Rattle.mesh_run.specs.Outcome.{Finishes, IsLimited, IsRefused, IsStatusOr, PrintsFrontOf, PrintsLessOf, PrintsTaken, TellsStatus, texts};
 
 use crate::fault::Fault;
 use crate::input::run_input;
 use crate::report::tell_fault;
+use crate::words::choice_of;
 use mesh_base::{Failed, Intake, Sink, write_all};
 use mesh_model::Stop;
 use std::alloc::Global;
@@ -46,8 +48,9 @@ fn status_of(fault: Fault) -> u8
 /// Carries out the scenario that the intake gives, and answers the status with which the program
 /// ends.
 ///
-/// `words` are the command words after the program's name: none is taken. `out` takes what the
-/// scenario prints, `err` one line for each status other than `FINISHED`.
+/// `words` are the command words after the program's name: none, or `--frames` and which link frames
+/// are printed, `none`, `all`, `client` or `ogm`. `out` takes what the scenario prints, `err` one
+/// line for each status other than `FINISHED`.
 pub fn batmesh<I: Intake, K: Sink, E: Sink>(
     alloc: Global,
     words: &[String],
@@ -59,18 +62,20 @@ pub fn batmesh<I: Intake, K: Sink, E: Sink>(
 
     // Where the input is told, out took the whole text of its plain run.
     ensures finished { result ≡ finished_status → IfSome (I.named intake.old None)
-        (Finishes (K.taken out.old) (K.taken out.new)) }
+        (Finishes (choice_of (texts words.now)) (K.taken out.old) (K.taken out.new)) }
     ensures at_end { result ≡ finished_status → IsAtEnd (I.left intake.new) }
 
     // The plain run halts at a line, out took what it prints up to there, and reading stopped near
     // it.
     ensures refused { result ≡ refused_status → IfSome (I.named intake.old None)
-        (IsRefused (K.taken out.old) (K.taken out.new) (I.left intake.new)) }
+        (IsRefused (choice_of (texts words.now)) (K.taken out.old) (K.taken out.new)
+        (I.left intake.new)) }
     ensures limited { result ≡ limited_status → IfSome (I.named intake.old None)
-        (IsLimited (K.taken out.old) (K.taken out.new) (I.left intake.new)) }
+        (IsLimited (choice_of (texts words.now)) (K.taken out.old) (K.taken out.new)
+        (I.left intake.new)) }
 
-    // Any word is one too many, and then nothing is opened, read or written to out.
-    ensures usage { (result ≡ usage_status) ↔ (0 < length words.now) }
+    // Other words aren't taken, and then nothing is opened, read or written to out.
+    ensures usage { (result ≡ usage_status) ↔ (words_of (texts words.now) ≡ None) }
     ensures untouched { result ≡ usage_status → (intake.new ≡ intake.old) × (out.new ≡ out.old) }
 
     // A fault is blamed only on a count that rose. Where a read failed, the lines that had come
@@ -78,29 +83,31 @@ pub fn batmesh<I: Intake, K: Sink, E: Sink>(
     ensures read_fault { result ≡ read_fault_status →
         Rose (I.faults intake.old) (I.faults intake.new) }
     ensures taken { result ≡ read_fault_status → IfSome (I.named intake.old None)
-        (PrintsTaken (K.taken out.old) (K.taken out.new) (I.left intake.old) (I.left intake.new)) }
+        (PrintsTaken (choice_of (texts words.now)) (K.taken out.old) (K.taken out.new)
+        (I.left intake.old) (I.left intake.new)) }
     ensures write_fault { result ≡ write_fault_status →
         Rose (K.faults out.old) (K.faults out.new) }
     ensures less { result ≡ write_fault_status → IfSome (I.named intake.old None)
-        (PrintsLessOf (K.taken out.old) (K.taken out.new)) }
+        (PrintsLessOf (choice_of (texts words.now)) (K.taken out.old) (K.taken out.new)) }
     ensures front { result ≡ memory_status → IfSome (I.named intake.old None)
-        (PrintsFrontOf (K.taken out.old) (K.taken out.new)) }
+        (PrintsFrontOf (choice_of (texts words.now)) (K.taken out.old) (K.taken out.new)) }
 
     // Faults and want of memory aside, the status is that of the plain run.
-    ensures complete { words.now ≡ [] → IfSome (I.named intake.old None) (λ input.
-        IsStatusOr result (plain_status (plain_run input).halt)) }
+    ensures complete { IsSome (words_of (texts words.now)) → IfSome (I.named intake.old None)
+        (λ input. IsStatusOr result (plain_status (plain_run (choice_of (texts words.now)) input).halt)) }
 
     // A fault of err changes no status.
     ensures told { (Rose (E.faults err.old) (E.faults err.new) → ⊥) →
-        TellsStatus result (I.named intake.old None) (E.taken err.old) (E.taken err.new) }
+        TellsStatus (choice_of (texts words.now)) result (I.named intake.old None)
+        (E.taken err.old) (E.taken err.new) }
     ensures silent { result ≡ finished_status → err.new ≡ err.old }
 {
-    if !words.is_empty() {
+    let Some(choice) = choice_of(words) else {
         return match write_all(err, b"batmesh: usage\n") {
             Ok(()) | Err(Failed) => USAGE,
         };
-    }
-    let fault = match run_input(alloc, intake, out) {
+    };
+    let fault = match run_input(alloc, choice, intake, out) {
         Ok(()) => return FINISHED,
         Err(fault) => fault,
     };

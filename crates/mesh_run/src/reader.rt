@@ -1,4 +1,6 @@
 ghost use Rattle.std.specs.Prelude.{◌≡◌, ℕ, List, [], Option, OnOk, IfErr};
+ghost use Rattle.mesh_model.specs.declared.frame_choice.FrameChoice.{FrameChoice};
+ghost use Rattle.mesh_run.specs.Inner.Scene.{IsSomewhere};
 ghost use Rattle.mesh_run.specs.Inner.Progress.{Stands};
 ghost use Rattle.mesh_run.specs.Inner.Reading.{CountsFaults, ReadFails, ReadsAll};
 
@@ -12,10 +14,13 @@ pub fn read_all<I: Intake, K: Sink>(
     out: &mut K,
     mut runner: Runner,
 ) -> Result<(), Fault>
-    ensures ok { (base : Option (List ℕ)) → Stands base (K.taken out.old) runner [] →
-        OnOk result (ReadsAll (I.left intake.old) (I.left intake.new) base (K.taken out.new)) }
-    ensures failed { (base : Option (List ℕ)) → Stands base (K.taken out.old) runner [] →
-        IfErr result (ReadFails (I.left intake.old) (I.left intake.new) base (K.taken out.new)) }
+    requires somewhere { IsSomewhere runner.scene }
+    ensures ok { (choice : FrameChoice) (base : Option (List ℕ)) →
+        Stands choice base (K.taken out.old) runner [] → OnOk result
+        (ReadsAll choice (I.left intake.old) (I.left intake.new) base (K.taken out.new)) }
+    ensures failed { (choice : FrameChoice) (base : Option (List ℕ)) →
+        Stands choice base (K.taken out.old) runner [] → IfErr result
+        (ReadFails choice (I.left intake.old) (I.left intake.new) base (K.taken out.new)) }
     ensures faults { CountsFaults (I.faults intake.old) (I.faults intake.new)
         (K.faults out.old) (K.faults out.new) result }
 {

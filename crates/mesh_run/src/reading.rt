@@ -1,7 +1,9 @@
 ghost use Rattle.std.specs.Prelude.{◌≡◌, ℕ, ◌+◌, ◌<◌, ◌≤◌, List, [], ◌∷◌, ◌++◌, length, Option, OnOk, IfErr};
+ghost use Rattle.mesh_model.specs.declared.frame_choice.FrameChoice.{FrameChoice};
 ghost use Rattle.mesh_laws.specs.Cuts.{IsUnbroken};
 ghost use Rattle.mesh_model.specs.Scenario.Lines.{input_limit, newline, without_carriage_return};
 ghost use Rattle.mesh_run.specs.Inner.Lines.{BlamesWrite, CountsWrites};
+ghost use Rattle.mesh_run.specs.Inner.Scene.{IsSomewhere};
 ghost use Rattle.mesh_run.specs.Inner.Progress.{Fails, FailsIn, FailsOn, ReadsOn, Stands};
 ghost use Rattle.mesh_run.specs.Outcome.{Finishes};
 
@@ -28,6 +30,7 @@ impl Runner {
         ensures failed { (taken : Option (List ℕ)) → IsUnbroken text.now →
             FailsOn taken taken self.old text.now result }
         ensures taken { OnOk result (self.new.taken ≡ self.old.taken + length text.now) }
+        ensures scene { self.new.scene ≡ self.old.scene }
         ensures blameless { (old new : ℕ) → IfErr result (BlamesWrite old new) }
     {
         if text.len() > LINE_LIMIT - self.line.len() {
@@ -43,12 +46,14 @@ impl Runner {
     /// Carries out the unfinished line, whose newline came.
     pub fn end_line<K: Sink>(&mut self, out: &mut K) -> Result<(), Fault>
         requires within { self.old.taken < input_limit }
+        requires somewhere { IsSomewhere self.old.scene }
         ensures ok { ReadsOn (K.taken out.old) (K.taken out.new) self.old self.new
             (newline ∷ []) result }
         ensures failed { FailsOn (K.taken out.old) (K.taken out.new) self.old
             (newline ∷ []) result }
         ensures taken { OnOk result (self.new.taken ≡ self.old.taken + 1) }
         ensures faults { CountsWrites (K.faults out.old) (K.faults out.new) result }
+        ensures somewhere { OnOk result (IsSomewhere self.new.scene) }
     {
         let line = without_return(self.line.as_slice());
         carry_line(&mut self.scene, &mut self.text, out, line, self.lines + 1)?;
@@ -61,11 +66,13 @@ impl Runner {
     /// Carries out the lines that these bytes end, and keeps what they begin.
     pub fn take_lines<K: Sink>(&mut self, out: &mut K, bytes: &[u8]) -> Result<(), Fault>
         requires within { self.old.taken + length bytes.now ≤ input_limit }
+        requires somewhere { IsSomewhere self.old.scene }
         ensures ok { ReadsOn (K.taken out.old) (K.taken out.new) self.old self.new
             bytes.now result }
         ensures failed { FailsOn (K.taken out.old) (K.taken out.new) self.old bytes.now result }
         ensures taken { OnOk result (self.new.taken ≡ self.old.taken + length bytes.now) }
         ensures faults { CountsWrites (K.faults out.old) (K.faults out.new) result }
+        ensures somewhere { OnOk result (IsSomewhere self.new.scene) }
     {
         let mut rest = bytes;
         while let Some(end) = memchr(b'\n', rest) {
@@ -80,12 +87,14 @@ impl Runner {
     /// newline.
     fn take_line<K: Sink>(&mut self, out: &mut K, text: &[u8]) -> Result<(), Fault>
         requires within { self.old.taken + length text.now < input_limit }
+        requires somewhere { IsSomewhere self.old.scene }
         ensures ok { IsUnbroken text.now → ReadsOn (K.taken out.old) (K.taken out.new)
             self.old self.new (text.now ++ newline ∷ []) result }
         ensures failed { IsUnbroken text.now → FailsOn (K.taken out.old) (K.taken out.new)
             self.old (text.now ++ newline ∷ []) result }
         ensures taken { OnOk result (self.new.taken ≡ self.old.taken + length text.now + 1) }
         ensures faults { CountsWrites (K.faults out.old) (K.faults out.new) result }
+        ensures somewhere { OnOk result (IsSomewhere self.new.scene) }
     {
         self.hold(text)?;
         self.end_line(out)?;
@@ -94,11 +103,13 @@ impl Runner {
 
     /// Takes what one read gave; the byte past the input's limit halts the run.
     pub fn take_piece<K: Sink>(&mut self, out: &mut K, piece: &[u8]) -> Result<(), Fault>
+        requires somewhere { IsSomewhere self.old.scene }
         ensures ok { ReadsOn (K.taken out.old) (K.taken out.new) self.old self.new
             piece.now result }
         ensures failed { FailsOn (K.taken out.old) (K.taken out.new) self.old piece.now result }
         ensures taken { OnOk result (self.new.taken ≡ self.old.taken + length piece.now) }
         ensures faults { CountsWrites (K.faults out.old) (K.faults out.new) result }
+        ensures somewhere { OnOk result (IsSomewhere self.new.scene) }
     {
         let room = INPUT_LIMIT - self.taken;
         if piece.len() <= room {
@@ -112,9 +123,9 @@ impl Runner {
     /// The fault of the byte past the input's limit.
     fn past_input(&self, byte: u8) -> Fault
         requires full { self.now.taken ≡ input_limit }
-        ensures failed { (base now : Option (List ℕ)) (read : List ℕ) →
-            Stands base now self.now read →
-            Fails base now (length read + 1) (read ++ byte ∷ []) result }
+        ensures failed { (choice : FrameChoice) (base now : Option (List ℕ)) (read : List ℕ) →
+            Stands choice base now self.now read →
+            Fails choice base now (length read + 1) (read ++ byte ∷ []) result }
         ensures blameless { (old new : ℕ) → BlamesWrite old new result }
     {
         if byte == b'\n' {
@@ -138,12 +149,13 @@ impl Runner {
 
     /// Carries out a last line without a newline, at the end of the input.
     pub fn finish<K: Sink>(mut self, out: &mut K) -> Result<(), Fault>
-        ensures ok { (base : Option (List ℕ)) (read : List ℕ) →
-            Stands base (K.taken out.old) self read →
-            OnOk result (Finishes base (K.taken out.new) read) }
-        ensures failed { (base : Option (List ℕ)) (read : List ℕ) →
-            Stands base (K.taken out.old) self read →
-            IfErr result (FailsIn base (K.taken out.new) (length read) read) }
+        requires somewhere { IsSomewhere self.scene }
+        ensures ok { (choice : FrameChoice) (base : Option (List ℕ)) (read : List ℕ) →
+            Stands choice base (K.taken out.old) self read →
+            OnOk result (Finishes choice base (K.taken out.new) read) }
+        ensures failed { (choice : FrameChoice) (base : Option (List ℕ)) (read : List ℕ) →
+            Stands choice base (K.taken out.old) self read →
+            IfErr result (FailsIn choice base (K.taken out.new) (length read) read) }
         ensures faults { CountsWrites (K.faults out.old) (K.faults out.new) result }
     {
         if self.line.is_empty() {

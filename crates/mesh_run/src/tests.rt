@@ -1,4 +1,5 @@
 mod faults;
+mod links;
 mod order;
 mod rows;
 

@@ -1,12 +1,14 @@
--- What one line leaves, since out held what it held at some moment before: where the run stands
--- after it, or the cause of the fault at which it broke off; and the counts of faults. The main
--- words are `CarriesOn` and `BreaksOff`.
-use Rattle.std.specs.Prelude.{◌≡◌, ℕ, ◌≤◌, List, Option, Result, OnOk, IfErr}
+-- What one line, or a slice of one, leaves, since out held what it held at some moment before:
+-- where the run stands after it, or the cause of the fault at which it broke off; and the counts of
+-- faults. The main words are `CarriesOn` and `BreaksOff`, and for a slice `GoesOnBy`.
+use Rattle.std.specs.Prelude.{◌≡◌, ℕ, ◌≤◌, Bool, true, false, List, Option, Result, IfOk, OnOk, IfErr}
 use Rattle.std.specs.Io.KnownBytes.{Appends}
 use Rattle.mesh_base.specs.Faults.{Rose}
 use Rattle.mesh_base.specs.Writes.{AppendsFront}
 use Rattle.mesh_model.specs.declared.ending.Stop.{Stop}
 use Rattle.mesh_model.specs.Run.Outcome.{Outcome, Goes, Ends, reached}
+use Rattle.mesh_model.specs.Run.Passing.{run_until}
+use Rattle.mesh_model.specs.Run.Rules.{iv_setup}
 use Rattle.mesh_model.specs.Run.State.{State, text_of}
 use Rattle.mesh_run.specs.Inner.Scene.{SceneStands}
 use Rattle.mesh_run.specs.Outcome.{AppendsLess}
@@ -51,11 +53,31 @@ CarriesOn old new before after outcome result =
     → OnOk result (Carried (outcome state) base new after)
 
 -- from each state at which the scene stood, a call's fault has its cause in this outcome
-abbrev pub BreaksOff : (old new : Option (List ℕ)) → Scene → (State → Outcome) → ℕ
-    → Result (Unit {0}) Fault → Type 0
+abbrev pub BreaksOff : {A : Type 0} → (old new : Option (List ℕ)) → Scene → (State → Outcome) → ℕ
+    → Result A Fault → Type 0
 BreaksOff old new before outcome number result =
     (base : Option (List ℕ)) (state : State) → StandsAt base old before state
     → IfErr result (CarryFails (outcome state) base new number)
+
+-- where the run of a state until a moment leads: on to that of another, or to its end there
+abbrev pub LeadsBy : ℕ → State → State → Bool → Type 0
+LeadsBy t from mid true = run_until iv_setup t from ≡ run_until iv_setup t mid
+LeadsBy t from mid false = run_until iv_setup t from ≡ Goes mid
+
+-- a slice of the run of a state until a moment was carried out and written, and whether more is to
+-- come: where it stands, from which the run goes on, or at which it is at its end
+pub record Sliced (t : ℕ) (from : State) (base now : Option (List ℕ)) (scene : Scene)
+    (more : Bool) : Type 0 where
+  pub mid : State
+  pub leads : LeadsBy t from mid more
+  pub stands : StandsAt base now scene mid
+
+-- from each state at which the scene stood, a call carries out a slice of its run until a moment
+abbrev pub GoesOnBy : (old new : Option (List ℕ)) → (before after : Scene) → ℕ → Result Bool Fault
+    → Type 0
+GoesOnBy old new before after t result =
+    (base : Option (List ℕ)) (state : State) → StandsAt base old before state
+    → IfOk result (Sliced t state base new after)
 
 -- ---- counts of faults
 

@@ -1,44 +1,57 @@
--- What a scene of nodes stands for: a state of the plain run, node by node. The main words are
--- `SceneStands`, and for a call on a scene `CarriesFrom` and `FailsFrom`.
-use Rattle.std.specs.Prelude.{◌≡◌, ℕ, List, [], ◌∷◌, ◌++◌, Result, Err, OnOk, IfErr, bytes_eq, Bool, false}
+-- What a scene stands for: a state of the plain run. The main words are `SceneStands`, and for a
+-- call on a scene `CarriesFrom` and `FailsFrom`; for a slice of a run, `PassesFrom`.
+use Rattle.std.specs.Prelude.{◌≡◌, ℕ, Bool, true, false, List, map, ◌++◌, Result, Err, IfOk, OnOk, IfErr}
+use Rattle.std.specs.List.{list_any}
 use Rattle.mesh_base.specs.declared.address.Mac.{Mac}
-use Rattle.mesh_model.specs.Scenario.Readings.{Reading}
-use Rattle.mesh_model.specs.Clients.Mentions.{is_wifi_on, mentions}
+use Rattle.mesh_iv.specs.Tables.{StandsFor, Tables}
+use Rattle.mesh_model.specs.declared.frame_choice.FrameChoice.{FrameChoice}
+use Rattle.mesh_model.specs.Net.Mesh.{Mesh, NetLink}
+use Rattle.mesh_model.specs.Routes.AlgorithmIv.{iv_queries}
+use Rattle.mesh_model.specs.Routes.RouteLog.{RouteLog}
+use Rattle.mesh_model.specs.Run.Demands.{had_client}
+use Rattle.mesh_net.specs.NetStands.{NetStands}
+use Rattle.mesh_net.specs.declared.net.Net.{Net}
+use Rattle.mesh_run.specs.declared.ends.LinkEnds.{LinkEnds}
+use Rattle.mesh_model.specs.declared.ending.Stop.TheVariants.{Limit}
+use Rattle.mesh_model.specs.declared.line_form.Command.{Command}
+use Rattle.mesh_model.specs.declared.line_form.Command.TheVariants.{Nothing, Algo, Node, Link, Lan, Frame, Gone, Join, Leave, Arp, Dhcp, Wifi, GwOff, GwServer, GwClient, Mcast, Dat, Alfred, Put, Get, Ping, Trace, Run, Deliver, Show, Decode}
 use Rattle.mesh_model.specs.Run.Outcome.{Outcome, Goes, Ends}
-use Rattle.mesh_model.specs.Run.State.{NodeLog, State, text_of}
+use Rattle.mesh_model.specs.Run.Passing.{run_until}
+use Rattle.mesh_model.specs.Run.Rules.{iv_setup}
+use Rattle.mesh_model.specs.Run.State.{State, names_of, text_of}
+use Rattle.mesh_model.specs.Scenario.Readings.{Reading}
+use Rattle.mesh_net.specs.declared.failure.NetErr.{NetErr}
+use Rattle.mesh_net.specs.declared.failure.NetErr.TheVariants as net
 use Rattle.mesh_run.specs.declared.fault.LineFault.{LineFault}
 use Rattle.mesh_run.specs.declared.fault.LineFault.TheVariants.{Stopped, Memory}
-use Rattle.mesh_run.specs.declared.node.SceneNode.{SceneNode}
+use Rattle.mesh_run.specs.declared.passage.Passage.{Passage}
+use Rattle.mesh_run.specs.declared.passage.Passage.TheVariants as passage
 use Rattle.mesh_run.specs.declared.scene.Scene.{Scene}
-use Rattle.tt_local.specs.Locals.{StandsFor}
 
--- a node has the name and the address of one of the plain run, its clients are those of its log,
--- and no setting marks its sightings
-pub record NodeStands (node : SceneNode) (kept : NodeLog) : Type 0 where
-  pub name : node.name ≡ kept.name
-  pub mac : node.mac ≡ kept.mac
-  pub locals : StandsFor node.locals (mentions kept.mac kept.log)
-  pub unmarked : is_wifi_on kept.log ≡ false
+-- the tables of algorithm IV at the node of an address stand for a log
+abbrev pub iv_stands : Tables → Mac → RouteLog → Type 0
+iv_stands tables me log = StandsFor me tables log
 
--- each node stands for the one at its place
-abbrev pub NodesStand : List SceneNode → List NodeLog → Type 0
-NodesStand [] [] = Unit {0}
-NodesStand [] (kept ∷ rest) = ⊥
-NodesStand (node ∷ nodes) [] = ⊥
-NodesStand (node ∷ nodes) (kept ∷ rest) = NodeStands node kept × NodesStand nodes rest
+-- a net under algorithm IV stands for a choice of frames, a clock and a mesh
+abbrev pub IvNetStands : Net Tables → FrameChoice → ℕ → Mesh → Type 0
+IvNetStands net choice clock mesh = NetStands iv_queries iv_stands net choice clock mesh
 
--- the scene has the nodes and the clock of the state
+-- the ends of a link
+abbrev pub ends_of : NetLink → LinkEnds
+ends_of link = record { from = link.from; to = link.to }
+
+-- the scene stands for a state: its net for the mesh, the clock and the choice of frames; its names
+-- for those of the nodes; its ends for those of the links; and it knows whether a client was seen
 pub record SceneStands (scene : Scene) (state : State) : Type 0 where
-  pub nodes : NodesStand scene.nodes.items state.nodes
-  pub clock : scene.clock ≡ state.clock
+  pub net_is : IvNetStands scene.net state.choice state.clock state.mesh
+  pub names_are : scene.names.nodes ≡ names_of state.mesh.nodes
+  pub ends_are : scene.ends.items ≡ map ends_of state.mesh.links
+  pub clients_are : scene.clients ≡ list_any had_client state.mesh.nodes
 
--- whether a node of the scene has this name
-abbrev pub is_called : List ℕ → SceneNode → Bool
-is_called name node = bytes_eq node.name name
-
--- whether a node of the scene has this address
-abbrev pub is_at : Mac → SceneNode → Bool
-is_at mac node = bytes_eq node.mac.0 mac.0
+-- the scene stands for some state
+pub record IsSomewhere (scene : Scene) : Type 0 where
+  pub state : State
+  pub standing : SceneStands scene state
 
 -- a line that is carried out: the state after it, for which the scene stands, and what it printed
 pub record Carries (outcome : Outcome) (before : State) (scene : Scene)
@@ -58,6 +71,12 @@ abbrev pub HasReadingCause : Reading → LineFault → Type 0
 HasReadingCause reading (Stopped stop) = reading ≡ Err stop
 HasReadingCause reading Memory = Unit {0}
 
+-- the fault of a line whose step the net refuses
+abbrev pub fault_of : NetErr → LineFault
+fault_of (net.Limit limit) = Stopped (Limit limit)
+fault_of net.Dead = Memory
+fault_of net.Memory = Memory
+
 -- from each state that the scene stood for, a call carries out what has this outcome, and prints
 abbrev pub CarriesFrom : (old new : Scene) → (State → Outcome) → List ℕ
     → Result (Unit {0}) LineFault → Type 0
@@ -69,3 +88,58 @@ CarriesFrom old new outcome printed result =
 abbrev pub FailsFrom : Scene → (State → Outcome) → Result (Unit {0}) LineFault → Type 0
 FailsFrom old outcome result =
     (state : State) → SceneStands old state → IfErr result (HasLineCause state (outcome state))
+
+-- where the run of a state until a moment leads by way of another state: on to the run of that, to
+-- its end there, or to a limit there
+abbrev pub LeadsTo : ℕ → State → State → Passage → Type 0
+LeadsTo t from mid passage.Going = run_until iv_setup t from ≡ run_until iv_setup t mid
+LeadsTo t from mid passage.Ended = run_until iv_setup t from ≡ Goes mid
+LeadsTo t from mid (passage.Stopped limit) = run_until iv_setup t from ≡ Ends mid (Limit limit)
+
+-- where the scene stands after a slice; nowhere any more behind a limit
+abbrev pub StandsBehind : Scene → State → Passage → Type 0
+StandsBehind scene mid passage.Going = SceneStands scene mid
+StandsBehind scene mid passage.Ended = SceneStands scene mid
+StandsBehind scene mid (passage.Stopped limit) = Unit {0}
+
+-- a slice of the run of a state until a moment: the state behind it, and what it printed
+pub record Passes (t : ℕ) (from : State) (scene : Scene) (printed : List ℕ)
+    (passage : Passage) : Type 0 where
+  pub mid : State
+  pub leads : LeadsTo t from mid passage
+  pub stands : StandsBehind scene mid passage
+  pub text : text_of mid ≡ text_of from ++ printed
+
+-- from each state that the scene stood for, a call carries out a slice of its run, and prints
+abbrev pub PassesFrom : {E : Type 0} → (old new : Scene) → ℕ → List ℕ → Result Passage E → Type 0
+PassesFrom old new t printed result =
+    (state : State) → SceneStands old state → IfOk result (Passes t state new printed)
+
+-- whether a command lets time pass
+abbrev pub lets_time_pass : Command → Bool
+lets_time_pass Nothing = false
+lets_time_pass (Algo algorithm) = false
+lets_time_pass (Node name mac) = false
+lets_time_pass (Link from to delay pattern throughput) = false
+lets_time_pass (Lan name gateways) = false
+lets_time_pass (Frame place src dst vid text) = false
+lets_time_pass (Gone place key) = false
+lets_time_pass (Join node key) = false
+lets_time_pass (Leave node key) = false
+lets_time_pass (Arp node mac own asked vid) = false
+lets_time_pass (Dhcp node key text) = false
+lets_time_pass (Wifi node on) = false
+lets_time_pass (GwOff node) = false
+lets_time_pass (GwServer node down up) = false
+lets_time_pass (GwClient node policy) = false
+lets_time_pass (Mcast node flags) = false
+lets_time_pass (Dat node on) = false
+lets_time_pass (Alfred node mode) = false
+lets_time_pass (Put node type_no version text) = false
+lets_time_pass (Get node type_no) = false
+lets_time_pass (Ping node target) = false
+lets_time_pass (Trace node target) = false
+lets_time_pass (Run time) = true
+lets_time_pass (Deliver number) = false
+lets_time_pass (Show node table) = false
+lets_time_pass (Decode bytes) = false

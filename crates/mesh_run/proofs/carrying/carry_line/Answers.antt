@@ -1,47 +1,44 @@
-use Rattle.std.proofs.Common.{ℕ, List, refl, sym, subst}
-use Rattle.std.specs.Io.KnownBytes.{Appends}
-use Rattle.mesh_model.specs.Run.Outcome.{Outcome, reached}
+use Rattle.std.proofs.Common.{◌≡◌, sym, ap, ◌∙◌, subst, rules}
+use Rattle.std.proofs.lemmas.Result.{err_from_is_err_and}
+use Rattle.mesh_model.specs.declared.line_form.Command.{Command}
+use Rattle.mesh_model.specs.Run.Outcome.{Outcome}
 use Rattle.mesh_model.specs.Run.PlainRun.{after_reading}
-use Rattle.mesh_model.specs.Run.State.{text_of}
+use Rattle.mesh_model.specs.Run.Rules.{carried_out, iv_setup}
 use Rattle.mesh_model.specs.Scenario.Commands.{command_of_line}
+use Rattle.mesh_laws.proofs.Lines.ReadRange.{read-in-range}
 use Rattle.mesh_laws.proofs.RunLemmas.{after_reading-prints}
-use Rattle.mesh_run.specs.Outcome.{AppendsLess}
-use Rattle.mesh_run.proofs.FrontLemmas.{appends-after, front-before, less-after}
+use Rattle.mesh_run.specs.Inner.Lines.{CarryFails}
+use Rattle.mesh_run.proofs.FrontLemmas.{front-before}
 use Rattle.mesh_run.proofs.carrying.carry_line.Goals as goal
 
-pub returns-in-Err-Stopped-clause-failed : goal.returns-in-Err-Stopped-clause-failed
-returns-in-Err-Stopped-clause-failed g c =
-    let refused = rw c.in-Err-Stopped.field-0-is at c.in-Err-Stopped.ensures.refused in
-    λ base state stands. record { after = state; ended = refused state stands.scene_is; numbered = refl; printed = stands.printed }
+pub returns-in_err-run-in-Ok-Run-clause-failed : goal.returns-in_err-run-in-Ok-Run-clause-failed
+returns-in_err-run-in-Ok-Run-clause-failed g c = λ base state stands.
+    let p = err_from_is_err_and c.from_residual.result c.from_residual.ensures.1 in
+    let outcome = ap (after_reading state) c.in-Ok-Run.ensures.ok ∙ ap (λ (command : Command). carried_out iv_setup state command) c.in-Ok-Run.field-0-is in
+    let P : Outcome → Type 0 = λ o. CarryFails o base (g.K.Sink.taken c.run.new.out) c.args.number c.in_err-run-in-Ok-Run.field-0.0 in
+    rw (p.1, p.2) (subst P (sym outcome) (c.in_err-run-in-Ok-Run.ensures.failed base state stands))
 
-pub returns-in-Err-Memory-clause-failed : goal.returns-in-Err-Memory-clause-failed
-returns-in-Err-Memory-clause-failed g c = λ base state stands.
+pub carry_whole-requires : goal.carry_whole-requires
+carry_whole-requires g c = record {
+  somewhere = c.requires.somewhere;
+  ranges = read-in-range c.args.line.now c.in-Ok.command c.in-Ok.ensures.ok;
+  other = search rules;
+}
+
+pub returns-in_err-carry_whole-in-Ok : goal.returns-in_err-carry_whole-in-Ok
+returns-in_err-carry_whole-in-Ok g c =
+    let p = err_from_is_err_and c.from_residual-in_err-carry_whole-in-Ok.result c.from_residual-in_err-carry_whole-in-Ok.ensures.1 in
+    record {
+      ok = λ base state stands. rw p.1 tt;
+      failed = λ base state stands.
+          let outcome = ap (after_reading state) c.in-Ok.ensures.ok in
+          let P : Outcome → Type 0 = λ o. CarryFails o base (g.K.Sink.taken c.carry_whole.new.out) c.args.number c.in_err-carry_whole-in-Ok.field-0.0 in
+          rw (p.1, p.2) (subst P (sym outcome) (c.in_err-carry_whole-in-Ok.ensures.failed base state stands));
+      faults = record { kept = c.in_err-carry_whole-in-Ok.ensures.faults.kept; cause = rw (p.1, p.2) c.in_err-carry_whole-in-Ok.ensures.faults.cause };
+      somewhere = rw p.1 tt;
+    }
+
+pub returns-in-Memory-clause-failed : goal.returns-in-Memory-clause-failed
+returns-in-Memory-clause-failed g c = λ base state stands.
     let reading = command_of_line c.args.line.now in
     front-before base (g.K.Sink.taken c.args.out.now) state (after_reading state reading) (after_reading-prints state reading) stands.printed
-
-pub returns-in-Err-clause-failed : goal.returns-in-Err-clause-failed
-returns-in-Err-clause-failed g c = λ base state stands.
-    let old = g.K.Sink.taken c.args.out.now in
-    let new = g.K.Sink.taken c.put_text.new.sink in
-    let L : List ℕ → Type 0 = λ text. AppendsLess old new text in
-    let carries = c.in-Ok.ensures.ok state stands.scene_is in
-    let less = less-after base old new (text_of state) c.carry_line.new.text.items (text_of carries.after) stands.printed
-    (subst L c.as_slice.ensures.value c.in-Err.ensures.less) carries.text in
-    let P : Outcome → Type 0 = λ o. AppendsLess base new (text_of (reached o)) in
-    subst P (sym carries.carried) less
-
-pub returns-clause-ok : goal.returns-clause-ok
-returns-clause-ok g c = λ base state stands.
-    let old = g.K.Sink.taken c.args.out.now in
-    let new = g.K.Sink.taken c.put_text.new.sink in
-    let A : List ℕ → Type 0 = λ text. Appends old new text in
-    let carries = c.in-Ok.ensures.ok state stands.scene_is in
-    record {
-      after = carries.after;
-      carried = carries.carried;
-      stands = record {
-        scene_is = carries.stands;
-        printed = appends-after base old new (text_of state) c.carry_line.new.text.items (text_of carries.after) stands.printed
-            (subst A c.as_slice.ensures.value c.in_default.ensures.whole) carries.text;
-      };
-    }

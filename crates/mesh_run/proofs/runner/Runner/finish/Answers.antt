@@ -8,33 +8,33 @@ use Rattle.mesh_run.proofs.EndLemmas.{FailsIn-last, Finishes-empty, Finishes-las
 use Rattle.mesh_run.proofs.runner.Runner.finish.Goals as goal
 
 pub returns-then-is_empty-clause-ok : goal.returns-then-is_empty-clause-ok
-returns-then-is_empty-clause-ok g c = λ base read stands.
+returns-then-is_empty-clause-ok g c = λ choice base read stands.
     let runner = c.args.self in
     let zero_long : vec_len runner.line ≡ 0 = eqb-true (vec_len runner.line) 0 (sym c.is_empty.ensures ∙ c.if-is_empty.true) in
-    Finishes-empty base (g.K.Sink.taken c.args.out.now) runner read stands (nil-from_length runner.line.items (omega (arith, runner.line.ok.0, zero_long)))
+    Finishes-empty choice base (g.K.Sink.taken c.args.out.now) runner read stands (nil-from_length runner.line.items (omega (arith, runner.line.ok.0, zero_long)))
 
 pub returns-in_err-carry_line-clause-failed : goal.returns-in_err-carry_line-clause-failed
-returns-in_err-carry_line-clause-failed g c = λ base read stands.
+returns-in_err-carry_line-clause-failed g c = λ choice base read stands.
     let p = err_from_is_err_and c.from_residual.result c.from_residual.ensures.1 in
     let runner = c.args.self in
     let old = g.K.Sink.taken c.args.out.now in
     let new = g.K.Sink.taken c.carry_line.new.out in
-    let state = (after_lines start stands.lines).state in
+    let state = (after_lines (start choice) stands.lines).state in
     let some : vec_len runner.line ≢ 0 = eqb-false (vec_len runner.line) 0 (sym c.is_empty.ensures ∙ c.if-is_empty.false) in
     let P : List ℕ → Type 0 = λ line. CarryFails (after_reading state (command_of_line line)) base new (runner.lines + 1) c.in_err-carry_line.field-0.0 in
     rw (p.1, p.2)
-    (FailsIn-last base old new runner read c.in_err-carry_line.field-0.0 stands (omega (arith, runner.line.ok.0, runner.short))
+    (FailsIn-last choice base old new runner read c.in_err-carry_line.field-0.0 stands (omega (arith, runner.line.ok.0, runner.short))
     (omega (arith, runner.line.ok.0, some)) runner.within
     (subst P c.as_slice-line.ensures.value (c.in_err-carry_line.ensures.failed base state stands.at)))
 
 pub returns-clause-ok : goal.returns-clause-ok
-returns-clause-ok g c = λ base read stands.
+returns-clause-ok g c = λ choice base read stands.
     let runner = c.args.self in
     let old = g.K.Sink.taken c.args.out.now in
     let new = g.K.Sink.taken c.carry_line.new.out in
-    let state = (after_lines start stands.lines).state in
+    let state = (after_lines (start choice) stands.lines).state in
     let some : vec_len runner.line ≢ 0 = eqb-false (vec_len runner.line) 0 (sym c.is_empty.ensures ∙ c.if-is_empty.false) in
     let P : List ℕ → Type 0 = λ line. Carried (after_reading state (command_of_line line)) base new c.carry_line.new.scene in
-    Finishes-last base old new runner c.carry_line.new.scene read stands (omega (arith, runner.line.ok.0, runner.short))
+    Finishes-last choice base old new runner c.carry_line.new.scene read stands (omega (arith, runner.line.ok.0, runner.short))
     (omega (arith, runner.line.ok.0, some)) runner.within
     (subst P c.as_slice-line.ensures.value (c.in_ok-carry_line.ensures.ok base state stands.at))

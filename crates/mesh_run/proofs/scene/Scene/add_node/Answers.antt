@@ -1,26 +1,36 @@
-use Rattle.std.proofs.Common.{refl, sym, ◌∙◌}
-use Rattle.mesh_run.specs.declared.node.SceneNode.{SceneNode}
-use Rattle.mesh_run.proofs.NodesLemmas.{addressed}
-use Rattle.mesh_run.proofs.SceneLemmas.{Carries-node, known, carried-address_taken, carried-name_taken}
+use Rattle.std.proofs.Common.{◌≡◌, is_some, true, false, refl, sym, ap, ◌∙◌, arith}
+use Rattle.mesh_model.specs.Run.Demands.{is_known}
+use Rattle.mesh_run.proofs.NetLemmas.{live}
+use Rattle.mesh_run.proofs.PlaceLemmas.{addressed, option_is, placed}
+use Rattle.mesh_run.proofs.StepLemmas.{address_taken, name_taken, node_carries, node_fails}
 use Rattle.mesh_run.proofs.scene.Scene.add_node.Goals as goal
 
-pub returns-then-is_name_taken-clause-refused : goal.returns-then-is_name_taken-clause-refused
-returns-then-is_name_taken-clause-refused c = λ state stands.
-    rw c.refused.ensures
-    (carried-name_taken state c.args.name c.args.mac
-    (sym (known state c.args.self.now c.args.name stands) ∙ sym c.is_name_taken.ensures ∙ c.if-is_name_taken.true))
+pub returns-then-is_some-clause-refused : goal.returns-then-is_some-clause-refused
+returns-then-is_some-clause-refused c = λ state stands.
+    let scene = c.args.self.now in
+    rw c.refused.ensures (name_taken state c.args.name.now c.args.mac
+    (sym (ap (λ o. is_some o) (c.node_place.ensures ∙ placed scene state c.args.name.now stands)) ∙ sym c.is_some.ensures ∙ c.if-is_some.true))
 
-pub returns-then-is_address_taken-clause-refused : goal.returns-then-is_address_taken-clause-refused
-returns-then-is_address_taken-clause-refused c = λ state stands.
-    let nodes = c.args.self.now.nodes.items in
-    rw c.refused-then-is_address_taken.ensures
-    (carried-address_taken state c.args.name c.args.mac
-    (sym (known state c.args.self.now c.args.name stands) ∙ sym c.is_name_taken.ensures ∙ c.if-is_name_taken.false)
-    (sym (addressed c.args.mac nodes state.nodes stands.nodes) ∙ sym c.is_address_taken.ensures ∙ c.if-is_address_taken.true))
+pub returns-then-is_some-2-clause-refused : goal.returns-then-is_some-2-clause-refused
+returns-then-is_some-2-clause-refused c = λ state stands.
+    let scene = c.args.self.now in
+    rw c.refused-then-is_some-2.ensures (address_taken state c.args.name.now c.args.mac
+    (sym (ap (λ o. is_some o) (c.node_place.ensures ∙ placed scene state c.args.name.now stands)) ∙ sym c.is_some.ensures ∙ c.if-is_some.false)
+    (sym (addressed scene state c.args.mac stands) ∙ ap (λ o. is_some o) (sym c.node_name.ensures) ∙ option_is _ c.node_name.result ∙ sym c.is_some-2.ensures ∙ c.if-is_some-2.true))
+
+pub returns-in-Err-clause-refused : goal.returns-in-Err-clause-refused
+returns-in-Err-clause-refused c = λ state stands.
+    let scene = c.args.self.now in
+    rw c.net_fault.ensures (node_fails state c.args.name.now c.args.mac c.in-Err.error
+    (sym (ap (λ o. is_some o) (c.node_place.ensures ∙ placed scene state c.args.name.now stands)) ∙ sym c.is_some.ensures ∙ c.if-is_some.false)
+    (sym (addressed scene state c.args.mac stands) ∙ ap (λ o. is_some o) (sym c.node_name.ensures) ∙ option_is _ c.node_name.result ∙ sym c.is_some-2.ensures ∙ c.if-is_some-2.false)
+    (c.in-Err.ensures.cause state.choice state.clock state.mesh stands.net_is))
 
 pub returns-in-Ok-clause-ok : goal.returns-in-Ok-clause-ok
 returns-in-Ok-clause-ok c = λ state stands.
-    let node : SceneNode = record { name = c.args.name; mac = c.args.mac; locals = c.new-locals.result } in
-    Carries-node state c.args.self.now _ c.args.name c.args.mac node stands
-    (sym c.is_name_taken.ensures ∙ c.if-is_name_taken.false) (sym c.is_address_taken.ensures ∙ c.if-is_address_taken.false)
-    (record { name = refl; mac = refl; locals = c.new-locals.ensures; unmarked = refl }) c.in-Ok.ensures.items refl
+    let scene = c.args.self.now in
+    let joined = c.in_default.ensures.joins state.choice state.clock state.mesh stands.net_is in
+    node_carries state scene _ c.args.name.now c.args.mac stands
+    (sym (ap (λ o. is_some o) (c.node_place.ensures ∙ placed scene state c.args.name.now stands)) ∙ sym c.is_some.ensures ∙ c.if-is_some.false)
+    (sym (addressed scene state c.args.mac stands) ∙ ap (λ o. is_some o) (sym c.node_name.ensures) ∙ option_is _ c.node_name.result ∙ sym c.is_some-2.ensures ∙ c.if-is_some-2.false)
+    (omega (arith, joined.room)) (joined.standing c.args.name.now) c.in-Ok.ensures.nodes refl refl

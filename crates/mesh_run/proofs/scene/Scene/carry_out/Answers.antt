@@ -1,42 +1,61 @@
 use Rattle.std.proofs.Common.{ℕ, List, [], subst, sym}
 use Rattle.std.proofs.lemmas.Result.{err_from_is_err_and}
 use Rattle.mesh_model.specs.declared.line_form.Command.{Command}
-use Rattle.mesh_model.specs.declared.line_form.Command.TheVariants.{Frame, Show}
-use Rattle.mesh_model.specs.Run.Rules.{carried_out}
+use Rattle.mesh_model.specs.declared.line_form.Command.TheVariants.{Node, Link, Frame, Show}
+use Rattle.mesh_model.specs.Run.Rules.{carried_out, iv_setup}
 use Rattle.mesh_run.specs.Inner.Scene.{Carries, HasLineCause}
 use Rattle.mesh_run.proofs.scene.Scene.carry_out.Goals as goal
+
+pub add_link-requires-clause-ranges : goal.add_link-requires-clause-ranges
+add_link-requires-clause-ranges c = c.requires.ranges c.in-Link.from c.in-Link.to c.in-Link.pattern c.in-Link.delay c.in-Link.throughput c.in-Link.is
+
+pub returns-in_err-add_node-in-Node-clause-refused : goal.returns-in_err-add_node-in-Node-clause-refused
+returns-in_err-add_node-in-Node-clause-refused c = λ state stands.
+    let p = err_from_is_err_and c.from_residual.result c.from_residual.ensures.1 in
+    let node = c.in-Node in
+    let fault = c.in_err-add_node-in-Node.field-0.0 in
+    let F : List ℕ → Type 0 = λ name. HasLineCause state (carried_out iv_setup state (Node name node.mac)) fault in
+    let C : Command → Type 0 = λ command. HasLineCause state (carried_out iv_setup state command) fault in
+    rw (p.1, p.2)
+    (subst C (sym node.is) (subst F c.as_slice.ensures.value (c.in_err-add_node-in-Node.ensures.refused state stands)))
+
+pub returns-in_err-add_link-in-Link-clause-refused : goal.returns-in_err-add_link-in-Link-clause-refused
+returns-in_err-add_link-in-Link-clause-refused c = λ state stands.
+    let p = err_from_is_err_and c.from_residual-in_err-add_link-in-Link.result c.from_residual-in_err-add_link-in-Link.ensures.1 in
+    let link = c.in-Link in
+    let fault = c.in_err-add_link-in-Link.field-0.0 in
+    let L : List ℕ → List ℕ → Type 0 = λ from to. HasLineCause state (carried_out iv_setup state (Link from to link.delay link.pattern link.throughput)) fault in
+    let C : Command → Type 0 = λ command. HasLineCause state (carried_out iv_setup state command) fault in
+    rw (p.1, p.2)
+    (subst C (sym link.is)
+    (subst (L link.from) c.as_slice-in-Link-2.ensures.value
+    (subst (λ from. L from c.as_slice-in-Link-2.result.now) c.as_slice-in-Link.ensures.value (c.in_err-add_link-in-Link.ensures.refused state stands))))
 
 pub returns-in_err-take_frame-in-Frame-clause-refused : goal.returns-in_err-take_frame-in-Frame-clause-refused
 returns-in_err-take_frame-in-Frame-clause-refused c = λ state stands.
     let p = err_from_is_err_and c.from_residual-in_err-take_frame-in-Frame.result c.from_residual-in_err-take_frame-in-Frame.ensures.1 in
     let frame = c.in-Frame in
     let fault = c.in_err-take_frame-in-Frame.field-0.0 in
-    let F : List ℕ → Type 0 = λ place. HasLineCause state (carried_out state (Frame place frame.src frame.dst frame.vid frame._text)) fault in
-    let C : Command → Type 0 = λ command. HasLineCause state (carried_out state command) fault in
+    let L : List ℕ → List ℕ → Type 0 = λ place said. HasLineCause state (carried_out iv_setup state (Frame place frame.src frame.dst frame.vid said)) fault in
+    let C : Command → Type 0 = λ command. HasLineCause state (carried_out iv_setup state command) fault in
     rw (p.1, p.2)
-    (subst C (sym frame.is) (subst F c.as_slice.ensures.value (c.in_err-take_frame-in-Frame.ensures.refused frame._text state stands)))
-
-pub returns-in_ok-take_frame-in-Frame-clause-ok : goal.returns-in_ok-take_frame-in-Frame-clause-ok
-returns-in_ok-take_frame-in-Frame-clause-ok c = λ state stands.
-    let frame = c.in-Frame in
-    let F : List ℕ → Type 0 = λ place. Carries (carried_out state (Frame place frame.src frame.dst frame.vid frame._text)) state c.take_frame.new.self [] in
-    let C : Command → Type 0 = λ command. Carries (carried_out state command) state c.take_frame.new.self [] in
-    rw c.requires
-    (subst C (sym frame.is) (subst F c.as_slice.ensures.value (c.in_ok-take_frame-in-Frame.ensures.ok frame._text state stands)))
+    (subst C (sym frame.is)
+    (subst (L frame.place) c.as_slice-in-Frame-2.ensures.value
+    (subst (λ place. L place c.as_slice-in-Frame-2.result.now) c.as_slice-in-Frame.ensures.value (c.in_err-take_frame-in-Frame.ensures.refused state stands))))
 
 pub returns-in_err-show-in-Show-clause-refused : goal.returns-in_err-show-in-Show-clause-refused
 returns-in_err-show-in-Show-clause-refused c = λ state stands.
     let p = err_from_is_err_and c.from_residual-in_err-show-in-Show.result c.from_residual-in_err-show-in-Show.ensures.1 in
     let show = c.in-Show in
     let fault = c.in_err-show-in-Show.field-0.0 in
-    let F : List ℕ → Type 0 = λ node. HasLineCause state (carried_out state (Show node show.table)) fault in
-    let C : Command → Type 0 = λ command. HasLineCause state (carried_out state command) fault in
+    let F : List ℕ → Type 0 = λ node. HasLineCause state (carried_out iv_setup state (Show node show.table)) fault in
+    let C : Command → Type 0 = λ command. HasLineCause state (carried_out iv_setup state command) fault in
     rw (p.1, p.2)
     (subst C (sym show.is) (subst F c.as_slice-in-Show.ensures.value (c.in_err-show-in-Show.ensures.refused state stands)))
 
 pub returns-in_ok-show-in-Show-clause-ok : goal.returns-in_ok-show-in-Show-clause-ok
 returns-in_ok-show-in-Show-clause-ok c = λ state stands.
     let show = c.in-Show in
-    let F : List ℕ → Type 0 = λ node. Carries (carried_out state (Show node show.table)) state c.args.self.now c.show.new.text.items in
-    let C : Command → Type 0 = λ command. Carries (carried_out state command) state c.args.self.now c.show.new.text.items in
+    let F : List ℕ → Type 0 = λ node. Carries (carried_out iv_setup state (Show node show.table)) state c.args.self.now c.show.new.text.items in
+    let C : Command → Type 0 = λ command. Carries (carried_out iv_setup state command) state c.args.self.now c.show.new.text.items in
     (subst C (sym show.is) (subst F c.as_slice-in-Show.ensures.value (c.in_ok-show-in-Show.ensures.ok state stands)))

@@ -1,20 +1,22 @@
-use Rattle.std.proofs.Common.{sym, ◌∙◌, subst}
-use Rattle.mesh_run.specs.declared.node.SceneNode.{SceneNode}
-use Rattle.tt_local.specs.Locals.{StandsFor}
-use Rattle.mesh_run.proofs.SceneLemmas.{Carries-show, carried-show_unknown, unplaced}
+use Rattle.std.proofs.Common.{◌≡◌, ℕ, [], ◌++◌, List, sym, ap, ap₂, ◌∙◌}
+use Rattle.mesh_model.specs.Clients.Mentions.{mentions}
+use Rattle.mesh_model.specs.Clients.Present.{present_clients}
+use Rattle.mesh_model.specs.Run.Shown.{local_table}
+use Rattle.mesh_model.specs.Run.State.{LocalsShown}
+use Rattle.mesh_model.specs.Text.Tables.{LocalTable, table_text}
+use Rattle.mesh_run.proofs.PlaceLemmas.{named_so}
+use Rattle.mesh_run.proofs.StepLemmas.{carries_print, node_at, shows_locals}
 use Rattle.mesh_run.proofs.scene.Scene.show_clients.Goals as goal
-
-pub returns-in_default-clause-refused : goal.returns-in_default-clause-refused
-returns-in_default-clause-refused c = λ state stands.
-    let name = c.args.name.now in
-    rw c.refused.ensures
-    (carried-show_unknown state name (unplaced state c.args.self.now name stands (sym c.place_of.ensures ∙ c.in_default.is)))
 
 pub returns-in-Ok-clause-ok : goal.returns-in-Ok-clause-ok
 returns-in-Ok-clause-ok c = λ state stands.
     let name = c.args.name.now in
-    let node = c.index-node.result.now in
-    Carries-show state c.args.self.now name c.in-Some.place node c.show_locals.new.text.items stands (sym c.place_of.ensures ∙ c.in-Some.is)
-    (λ ms held.
-    let printed = c.in-Ok.ensures ms (subst (λ (n : SceneNode). StandsFor n.locals ms) (sym c.index-node.ensures) held) in
-    rw (c.requires, c.index-node.ensures) at printed)
+    let is = sym (c.place_of.ensures state stands) ∙ c.in-Some.is in
+    let there = node_at state name c.in-Some.place is in
+    let node = there.0 in
+    let held = c.node-node.ensures state.choice state.clock state.mesh node stands.net_is there.1 in
+    let table : List ℕ → ℕ → LocalTable = λ n now. record { name = n; version = 0; sums = []; rows = present_clients (mentions node.mac node.log) now } in
+    let prints = c.in-Ok.ensures (mentions node.mac node.log) (c.locals.ensures node.mac node.log held) in
+    carries_print state c.args.self.now _ (LocalsShown (local_table state.clock node)) c.show_locals.new.out.items stands (shows_locals state name c.in-Some.place node is there.1)
+    (prints ∙ ap (λ (old : List ℕ). old ++ table_text (table name c.now.result)) c.requires.empty
+    ∙ ap₂ (λ (n : List ℕ) (now : ℕ). table_text (table n now)) (sym (named_so state name c.in-Some.place node is there.1)) (c.now.ensures state.choice state.clock state.mesh stands.net_is))

@@ -1,0 +1,24 @@
+-- Lists that grow row by row.
+use Rattle.std.proofs.Common.{◌≡◌, ℕ, zero, suc, ◌+◌, List, [], ◌∷◌, ◌++◌, length, take, slice_get, Some, refl, sym, ap, ◌∙◌, append_assoc, append-nil, length-append, arith}
+use Rattle.std.specs.Prelude.{flat_map}
+use Rattle.std.proofs.lemmas.List.Concat.{flat_map-append}
+
+pub take-next : {X : Type 0} (xs : List X) (i : ℕ) (x : X) → slice_get xs i ≡ Some x → take (suc i) xs ≡ take i xs ++ x ∷ []
+take-next [] i x found = cc
+take-next (y ∷ ys) zero x found = let same : y ≡ x = cc in ap (λ z. z ∷ []) same
+take-next (y ∷ ys) (suc i) x found = ap (λ zs. y ∷ zs) (take-next ys i x found)
+
+-- rows that are the first ones, with the next
+pub rows-next : {X : Type 0} (rows new all : List X) (row : X) → rows ≡ take (length rows) all → new ≡ rows ++ row ∷ [] → Some row ≡ slice_get all (length rows)
+    → new ≡ take (length new) all
+rows-next rows new all row are is next =
+    let longer : length new ≡ suc (length rows) = omega (arith, ap length is, length-append rows (row ∷ [])) in
+    is ∙ ap (λ front. front ++ row ∷ []) are ∙ sym (take-next all (length rows) row (sym next)) ∙ ap (λ n. take n all) (sym longer)
+
+-- texts of the first rows, with that of the next
+pub texts-next : {X : Type 0} (line : X → List ℕ) (old mid new : List ℕ) (xs : List X) (i : ℕ) (x : X) → slice_get xs i ≡ Some x → mid ≡ old ++ flat_map line (take i xs) → new ≡ mid ++ line x
+    → new ≡ old ++ flat_map line (take (i + 1) xs)
+texts-next line old mid new xs i x found is more =
+    let next : i + 1 ≡ suc i = omega arith in
+    more ∙ ap (λ front. front ++ line x) is ∙ append_assoc old (flat_map line (take i xs)) (line x)
+    ∙ ap (λ rest. old ++ rest) (ap (λ last. flat_map line (take i xs) ++ last) (sym (append-nil (line x))) ∙ sym (flat_map-append line (take i xs) (x ∷ [])) ∙ ap (flat_map line) (sym (take-next xs i x found)) ∙ ap (λ n. flat_map line (take n xs)) (sym next))

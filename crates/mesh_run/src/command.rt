@@ -1,0 +1,73 @@
+ghost use Rattle.std.specs.Prelude.{◌≡◌, Bool, false, []};
+ghost use Rattle.mesh_laws.specs.LineLaws.{IsInRange};
+ghost use Rattle.mesh_model.specs.Run.Rules.{carried_out, iv_setup};
+ghost use Rattle.mesh_run.specs.Inner.Scene.{CarriesFrom, FailsFrom, IsSomewhere, lets_time_pass};
+
+use crate::fault::LineFault;
+use crate::line_fault::refused;
+use crate::scene::Scene;
+use crate::showing::decode;
+use mesh_model::{Command, Refusal};
+use mesh_net::Link;
+
+impl Scene {
+    /// Carries a command out, other than `run`, and appends what it prints.
+    pub fn carry_out(&mut self, command: Command, text: &mut Vec<u8>) -> Result<(), LineFault>
+        requires somewhere { IsSomewhere self.old }
+        requires empty { text.old.items ≡ [] }
+        requires ranges { IsInRange command }
+        requires other { lets_time_pass command ≡ false }
+        ensures ok { CarriesFrom self.old self.new (λ state. carried_out iv_setup state command)
+            text.new.items result }
+        ensures refused { FailsFrom self.old (λ state. carried_out iv_setup state command) result }
+    {
+        match command {
+            Command::Nothing => {}
+            Command::Node { name, mac } => self.add_node(name.as_slice(), mac)?,
+            Command::Link {
+                from,
+                to,
+                delay,
+                pattern,
+                throughput,
+            } => {
+                let link = Link {
+                    delay,
+                    pattern,
+                    tp: throughput,
+                };
+                self.add_link(from.as_slice(), to.as_slice(), &link)?;
+            }
+            Command::Frame {
+                place,
+                src,
+                dst,
+                vid,
+                text: said,
+            } => self.take_frame(place.as_slice(), src, dst, vid, said.as_slice(), text)?,
+            Command::Deliver { number } => self.deliver(number, text)?,
+            Command::Show { node, table } => self.show(node.as_slice(), table, text)?,
+            Command::Decode { bytes } => decode(bytes.as_slice(), text)?,
+            Command::Algo(_)
+            | Command::Lan { .. }
+            | Command::Gone { .. }
+            | Command::Join { .. }
+            | Command::Leave { .. }
+            | Command::Arp { .. }
+            | Command::Dhcp { .. }
+            | Command::Wifi { .. }
+            | Command::GwOff { .. }
+            | Command::GwServer { .. }
+            | Command::GwClient { .. }
+            | Command::Mcast { .. }
+            | Command::Dat { .. }
+            | Command::Alfred { .. }
+            | Command::Put { .. }
+            | Command::Get { .. }
+            | Command::Ping { .. }
+            | Command::Trace { .. }
+            | Command::Run { .. } => return Err(refused(Refusal::NotBuilt)),
+        }
+        Ok(())
+    }
+}
