@@ -13,13 +13,13 @@ comments() {
     }'
 }
 
-# 600,000 frames of 50,000 clients on 4 VLANs, 12 of each client, and the number of clients behind
-# them; some 37 MB. The clients come in a mixed order: 7,919 and 50,000 have no common divisor.
+# 600,000 frames of 1,000 clients on 4 VLANs, 600 of each client, and the table of clients behind
+# them; some 37 MB. The clients come in a mixed order: 7,919 and 1,000 have no common divisor.
 frames() {
     awk 'BEGIN {
         print "node A 02:00:00:00:00:0a"
         for (i = 0; i < 600000; i++) {
-            client = i * 7919 % 50000
+            client = i * 7919 % 1000
             printf "frame A 02:00:00:01:%02x:%02x ff:ff:ff:ff:ff:ff %d frame no %06d\n",
                 int(client / 256), client % 256, client % 4 + 1, i
         }
