@@ -26,11 +26,15 @@ ring() {
 }
 
 # Runs the program over the file $3 with the choice $2, and prints what it took under the name $1.
-# A ring is ended by the limit of frames, with status 6.
+# A ring is ended by the limit of frames; anything else that the program says ends this script.
 frames() {
     start=$(date +%s%N)
     printed=$("$program" --frames "$2" < "$3" 2> "$work/err" | wc -c)
     end=$(date +%s%N)
+    if grep -qv 'limit frames$' "$work/err"; then
+        echo "$1: $(cat "$work/err")" >&2
+        exit 1
+    fi
     awk -v name="$1" -v start="$start" -v end="$end" -v printed="$printed" -v count="$4" 'BEGIN {
         seconds = (end - start) / 1e9
         printf "%s: %.2f million link frames/s (%d in %.3f s), %.1f MB/s of text\n",
