@@ -8,7 +8,7 @@ use Rattle.mesh_base.specs.declared.client.Vid.{Vid}
 use Rattle.mesh_model.specs.Packets.Bodies.{VlanSum}
 use Rattle.mesh_model.specs.declared.table_outcome.Difference.{Difference}
 use Rattle.mesh_model.specs.Tables.Differences.{differ_at, difference_at, first_difference, least_passing, lesser, named_vlans}
-use Rattle.mesh_model.specs.Tables.Sums.{checksums, sum_at, sums_of}
+use Rattle.mesh_model.specs.Tables.Sums.{sum_at, sums_of}
 use Rattle.mesh_laws.specs.KnownLaws.{AgreesByChecksums, FindsEachDifference, FindsLeastDifference, IsLeastDifference}
 use Rattle.mesh_laws.proofs.AnnouncedSums.{announces_checksums}
 

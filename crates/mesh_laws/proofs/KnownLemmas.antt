@@ -21,7 +21,7 @@ use Rattle.mesh_model.specs.Tables.Changes.{addition, changed_entries}
 use Rattle.mesh_model.specs.Tables.Differences.{first_difference}
 use Rattle.mesh_model.specs.Tables.Judging.{Carried, Fails, Differs, InChanges, InFull, Leads, Row, Trial, answer_row, becomes, carried_row, changes_row, heard_trial, named_row, next_byte_row, row_by_vlans, same_byte_row, stays, taken_trial, trial, trial_of, unless_carried_differs, unless_differs}
 use Rattle.mesh_model.specs.Tables.Known.{agrees, held_after, stamp_of}
-use Rattle.mesh_model.specs.Tables.Strict.{additions, and_then, apply_strictly, change_each, with_entry}
+use Rattle.mesh_model.specs.Tables.Strict.{and_then, apply_strictly, change_each, with_entry}
 use Rattle.mesh_model.specs.Tables.Sums.{checksums, sum_at, sums_of}
 use Rattle.mesh_model.specs.Tables.Versions.{Stamp, Version, next_byte}
 use Rattle.mesh_laws.specs.KnownLaws.{ChangesAsHeard, ChangesAsTaken, FullAnswerIsTaken, HaveDistinctKeys, IsAppliedOnward, IsEmptiedByNone, IsTakenOnward, IsTakenWhole, IsTold, LeadsOn, MakeWhole, heard_another, took_another}

@@ -9,4 +9,4 @@ pub mod Keeping
 pub mod Quiet
 pub mod ReadRange
 pub mod Slices
-pub mod Seen
+pub mod KeptLinks

@@ -1,14 +1,14 @@
 -- Addresses: their order is total, and two that are one are equal.
-use Rattle.std.proofs.Common.{◌≡◌, ℕ, nat_eq, nat_cmp, Bool, true, false, List, is_eq, is_lt, arith, refl, sym, ap, ◌∙◌, subst, Ordering, Less, Equal, Greater}
+use Rattle.std.proofs.Common.{◌≡◌, nat_eq, nat_cmp, true, false, is_eq, arith, refl, sym, ap, ◌∙◌, Ordering, Less, Equal, Greater}
 use Rattle.std.specs.Cmp.{IsTotalOrder, IsEquivalence}
-use Rattle.std.specs.Cmp.Lexicographic.{pointwise, slice_cmp}
+use Rattle.std.specs.Cmp.Lexicographic.{pointwise}
 use Rattle.std.specs.Ordering.{ordering_reverse}
-use Rattle.std.proofs.lemmas.Bool.{true≢false, false≢true}
+use Rattle.std.proofs.lemmas.Bool.{false≢true}
 use Rattle.std.proofs.lemmas.Bool.Decides.{nat_tests}
 use Rattle.std.proofs.lemmas.Cmp.{nat_list_cmp_total, on_total, same_from_slice_cmp, tied_itself, nat_list_eq_equiv, on_equiv}
 use Rattle.std.proofs.lemmas.Map.Lookups.{CmpEqualImpliesEq, exact_bytes}
 use Rattle.mesh_base.specs.declared.address.Mac.{Mac}
-use Rattle.mesh_model.specs.Routes.Addresses.{mac_order, same_mac, is_smaller}
+use Rattle.mesh_model.specs.Routes.Addresses.{mac_order, same_mac}
 
 pub mac_total : IsTotalOrder mac_order
 mac_total = on_total (λ (m : Mac). m.0) nat_list_cmp_total

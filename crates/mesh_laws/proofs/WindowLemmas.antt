@@ -63,6 +63,16 @@ greatest-among top count p pos at =
     let ge = greatest-among-le top count p in
     omega arith
 
+and_false : (a : Bool) → (a && false) ≡ false
+and_false true = refl
+and_false false = refl
+
+-- where nothing was seen, nothing was seen in a stretch
+pub none_among : (top count : ℕ) → seen_among top count [] ≡ []
+unfolding among
+none_among top zero = refl
+none_among top (suc k) = ap (λ b. cond b ((top - k) ∷ seen_among top k []) (seen_among top k [])) (and_false (nat_le k top)) ∙ none_among top k
+
 -- ---- windows
 has-max : (m g : ℕ) (seen : List ℕ) → has g seen ≡ true → (nat_eq (max m g) m || has (max m g) seen) ≡ true
 has-max m g seen h =

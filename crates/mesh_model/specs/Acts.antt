@@ -1,6 +1,9 @@
--- What a node puts when it is given something: the rows, each a definition of its own, and the
--- choice of the row. The main words are `acts_of`, in Choosing, and `route_log`, in RouteInputs.
-pub mod RouteInputs
+-- What a node puts when it is given something: the packets that it makes, the rows, each a
+-- definition of its own, and the choice of the row. It stands on the rooms Clients, Commits and
+-- Knowledge. The main word is `acts_of`, in Choosing.
+pub mod Packing
 pub mod OwnContainers
+pub mod TableRows
+pub mod FrameRows
 pub mod Rows
 pub mod Choosing

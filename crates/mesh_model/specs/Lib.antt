@@ -6,6 +6,7 @@ pub mod Clients
 pub mod Tables
 pub mod Commits
 pub mod Marks
+pub mod Knowledge
 pub mod Probes
 pub mod Text
 pub mod Acts

@@ -5,6 +5,7 @@ pub mod Words
 pub mod State
 pub mod Outcome
 pub mod Passing
+pub mod KnownTables
 pub mod Shown
 pub mod Steps
 pub mod Names

@@ -5,20 +5,24 @@ use Rattle.std.specs.Fmt.{digits}
 use lib.Utf8.{encode}
 use Rattle.std.specs.Str.{chars, is_utf8}
 use Rattle.hex.specs.Hex.{encode_with}
-use Rattle.mesh_model.specs.Acts.RouteInputs.{is_taken}
-use Rattle.mesh_model.specs.Acts.Rows.{message_acts, tick_acts, ogm_acts, packet_acts, packets_acts, link_acts}
+use Rattle.mesh_model.specs.Acts.FrameRows.{broadcast_acts, frame_acts, here_acts, passed_frame}
+use Rattle.mesh_model.specs.Acts.Rows.{message_acts, ogm_acts, packet_acts, packets_acts, tick_acts}
+use Rattle.mesh_model.specs.Acts.TableRows.{other_containers, own_answer}
 use Rattle.mesh_model.specs.Net.Runs.{going_on}
 use Rattle.mesh_model.specs.Packets.Bodies.{pieces}
 use Rattle.mesh_model.specs.Packets.Containers.{first_containers, containers_of}
 use Rattle.mesh_model.specs.Packets.FirstPacket.{first_packet}
 use Rattle.mesh_model.specs.Packets.LinkFrame.{frame_within, link_frame}
 use Rattle.mesh_model.specs.Scenario.Commands.{command_of_line}
+use Rattle.mesh_model.specs.Text.GlobalTables.{entry_line, global_header, global_line, mark_line}
 use Rattle.mesh_model.specs.Text.Events.{client_frame_line, event_line}
-use Rattle.mesh_model.specs.Text.Tables.{age_text, flags_text, local_header, local_line, vid_text}
+use Rattle.mesh_model.specs.Text.Tables.{age_text, flags_text, local_header, local_line, sum_text, vid_text, vlan_line}
 use Rattle.mesh_rows.proofs.RoutesOnLiterals.{routes_on_literals}
+use Rattle.mesh_rows.proofs.TablesOnLiterals.{tables_on_literals}
 
 unfoldable pub net_on_literals : ⊤
-unfolding encode digits chars is_utf8 encode_with is_taken message_acts tick_acts ogm_acts packet_acts packets_acts link_acts
-    pieces first_containers containers_of first_packet frame_within link_frame routes_on_literals going_on command_of_line client_frame_line event_line age_text flags_text
-    local_header local_line vid_text
+unfolding encode digits chars is_utf8 encode_with message_acts tick_acts ogm_acts packet_acts packets_acts
+    broadcast_acts frame_acts here_acts passed_frame other_containers own_answer entry_line global_header global_line mark_line
+    pieces first_containers containers_of first_packet frame_within link_frame routes_on_literals tables_on_literals going_on command_of_line client_frame_line event_line age_text flags_text
+    local_header local_line sum_text vid_text vlan_line
 net_on_literals = tt

@@ -5,6 +5,7 @@ pub mod DecodeRows
 pub mod NetRows
 pub mod NetLines
 pub mod TableRows
+pub mod CommitRows
 -- What is said of a worked scenario, of bytes that are decoded, and of a single line.
 pub mod LineRows
 pub mod RouteRows

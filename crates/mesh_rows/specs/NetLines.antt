@@ -9,11 +9,13 @@ use Rattle.mesh_model.specs.declared.frame_choice.FrameChoice.TheVariants.{Hidde
 use Rattle.mesh_model.specs.declared.packet.Head.TheVariants.{IvOgm}
 use Rattle.mesh_model.specs.declared.table_row.LocalRow.{LocalRow}
 use Rattle.mesh_model.specs.Acts.Choosing.{acts_of}
+use Rattle.mesh_model.specs.Acts.OwnContainers.{own_containers}
 use Rattle.mesh_model.specs.Clients.Limits.{limit_beside}
 use Rattle.mesh_model.specs.Clients.Log.{LinkFrame}
 use Rattle.mesh_model.specs.Net.Mesh.{NetLink, empty_mesh}
 use Rattle.mesh_model.specs.Packets.Containers.{Container, containers_spelling}
 use Rattle.mesh_model.specs.Packets.Layout.{spelling}
+use Rattle.mesh_model.specs.Packets.Numbers.{ogm_diff_flag}
 use Rattle.mesh_model.specs.Routes.AlgorithmIv.{iv_queries, own_ogm}
 use Rattle.mesh_model.specs.Run.State.{first_state}
 use Rattle.mesh_model.specs.Run.Steps.{link_step}
@@ -43,6 +45,11 @@ forwarded_line sent flags number digit quality =
 -- the address of a node by the last byte
 abbrev pub node_mac : ℕ → Mac
 node_mac last = record { 0 = 2 ∷ 0 ∷ 0 ∷ 0 ∷ 0 ∷ last ∷ [] }
+
+-- the containers of a node that has no clients and never had one
+abbrev pub bare_containers : List Container
+bare_containers =
+    own_containers (record { flags = ogm_diff_flag; ttvn = 0; vlans = []; changes = [] })
 
 -- a node's own originator message in bytes, by the last byte of its address, its number and its
 -- containers

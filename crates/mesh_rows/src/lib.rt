@@ -7,6 +7,8 @@
 
 #![tactic(auto)]
 
+pub mod client_rows;
+pub mod commit_rows;
 pub mod container_rows;
 pub mod decode_rows;
 pub mod event_rows;

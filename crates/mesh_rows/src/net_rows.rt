@@ -6,10 +6,10 @@ ghost use Rattle.mesh_model.specs.declared.ending.LimitName.TheVariants.{Clients
 ghost use Rattle.mesh_model.specs.declared.ending.Refusal.TheVariants.{LinkTaken, NoSuchFrame, NotBuilt, SameNode, UnknownName};
 ghost use Rattle.mesh_model.specs.declared.ending.Stop.TheVariants.{Limit, Refused};
 ghost use Rattle.mesh_model.specs.declared.frame_choice.FrameChoice.TheVariants.{All, Client, Hidden, Ogm};
-ghost use Rattle.mesh_model.specs.Acts.OwnContainers.{arp_table_container, own_containers};
+ghost use Rattle.mesh_model.specs.Acts.OwnContainers.{arp_table_container};
 ghost use Rattle.mesh_model.specs.Run.Outcome.{reached};
 ghost use Rattle.mesh_model.specs.Run.Rules.{iv_setup};
-ghost use Rattle.mesh_rows.specs.NetLines.{acts_on, duo, forwarded_line, is_full_after, limit_after, many_nodes, many_vlans, message_bytes, message_line, node_mac, sent_on};
+ghost use Rattle.mesh_rows.specs.NetLines.{acts_on, bare_containers, duo, forwarded_line, is_full_after, limit_after, many_nodes, many_vlans, message_bytes, message_line, node_mac, sent_on};
 ghost use Rattle.mesh_rows.specs.NetRows.{run_of, with_limits, EndsAt, EndsWith, Prints, Takes};
 
 /// Two nodes send their first originator messages at their second ticks, in the order of their
@@ -40,12 +40,14 @@ pub fn two_nodes_send_messages_on()
 /// Each message of a link frame is heard, one behind the other, and sent on. One without a
 /// translation table is passed over, and bytes that are no packet give nothing.
 pub fn messages_of_a_frame_are_heard_one_by_one()
-    ensures both { acts_on (message_bytes 10 1 own_containers ++ message_bytes 10 2 own_containers)
-        ≡ sent_on 10 1 own_containers ∷ sent_on 10 2 own_containers ∷ [] }
-    ensures again { acts_on (message_bytes 10 1 own_containers ++ message_bytes 10 1 own_containers)
-        ≡ sent_on 10 1 own_containers ∷ [] }
+    ensures both { acts_on (message_bytes 10 1 bare_containers
+        ++ message_bytes 10 2 bare_containers)
+        ≡ sent_on 10 1 bare_containers ∷ sent_on 10 2 bare_containers ∷ [] }
+    ensures again { acts_on (message_bytes 10 1 bare_containers
+        ++ message_bytes 10 1 bare_containers)
+        ≡ sent_on 10 1 bare_containers ∷ [] }
     ensures bare { acts_on (message_bytes 10 1 (arp_table_container ∷ [])
-        ++ message_bytes 10 2 own_containers) ≡ sent_on 10 2 own_containers ∷ [] }
+        ++ message_bytes 10 2 bare_containers) ≡ sent_on 10 2 bare_containers ∷ [] }
     ensures none { acts_on (codes "no packet") ≡ [] }
 {}
 
@@ -186,27 +188,6 @@ pub fn a_limit_ends_a_run_in_its_middle()
     ensures both { EndsWith (with_limits 2 107) Ogm (duo ++ codes "run 5000" ∷ [])
         (message_line (codes "f1 1000 A>B") (codes "1") (codes "a")
         ∷ message_line (codes "f2 1000 B>A") (codes "1") (codes "b") ∷ []) 5 (Limit Frames) }
-{}
-
-/// Time doesn't pass once a client was seen, and no client is seen once time passed or where a link
-/// leaves its node.
-pub fn clients_and_time_are_not_built_together()
-    ensures run { EndsAt Hidden
-        (codes "node A 02:00:00:00:00:0a" ∷ codes "frame A 02:00:00:00:01:01 ff:ff:ff:ff:ff:ff - x"
-        ∷ codes "run 1" ∷ []) [] 3 (Refused NotBuilt) }
-    ensures frame { EndsAt Hidden
-        (codes "node A 02:00:00:00:00:0a" ∷ codes "run 1"
-        ∷ codes "frame A 02:00:00:00:01:01 ff:ff:ff:ff:ff:ff - x" ∷ []) [] 3 (Refused NotBuilt) }
-    ensures link { EndsAt Hidden
-        (duo ++ codes "frame A 02:00:00:00:01:01 ff:ff:ff:ff:ff:ff - x" ∷ []) [] 5
-        (Refused NotBuilt) }
-    ensures unknown { EndsAt Hidden
-        (duo ++ codes "frame X 02:00:00:00:01:01 ff:ff:ff:ff:ff:ff - x" ∷ []) [] 5
-        (Refused UnknownName) }
-    ensures shown { Prints Hidden
-        (codes "node A 02:00:00:00:00:0a" ∷ codes "node B 02:00:00:00:00:0b" ∷ codes "link A B"
-        ∷ codes "frame B 02:00:00:00:01:01 ff:ff:ff:ff:ff:ff - x" ∷ codes "show B tl" ∷ [])
-        (codes "tl B version=0 clients=1" ∷ codes "c 02:00:00:00:01:01 - -- age=0" ∷ []) }
 {}
 
 /// Three nodes in a chain, five seconds.

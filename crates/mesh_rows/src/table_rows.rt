@@ -26,8 +26,10 @@ pub fn entries_have_their_sums()
 
 /// Two untagged clients have the XOR of their sums, 1350f3f4, and a VLAN without clients has 0.
 pub fn clients_of_a_vlan_share_its_checksum()
-    ensures untagged { checksums (first ∷ first_tagged ∷ second ∷ []) (record { 0 = 0 }) ≡ 324072436 }
-    ensures tagged { checksums (first ∷ first_tagged ∷ second ∷ []) (record { 0 = 32775 }) ≡ 3717321723 }
+    ensures untagged { checksums (first ∷ first_tagged ∷ second ∷ []) (record { 0 = 0 })
+        ≡ 324072436 }
+    ensures tagged { checksums (first ∷ first_tagged ∷ second ∷ []) (record { 0 = 32775 })
+        ≡ 3717321723 }
     ensures empty { checksums (first ∷ first_tagged ∷ second ∷ []) (record { 0 = 32776 }) ≡ 0 }
     ensures named { sums_of (first ∷ first_tagged ∷ second ∷ [])
         ≡ record { vid = record { 0 = 0 }; sum = 324072436 }

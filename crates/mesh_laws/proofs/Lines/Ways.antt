@@ -1,8 +1,8 @@
 -- The few ways in which a command may end.
-use Rattle.std.proofs.Common.{option_map, ◌≡◌, ℕ, ◌+◌, ◌-◌, ◌<◌, ◌≤◌, Bool, true, false, cond, nat_lt, nat_le, List, [], length, Option, Some, None, Ok, Err, refl}
+use Rattle.std.proofs.Common.{option_map, ◌≡◌, ◌&&◌, not, ℕ, ◌+◌, ◌-◌, ◌<◌, ◌≤◌, Bool, true, false, cond, nat_lt, nat_le, List, [], length, Option, Some, None, Ok, Err, refl}
 use Rattle.std.specs.Option.{option_map_or}
 use Rattle.std.proofs.lemmas.Bool.{ltb-false, leb-false}
-use Rattle.mesh_base.specs.Address.{is_broadcast}
+use Rattle.mesh_base.specs.Address.{is_broadcast, is_group}
 use Rattle.mesh_model.specs.declared.ending.LimitName.TheVariants.{Nodes, Links, Clock}
 use Rattle.mesh_model.specs.declared.ending.Refusal.{Refusal}
 use Rattle.mesh_model.specs.declared.ending.Stop.{Stop}
@@ -10,7 +10,7 @@ use Rattle.mesh_model.specs.declared.ending.Stop.TheVariants.{Refused, Limit}
 use Rattle.mesh_model.specs.declared.line_form.Command.{Command}
 use Rattle.mesh_model.specs.declared.line_form.Command.TheVariants.{Nothing, Algo, Node, Link, Lan, Frame, Gone, Join, Leave, Arp, Dhcp, Wifi, GwOff, GwServer, GwClient, Mcast, Dat, Alfred, Put, Get, Ping, Trace, Run, Deliver, Show, Decode}
 use Rattle.mesh_model.specs.Clients.Log.{Given}
-use Rattle.mesh_model.specs.Clients.Log.{Frame as FrameGiven}
+use Rattle.mesh_model.specs.Clients.Log.{Frame as FrameGiven, Gone as GoneGiven, Join as JoinGiven, Leave as LeaveGiven, Wifi as WifiGiven}
 use Rattle.mesh_model.specs.Net.Mesh.{NodeLog, NetLink, Mesh, Setup}
 use Rattle.mesh_model.specs.Net.Sending.{Attempt}
 use Rattle.mesh_model.specs.Net.Inputs.{given_to}
@@ -76,11 +76,16 @@ shown_led : (setup : Setup) (state : State) (command : Command) (name : List ℕ
 shown_led setup state command name None = stayed refl
 shown_led setup state command name (Some print) = show_led setup state command print (node_named state name)
 
-frame_led : (setup : Setup) (state : State) (command : Command) (place : List ℕ) (input : Given) → ticks_by input ≡ 0 → GivesItsBytes state.mesh.frames input → (to_all : Bool)
-    → Led setup state command (after_step state (cond to_all (Some (at_node place (input_step setup input))) None))
-frame_led setup state command place input none gives true = at_led setup state command (input_step setup input) (place_of state place)
+-- an input of a line at the node of a name
+line_led : (setup : Setup) (state : State) (command : Command) (place : List ℕ) (input : Given) → ticks_by input ≡ 0 → GivesItsBytes state.mesh.frames input
+    → Led setup state command (at_node place (input_step setup input) state)
+line_led setup state command place input none gives = at_led setup state command (input_step setup input) (place_of state place)
     (λ p. input_led setup state command p input none gives (given_to setup p state.clock 0 input state.mesh) refl)
-frame_led setup state command place input none gives false = stayed refl
+
+frame_led : (setup : Setup) (state : State) (command : Command) (place : List ℕ) (input : Given) → ticks_by input ≡ 0 → GivesItsBytes state.mesh.frames input → (other_group : Bool)
+    → Led setup state command (after_step state (cond other_group None (Some (at_node place (input_step setup input)))))
+frame_led setup state command place input none gives true = stayed refl
+frame_led setup state command place input none gives false = line_led setup state command place input none gives
 
 pub command_led : (setup : Setup) (state : State) (command : Command) → Led setup state command (after_step state (step_of setup command))
 command_led setup state Nothing = stayed refl
@@ -92,13 +97,13 @@ command_led setup state (Link from to delay pattern throughput) =
     at_led setup state (Link from to delay pattern throughput) (λ end. link_step (link start end)) (place_of state to) (λ end.
     link_led setup state (Link from to delay pattern throughput) (link start end) (λ has. has from to pattern delay throughput refl) (nat_le links_limit (length state.mesh.links))))
 command_led setup state (Lan name gateways) = stayed refl
-command_led setup state (Frame place src dst vid text) = frame_led setup state (Frame place src dst vid text) place (FrameGiven src dst vid text) refl tt (is_broadcast dst)
-command_led setup state (Gone place key) = stayed refl
-command_led setup state (Join node key) = stayed refl
-command_led setup state (Leave node key) = stayed refl
+command_led setup state (Frame place src dst vid text) = frame_led setup state (Frame place src dst vid text) place (FrameGiven src dst vid text) refl tt (is_group dst && not (is_broadcast dst))
+command_led setup state (Gone place key) = line_led setup state (Gone place key) place (GoneGiven key) refl tt
+command_led setup state (Join node key) = line_led setup state (Join node key) node (JoinGiven key) refl tt
+command_led setup state (Leave node key) = line_led setup state (Leave node key) node (LeaveGiven key) refl tt
 command_led setup state (Arp node mac own asked vid) = stayed refl
 command_led setup state (Dhcp node key text) = stayed refl
-command_led setup state (Wifi node on) = stayed refl
+command_led setup state (Wifi node on) = line_led setup state (Wifi node on) node (WifiGiven on) refl tt
 command_led setup state (GwOff node) = stayed refl
 command_led setup state (GwServer node down up) = stayed refl
 command_led setup state (GwClient node policy) = stayed refl

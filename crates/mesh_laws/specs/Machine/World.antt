@@ -3,7 +3,7 @@
 -- holds. An announcement tells the number of its commit, which no packet does: how many commits are
 -- older. The main word is `World`; all begins at `start`.
 pub use Rattle.mesh_model.specs.Commits.Versions.{first_commit, commit_numbered}
-use Rattle.std.specs.Prelude.{◌≡◌, ◌⊎◌, ℕ, ◌==◌, if◌then◌else◌, List, [], ◌∷◌, length, Option, Some, None}
+use Rattle.std.specs.Prelude.{◌≡◌, ◌⊎◌, ℕ, ◌==◌, if◌then◌else◌, List, [], ◌∷◌, Option, Some, None}
 use Rattle.mesh_model.specs.Packets.Bodies.{VlanSum}
 use Rattle.mesh_model.specs.declared.table_change.Change.{Change}
 use Rattle.mesh_model.specs.Tables.Versions.{Version}

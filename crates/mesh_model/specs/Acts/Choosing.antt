@@ -1,24 +1,48 @@
--- What a node puts when it is given something: the row of the input. A line puts nothing: as long
--- as clients are seen, no link stands. A setting, a joining, a leaving and a departure never put
--- anything. The main word is `acts_of`.
-use Rattle.std.specs.Prelude.{ℕ, List, []}
+-- What a node puts when it is given something: the row of the input, by what the node knows. A
+-- sighting comes first, with its advertisement. A setting, a joining, a leaving and a departure put
+-- nothing. The main word is `acts_of`.
+use Rattle.std.specs.Prelude.{ℕ, List, [], ◌++◌}
 use Rattle.mesh_base.specs.declared.address.Mac.{Mac}
+use Rattle.mesh_base.specs.declared.client.Key.{Key}
 use Rattle.mesh_model.specs.declared.act.Act.{Act}
-use Rattle.mesh_model.specs.Acts.RouteInputs.{route_log}
-use Rattle.mesh_model.specs.Acts.Rows.{link_acts, tick_acts}
+use Rattle.mesh_model.specs.Acts.FrameRows.{Place, advert_acts, frame_acts}
+use Rattle.mesh_model.specs.Acts.Rows.{own_by, packets_acts, tick_acts}
 use Rattle.mesh_model.specs.Clients.Log.{Given, Tick, LinkFrame, Frame, Gone, Join, Leave, Arp, Dhcp, Wifi, Log}
+use Rattle.mesh_model.specs.Clients.Mentions.{key_of, mentions, next_mentions}
+use Rattle.mesh_model.specs.Commits.History.{history}
+use Rattle.mesh_model.specs.Knowledge.Steps.{advertised, after_sighting, knowledge}
+use Rattle.mesh_model.specs.Packets.LinkFrame.{link_frame}
+use Rattle.mesh_model.specs.Packets.Payload.{ClientFrame}
 use Rattle.mesh_model.specs.Routes.Queries.{Queries}
+
+-- a sighting: its advertisement
+abbrev pub sighting_acts : Queries → Mac → Log → ℕ → Key → List Act
+sighting_acts q me log now key =
+    advert_acts me key (advertised q me log (knowledge q me log) now key)
+
+-- a client frame, behind its sighting
+abbrev pub client_acts : Queries → Mac → Log → ℕ → ClientFrame → List Act
+client_acts q me log now frame = frame_acts q
+    (after_sighting q me log now (key_of frame.src frame.vid) (knowledge q me log))
+    (next_mentions me log (mentions me log) now
+    (Frame frame.src frame.dst frame.vid frame.text))
+    (record { me = me; now = now }) frame
 
 -- the acts, in order, of a node with this algorithm, address and log that is given something at a
 -- moment
 abbrev pub acts_of : Queries → Mac → Log → ℕ → Given → List Act
-acts_of q me log now (Tick index) = tick_acts q (route_log log) index
+acts_of q me log now (Tick index) = tick_acts q me (knowledge q me log).routes (mentions me log)
+    (history me log) now index
 acts_of q me log now (LinkFrame number from throughput bytes) =
-    link_acts q (route_log log) now from throughput bytes
-acts_of q me log now (Frame src dst vid text) = []
+    packets_acts q me (own_by me log)
+    (record { now = now; from = from; throughput = throughput; number = number })
+    (knowledge q me log) (link_frame bytes).packets
+acts_of q me log now (Frame src dst vid text) = sighting_acts q me log now (key_of src vid)
+    ++ client_acts q me log now (record { dst = dst; src = src; vid = vid; text = text })
 acts_of q me log now (Gone key) = []
 acts_of q me log now (Join key) = []
 acts_of q me log now (Leave key) = []
-acts_of q me log now (Arp mac own_ip asked_ip vid) = []
-acts_of q me log now (Dhcp key text) = []
+acts_of q me log now (Arp mac own_ip asked_ip vid) =
+    sighting_acts q me log now (key_of mac vid)
+acts_of q me log now (Dhcp key text) = sighting_acts q me log now key
 acts_of q me log now (Wifi on) = []

@@ -2,7 +2,7 @@
 -- VLANs that have entries in it, and its changes, in the first three messages after it if they are
 -- at most 120. A message's root is the own tick at which its originator sent it; the message is of
 -- the last commit at its root. The main words are `announcement` and `commit_at_root`.
-use Rattle.std.specs.Prelude.{ℕ, ◌==◌, ◌&&◌, nat_lt, nat_le, Bool, false, List, [], ◌∷◌, length, map, if◌then◌else◌}
+use Rattle.std.specs.Prelude.{ℕ, ◌==◌, ◌&&◌, nat_lt, nat_le, Bool, false, List, [], ◌∷◌, length, map, Option, Some, None, if◌then◌else◌}
 use Rattle.mesh_base.specs.declared.address.Mac.{Mac}
 use Rattle.mesh_model.specs.Packets.Numbers.{ogm_diff_flag}
 use Rattle.mesh_model.specs.Packets.Bodies.{TtData, TtChange, change_of}
@@ -20,6 +20,16 @@ carrying_messages = 3
 -- the most changes that a message carries
 abbrev pub carried_changes : ℕ
 carried_changes = 120
+
+-- changes, where they are few enough for a message
+abbrev pub if_few : List Change → Option (List Change)
+if_few changes = if nat_le (length changes) carried_changes then Some changes else None
+
+-- the changes of the last commit, where it isn't the first and they are few enough for a message
+abbrev pub told_changes : List Version → Option (List Change)
+told_changes [] = None
+told_changes (first ∷ []) = None
+told_changes (last ∷ before ∷ older) = if_few (last_changes (last ∷ before ∷ older))
 
 -- the changes that the next message carries
 abbrev pub announced_changes : History → List Change

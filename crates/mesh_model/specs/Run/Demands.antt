@@ -1,7 +1,7 @@
 -- What a command asks of the state, apart from the nodes that it names: a name and an address that
--- no node has, two nodes without a link, a moment at which clients may be seen or time may pass, a
--- link frame that was sent. The main word is `first_unmet`.
-use Rattle.std.specs.Prelude.{ℕ, ◌==◌, ◌||◌, nat_lt, bytes_eq, Bool, true, false, not, length, List, Option, Some, None, is_some, if◌then◌else◌}
+-- no node has, two nodes without a link, a link frame that was sent. The main word is
+-- `first_unmet`.
+use Rattle.std.specs.Prelude.{ℕ, ◌==◌, ◌||◌, nat_lt, bytes_eq, Bool, false, length, List, Option, Some, None, is_some, if◌then◌else◌}
 use Rattle.std.specs.List.{list_any}
 use Rattle.std.specs.Option.{option_or, option_map_or}
 use Rattle.mesh_base.specs.declared.address.Mac.{Mac}
@@ -9,19 +9,15 @@ use Rattle.mesh_model.specs.declared.ending.Refusal.{Refusal}
 use Rattle.mesh_model.specs.declared.ending.Refusal.TheVariants.{AddressTaken, LinkTaken, NameTaken, NoSuchFrame, SameNode}
 use Rattle.mesh_model.specs.declared.line_form.Command.{Command}
 use Rattle.mesh_model.specs.declared.line_form.Command.TheVariants.{Nothing, Algo, Node, Link, Lan, Frame, Gone, Join, Leave, Arp, Dhcp, Wifi, GwOff, GwServer, GwClient, Mcast, Dat, Alfred, Put, Get, Ping, Trace, Run, Deliver, Show, Decode}
-use Rattle.mesh_model.specs.Clients.Log.{Given, LogEntry}
-use Rattle.mesh_model.specs.Clients.Log.{Tick, LinkFrame, Frame as GivenFrame, Gone as GivenGone, Join as GivenJoin, Leave as GivenLeave, Arp as GivenArp, Dhcp as GivenDhcp, Wifi as GivenWifi}
-use Rattle.mesh_model.specs.Net.Mesh.{NodeLog, NetLink, has_address}
+use Rattle.mesh_model.specs.Net.Mesh.{has_address}
 use Rattle.mesh_model.specs.Net.Runs.{leads}
 use Rattle.mesh_model.specs.Run.State.{State, place_of}
 
--- a new node's name and address, the names of a new link's ends, the name of the node of a client
--- frame, time, the number of a link frame, or nothing
+-- a new node's name and address, the names of a new link's ends, the number of a link frame, or
+-- nothing
 pub data Demand : Type 0 where
   NewNode : List ℕ → Mac → Demand
   NewLink : List ℕ → List ℕ → Demand
-  Client : List ℕ → Demand
-  Time : Demand
   SentBefore : ℕ → Demand
   NoDemand : Demand
 
@@ -32,7 +28,7 @@ demand_of (Algo algorithm) = NoDemand
 demand_of (Node name mac) = NewNode name mac
 demand_of (Link from to delay pattern throughput) = NewLink from to
 demand_of (Lan name gateways) = NoDemand
-demand_of (Frame place src dst vid text) = Client place
+demand_of (Frame place src dst vid text) = NoDemand
 demand_of (Gone place key) = NoDemand
 demand_of (Join node key) = NoDemand
 demand_of (Leave node key) = NoDemand
@@ -49,7 +45,7 @@ demand_of (Put node type_no version text) = NoDemand
 demand_of (Get node type_no) = NoDemand
 demand_of (Ping node target) = NoDemand
 demand_of (Trace node target) = NoDemand
-demand_of (Run time) = Time
+demand_of (Run time) = NoDemand
 demand_of (Deliver number) = SentBefore number
 demand_of (Show node table) = NoDemand
 demand_of (Decode bytes) = NoDemand
@@ -57,39 +53,6 @@ demand_of (Decode bytes) = NoDemand
 -- whether a node has this name
 abbrev pub is_known : State → List ℕ → Bool
 is_known state name = is_some (place_of state name)
-
--- whether a client frame is given
-abbrev pub is_client_frame : Given → Bool
-is_client_frame (Tick index) = false
-is_client_frame (LinkFrame number from throughput bytes) = false
-is_client_frame (GivenFrame src dst vid text) = true
-is_client_frame (GivenGone key) = false
-is_client_frame (GivenJoin key) = false
-is_client_frame (GivenLeave key) = false
-is_client_frame (GivenArp mac own_ip asked_ip vid) = false
-is_client_frame (GivenDhcp key text) = false
-is_client_frame (GivenWifi on) = false
-
--- whether a node was given a client frame
-abbrev pub had_client : NodeLog → Bool
-had_client node = list_any (λ (entry : LogEntry). is_client_frame entry.given) node.log
-
--- whether a link leaves the node of this name
-abbrev pub has_link_from : State → List ℕ → Bool
-has_link_from state name = option_map_or
-    (λ place. list_any (λ (link : NetLink). link.from == place) state.mesh.links)
-    (place_of state name) false
-
--- whether a demand comes too early for this version: as nothing is committed yet, time doesn't pass
--- once a client was seen, and no client is seen once time passed; as no broadcast is sent yet, none
--- is seen where a link leaves the node
-abbrev pub is_early : State → Demand → Bool
-is_early state (NewNode name mac) = false
-is_early state (NewLink from to) = false
-is_early state (Client place) = not (state.clock == 0) || has_link_from state place
-is_early state Time = list_any had_client state.mesh.nodes
-is_early state (SentBefore number) = false
-is_early state NoDemand = false
 
 -- a refusal where a condition holds
 abbrev pub refusal_if : Bool → Refusal → Option Refusal
@@ -111,7 +74,5 @@ first_unmet state (NewNode name mac) = option_or (refusal_if (is_known state nam
     (refusal_if (list_any (has_address mac) state.mesh.nodes) AddressTaken)
 first_unmet state (NewLink from to) = option_or (refusal_if (bytes_eq from to) SameNode)
     (refusal_if (are_linked state from to) LinkTaken)
-first_unmet state (Client place) = None
-first_unmet state Time = None
 first_unmet state (SentBefore number) = refusal_if (is_no_frame state number) NoSuchFrame
 first_unmet state NoDemand = None

@@ -1,10 +1,10 @@
 -- The rules on a command that was read, in the state before it: it is of a form that this version
--- carries out, and not too early; each name that it uses is that of a node; what else it asks is
--- met: a new node has a name and an address of its own, a link leads to another node and isn't
--- there yet, and a frame that is delivered again was sent. They are looked at in this order. The
+-- carries out; each name that it uses is that of a node; what else it asks is met: a new node has a
+-- name and an address of its own, a link leads to another node and isn't there yet, and a frame
+-- that is delivered again was sent. They are looked at in this order. The
 -- first that is broken refuses the command and ends the run in the state before it; a command that
 -- breaks none takes its step. The main words are `first_refused_rule` and `carried_out`.
-use Rattle.std.specs.Prelude.{◌||◌, not, Option, Some, None, is_none}
+use Rattle.std.specs.Prelude.{not, Option, Some, None, is_none}
 use Rattle.std.specs.List.{list_any}
 use Rattle.std.specs.Option.{option_or, option_map_or}
 use Rattle.mesh_model.specs.declared.ending.Refusal.{Refusal}
@@ -16,7 +16,7 @@ use Rattle.mesh_model.specs.Net.Mesh.{Setup}
 use Rattle.mesh_model.specs.Run.State.{State}
 use Rattle.mesh_model.specs.Run.Outcome.{Outcome, Goes, Ends}
 use Rattle.mesh_model.specs.Run.Steps.{Step, step_of}
-use Rattle.mesh_model.specs.Run.Demands.{demand_of, is_early, is_known, refusal_if, first_unmet}
+use Rattle.mesh_model.specs.Run.Demands.{demand_of, is_known, refusal_if, first_unmet}
 use Rattle.mesh_model.specs.Routes.AlgorithmIv.{iv_queries}
 use Rattle.mesh_model.specs.Run.Names.{names_used}
 
@@ -24,10 +24,9 @@ use Rattle.mesh_model.specs.Run.Names.{names_used}
 abbrev pub iv_setup : Setup
 iv_setup = scenario_setup iv_queries
 
--- a command that has no step, or comes too early for this version
-abbrev pub not_built : State → Command → Option Refusal
-not_built state command = refusal_if
-    (is_none (step_of iv_setup command) || is_early state (demand_of command)) NotBuilt
+-- a command that has no step in this version
+abbrev pub not_built : Command → Option Refusal
+not_built command = refusal_if (is_none (step_of iv_setup command)) NotBuilt
 
 -- a command uses a name that no node has
 abbrev pub unknown_name : State → Command → Option Refusal
@@ -37,7 +36,7 @@ unknown_name state command =
 -- the first rule that a command breaks
 abbrev pub first_refused_rule : State → Command → Option Refusal
 first_refused_rule state command =
-    option_or (not_built state command)
+    option_or (not_built command)
     (option_or (unknown_name state command) (first_unmet state (demand_of command)))
 
 -- the outcome of a rule's answer, and else that of a step

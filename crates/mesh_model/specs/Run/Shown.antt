@@ -1,36 +1,48 @@
 -- What a line prints at once: the table of a node that is shown, at a moment. The local table, the
--- originators and the neighbours are built, each asked of the node's log. The main word is `shown`.
+-- originators, the neighbours and what is known of the others' clients are built, each asked of the
+-- node's log. The main word is `shown`.
 use Rattle.std.specs.Prelude.{ℕ, [], ◌∷◌, ◌++◌, Option, Some, None}
 use Rattle.mesh_model.specs.declared.line_form.Algorithm.TheVariants.{Iv}
 use Rattle.mesh_model.specs.declared.line_form.Table.{Table}
 use Rattle.mesh_model.specs.declared.line_form.Table.TheVariants.{Originators, Neighbors, Locals, Globals, Claims, Gateways, Groups, Addresses, Facts}
-use Rattle.mesh_model.specs.Acts.RouteInputs.{route_log}
 use Rattle.mesh_model.specs.Clients.Mentions.{mentions}
 use Rattle.mesh_model.specs.Clients.Present.{present_clients}
+use Rattle.mesh_model.specs.Commits.History.{commits}
+use Rattle.mesh_model.specs.Commits.Versions.{last_commit}
+use Rattle.mesh_model.specs.Knowledge.Known.{Knowledge}
+use Rattle.mesh_model.specs.Knowledge.Steps.{knowledge}
+use Rattle.mesh_model.specs.Marks.RoamingMarks.{marks_at}
 use Rattle.mesh_model.specs.Net.Mesh.{NodeLog}
 use Rattle.mesh_model.specs.Routes.AlgorithmIv.{iv_queries}
-use Rattle.mesh_model.specs.Run.State.{Printed, LocalsShown, NeighborsShown, OriginatorsShown, State}
+use Rattle.mesh_model.specs.Run.KnownTables.{parts_at}
+use Rattle.mesh_model.specs.Run.State.{Printed, GlobalsShown, LocalsShown, NeighborsShown, OriginatorsShown, State}
+use Rattle.mesh_model.specs.Tables.Sums.{sums_of}
+use Rattle.mesh_model.specs.Text.GlobalTables.{GlobalTable}
 use Rattle.mesh_model.specs.Text.Tables.{LinkTable, LocalTable, OrigTable}
 
 -- the state after one more thing is printed
 abbrev pub after_print : State → Printed → State
 after_print state printed = record state { printed = state.printed ++ printed ∷ [] }
 
--- the local table of a node at a moment, before any commit
+-- the local table of a node at a moment, with its last commit
 abbrev pub local_table : ℕ → NodeLog → LocalTable
 local_table now node = record {
   name = node.name;
-  version = 0;
-  sums = [];
+  version = (last_commit (commits node.mac node.log)).byte;
+  sums = sums_of (last_commit (commits node.mac node.log)).table;
   rows = present_clients (mentions node.mac node.log) now;
 }
+
+-- what a node knows
+abbrev pub known_to : NodeLog → Knowledge
+known_to node = knowledge (iv_queries node.mac) node.mac node.log
 
 -- the live originators of a node at a moment
 abbrev pub orig_table : ℕ → NodeLog → OrigTable
 orig_table now node = record {
   name = node.name;
   algorithm = Iv;
-  rows = (iv_queries node.mac).originators (route_log node.log) now;
+  rows = (iv_queries node.mac).originators (known_to node).routes now;
 }
 
 -- the neighbours of a node at a moment
@@ -38,7 +50,15 @@ abbrev pub link_table : ℕ → NodeLog → LinkTable
 link_table now node = record {
   name = node.name;
   algorithm = Iv;
-  rows = (iv_queries node.mac).neighbours (route_log node.log) now;
+  rows = (iv_queries node.mac).neighbours (known_to node).routes now;
+}
+
+-- what a node knows of the others' clients at a moment
+abbrev pub global_table : ℕ → NodeLog → GlobalTable
+global_table now node = record {
+  name = node.name;
+  parts = parts_at (iv_queries node.mac) (known_to node) now;
+  marks = marks_at now (known_to node).marks;
 }
 
 -- what is printed of a node at a moment, for each table that is shown
@@ -46,7 +66,7 @@ abbrev pub shown : Table → Option (ℕ → NodeLog → Printed)
 shown Originators = Some (λ now node. OriginatorsShown (orig_table now node))
 shown Neighbors = Some (λ now node. NeighborsShown (link_table now node))
 shown Locals = Some (λ now node. LocalsShown (local_table now node))
-shown Globals = None
+shown Globals = Some (λ now node. GlobalsShown (global_table now node))
 shown Claims = None
 shown Gateways = None
 shown Groups = None

@@ -8,6 +8,7 @@ use Rattle.mesh_model.specs.declared.frame_choice.FrameChoice.{FrameChoice}
 use Rattle.mesh_model.specs.Net.Mesh.{NodeLog, Mesh, empty_mesh}
 use Rattle.mesh_model.specs.Text.Decode.{decode_text}
 use Rattle.mesh_model.specs.Text.Events.{event_text}
+use Rattle.mesh_model.specs.Text.GlobalTables.{GlobalTable, global_table_text}
 use Rattle.mesh_model.specs.Text.Tables.{LinkTable, LocalTable, OrigTable, link_table_text, orig_table_text, table_text}
 
 -- what a run prints: a table that is shown, the packets in bytes that are decoded, or an event, by
@@ -16,6 +17,7 @@ pub data Printed : Type 0 where
   LocalsShown : LocalTable → Printed
   OriginatorsShown : OrigTable → Printed
   NeighborsShown : LinkTable → Printed
+  GlobalsShown : GlobalTable → Printed
   Decoded : List ℕ → Printed
   Happened : List NodeName → Event → Printed
 
@@ -52,6 +54,7 @@ abbrev pub printed_text : FrameChoice → Printed → List ℕ
 printed_text choice (LocalsShown table) = table_text table
 printed_text choice (OriginatorsShown table) = orig_table_text table
 printed_text choice (NeighborsShown table) = link_table_text table
+printed_text choice (GlobalsShown table) = global_table_text table
 printed_text choice (Decoded bytes) = decode_text bytes
 printed_text choice (Happened names event) = event_text choice names event
 

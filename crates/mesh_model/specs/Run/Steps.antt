@@ -4,9 +4,9 @@
 -- here: `nodes` and `links` are passed by one more than 64 and 512, `clock` by the end of a run,
 -- before its first happening. A command that has no step isn't built: this version doesn't carry it
 -- out. The main word is `step_of`.
-use Rattle.std.specs.Prelude.{ℕ, ◌+◌, ◌-◌, nat_lt, nat_le, List, [], ◌∷◌, ◌++◌, length, Option, Some, None, option_map, if◌then◌else◌}
+use Rattle.std.specs.Prelude.{ℕ, ◌+◌, ◌-◌, ◌&&◌, not, nat_lt, nat_le, List, [], ◌∷◌, ◌++◌, length, Option, Some, None, option_map, if◌then◌else◌}
 use Rattle.std.specs.Option.{option_map_or}
-use Rattle.mesh_base.specs.Address.{is_broadcast}
+use Rattle.mesh_base.specs.Address.{is_broadcast, is_group}
 use Rattle.mesh_base.specs.declared.address.Mac.{Mac}
 use Rattle.mesh_model.specs.declared.ending.LimitName.{LimitName}
 use Rattle.mesh_model.specs.declared.ending.LimitName.TheVariants.{Nodes, Links, Clock}
@@ -14,7 +14,7 @@ use Rattle.mesh_model.specs.declared.ending.Stop.TheVariants.{Limit}
 use Rattle.mesh_model.specs.declared.line_form.Command.{Command}
 use Rattle.mesh_model.specs.declared.line_form.Command.TheVariants.{Nothing, Algo, Node, Link, Lan, Frame, Gone, Join, Leave, Arp, Dhcp, Wifi, GwOff, GwServer, GwClient, Mcast, Dat, Alfred, Put, Get, Ping, Trace, Run, Deliver, Show, Decode}
 use Rattle.mesh_model.specs.Clients.Log.{Given}
-use Rattle.mesh_model.specs.Clients.Log.{Frame as GivenFrame}
+use Rattle.mesh_model.specs.Clients.Log.{Frame as GivenFrame, Gone as GivenGone, Join as GivenJoin, Leave as GivenLeave, Wifi as GivenWifi}
 use Rattle.mesh_model.specs.Net.Mesh.{NodeLog, NetLink, Setup}
 use Rattle.mesh_model.specs.Net.Inputs.{given_to}
 use Rattle.mesh_model.specs.Net.Runs.{delivered}
@@ -103,14 +103,14 @@ step_of setup (Link from to delay pattern throughput) = Some (link_between from 
     record { from = start; to = end; delay = delay; pattern = pattern; throughput = throughput }))
 step_of setup (Lan name gateways) = None
 step_of setup (Frame place src dst vid text) =
-    if is_broadcast dst then Some (at_node place (input_step setup (GivenFrame src dst vid text)))
-    else None
-step_of setup (Gone place key) = None
-step_of setup (Join node key) = None
-step_of setup (Leave node key) = None
+    if is_group dst && not (is_broadcast dst) then None
+    else Some (at_node place (input_step setup (GivenFrame src dst vid text)))
+step_of setup (Gone place key) = Some (at_node place (input_step setup (GivenGone key)))
+step_of setup (Join node key) = Some (at_node node (input_step setup (GivenJoin key)))
+step_of setup (Leave node key) = Some (at_node node (input_step setup (GivenLeave key)))
 step_of setup (Arp node mac own asked vid) = None
 step_of setup (Dhcp node key text) = None
-step_of setup (Wifi node on) = None
+step_of setup (Wifi node on) = Some (at_node node (input_step setup (GivenWifi on)))
 step_of setup (GwOff node) = None
 step_of setup (GwServer node down up) = None
 step_of setup (GwClient node policy) = None

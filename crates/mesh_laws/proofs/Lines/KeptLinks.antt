@@ -1,0 +1,89 @@
+-- What happens leaves the links as they are.
+use Rattle.std.proofs.Common.{◌≡◌, ℕ, zero, suc, slice_get, Option, Some, None, Ok, refl, sym, ◌∙◌, subst}
+use Rattle.std.specs.Fn.{iterate}
+use Rattle.mesh_model.specs.declared.ending.LimitName.{LimitName}
+use Rattle.mesh_model.specs.declared.happening.Class.{Class}
+use Rattle.mesh_model.specs.declared.happening.Class.TheVariants.{LinkDelivery, NodeTick}
+use Rattle.mesh_model.specs.declared.happening.Happening.{Happening}
+use Rattle.mesh_model.specs.Clients.Log.{Given, LogEntry, Tick, LinkFrame}
+use Rattle.mesh_model.specs.Net.Due.{ticks_in}
+use Rattle.mesh_model.specs.Net.Inputs.{noted_at, noted, with_entry, entry_of, unless_passed, given_node, given_to}
+use Rattle.mesh_model.specs.Net.Mesh.{NodeLog, NetLink, SentFrame, Mesh, Setup, address_at}
+use Rattle.mesh_model.specs.Net.Runs.{Course, effect, after_happening, delivered, frame_given, frame_over, tick_given, throughput_between, turn, with_last}
+use Rattle.mesh_model.specs.Net.Sending.{Actor, Attempt, after_acts}
+use Rattle.mesh_laws.proofs.Schedule.Runs.{Turned, rests, goes, stops, turned}
+use Rattle.mesh_laws.proofs.Schedule.Sends.{acts_send, as_ok, ok_one, on_ok_ok}
+
+-- the links are the same after
+abbrev pub KeepsLinks : Mesh → Mesh → Type 0
+KeepsLinks mesh after = after.links ≡ mesh.links
+
+keeps_itself : (mesh : Mesh) → KeepsLinks mesh mesh
+keeps_itself mesh = refl
+
+keeps_both : (a b c : Mesh) → KeepsLinks a b → KeepsLinks b c → KeepsLinks a c
+keeps_both a b c p q = q ∙ p
+
+entry_keeps : (setup : Setup) (mesh : Mesh) (actor : Actor) (entry : LogEntry) (after : Mesh) → with_entry setup actor entry mesh ≡ Ok after → KeepsLinks mesh after
+entry_keeps setup mesh actor entry after e =
+    let p = on_ok_ok (noted actor.place entry) (after_acts setup actor entry.acts mesh) after e in
+    let sends = acts_send setup actor entry.acts mesh p.0 p.1 in
+    subst (KeepsLinks mesh) (ok_one (record p.0 { nodes = noted_at actor.place entry p.0.nodes }) after p.2) sends.adds.links
+
+same_mesh : (mesh after : Mesh) → as_ok mesh ≡ as_ok after → KeepsLinks mesh after
+same_mesh mesh after e = subst (KeepsLinks mesh) (ok_one mesh after e) (keeps_itself mesh)
+
+pub not_passed : (o : Option LimitName) (step : Attempt) (after : Mesh) → unless_passed o step ≡ Ok after → step ≡ Ok after
+not_passed None step after e = e
+not_passed (Some limit) step after e = cc
+
+node_keeps : (setup : Setup) (mesh : Mesh) (place now root : ℕ) (given : Given) (o : Option NodeLog) (after : Mesh) → given_node setup place now root given o mesh ≡ Ok after
+    → KeepsLinks mesh after
+node_keeps setup mesh place now root given None after e = same_mesh mesh after e
+node_keeps setup mesh place now root given (Some n) after e =
+    let actor : Actor = record { place = place; mac = n.mac; now = now; root = root } in
+    let entry : LogEntry = entry_of setup n now given in
+    entry_keeps setup mesh actor entry after (not_passed (setup.client_limit n.mac n.log now given) (with_entry setup actor entry mesh) after e)
+
+pub given_keeps : (setup : Setup) (mesh : Mesh) (place now root : ℕ) (given : Given) (after : Mesh) → given_to setup place now root given mesh ≡ Ok after
+    → KeepsLinks mesh after
+given_keeps setup mesh place now root given after e = node_keeps setup mesh place now root given (slice_get mesh.nodes place) after e
+
+-- ---- happenings
+
+over_keeps : (setup : Setup) (mesh : Mesh) (place now : ℕ) (frame : SentFrame) (o : Option NetLink) (after : Mesh) → frame_over setup place now frame o mesh ≡ Ok after → KeepsLinks mesh after
+over_keeps setup mesh place now frame None after e = same_mesh mesh after e
+over_keeps setup mesh place now frame (Some link) after e =
+    given_keeps setup mesh link.to now frame.root (LinkFrame (suc place) (address_at link.from mesh.nodes) (throughput_between link.to link.from mesh.links) frame.bytes) after e
+
+frame_keeps : (setup : Setup) (mesh : Mesh) (place now : ℕ) (o : Option SentFrame) (after : Mesh) → frame_given setup place now o mesh ≡ Ok after → KeepsLinks mesh after
+frame_keeps setup mesh place now None after e = same_mesh mesh after e
+frame_keeps setup mesh place now (Some frame) after e = over_keeps setup mesh place now frame (slice_get mesh.links frame.link) after e
+
+pub delivered_keeps : (setup : Setup) (mesh : Mesh) (place now : ℕ) (after : Mesh) → delivered setup place now mesh ≡ Ok after → KeepsLinks mesh after
+delivered_keeps setup mesh place now after e = frame_keeps setup mesh place now (slice_get mesh.frames place) after e
+
+tick_keeps : (setup : Setup) (mesh : Mesh) (place now : ℕ) (o : Option NodeLog) (after : Mesh) → tick_given setup place now o mesh ≡ Ok after → KeepsLinks mesh after
+tick_keeps setup mesh place now None after e = same_mesh mesh after e
+tick_keeps setup mesh place now (Some node) after e = given_keeps setup mesh place now (suc (ticks_in node.log)) (Tick (suc (ticks_in node.log))) after e
+
+effect_keeps : (setup : Setup) (mesh : Mesh) (class : Class) (place now : ℕ) (after : Mesh) → effect setup class place now mesh ≡ Ok after → KeepsLinks mesh after
+effect_keeps setup mesh LinkDelivery place now after e = delivered_keeps setup mesh place now after e
+effect_keeps setup mesh NodeTick place now after e = tick_keeps setup mesh place now (slice_get mesh.nodes place) after e
+
+happening_keeps : (setup : Setup) (mesh : Mesh) (h : Happening) (after : Mesh) → after_happening setup h mesh ≡ Ok after → KeepsLinks mesh after
+happening_keeps setup mesh h after e =
+    let p = on_ok_ok (with_last h) (effect setup h.class h.place h.moment mesh) after e in
+    let x = effect_keeps setup mesh h.class h.place h.moment p.0 p.1 in
+    subst (KeepsLinks mesh) (ok_one (record p.0 { last = h }) after p.2) x
+
+turn_keeps : (setup : Setup) (t : ℕ) (o after : Course) → Turned setup t o after → KeepsLinks o.mesh after.mesh
+turn_keeps setup t o after (rests d e) = subst (λ (x : Course). KeepsLinks o.mesh x.mesh) (sym e) (keeps_itself o.mesh)
+turn_keeps setup t o after (goes h mesh s n c e) = subst (λ (x : Course). KeepsLinks o.mesh x.mesh) (sym e) (happening_keeps setup o.mesh h mesh c)
+turn_keeps setup t o after (stops h limit s n c e) = subst (λ (x : Course). KeepsLinks o.mesh x.mesh) (sym e) (keeps_itself o.mesh)
+
+pub turns_keep_links : (setup : Setup) (t count : ℕ) (o : Course) → KeepsLinks o.mesh (iterate (turn setup t) count o).mesh
+turns_keep_links setup t zero o = keeps_itself o.mesh
+turns_keep_links setup t (suc count) o =
+    keeps_both o.mesh (turn setup t o).mesh (iterate (turn setup t) count (turn setup t o)).mesh (turn_keeps setup t o (turn setup t o) (turned setup t o))
+    (turns_keep_links setup t count (turn setup t o))

@@ -1,0 +1,230 @@
+-- How what a node knows grows: by each tick, by each packet of a link frame, one behind the other,
+-- and by what lines give it. An accepted originator message begins what is known of its originator
+-- anew where a life begins; it may release marks, and lead to a request. An answer from a live
+-- originator, or for it, is taken and may release marks too. A client that roamed is marked, with
+-- what its new node was told to have. A sighting ends the client's mark, and is advertised where
+-- the client wasn't present just before and was elsewhere. The main word is `knowledge`.
+use Rattle.std.specs.Prelude.{ℕ, suc, ◌&&◌, Bool, not, List, [], ◌∷◌, fold, Option, Some, None, is_none, is_some, option_and_then, option_map, if◌then◌else◌}
+use Rattle.mesh_base.specs.Address.{is_broadcast}
+use Rattle.mesh_base.specs.declared.address.Mac.{Mac}
+use Rattle.mesh_base.specs.declared.client.Key.{Key}
+use Rattle.mesh_base.specs.declared.client.Vid.{Vid}
+use Rattle.mesh_model.specs.declared.packet.Head.{Head}
+use Rattle.mesh_model.specs.declared.packet.Head.TheVariants.{IvOgm, Bcast, Elp, Ogm2, Unicast, Frag, Unicast4, Icmp, Utvlv}
+use Rattle.mesh_model.specs.declared.table_outcome.Request.{Request}
+use Rattle.mesh_model.specs.Clients.Log.{Given, Tick, LinkFrame, Frame, Gone, Join, Leave, Arp, Dhcp, Wifi, Log}
+use Rattle.mesh_model.specs.Clients.Mentions.{key_of, mentions}
+use Rattle.mesh_model.specs.Clients.Present.{present_row}
+use Rattle.mesh_model.specs.Knowledge.Addressee.{Way, addressee}
+use Rattle.mesh_model.specs.Knowledge.Known.{Broadcast, Knowledge, agreed_byte, is_new_broadcast, known_at, no_knowledge, told_at}
+use Rattle.mesh_model.specs.Knowledge.Told.{Message, TableMessage, Asks, Answers, Neither, changes_told, message_in, message_of, stamp_told}
+use Rattle.mesh_model.specs.Marks.Advertisements.{too_many}
+use Rattle.mesh_model.specs.Marks.Calls.{Call, Calls, Marked, Released, Unmarked, Advised, Asked, Forgotten}
+use Rattle.mesh_model.specs.Marks.Requests.{too_soon}
+use Rattle.mesh_model.specs.Packets.Containers.{containers_of}
+use Rattle.mesh_model.specs.Packets.Contents.{first_roaming, first_table}
+use Rattle.mesh_model.specs.Packets.FirstPacket.{Packet}
+use Rattle.mesh_model.specs.Packets.LinkFrame.{link_frame}
+use Rattle.mesh_model.specs.Routes.Addresses.{same_mac}
+use Rattle.mesh_model.specs.Routes.Queries.{Queries}
+use Rattle.mesh_model.specs.Routes.RouteLog.{OwnTick, HeadCame}
+use Rattle.mesh_model.specs.Tables.Judging.{announcement_row, wanted_request}
+use Rattle.mesh_model.specs.Tables.Known.{Known, TableCall, Announced, Answered, Dropped, known_by}
+
+-- ---- where a packet comes from
+
+-- how a packet came: when, from which neighbour, with the throughput to it, in the link frame of
+-- which number
+pub record Coming : Type 0 where
+  pub now : ℕ
+  pub from : Mac
+  pub throughput : ℕ
+  pub number : ℕ
+
+-- ---- calls that may be left out
+
+-- a target is released under the byte of agreement, if there is one
+abbrev pub released_under : Mac → Option ℕ → Calls → Calls
+released_under target None calls = calls
+released_under target (Some byte) calls = Released target byte ∷ calls
+
+-- an originator is asked, where a request goes out
+abbrev pub asked_by_request : ℕ → Mac → Option Request → Calls → Calls
+asked_by_request now orig None calls = calls
+asked_by_request now orig (Some request) calls = Asked now orig ∷ calls
+
+-- ---- originator messages
+
+-- what is known once the algorithm was given a head
+abbrev pub with_head : Coming → Head → Knowledge → Knowledge
+with_head came head known = record known {
+  routes = HeadCame came.now came.from came.throughput head ∷ known.routes;
+}
+
+-- what is known once the life of an originator begins: nothing of it from before
+abbrev pub with_life : Mac → Bool → Knowledge → Knowledge
+with_life orig begins known = if begins then record known {
+  tables = Dropped orig ∷ known.tables;
+  marks = Forgotten orig ∷ known.marks;
+} else known
+
+-- whether an originator may be asked now: a route leads to it, and it wasn't asked lately
+abbrev pub may_ask : Queries → Knowledge → ℕ → Mac → Bool
+may_ask q known now orig =
+    is_some (q.route known.routes now orig) && is_none (too_soon now known.marks orig)
+
+-- the request that goes out after an announcement, if any, from what is known right before it
+abbrev pub request_out : Queries → Knowledge → ℕ → Message → Option Request
+request_out q known now message = if may_ask q known now message.orig
+    then wanted_request (announcement_row (known_by known.tables message.orig).held
+    (stamp_told message.table) (changes_told message.table)).outcome
+    else None
+
+-- what came for the table of an originator with an announcement
+abbrev pub announcement : Coming → Message → TableCall
+announcement came message = Announced message.orig came.number (stamp_told message.table)
+    (changes_told message.table)
+
+-- what is known after an announcement, with the request that goes out
+abbrev pub with_announcement : Coming → Message → Option Request → Knowledge → Knowledge
+with_announcement came message request known = record known {
+  tables = announcement came message ∷ known.tables;
+  marks = asked_by_request came.now message.orig request
+      (released_under message.orig
+      (agreed_byte (known_by (announcement came message ∷ known.tables) message.orig))
+      known.marks);
+}
+
+-- what is known right before an announcement is taken: the algorithm has its head, and a life that
+-- begins drops what was known
+abbrev pub before_announcement : Queries → Coming → Head → Mac → Knowledge → Knowledge
+before_announcement q came head orig known =
+    with_life orig (not (q.live known.routes came.now orig)) (with_head came head known)
+
+-- the same after it
+abbrev pub after_announcement : Queries → Coming → Message → Knowledge → Knowledge
+after_announcement q came message known =
+    with_announcement came message (request_out q known came.now message) known
+
+-- what is known after an originator message
+abbrev pub after_message : Queries → Coming → Head → Message → Knowledge → Knowledge
+after_message q came head message known =
+    if (q.hear known.routes came.now came.from came.throughput head).accepted
+    then after_announcement q came message (before_announcement q came head message.orig known)
+    else with_head came head known
+
+-- ---- containers for this node
+
+-- what is known after an answer for an originator, which counts while it is live
+abbrev pub after_answer : Queries → ℕ → Mac → TableMessage → Knowledge → Knowledge
+after_answer q now src (Asks full stamp) known = known
+after_answer q now src (Answers stamp carried) known =
+    if q.live known.routes now src then record known {
+      tables = Answered src stamp carried ∷ known.tables;
+      marks = released_under src
+          (agreed_byte (known_by (Answered src stamp carried ∷ known.tables) src)) known.marks;
+    } else known
+after_answer q now src Neither known = known
+
+-- what is known after a client roamed to a node, if one did
+abbrev pub after_roaming : Queries → ℕ → Mac → Option Key → Knowledge → Knowledge
+after_roaming q now src None known = known
+after_roaming q now src (Some key) known = record known {
+  marks = Marked now key src (told_at q known now src) ∷ known.marks;
+}
+
+-- what is known after containers from a node
+abbrev pub after_containers : Queries → ℕ → Mac → List ℕ → Knowledge → Knowledge
+after_containers q now src tail known =
+    after_roaming q now src (first_roaming (containers_of tail))
+    (after_answer q now src (message_in (first_table (containers_of tail))) known)
+
+-- ---- packets
+
+-- what is known after a broadcast, which is taken once
+abbrev pub after_broadcast : Mac → Broadcast → Knowledge → Knowledge
+after_broadcast me broadcast known =
+    if is_new_broadcast me broadcast known.taken
+    then record known { taken = broadcast ∷ known.taken } else known
+
+-- what is known after an originator message, where one is taken
+abbrev pub after_taken : Queries → Coming → Head → Option Message → Knowledge → Knowledge
+after_taken q came head None known = known
+after_taken q came head (Some message) known = after_message q came head message known
+
+-- what is known after a packet, by its head
+abbrev pub after_head :
+    Queries → Mac → Coming → Option Message → List ℕ → Head → Knowledge → Knowledge
+after_head q me came message tail (IvOgm ttl flags seq orig prev tq) known =
+    after_taken q came (IvOgm ttl flags seq orig prev tq) message known
+after_head q me came message tail (Bcast ttl seq orig) known =
+    after_broadcast me (record { orig = orig; number = seq }) known
+after_head q me came message tail (Elp orig seq interval) known = known
+after_head q me came message tail (Ogm2 ttl flags seq orig throughput) known =
+    after_taken q came (Ogm2 ttl flags seq orig throughput) message known
+after_head q me came message tail (Unicast ttl ttvn dst) known = known
+after_head q me came message tail (Frag ttl number priority dst orig seq total) known = known
+after_head q me came message tail (Unicast4 ttl ttvn dst src subtype) known = known
+after_head q me came message tail (Icmp ttl msg dst orig uid seq) known = known
+after_head q me came message tail (Utvlv ttl dst src) known =
+    if same_mac dst me then after_containers q came.now src tail known else known
+
+-- what is known after a packet
+abbrev pub after_packet : Queries → Mac → Coming → Knowledge → Packet → Knowledge
+after_packet q me came known packet =
+    after_head q me came (message_of packet) packet.tail packet.head known
+
+-- what is known after packets, first to last
+abbrev pub after_packets : Queries → Mac → Coming → Knowledge → List Packet → Knowledge
+after_packets q me came known packets = fold (after_packet q me came) known packets
+
+-- ---- sightings
+
+-- where a client is advertised that is sighted, if anywhere: it wasn't present just before, was
+-- elsewhere, and wasn't advertised too often
+abbrev pub advertised : Queries → Mac → Log → Knowledge → ℕ → Key → Option Way
+advertised q me older known now key =
+    if is_none (present_row (mentions me older) now key)
+    && is_none (too_many now known.marks key)
+    then addressee q known now key else None
+
+-- the calls of a sighting
+abbrev pub sighting_calls : ℕ → Key → Option Way → Calls → Calls
+sighting_calls now key None calls = Unmarked key ∷ calls
+sighting_calls now key (Some way) calls = Unmarked key ∷ Advised now key ∷ calls
+
+-- what is known after a sighting right after a log
+abbrev pub after_sighting : Queries → Mac → Log → ℕ → Key → Knowledge → Knowledge
+after_sighting q me older now key known = record known {
+  marks = sighting_calls now key (advertised q me older known now key) known.marks;
+}
+
+-- what is known after a client frame was given, which is sent as a broadcast where it is for all
+abbrev pub after_frame : Mac → Knowledge → Knowledge
+after_frame dst known =
+    if is_broadcast dst then record known { sent = suc known.sent } else known
+
+-- ---- the log
+
+-- what is known after an input right after a log, from what was known before it
+abbrev pub next_knowledge : Queries → Mac → Log → Knowledge → ℕ → Given → Knowledge
+next_knowledge q me older known now (Tick index) =
+    record known { routes = OwnTick now index ∷ known.routes }
+next_knowledge q me older known now (LinkFrame number from throughput bytes) = after_packets q me
+    (record { now = now; from = from; throughput = throughput; number = number }) known
+    (link_frame bytes).packets
+next_knowledge q me older known now (Frame src dst vid text) =
+    after_frame dst (after_sighting q me older now (key_of src vid) known)
+next_knowledge q me older known now (Gone key) = known
+next_knowledge q me older known now (Join key) = known
+next_knowledge q me older known now (Leave key) = known
+next_knowledge q me older known now (Arp mac own_ip asked_ip vid) =
+    after_sighting q me older now (key_of mac vid) known
+next_knowledge q me older known now (Dhcp key text) = after_sighting q me older now key known
+next_knowledge q me older known now (Wifi on) = known
+
+-- what a node of this address knows by its log
+abbrev pub knowledge : Queries → Mac → Log → Knowledge
+knowledge q me [] = no_knowledge
+knowledge q me (entry ∷ older) =
+    next_knowledge q me older (knowledge q me older) entry.moment entry.given
