@@ -111,3 +111,77 @@ module _ (score : Mac → ℕ) where
   one_top p q zero_p zero_q (Some i) None top_a top_b = absurd (let none = top_b i (scored q i (zero_q i) top_a.0) in let some = top_a.0 in omega (arith, none, some))
   one_top p q zero_p zero_q (Some i) (Some j) top_a top_b =
       ap (λ k. Some k) (both_upto i j (top_b.1 i (scored q i (zero_q i) top_a.0)) (top_a.1 j (scored p j (zero_p j) top_b.0)))
+
+-- ---- one after another
+upto_beats : (a b : ℕ) (s : Bool) → (b < a) ⊎ ((b ≡ a) × (s ≡ false)) → (nat_lt a b || (nat_eq a b && s)) ≡ false
+upto_beats a b true (inl lt) = grind (arith, nat_tests)
+upto_beats a b true (inr same) = absurd (true≢false same.1)
+upto_beats a b false (inl lt) = grind (arith, nat_tests)
+upto_beats a b false (inr same) = let e = same.0 in grind (arith, nat_tests)
+
+no_score : (a b : ℕ) (s : Bool) → nat_lt 0 b ≡ false → nat_lt 0 a ≡ true → (nat_lt a b || (nat_eq a b && s)) ≡ false
+no_score a b true none some = grind (arith, nat_tests)
+no_score a b false none some = grind (arith, nat_tests)
+
+module _ (score : Mac → ℕ) where
+  -- whether one is better than another
+  abbrev beats : Mac → Mac → Bool
+  beats k j = nat_lt (score j) (score k) || (nat_eq (score j) (score k) && is_smaller k j)
+
+  upto_from : (k j : Mac) → beats k j ≡ false → IsUpTo score k j
+  upto_from k j e = not_better (score j) (score k) (is_smaller k j) e
+
+  not_beats : (k j : Mac) → IsUpTo score k j → beats k j ≡ false
+  not_beats k j up = upto_beats (score j) (score k) (is_smaller k j) up
+
+  -- what is no better than one is no better than what is better than that
+  below_better : (i j k : Mac) → beats i j ≡ false → beats k j ≡ true → beats i k ≡ false
+  below_better i j k e t = not_beats i k (IsUpTo-trans score i j k (upto_from i j e) (both_ways score k j t))
+
+  -- of two the better, in either order
+  either : (a b : Mac) → cond (beats a b) (Some a) (Some b) ≡ cond (beats b a) (Some b) (Some a)
+  either a b = by (beats a b) (beats b a) refl refl
+    where
+      by : (x y : Bool) → beats a b ≡ x → beats b a ≡ y → cond x (Some a) (Some b) ≡ cond y (Some b) (Some a)
+      by true true e f = absurd (true≢false (sym f ∙ below_better b b a (not_beats b b (inr (refl, not_smaller_self b))) e))
+      by true false e f = refl
+      by false true e f = refl
+      by false false e f = ap (λ k. Some k) (both_upto score b a (upto_from b a f) (upto_from a b e))
+
+  swaps_some : (a b c : Mac) (x y : Bool) → beats b c ≡ x → beats a c ≡ y
+      → better score a (cond x (Some b) (Some c)) ≡ better score b (cond y (Some a) (Some c))
+  swaps_some a b c true true e f = either a b
+  swaps_some a b c true false e f =
+      ap (λ z. cond z (Some a) (Some b)) (below_better a c b f e) ∙ sym (ap (λ z. cond z (Some b) (Some c)) e)
+  swaps_some a b c false true e f =
+      ap (λ z. cond z (Some a) (Some c)) f ∙ sym (ap (λ z. cond z (Some b) (Some a)) (below_better b c a e f))
+  swaps_some a b c false false e f =
+      ap (λ z. cond z (Some a) (Some c)) f ∙ sym (ap (λ z. cond z (Some b) (Some c)) e)
+
+  swaps_none : (a b : Mac) (x y : Bool) → nat_lt 0 (score b) ≡ x → nat_lt 0 (score a) ≡ y
+      → better score a (cond x (Some b) None) ≡ better score b (cond y (Some a) None)
+  swaps_none a b true true e f = either a b
+  swaps_none a b true false e f =
+      ap (λ z. cond z (Some a) (Some b)) (no_score (score b) (score a) (is_smaller a b) f e) ∙ sym (ap (λ z. cond z (Some b) None) e)
+  swaps_none a b false true e f =
+      ap (λ z. cond z (Some a) None) f ∙ sym (ap (λ z. cond z (Some b) (Some a)) (no_score (score a) (score b) (is_smaller b a) e f))
+  swaps_none a b false false e f = ap (λ z. cond z (Some a) None) f ∙ sym (ap (λ z. cond z (Some b) None) e)
+
+  -- two come in either order
+  better_swaps : (a b : Mac) (o : Option Mac) → better score a (better score b o) ≡ better score b (better score a o)
+  better_swaps a b None = swaps_none a b (nat_lt 0 (score b)) (nat_lt 0 (score a)) refl refl
+  better_swaps a b (Some c) = swaps_some a b c (beats b c) (beats a c) refl refl
+
+  -- the best of some, one after another, and of what is best before
+  abbrev pub best_after : Option Mac → List Mac → Option Mac
+  best_after before [] = before
+  best_after before (k ∷ ks) = best_after (better score k before) ks
+
+  better_first : (k : Mac) (before : Option Mac) (ks : List Mac) → best_after (better score k before) ks ≡ better score k (best_after before ks)
+  better_first k before [] = refl
+  better_first k before (j ∷ ks) = ap (λ o. best_after o ks) (better_swaps j k before) ∙ better_first k (better score j before) ks
+
+  -- one after another leads to the best of all
+  pub best_in_turn : (ks : List Mac) → best_after None ks ≡ best score ks
+  best_in_turn [] = refl
+  best_in_turn (k ∷ ks) = better_first k None ks ∙ ap (better score k) (best_in_turn ks)

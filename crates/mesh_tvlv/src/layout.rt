@@ -55,7 +55,7 @@ pub(crate) const CHANGE_SIZE: usize = 12;
 pub(crate) const CHANGE_KEY_OFFSET: usize = 4;
 
 /// The bytes of a client: address 6, wire number of its VLAN 2.
-pub(crate) const KEY_SIZE: usize = 8;
+pub const KEY_SIZE: usize = 8;
 /// The offset of the wire number in a client.
 pub(crate) const KEY_VID_OFFSET: usize = 6;
 

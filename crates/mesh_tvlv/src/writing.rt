@@ -1,4 +1,4 @@
-ghost use Rattle.std.specs.Prelude.{◌≡◌, ◌≤◌, ◌++◌, length, OnOk, OnErr};
+ghost use Rattle.std.specs.Prelude.{◌≡◌, ◌+◌, ◌≤◌, ◌++◌, length, OnOk, OnErr};
 ghost use Rattle.mesh_model.specs.Packets.Containers.{container_spelling};
 ghost use Rattle.mesh_model.specs.Packets.Bodies.{change_of};
 ghost use Rattle.mesh_model.specs.Packets.BodySpellings.{tt_head_spelling, key_spelling, vlan_spelling, change_spelling};
@@ -50,6 +50,7 @@ pub fn write_tt_head(out: &mut Vec<u8>, flags: u8, ttvn: u8, vlans: u16) -> Resu
 pub fn write_vlan(out: &mut Vec<u8>, vid: Vid, sum: u32) -> Result<(), NoMemory>
     ensures ok { OnOk result (out.new.items ≡ out.old.items
         ++ vlan_spelling (record { vid = vid; sum = sum })) }
+    ensures longer { OnOk result (length out.new.items ≡ length out.old.items + VLAN_SIZE) }
     ensures err { OnErr result (out.new.items ≡ out.old.items) }
 {
     let mut vlan = [0; VLAN_SIZE];
@@ -59,8 +60,9 @@ pub fn write_vlan(out: &mut Vec<u8>, vid: Vid, sum: u32) -> Result<(), NoMemory>
     Ok(())
 }
 
-/// A client in 8 bytes: its address, then the wire number of its VLAN.
-fn key_bytes(key: Key) -> [u8; KEY_SIZE]
+/// A client in 8 bytes, which are the body of a roaming advertisement: its address, then the wire
+/// number of its VLAN.
+pub fn key_bytes(key: Key) -> [u8; KEY_SIZE]
     ensures { result ≡ key_spelling key }
 {
     let [a, b, c, d, e, f] = key.mac.0;
@@ -73,6 +75,7 @@ fn key_bytes(key: Key) -> [u8; KEY_SIZE]
 pub fn write_change(out: &mut Vec<u8>, entry: &Entry, del: bool) -> Result<(), NoMemory>
     ensures ok { OnOk result (out.new.items ≡ out.old.items
         ++ change_spelling (change_of entry.now del)) }
+    ensures longer { OnOk result (length out.new.items ≡ length out.old.items + CHANGE_SIZE) }
     ensures err { OnErr result (out.new.items ≡ out.old.items) }
 {
     let gone = if del { DEL } else { 0 };

@@ -137,6 +137,14 @@ impl Globals {
         self.known.shift_remove(&orig);
     }
 
+    /// How many originators announced something.
+    pub fn len(&self) -> usize
+        ensures { (calls : TableCalls) → GlobalsStand self.now calls →
+            result ≡ length (originators_by calls) }
+    {
+        self.known.len()
+    }
+
     /// Whether the held table of an originator has the byte and the sums that it announced last.
     pub fn is_ok(&self, orig: Mac) -> bool
         ensures { (calls : TableCalls) → GlobalsStand self.now calls →

@@ -1,5 +1,4 @@
--- What a list of entries is seen as, and what a change of it tells. No public clause cites this
--- file.
+-- What a list of entries is seen as, and what a change of it tells. The main word is `EntriesView`.
 use Rattle.std.specs.Prelude.{◌≡◌, ℕ, ◌+◌, ◌≤◌, Bool, true, false, List, length, Option, Some, None}
 use Rattle.mesh_base.specs.declared.client.Entry.{Entry}
 use Rattle.mesh_base.specs.declared.client.Key.{Key}

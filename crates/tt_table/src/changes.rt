@@ -1,4 +1,4 @@
-ghost use Rattle.std.specs.Prelude.{◌≡◌, ◌++◌, ◌∷◌, [], length, slice_get, option_map, OnOk, OnErr};
+ghost use Rattle.std.specs.Prelude.{◌≡◌, ◌++◌, ◌∷◌, [], length, slice_get, option_map, IfOk, OnOk, OnErr};
 
 use mesh_base::NoMemory;
 use mesh_model::Change;
@@ -37,6 +37,14 @@ impl Changes {
     {
         self.changes.push(change)?;
         Ok(())
+    }
+
+    /// The same changes once more.
+    pub fn copy(&self) -> Result<Changes, NoMemory>
+        ensures { IfOk result (λ copy. copy ≡ self.now) }
+    {
+        let changes = self.changes.clone()?;
+        Ok(Changes { changes })
     }
 
     /// How many changes there are.

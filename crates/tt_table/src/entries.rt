@@ -13,7 +13,7 @@ use std::marker::Model;
 
 /// Entries in key order.
 #[derive(Debug, Drop)]
-pub(crate) struct Entries {
+pub struct Entries {
     entries: Vec<Entry>,
 }
 
@@ -39,6 +39,22 @@ impl Entries {
         }
     }
 
+    /// Entries that stand in key order.
+    pub fn from_slice(alloc: Global, entries: &[Entry]) -> Result<Entries, NoMemory>
+        requires ordered { IsInKeyOrder entries.now }
+        ensures { IfOk result (λ copied. copied.entries ≡ entries.now) }
+    {
+        let entries = Vec::from_slice(alloc, entries)?;
+        Ok(Entries { entries })
+    }
+
+    /// The entries in their order.
+    pub fn into_vec(self) -> Vec<Entry>
+        ensures { result.items ≡ self.entries }
+    {
+        self.entries
+    }
+
     /// The same entries once more.
     pub(crate) fn copy(&self) -> Result<Entries, NoMemory>
         ensures { IfOk result (λ copy. copy.entries ≡ self.now.entries) }
@@ -48,7 +64,7 @@ impl Entries {
     }
 
     /// Makes room for so many more entries.
-    pub(crate) fn reserve(&mut self, more: usize) -> Result<(), NoMemory>
+    pub fn reserve(&mut self, more: usize) -> Result<(), NoMemory>
         ensures ok { OnOk result (HasRoom more self.new) }
         ensures fits { OnOk result (length self.new.entries + more < 2 ^ 64) }
         ensures entries { self.new.entries ≡ self.old.entries }
@@ -87,6 +103,13 @@ impl Entries {
             additions.push(Change { entry, del: false })?;
         }
         Ok(additions)
+    }
+
+    /// The entries, lent.
+    pub(crate) fn as_slice(&self) -> &[Entry]
+        ensures { result.now ≡ self.now.entries }
+    {
+        self.entries.as_slice()
     }
 
     /// Takes an entry away, and answers whether it was there with its flags.

@@ -10,7 +10,7 @@ use mesh_model::Change;
 
 impl Entries {
     /// Makes changes strictly, or none of them, and answers the first that fails.
-    pub(crate) fn apply(&mut self, changes: &[Change]) -> Result<(), Change>
+    pub fn apply(&mut self, changes: &[Change]) -> Result<(), Change>
         requires room { HasRoom (length changes.now) self.old }
         ensures outcome { Becomes result (apply_strictly self.old.entries changes.now)
             self.old.entries self.new.entries }

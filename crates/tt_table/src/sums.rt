@@ -79,6 +79,13 @@ impl Sums {
         self.rows.get(i).map(|row| (row.vid, row.sum))
     }
 
+    /// How many VLANs are named.
+    pub fn len(&self) -> usize
+        ensures { result ≡ length (named_sums self.now) }
+    {
+        self.rows.len()
+    }
+
     // Where a VLAN stands, or where it would.
     pub(crate) fn search(&self, vid: Vid) -> Result<usize, usize>
         ensures there { IfOk result (λ i. IsThere nat_cmp row_key vid.0 self.now.rows i) }

@@ -91,6 +91,20 @@ impl Table {
         Ok(additions)
     }
 
+    /// The clients in key order, lent.
+    pub fn as_slice(&self) -> &[Entry]
+        ensures { result.now ≡ self.now.entries }
+    {
+        self.entries.as_slice()
+    }
+
+    /// The clients stand in key order.
+    pub fn tell_order(&self)
+        ensures { IsInKeyOrder self.now.entries }
+    {
+        self.entries.tell_order();
+    }
+
     /// Makes room for so many changes.
     pub fn reserve(&mut self, changes: usize) -> Result<(), NoMemory>
         ensures ok { OnOk result (changes ≤ self.new.spare) }
