@@ -1,3 +1,10 @@
 -- What the methods of `Locals` rest on.
 pub mod OrderedMapLemmas
-pub mod LocalsLemmas
+pub mod ClientsLemmas
+pub mod MomentsLemmas
+pub mod RosterLemmas
+pub mod ChangesLemmas
+pub mod CommitLemmas
+pub mod NumberedLemmas
+pub mod AliasLemmas
+pub mod CommitLawLemmas

@@ -1,4 +1,10 @@
 -- What the contracts cite: first what callers see, then inner words.
+pub mod Clients
+pub mod Roster
+pub mod Moments
+pub mod Journal
 pub mod Locals
+pub mod Announcing
 pub mod Limits
 pub mod Vlans
+pub mod CommitLaws

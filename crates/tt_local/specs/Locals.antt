@@ -1,38 +1,25 @@
--- How a list of sightings by key stands for a node's mentions: under each key it has what the key's
--- last mention says, a sighting or nothing, and the keys ascend. Groups aren't kept. The main word
--- is `StandsFor`.
-use Rattle.std.specs.Prelude.{◌≡◌, ℕ, ◌-◌, List, Option, Some, None, option_and_then}
-use Rattle.std.specs.List.Sorted.{IsStrictlySortedBy}
-use Rattle.std.specs.Map.{keys_of, lookup}
-use Rattle.mesh_base.specs.KeyOrder.{key_order}
+-- How what a node keeps of its clients stands for its mentions and its history of commits. It does
+-- so from a moment on: it knows nothing of sightings that counted no longer before. What stands
+-- from a moment on stands from each later one on. The main word is `LocalsStand`.
+use Rattle.std.specs.Prelude.{ℕ, List}
 use Rattle.mesh_base.specs.declared.client.Key.{Key}
-use Rattle.mesh_model.specs.declared.table_row.LocalRow.{LocalRow}
-use Rattle.mesh_model.specs.Clients.Mentions.{Mention, News, Sighted, Departed, Roamed, Joined, Left}
-use Rattle.mesh_model.specs.Clients.Present.{same_key, last_mention, last_membership, row_after}
-use Rattle.tt_local.specs.declared.sighting.Sighting.{Sighting}
+use Rattle.mesh_model.specs.Clients.Mentions.{Mention}
+use Rattle.mesh_model.specs.Commits.History.{first_history, History}
+use Rattle.tt_local.specs.declared.client.Client.{Client}
+use Rattle.tt_local.specs.Clients.{ClientsStand}
+use Rattle.tt_local.specs.Journal.{JournalView, JournalStands}
 
--- the sighting that news at a moment are, where they are one
-abbrev pub sighting_by : ℕ → News → Option Sighting
-sighting_by moment (Sighted flags) = Some (record { flags = flags; moment = moment })
-sighting_by moment Departed = None
-sighting_by moment Roamed = None
-sighting_by moment Joined = None
-sighting_by moment Left = None
+-- clients by key, and the journal of the commits
+pub record LocalsView : Type 0 where
+  pub clients : List (Key × Client)
+  pub journal : JournalView
 
--- the sighting that a mention is, where it is one
-abbrev pub sighting_in : Mention → Option Sighting
-sighting_in mention = sighting_by mention.moment mention.news
+-- clients and journal are those of a node with these mentions and this history, from a moment on
+pub record LocalsStand (view : LocalsView) (mentions : List Mention) (history : History)
+    (since : ℕ) : Type 0 where
+  pub clients : ClientsStand view.clients mentions since
+  pub journal : JournalStands view.journal history
 
--- the row of a key with this last sighting, while it counts
-abbrev pub sighting_row : ℕ → Key → Sighting → Option LocalRow
-sighting_row now key sighting = row_after key (now - sighting.moment) (Sighted sighting.flags)
-
--- these sightings by key are those of a node with these mentions
-pub record StandsFor (entries : List (Key × Sighting)) (mentions : List Mention) : Type 0 where
-  -- under each key is its last mention, where that is a sighting
-  pub kept : (key : Key) →
-      lookup (same_key key) entries ≡ option_and_then sighting_in (last_mention mentions key)
-  -- the keys ascend
-  pub ordered : IsStrictlySortedBy key_order (keys_of entries)
-  -- no group was joined or left
-  pub no_groups : (key : Key) → last_membership mentions key ≡ None
+-- clients are those of a node with these mentions that never committed
+abbrev pub StandsFor : LocalsView → List Mention → Type 0
+StandsFor view mentions = LocalsStand view mentions first_history 0

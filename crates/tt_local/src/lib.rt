@@ -2,8 +2,19 @@
 
 #![tactic(auto)]
 
+mod aliases;
+mod announcing;
+mod client;
+mod clients;
+mod commit;
+pub mod commit_laws;
 pub mod failure;
+mod journal;
 pub mod locals;
+mod moments;
+mod pending;
+mod rebuilding;
+mod roster;
 mod sighting;
 mod vlans;
 

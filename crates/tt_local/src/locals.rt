@@ -1,15 +1,15 @@
-ghost use Rattle.std.specs.Prelude.{◌≡◌, ◌≤◌, ◌↔◌, List, [], ◌∷◌, length, None, slice_get, option_map, IfErr, IfOk, OnOk, OnErr, IsTrue, IsNone};
-ghost use Rattle.std.specs.Map.{lookup};
-ghost use Rattle.mesh_model.specs.Clients.Mentions.{Mention, Sighted};
-ghost use Rattle.mesh_model.specs.Clients.Present.{present_clients, present_row, same_key};
+ghost use Rattle.std.specs.Prelude.{◌≡◌, ◌+◌, ◌-◌, ◌≤◌, ◌↔◌, ℕ, List, [], ◌∷◌, length, None, Ok, Some, slice_get, option_map, IfErr, IfOk, OnOk, OnErr, IsTrue, IsNone};
 ghost use Rattle.mesh_model.specs.Clients.Limits.{limit_of_mention};
+ghost use Rattle.mesh_model.specs.Clients.Mentions.{Departed, Joined, Left, Mention, Roamed, Sighted};
+ghost use Rattle.mesh_model.specs.Clients.Present.{present_clients, present_row};
+ghost use Rattle.mesh_model.specs.Commits.History.{committed, first_history, History, present_table};
 ghost use Rattle.tt_local.specs.Limits.{HasLimit, limit_at};
-ghost use Rattle.tt_local.specs.Locals.{StandsFor};
+ghost use Rattle.tt_local.specs.Locals.{LocalsStand};
 
 use crate::failure::LocalErr;
-use crate::sighting::Sighting;
+use crate::journal::Journal;
+use crate::roster::Roster;
 use crate::vlans::count_vlans;
-use indexmap::IndexMap;
 use mesh_base::{Key, Millis, NoMemory};
 use mesh_model::LocalRow;
 use std::alloc::Global;
@@ -21,48 +21,55 @@ const CLIENTS_LIMIT: usize = 1_024;
 /// The most VLANs that clients are present in at once.
 const VLANS_LIMIT: usize = 16;
 
-/// The local clients of a node, each by its last sighting, in key order.
-#[derive(Debug, Drop)]
+/// The local clients of a node, and the commits that it made of them.
+#[derive(Drop)]
 pub struct Locals {
-    alloc: Global,
-    sightings: IndexMap<Key, Sighting>,
+    pub(crate) alloc: Global,
+    pub(crate) roster: Roster,
+    pub(crate) journal: Journal,
 }
 
 impl Model for Locals {
-    ghost use Rattle.std.specs.Prelude.{List};
-    ghost use Rattle.mesh_base.specs.declared.client.Key.{Key};
-    ghost use Rattle.tt_local.specs.declared.sighting.Sighting.{Sighting};
+    ghost use Rattle.tt_local.specs.Locals.{LocalsView};
+    ghost use Rattle.tt_local.specs.Roster.{IsTracked};
 
-    ghost Value = { List (Key × Sighting) };
+    ghost Value = { LocalsView };
 
-    ghost view = { λ l. l.sightings.entries };
+    ghost view = { λ l. record { clients = l.roster.clients; journal = l.journal } };
+
+    ghost invariant = { λ l. IsTracked l.roster l.journal.table };
 }
 
 impl Locals {
-    /// No clients.
+    /// No clients, and commit 0.
     pub fn new(alloc: Global) -> Locals
-        ensures { StandsFor result [] }
+        ensures { LocalsStand result [] first_history 0 }
     {
         Locals {
             alloc,
-            sightings: IndexMap::new(alloc),
+            roster: Roster::new(alloc),
+            journal: Journal::new(alloc),
         }
     }
 
     /// Notes a sighting of a client, and answers whether the client is newly present. `Clients` and
     /// `Vlans` where a new client would be too many beside the present ones.
     pub fn see(&mut self, now: Millis, key: Key, flags: u8) -> Result<bool, LocalErr>
-        ensures noted { (mentions : List Mention) → StandsFor self.old mentions →
+        ensures noted { (mentions : List Mention) (history : History) (since : ℕ) →
+            LocalsStand self.old mentions history since →
             let mention : Mention = record { moment = now; key = key; news = Sighted flags } in
-            OnOk result (StandsFor self.new (mention ∷ mentions)) }
-        ensures newly { IfOk result (λ newly. (mentions : List Mention) →
-            StandsFor self.old mentions → IsTrue newly ↔ IsNone (present_row mentions now key)) }
+            OnOk result (LocalsStand self.new (mention ∷ mentions) history since) }
+        ensures newly { IfOk result (λ newly. (mentions : List Mention) (history : History)
+            (since : ℕ) → LocalsStand self.old mentions history since → since ≤ now →
+            IsTrue newly ↔ IsNone (present_row mentions now key)) }
 
         // Refused exactly for the limit that is passed, or for want of memory, and then as before.
-        ensures within { (mentions : List Mention) → StandsFor self.old mentions →
+        ensures within { (mentions : List Mention) (history : History) (since : ℕ) →
+            LocalsStand self.old mentions history since → since ≤ now →
             let mention : Mention = record { moment = now; key = key; news = Sighted flags } in
             OnOk result (limit_of_mention mentions mention ≡ None) }
-        ensures limit { (mentions : List Mention) → StandsFor self.old mentions →
+        ensures limit { (mentions : List Mention) (history : History) (since : ℕ) →
+            LocalsStand self.old mentions history since → since ≤ now →
             let mention : Mention = record { moment = now; key = key; news = Sighted flags } in
             IfErr result (HasLimit (limit_of_mention mentions mention)) }
         ensures err { OnErr result (self.new ≡ self.old) }
@@ -72,27 +79,82 @@ impl Locals {
         Ok(newly)
     }
 
-    /// Notes a sighting of a client, whatever the limits, and answers whether the client is newly
-    /// present.
-    pub fn note(&mut self, now: Millis, key: Key, flags: u8) -> Result<bool, NoMemory>
-        ensures noted { (mentions : List Mention) → StandsFor self.old mentions →
+    // Notes a sighting of a client, whatever the limits, and answers whether the client is newly
+    // present.
+    fn note(&mut self, now: Millis, key: Key, flags: u8) -> Result<bool, NoMemory>
+        ensures noted { (mentions : List Mention) (history : History) (since : ℕ) →
+            LocalsStand self.old mentions history since →
             let mention : Mention = record { moment = now; key = key; news = Sighted flags } in
-            OnOk result (StandsFor self.new (mention ∷ mentions)) }
-        ensures newly { IfOk result (λ newly. (mentions : List Mention) →
-            StandsFor self.old mentions → IsTrue newly ↔ IsNone (present_row mentions now key)) }
+            OnOk result (LocalsStand self.new (mention ∷ mentions) history since) }
+        ensures newly { IfOk result (λ newly. (mentions : List Mention) (history : History)
+            (since : ℕ) → LocalsStand self.old mentions history since → since ≤ now →
+            IsTrue newly ↔ IsNone (present_row mentions now key)) }
         ensures err { OnErr result (self.new ≡ self.old) }
     {
         let newly = self.row(now, key).is_none();
-        let sighting = Sighting { flags, moment: now };
-        self.sightings.insert_sorted(key, sighting)?;
+        self.roster.sight(now, key, flags)?;
+        self.roster.tell_order();
         Ok(newly)
+    }
+
+    /// Notes that a group was joined. `Clients` and `Vlans` where a group that isn't present would
+    /// be too many beside the present clients.
+    pub fn join(&mut self, now: Millis, key: Key) -> Result<(), LocalErr>
+        ensures noted { (mentions : List Mention) (history : History) (since : ℕ) →
+            LocalsStand self.old mentions history since →
+            let mention : Mention = record { moment = now; key = key; news = Joined } in
+            OnOk result (LocalsStand self.new (mention ∷ mentions) history since) }
+
+        // Refused exactly for the limit that is passed, or for want of memory, and then as before.
+        ensures within { (mentions : List Mention) (history : History) (since : ℕ) →
+            LocalsStand self.old mentions history since → since ≤ now →
+            let mention : Mention = record { moment = now; key = key; news = Joined } in
+            OnOk result (limit_of_mention mentions mention ≡ None) }
+        ensures limit { (mentions : List Mention) (history : History) (since : ℕ) →
+            LocalsStand self.old mentions history since → since ≤ now →
+            let mention : Mention = record { moment = now; key = key; news = Joined } in
+            IfErr result (HasLimit (limit_of_mention mentions mention)) }
+        ensures err { OnErr result (self.new ≡ self.old) }
+    {
+        self.keep_limits(now, key)?;
+        self.roster.join(key)?;
+        self.roster.tell_order();
+        Ok(())
+    }
+
+    /// Notes that a client departed, or that it roamed to another node.
+    pub fn gone(&mut self, key: Key)
+        ensures departed { (mentions : List Mention) (history : History) (since now : ℕ) →
+            LocalsStand self.old mentions history since →
+            let mention : Mention = record { moment = now; key = key; news = Departed } in
+            LocalsStand self.new (mention ∷ mentions) history since }
+        ensures roamed { (mentions : List Mention) (history : History) (since now : ℕ) →
+            LocalsStand self.old mentions history since →
+            let mention : Mention = record { moment = now; key = key; news = Roamed } in
+            LocalsStand self.new (mention ∷ mentions) history since }
+    {
+        self.roster.depart(key);
+        self.roster.tell_order();
+    }
+
+    /// Notes that a group was left.
+    pub fn leave(&mut self, key: Key)
+        ensures noted { (mentions : List Mention) (history : History) (since now : ℕ) →
+            LocalsStand self.old mentions history since →
+            let mention : Mention = record { moment = now; key = key; news = Left } in
+            LocalsStand self.new (mention ∷ mentions) history since }
+    {
+        self.roster.leave(key);
+        self.roster.tell_order();
     }
 
     // A client that isn't present is within the limits beside those that are.
     fn keep_limits(&self, now: Millis, key: Key) -> Result<(), LocalErr>
-        ensures within { (mentions : List Mention) → StandsFor self.now mentions →
+        ensures within { (mentions : List Mention) (history : History) (since : ℕ) →
+            LocalsStand self.now mentions history since → since ≤ now →
             OnOk result (limit_at mentions now key ≡ None) }
-        ensures limit { (mentions : List Mention) → StandsFor self.now mentions →
+        ensures limit { (mentions : List Mention) (history : History) (since : ℕ) →
+            LocalsStand self.now mentions history since → since ≤ now →
             IfErr result (HasLimit (limit_at mentions now key)) }
     {
         if self.row(now, key).is_some() {
@@ -108,52 +170,52 @@ impl Locals {
         Ok(())
     }
 
-    // The last sighting of a client.
-    fn sighting(&self, key: Key) -> Option<Sighting>
-        ensures { result ≡ lookup (same_key key) self.now }
-    {
-        self.sightings.get(&key).copied()
-    }
-
     // The row of a client, where it is present.
     fn row(&self, now: Millis, key: Key) -> Option<LocalRow>
-        ensures { (mentions : List Mention) → StandsFor self.now mentions →
+        ensures { (mentions : List Mention) (history : History) (since : ℕ) →
+            LocalsStand self.now mentions history since → since ≤ now →
             result ≡ present_row mentions now key }
     {
-        self.sighting(key)?.row(now, key)
+        self.roster.clients.row(now, key)
     }
 
     /// The flags of a client, where it is present.
     pub fn present(&self, now: Millis, key: Key) -> Option<u8>
-        ensures { (mentions : List Mention) → StandsFor self.now mentions →
+        ensures { (mentions : List Mention) (history : History) (since : ℕ) →
+            LocalsStand self.now mentions history since → since ≤ now →
             result ≡ option_map (λ row. row.entry.flags) (present_row mentions now key) }
     {
         self.row(now, key).map(|row| row.entry.flags)
     }
 
-    /// The present client at this place in key order, from 0, with its age.
+    /// The present client at this place in key order, from 0, with its age, or without one where it
+    /// is a joined group.
     pub fn row_at(&self, now: Millis, i: usize) -> Option<LocalRow>
-        ensures at_place { (mentions : List Mention) → StandsFor self.now mentions →
+        ensures at_place { (mentions : List Mention) (history : History) (since : ℕ) →
+            LocalsStand self.now mentions history since → since ≤ now →
             result ≡ slice_get (present_clients mentions now) i }
-        ensures past_end { (mentions : List Mention) → StandsFor self.now mentions →
+        ensures past_end { (mentions : List Mention) (history : History) (since : ℕ) →
+            LocalsStand self.now mentions history since → since ≤ now →
             IsNone result ↔ (length (present_clients mentions now) ≤ i) }
     {
-        self.sightings
-            .iter()
-            .filter_map(|(key, sighting)| sighting.row(now, *key))
-            .nth(i)
+        self.roster.clients.row_at(now, i)
     }
 
     /// The present clients in key order, with their ages.
     pub fn rows(&self, alloc: Global, now: Millis) -> Result<Vec<LocalRow>, NoMemory>
-        ensures { IfOk result (λ rows. (mentions : List Mention) → StandsFor self.now mentions →
+        ensures { IfOk result (λ rows. (mentions : List Mention) (history : History) (since : ℕ) →
+            LocalsStand self.now mentions history since → since ≤ now →
             rows.items ≡ present_clients mentions now) }
     {
-        let rows = self
-            .sightings
-            .iter()
-            .filter_map(|(key, sighting)| sighting.row(now, *key))
-            .collect(alloc)?;
-        Ok(rows)
+        self.roster.clients.rows(alloc, now)
+    }
+
+    /// The number of the last commit.
+    pub fn last(&self) -> u64
+        ensures past { result ≡ length self.now.journal.past }
+        ensures last { (mentions : List Mention) (history : History) (since : ℕ) →
+            LocalsStand self.now mentions history since → result + 1 ≡ length history.commits }
+    {
+        self.journal.last() as u64
     }
 }

@@ -1,5 +1,6 @@
-ghost use Rattle.std.specs.Prelude.{◌≡◌};
-ghost use Rattle.tt_local.specs.Locals.{sighting_row};
+ghost use Rattle.std.specs.Prelude.{◌≡◌, ◌-◌, nat_lt};
+ghost use Rattle.mesh_model.specs.Clients.Present.{sighting_age};
+ghost use Rattle.tt_local.specs.Clients.{sighting_row};
 
 use mesh_base::{Entry, Key, Millis};
 use mesh_model::LocalRow;
@@ -30,4 +31,11 @@ impl Sighting {
         };
         (age < SIGHTING_AGE).then_some(row)
     }
+}
+
+/// Whether a sighting at a moment still counts.
+pub(crate) fn counts(now: Millis, moment: Millis) -> bool
+    ensures { result ≡ nat_lt (now - moment) sighting_age }
+{
+    now.saturating_sub(moment) < SIGHTING_AGE
 }

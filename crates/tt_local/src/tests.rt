@@ -1,5 +1,10 @@
-use super::{LocalRow, Locals};
-use mesh_base::{Entry, Key, Mac, Millis, NoMemory, Vid};
+ghost use Rattle.std.specs.Prelude.{◌≡◌, ◌<◌};
+
+use super::{LocalErr, LocalRow, Locals};
+use mesh_base::{Entry, Key, Mac, Millis, NoMemory, Steps, Vid};
+use std::alloc::Global;
+use std::marker::Brand;
+use std::sync::ledger::{Blank, Ledger};
 
 const TAGGED: Vid = Vid(0x8001);
 
@@ -47,4 +52,180 @@ fn a_client_seen_twice_is_new_once(rt: HostRuntime) -> Result<(), NoMemory> {
     }
     assert_eq!(rt; locals.see(600_000, key(TAGGED), 0), Ok(true));
     Ok(())
+}
+
+#[test]
+fn a_seventeenth_vlan_passes_the_limit(rt: HostRuntime) {
+    let mut locals = Locals::new(rt.alloc());
+    for number in 0..16 {
+        assert_eq!(rt; locals.see(0, key(Vid(0x8001 + number)), 0), Ok(true));
+    }
+    assert_eq!(rt; locals.see(0, key(Vid::UNTAGGED), 0), Err(LocalErr::Vlans));
+    assert_eq!(rt; locals.join(0, key(Vid::UNTAGGED)), Err(LocalErr::Vlans));
+    locals.gone(key(TAGGED));
+    assert_eq!(rt; locals.join(0, key(Vid::UNTAGGED)), Ok(()));
+    assert_eq!(rt; locals.present(900_000, key(Vid::UNTAGGED)), Some(0));
+    locals.leave(key(Vid::UNTAGGED));
+    assert_eq!(rt; locals.present(0, key(Vid::UNTAGGED)), None);
+}
+
+// The numbers, bytes, named VLANs and carried changes of four ticks, with what comes between them.
+fn ticks<L: Ledger>(alloc: Global, blank: Blank) -> Result<[(Option<u64>, u8, usize); 5], LocalErr>
+    requires name { blank.name ≡ L.name }
+    requires parts { blank.parts ≡ L.parts }
+    requires some { 0 < blank.parts }
+{
+    let mut steps = Steps::<L>::new(blank);
+    let mut locals = Locals::new(alloc);
+    let mut told = [(None, 0, 0); 5];
+    for i in 0..5 {
+        if i == 0 {
+            locals.see(0, key(Vid::UNTAGGED), 0)?;
+        }
+        let now = if i == 4 { 600_000 } else { 1_000 };
+        let number = locals.commit(now, &mut steps)?;
+        let announced = locals.announcement()?;
+        told[i] = (number, announced.byte, announced.changes.len());
+    }
+    Ok(told)
+}
+
+#[test]
+fn changes_stand_in_three_messages_and_age_commits(rt: HostRuntime) {
+    let told = ticks::<Brand>(rt.alloc(), Blank::new(1));
+    assert_eq!(rt;
+        told,
+        Ok([
+            (Some(1), 1, 1),
+            (None, 1, 1),
+            (None, 1, 1),
+            (None, 1, 0),
+            (Some(2), 2, 1)
+        ])
+    );
+}
+
+// A client of an untagged VLAN by the last byte of its address.
+fn client(last: u8) -> Key {
+    Key {
+        mac: Mac([2, 0, 0, 0, 1, last]),
+        vid: Vid::UNTAGGED,
+    }
+}
+
+// Two clients come, one of them goes and comes until commit 256, then two others come in their
+// place.
+fn commit_257<L: Ledger>(alloc: Global, blank: Blank) -> Result<Locals, LocalErr>
+    requires name { blank.name ≡ L.name }
+    requires parts { blank.parts ≡ L.parts }
+    requires some { 0 < blank.parts }
+{
+    let mut steps = Steps::<L>::new(blank);
+    let mut locals = Locals::new(alloc);
+    locals.see(0, client(1), 0)?;
+    for i in 0..256 {
+        if i % 2 == 0 {
+            locals.see(0, client(2), 0)?;
+        } else {
+            locals.gone(client(2));
+        }
+        locals.commit(0, &mut steps)?;
+    }
+    locals.gone(client(1));
+    locals.see(0, client(5), 0)?;
+    locals.see(0, client(6), 0)?;
+    locals.commit(0, &mut steps)?;
+    Ok(locals)
+}
+
+// The last bytes of the addresses in the table of a commit, up to the last commit.
+fn clients_at(alloc: Global, locals: &Locals, number: u64) -> Result<Vec<u8>, NoMemory> {
+    let table = locals.table_at(number.min(locals.last()))?;
+    let clients = table
+        .as_slice()
+        .iter()
+        .map(|entry| entry.key.mac.0[5])
+        .collect(alloc)?;
+    Ok(clients)
+}
+
+#[test]
+fn commit_257_has_the_alias_1(rt: HostRuntime) -> Result<(), LocalErr> {
+    let locals = commit_257::<Brand>(rt.alloc(), Blank::new(1))?;
+    assert_eq!(rt; locals.last(), 257);
+    assert_eq!(rt; locals.alias_of(257), Ok(Some(1)));
+    assert_eq!(rt; locals.alias_of(256), Ok(None));
+    for (number, clients) in [
+        (1, [1, 2].as_slice()),
+        (32, &[1]),
+        (255, &[1, 2]),
+        (257, &[5, 6]),
+    ] {
+        let found = clients_at(rt.alloc(), &locals, number)?;
+        assert_eq!(rt; found.as_slice(), clients, "at {number}");
+    }
+    Ok(())
+}
+
+// How many changes are told of the second commit, after a client was sighted with and without
+// flags.
+fn told_of_flags<L: Ledger>(alloc: Global, blank: Blank) -> Result<Option<usize>, LocalErr>
+    requires name { blank.name ≡ L.name }
+    requires parts { blank.parts ≡ L.parts }
+    requires some { 0 < blank.parts }
+{
+    let mut steps = Steps::<L>::new(blank);
+    let mut locals = Locals::new(alloc);
+    for flags in [0, 16] {
+        locals.see(0, client(1), flags)?;
+        locals.commit(0, &mut steps)?;
+    }
+    Ok(locals.told_changes().map(|changes| changes.len()))
+}
+
+#[test]
+fn a_wireless_client_is_committed_anew(rt: HostRuntime) {
+    assert_eq!(rt;
+        told_of_flags::<Brand>(rt.alloc(), Blank::new(1)),
+        Ok(Some(2))
+    );
+}
+
+// A group that was sighted, and a client.
+fn note_both(locals: &mut Locals) -> Result<(), LocalErr> {
+    locals.see(0, client(1), 0)?;
+    locals.join(0, client(1))?;
+    locals.see(1_000, client(2), 0)?;
+    Ok(())
+}
+
+// The numbers of five commits. The client is sighted again before the third of them, and the group
+// is left before the fourth.
+fn numbers<L: Ledger>(alloc: Global, blank: Blank) -> Result<[Option<u64>; 5], LocalErr>
+    requires name { blank.name ≡ L.name }
+    requires parts { blank.parts ≡ L.parts }
+    requires some { 0 < blank.parts }
+{
+    let mut steps = Steps::<L>::new(blank);
+    let mut locals = Locals::new(alloc);
+    let moments = [1_000, 600_000, 600_500, 601_000, 1_200_500];
+    let mut numbers = [None; 5];
+    note_both(&mut locals)?;
+    for i in 0..5 {
+        if i == 2 {
+            locals.see(moments[i], client(2), 0)?;
+        } else if i == 3 {
+            locals.leave(client(1));
+        }
+        numbers[i] = locals.commit(moments[i], &mut steps)?;
+    }
+    Ok(numbers)
+}
+
+#[test]
+fn a_client_ages_from_its_last_sighting_and_a_group_stays(rt: HostRuntime) {
+    assert_eq!(rt;
+        numbers::<Brand>(rt.alloc(), Blank::new(1)),
+        Ok([Some(1), None, None, Some(2), Some(3)])
+    );
 }

@@ -1,17 +1,13 @@
-use Rattle.mesh_base.specs.contracts.client.KeyOrd.TheImpl.Laws.{total-law, matches_eq-law}
-use Rattle.tt_local.specs.Locals.{StandsFor}
-use Rattle.tt_local.proofs.LocalsLemmas.{sighted}
-use Rattle.tt_local.proofs.OrderedMapLemmas.{strict_from, sorted_from_strict, updated_tied}
+use Rattle.std.proofs.Common.{subst, sym}
+use Rattle.mesh_model.specs.Clients.Mentions.{Mention, Sighted}
+use Rattle.tt_local.specs.Locals.{LocalsView, LocalsStand}
+use Rattle.tt_local.proofs.ClientsLemmas.{mentioned}
 use Rattle.tt_local.proofs.locals.Locals.note.Goals as goal
 
 pub returns-clause-noted : goal.returns-clause-noted
-returns-clause-noted c =
-    λ mentions stands.
-    let old = c.self.inside.sightings.entries in
-    let new = c.insert_sorted.new.self.entries in
-    let kept : StandsFor old mentions = rw c.self.view_is stands in
-    let done = c.in_ok-insert_sorted.ensures in
-    sighted old new mentions c.args.now c.args.key c.args.flags
-    (updated_tied total-law _ matches_eq-law c.args.key _ old new done.updates.0)
-    (strict_from total-law _ matches_eq-law _ (done.sorted (sorted_from_strict total-law _ matches_eq-law _ kept.ordered)) done.unique)
-    kept
+returns-clause-noted c = λ mentions history since stands.
+    let was = subst (λ (v : LocalsView). LocalsStand v mentions history since) (sym c.self.view_is) stands in
+    let mention : Mention = record { moment = c.args.now; key = c.args.key; news = Sighted c.args.flags } in record {
+      clients = mentioned c.self.inside.roster.clients c.sight.new.self.clients mentions since mention (c.in_ok-sight.ensures.news) c.tell_order.ensures.clients was.clients;
+      journal = was.journal;
+    }

@@ -1,0 +1,19 @@
+use Rattle.std.proofs.Common.{subst, sym}
+use Rattle.std.proofs.lemmas.Result.{err_from_is_err_and}
+use Rattle.mesh_model.specs.Clients.Mentions.{Mention, Joined}
+use Rattle.tt_local.specs.Locals.{LocalsView, LocalsStand}
+use Rattle.tt_local.proofs.ClientsLemmas.{mentioned}
+use Rattle.tt_local.proofs.locals.Locals.join.Goals as goal
+
+pub returns-in_err-keep_limits-clause-limit : goal.returns-in_err-keep_limits-clause-limit
+returns-in_err-keep_limits-clause-limit c =
+    let p = err_from_is_err_and c.from_residual.result c.from_residual.ensures.1 in
+    rw (p.1, p.2) c.in_err-keep_limits.ensures.limit
+
+pub returns-clause-noted : goal.returns-clause-noted
+returns-clause-noted c = λ mentions history since stands.
+    let was = subst (λ (v : LocalsView). LocalsStand v mentions history since) (sym c.self.view_is) stands in
+    let mention : Mention = record { moment = c.args.now; key = c.args.key; news = Joined } in record {
+      clients = mentioned c.self.inside.roster.clients c.join.new.self.clients mentions since mention (c.in_ok-join.ensures.news c.args.now) c.tell_order.ensures.clients was.clients;
+      journal = was.journal;
+    }
