@@ -1,2 +1,3 @@
 -- What the methods of `Sync` rest on.
 pub mod SyncLemmas
+pub mod AnswerLemmas
