@@ -1,5 +1,5 @@
 -- How acts that are put one list after another are put as one list.
-use Rattle.std.proofs.Common.{inl, inr, List, [], ◌∷◌, ◌++◌, Option, None, Result, Ok, Err}
+use Rattle.std.proofs.Common.{inl, inr, List, [], ◌∷◌, ◌++◌, sym, subst, Option, None, Result, Ok, Err}
 use Rattle.mesh_model.specs.declared.act.Act.{Act}
 use Rattle.mesh_model.specs.declared.ending.LimitName.{LimitName}
 use Rattle.mesh_node.specs.declared.failure.NodeErr.{NodeErr}
@@ -39,3 +39,8 @@ module _ {P : Type 0} (takes : P → Act → P → Type 0) (same : P → P → T
       (all.0, all.1, all.2, puts_behind all.0 mid new first rest (Ok done) all.3 puts)
   puts_behind old mid new (act ∷ first) rest (Err error) all puts =
       inr (all.0, all.1, all.2, puts_behind all.0 mid new first rest (Err error) all.3 puts)
+
+  -- want of memory may stop behind the last act
+  pub stops_last : (old new : P) (acts : List Act) → TakesAll takes over old acts new → same new new → StopsAt takes same over Memory old acts new
+  stops_last old new [] all is = (subst (λ port. same port new) (sym all) is, tt)
+  stops_last old new (act ∷ acts) all is = inr (all.0, all.1, all.2, stops_last all.0 new acts all.3 is)

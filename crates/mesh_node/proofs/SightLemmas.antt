@@ -1,45 +1,25 @@
 -- A sighting that is refused, and one that is noted.
-use Rattle.std.proofs.Common.{◌≡◌, inl, inr, ℕ, Bool, List, [], ◌∷◌, ap, subst, ◌∙◌, Option, Some, None, Result, Err}
+use Rattle.std.proofs.Common.{◌≡◌, inl, inr, ℕ, List, [], ◌∷◌, refl, ap, subst, sym, ◌∙◌, Option, Some, None, Result, Ok, Err}
 use Rattle.std.specs.Option.{option_or}
-use Rattle.mesh_base.specs.declared.address.Mac.{Mac}
 use Rattle.mesh_base.specs.declared.client.Key.{Key}
-use Rattle.mesh_base.specs.declared.client.Vid.{Vid}
 use Rattle.mesh_model.specs.declared.act.Act.{Act}
 use Rattle.mesh_model.specs.declared.ending.LimitName.{LimitName}
 use Rattle.mesh_model.specs.Clients.Limits.{limit_of_mention}
-use Rattle.mesh_model.specs.Clients.Log.{Frame, Log}
-use Rattle.mesh_model.specs.Clients.Mentions.{Mention, Sighted, key_of, mentions}
-use Rattle.mesh_model.specs.Routes.RouteLog.{RouteLog}
+use Rattle.mesh_model.specs.Clients.Mentions.{Mention, News, Sighted}
 use Rattle.tt_local.specs.declared.failure.LocalErr.{LocalErr}
 use Rattle.tt_local.specs.declared.failure.LocalErr.TheVariants as local
 use Rattle.tt_local.specs.Limits.{HasLimit}
-use Rattle.tt_local.specs.Locals.{StandsFor}
 use Rattle.mesh_node.specs.declared.failure.NodeErr.{NodeErr}
 use Rattle.mesh_node.specs.declared.failure.NodeErr.TheVariants.{Memory, Clients, Vlans, Frames, FrameBytes, Dead}
-use Rattle.mesh_node.specs.declared.node.Node.{Node}
 use Rattle.mesh_node.specs.Errors.{HasCause, HasClientCause, client_error_of}
-use Rattle.mesh_node.specs.NodeStands.{NodeStands, sighting_of}
-use Rattle.mesh_node.specs.Puts.{Leaves, StopsAt}
+use Rattle.mesh_node.specs.Puts.{Answers, Leaves, Puts, StopsAt}
+use Rattle.mesh_node.proofs.PutsLemmas.{stops_among}
 
 -- the cause of the clients is that of the node
 pub client_cause : (limit : Option LimitName) (error : LocalErr) → HasLimit limit error → HasClientCause limit (client_error_of error)
 client_cause limit local.Clients cause = cause
 client_cause limit local.Vlans cause = cause
 client_cause limit local.Memory cause = tt
-
--- so is it by other words for the flags
-pub cause_by_flags : (mentions : List Mention) (now : ℕ) (key : Key) (a b : ℕ) → a ≡ b → (error : LocalErr)
-    → HasLimit (limit_of_mention mentions (record { moment = now; key = key; news = Sighted a })) error
-    → HasClientCause (limit_of_mention mentions (record { moment = now; key = key; news = Sighted b })) (client_error_of error)
-cause_by_flags mentions now key a b same error cause =
-    subst (λ flags. HasClientCause (limit_of_mention mentions (record { moment = now; key = key; news = Sighted flags })) (client_error_of error)) same
-    (client_cause (limit_of_mention mentions (record { moment = now; key = key; news = Sighted a })) error cause)
-
--- and by other words for the setting
-pub cause_by_wifi : (mentions : List Mention) (now : ℕ) (key : Key) (a b : Bool) → a ≡ b → (error : NodeErr)
-    → HasClientCause (limit_of_mention mentions (sighting_of now key a)) error → HasClientCause (limit_of_mention mentions (sighting_of now key b)) error
-cause_by_wifi mentions now key a b same error cause =
-    subst (λ wifi. HasClientCause (limit_of_mention mentions (sighting_of now key wifi)) error) same cause
 
 free_cause : (error : NodeErr) → HasClientCause None error → HasCause None error
 free_cause Memory cause = tt
@@ -49,13 +29,12 @@ free_cause Frames cause = absurd cause
 free_cause FrameBytes cause = absurd cause
 free_cause Dead cause = absurd cause
 
-module _ {P : Type 0} (takes : P → Act → P → Type 0) (same : P → P → Type 0) (over : P → Act → Option LimitName) where
-  -- a refused sighting puts nothing
-  pub sighting_refused : (limit : Option LimitName) (error : NodeErr) (port : P) → same port port → HasClientCause limit error
-      → Leaves takes same over (option_or limit None) port [] (Err error) port
-  sighting_refused None error port is cause = (is, free_cause error cause)
-  sighting_refused (Some limit) error port is cause = (is, cause)
+-- a refused joining is answered by its limit
+pub refused_answer : (limit : Option LimitName) (error : LocalErr) → HasLimit limit error → Answers (option_or limit None) (Err (client_error_of error))
+refused_answer None error cause = client_cause None error cause
+refused_answer (Some limit) error cause = client_cause (Some limit) error cause
 
+module _ {P : Type 0} (takes : P → Act → P → Type 0) (same : P → P → Type 0) (over : P → Act → Option LimitName) where
   never_stops : (acts : List Act) (old new : P) → StopsAt takes same over Dead old acts new → ⊥
   never_stops [] old new stop = stop.1
   never_stops (act ∷ acts) old new (inl at) = at.1
@@ -70,15 +49,34 @@ module _ {P : Type 0} (takes : P → Act → P → Type 0) (same : P → P → T
       → result ≡ Err Dead → ⊥
   alive_error limit acts old new result left is = not_dead limit acts old new (subst (λ r. Leaves takes same over limit old acts r new) is left)
 
--- a node that noted a sighting
-pub sighting_noted : {A : Type 0} (stands : A → Mac → RouteLog → Type 0) (node new : Node A) (me : Mac) (log : Log) (now : ℕ) (src dst : Mac) (vid : Vid) (text : List ℕ) (acts : List Act)
-    → NodeStands stands node me log → new ≡ record node { locals = new.locals }
-    → StandsFor new.locals (sighting_of now (key_of src vid) node.wifi ∷ mentions me log)
-    → NodeStands stands new me (record { moment = now; given = Frame src dst vid text; acts = acts } ∷ log)
-sighting_noted {A} stands node new me log now src dst vid text acts is others noted = record {
-  mac = ap (λ (n : Node A). n.me) others ∙ is.mac;
-  algo = rw (ap (λ (n : Node A). n.algo) others) is.algo;
-  locals = subst (λ wifi. StandsFor new.locals (sighting_of now (key_of src vid) wifi ∷ mentions me log)) is.wifi noted;
-  wifi = ap (λ (n : Node A). n.wifi) others ∙ is.wifi;
-  alive = ap (λ (n : Node A). n.dead) others ∙ is.alive;
-}
+  -- what is answered without an act leaves the port as it is
+  pub answered_leaves : (limit : Option LimitName) (port : P) (result : Result Unit NodeErr) → same port port → Answers limit result
+      → Leaves takes same over limit port [] result port
+  answered_leaves None port (Ok done) as_is answers = refl
+  answered_leaves None port (Err error) as_is cause = (as_is, free_cause error cause)
+  answered_leaves (Some limit) port (Ok done) as_is answers = (as_is, answers)
+  answered_leaves (Some limit) port (Err error) as_is cause = (as_is, cause)
+
+-- what a mention of a client at a moment passes
+abbrev pub limit_by : List Mention → ℕ → Key → News → Option LimitName
+limit_by mentions now key news = limit_of_mention mentions (record { moment = now; key = key; news = news })
+
+module _ {P : Type 0} (takes : P → Act → P → Type 0) (same : P → P → Type 0) (over : P → Act → Option LimitName)
+    (mentions : List Mention) (now : ℕ) (key : Key) (flags : ℕ) (news : News) (is : Sighted flags ≡ news) where
+  refused_leaves : (limit : Option LimitName) (error : NodeErr) (port : P) (acts : List Act) → same port port → HasClientCause limit error
+      → Leaves takes same over (option_or limit None) port acts (Err error) port
+  refused_leaves None error port acts as_is cause = stops_among takes same over error port port [] acts (as_is, free_cause error cause)
+  refused_leaves (Some limit) error port acts as_is cause = (as_is, cause)
+
+  -- a refused sighting puts nothing, whatever would follow
+  pub frame_refused : (error : LocalErr) → HasLimit (limit_by mentions now key (Sighted flags)) error → (port : P) (acts : List Act) → same port port
+      → Leaves takes same over (option_or (limit_by mentions now key news) None) port acts (Err (client_error_of error)) port
+  frame_refused error cause port acts as_is =
+      refused_leaves (limit_by mentions now key news) (client_error_of error) port acts as_is
+      (subst (λ n. HasClientCause (limit_by mentions now key n) (client_error_of error)) is (client_cause (limit_by mentions now key (Sighted flags)) error cause))
+
+  -- a sighting that passes no limit leads to the acts
+  pub frame_taken : limit_by mentions now key (Sighted flags) ≡ None → (old new : P) (acts : List Act) (result : Result Unit NodeErr)
+      → Puts takes same over old acts result new → Leaves takes same over (option_or (limit_by mentions now key news) None) old acts result new
+  frame_taken within old new acts result puts =
+      subst (λ limit. Leaves takes same over (option_or limit None) old acts result new) (sym (sym (ap (limit_by mentions now key) is) ∙ within)) puts

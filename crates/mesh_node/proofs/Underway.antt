@@ -1,77 +1,89 @@
--- A link frame of which the first packets were taken: where the algorithm and the port then stand.
+-- A link frame of which the first packets were taken: what is then known, and where the port stands.
 use Rattle.std.proofs.Common.{◌≡◌, ℕ, List, [], ◌∷◌, refl, subst, Option, Result, Ok, Err}
 use Rattle.mesh_base.specs.declared.address.Mac.{Mac}
 use Rattle.mesh_model.specs.declared.act.Act.{Act}
 use Rattle.mesh_model.specs.declared.ending.LimitName.{LimitName}
-use Rattle.mesh_model.specs.Acts.RouteInputs.{after_packet, after_packets}
-use Rattle.mesh_model.specs.Acts.Rows.{packet_acts, packets_acts, link_acts}
+use Rattle.mesh_model.specs.Acts.Rows.{Own, packet_acts, packets_acts}
+use Rattle.mesh_model.specs.Knowledge.Known.{Knowledge}
+use Rattle.mesh_model.specs.Knowledge.Steps.{Coming, after_packet, after_packets}
 use Rattle.mesh_model.specs.Packets.FirstPacket.{Packet}
-use Rattle.mesh_model.specs.Packets.LinkFrame.{link_frame}
 use Rattle.mesh_model.specs.Routes.Queries.{Queries}
 use Rattle.mesh_model.specs.Routes.RouteLog.{RouteLog}
+use Rattle.mesh_node.specs.declared.arrival.Arrival.{Arrival}
 use Rattle.mesh_node.specs.declared.failure.NodeErr.{NodeErr}
+use Rattle.mesh_node.specs.declared.kept.Kept.{Kept}
+use Rattle.mesh_node.specs.KnowledgeStands.{KnowledgeStands, coming}
+use Rattle.mesh_node.specs.OwnStands.{OwnStands}
 use Rattle.mesh_node.specs.Puts.{Puts}
 use Rattle.mesh_node.proofs.PutsLemmas.{puts_behind, stops_among}
+use Rattle.tt_local.specs.Locals.{LocalsView}
 
 module _ {A P : Type 0} (stands : A → Mac → RouteLog → Type 0) (queries : Mac → Queries)
-    (takes : P → Act → P → Type 0) (same : P → P → Type 0) (over : P → Act → Option LimitName) (now : ℕ) (from : Mac) (tp : ℕ) where
-  -- what the rest leaves is what the whole leaves, by the route logs before the whole and before the rest
-  pub record IsBetween (q : Queries) (whole rest : List Packet) (begin here : RouteLog) (old mid : P) : Type 0 where
-    pub heard : after_packets now from tp here rest ≡ after_packets now from tp begin whole
-    pub puts : (result : Result Unit NodeErr) (new : P) → Puts takes same over mid (packets_acts q here now from tp rest) result new
-        → Puts takes same over old (packets_acts q begin now from tp whole) result new
+    (takes : P → Act → P → Type 0) (same : P → P → Type 0) (over : P → Act → Option LimitName)
+    (locals : LocalsView) (me : Mac) (came : Arrival) where
+  -- what the rest leaves is what the whole leaves, by what is known before the whole and before the rest
+  pub record IsBetween (way : Coming) (whole rest : List Packet) (begin here : Knowledge) (old mid : P) : Type 0 where
+    pub heard : after_packets (queries me) me way here rest ≡ after_packets (queries me) me way begin whole
+    pub puts : (own : Own) → OwnStands locals own came.now → (result : Result Unit NodeErr) (new : P)
+        → Puts takes same over mid (packets_acts (queries me) me own way here rest) result new
+        → Puts takes same over old (packets_acts (queries me) me own way begin whole) result new
 
-  -- an algorithm and a port behind the packets before the rest
-  pub record IsUnderway (whole rest : List Packet) (first algo : A) (old mid : P) : Type 0 where
-    pub each : (me : Mac) (log : RouteLog) → stands first me log
-        → (here : RouteLog) × stands algo me here × IsBetween (queries me) whole rest log here old mid
+  -- what is kept and a port behind the packets before the rest
+  pub record IsUnderway (whole rest : List Packet) (first kept : Kept A) (old mid : P) : Type 0 where
+    pub each : (known : Knowledge) (number : ℕ) → KnowledgeStands stands first me known
+        → (here : Knowledge) × KnowledgeStands stands kept me here × IsBetween (coming came number) whole rest known here old mid
 
   -- before the first
-  pub begins : (whole : List Packet) (algo : A) (port : P) → IsUnderway whole whole algo algo port port
-  begins whole algo port = record {
-    each = λ me log is. (log, is, record { heard = refl; puts = λ result new puts. puts });
+  pub begins : (whole : List Packet) (kept : Kept A) (port : P) → IsUnderway whole whole kept kept port port
+  begins whole kept port = record {
+    each = λ known number is. (known, is, record { heard = refl; puts = λ own owns result new puts. puts });
   }
 
-  -- what is known behind a packet
-  abbrev HasTaken : Packet → A → A → P → P → Type 0
-  HasTaken packet algo next mid new = (me : Mac) (log : RouteLog) → stands algo me log
-      → stands next me (after_packet now from tp log packet) × Puts takes same over mid (packet_acts (queries me) log now from tp packet) (Ok tt) new
-
   -- behind one more
-  pub goes_on : (whole rest : List Packet) (packet : Packet) (first algo next : A) (old mid new : P) → IsUnderway whole (packet ∷ rest) first algo old mid
-      → HasTaken packet algo next mid new → IsUnderway whole rest first next old new
+  pub goes_on : (whole rest : List Packet) (packet : Packet) (first kept next : Kept A) (old mid new : P) → IsUnderway whole (packet ∷ rest) first kept old mid
+      → ((known : Knowledge) (number : ℕ) → KnowledgeStands stands kept me known → KnowledgeStands stands next me (after_packet (queries me) me (coming came number) known packet))
+      → ((known : Knowledge) (own : Own) (number : ℕ) → KnowledgeStands stands kept me known → OwnStands locals own came.now
+      → Puts takes same over mid (packet_acts (queries me) me own (coming came number) known packet) (Ok tt) new)
+      → IsUnderway whole rest first next old new
   unfolding packets_acts
-  goes_on whole rest packet first algo next old mid new way taken = record {
-    each = λ me log is.
-        let at = way.each me log is in
-        let step = taken me at.0 at.1 in (
-          after_packet now from tp at.0 packet,
-          step.0,
+  goes_on whole rest packet first kept next old mid new way noted put = record {
+    each = λ known number is.
+        let at = way.each known number is in
+        let then : Knowledge = after_packet (queries me) me (coming came number) at.0 packet in (
+          then,
+          noted at.0 number at.1,
           record {
             heard = at.2.heard;
-            puts = λ result end puts. at.2.puts result end
-                (puts_behind takes same over mid new end (packet_acts (queries me) at.0 now from tp packet)
-                (packets_acts (queries me) (after_packet now from tp at.0 packet) now from tp rest) result step.1 puts);
+            puts = λ own owns result end puts. at.2.puts own owns result end
+                (puts_behind takes same over mid new end (packet_acts (queries me) me own (coming came number) at.0 packet)
+                (packets_acts (queries me) me own (coming came number) then rest) result (put at.0 own number at.1 owns) puts);
           },
         );
   }
 
   -- it stops at one
-  pub stops : (bytes : List ℕ) (rest : List Packet) (packet : Packet) (first algo : A) (old mid new : P) (error : NodeErr)
-      → IsUnderway (link_frame bytes).packets (packet ∷ rest) first algo old mid
-      → ((me : Mac) (log : RouteLog) → stands algo me log → Puts takes same over mid (packet_acts (queries me) log now from tp packet) (Err error) new)
-      → (me : Mac) (log : RouteLog) → stands first me log → Puts takes same over old (link_acts (queries me) log now from tp bytes) (Err error) new
-  unfolding packets_acts link_acts
-  stops bytes rest packet first algo old mid new error way puts me log is =
-      let at = way.each me log is in
-      at.2.puts (Err error) new (stops_among takes same over error mid new (packet_acts (queries me) at.0 now from tp packet)
-      (packets_acts (queries me) (after_packet now from tp at.0 packet) now from tp rest) (puts me at.0 at.1))
+  pub stops : (whole rest : List Packet) (packet : Packet) (first kept : Kept A) (old mid new : P) (error : NodeErr)
+      → IsUnderway whole (packet ∷ rest) first kept old mid
+      → ((known : Knowledge) (own : Own) (number : ℕ) → KnowledgeStands stands kept me known → OwnStands locals own came.now
+      → Puts takes same over mid (packet_acts (queries me) me own (coming came number) known packet) (Err error) new)
+      → (known : Knowledge) (own : Own) (number : ℕ) → KnowledgeStands stands first me known → OwnStands locals own came.now
+      → Puts takes same over old (packets_acts (queries me) me own (coming came number) known whole) (Err error) new
+  unfolding packets_acts
+  stops whole rest packet first kept old mid new error way put known own number is owns =
+      let at = way.each known number is in
+      at.2.puts own owns (Err error) new (stops_among takes same over error mid new (packet_acts (queries me) me own (coming came number) at.0 packet)
+      (packets_acts (queries me) me own (coming came number) (after_packet (queries me) me (coming came number) at.0 packet) rest) (put at.0 own number at.1 owns))
 
   -- behind the last
-  pub ends : (bytes : List ℕ) (first algo : A) (old mid : P) → IsUnderway (link_frame bytes).packets [] first algo old mid
-      → (me : Mac) (log : RouteLog) → stands first me log
-      → stands algo me (after_packets now from tp log (link_frame bytes).packets) × Puts takes same over old (link_acts (queries me) log now from tp bytes) (Ok tt) mid
-  unfolding packets_acts link_acts
-  ends bytes first algo old mid way me log is =
-      let at = way.each me log is in
-      (subst (λ here. stands algo me here) at.2.heard at.1, at.2.puts (Ok tt) mid refl)
+  pub ends_noted : (whole : List Packet) (first kept : Kept A) (old mid : P) → IsUnderway whole [] first kept old mid
+      → (known : Knowledge) (number : ℕ) → KnowledgeStands stands first me known
+      → KnowledgeStands stands kept me (after_packets (queries me) me (coming came number) known whole)
+  ends_noted whole first kept old mid way known number is =
+      let at = way.each known number is in
+      subst (λ here. KnowledgeStands stands kept me here) at.2.heard at.1
+
+  pub ends_put : (whole : List Packet) (first kept : Kept A) (old mid : P) → IsUnderway whole [] first kept old mid
+      → (known : Knowledge) (own : Own) (number : ℕ) → KnowledgeStands stands first me known → OwnStands locals own came.now
+      → Puts takes same over old (packets_acts (queries me) me own (coming came number) known whole) (Ok tt) mid
+  unfolding packets_acts
+  ends_put whole first kept old mid way known own number is owns = (way.each known number is).2.puts own owns (Ok tt) mid refl

@@ -1,28 +1,28 @@
--- What a node stands for: the log of the node of an address. Its algorithm stands for what of that
--- log it was given, its local clients for the mentions, and it has refused nothing. `stands` is the
--- algorithm's own word. The main word is `NodeStands`.
-use Rattle.std.specs.Prelude.{◌≡◌, ℕ, Bool, false, ◌∷◌, if◌then◌else◌, ⊤}
+-- What a node stands for: the log of the node of an address. What it keeps of the others stands for
+-- what it knows by that log, its local clients for the mentions and the commits there, and it has
+-- refused nothing. `stands` is the algorithm's own word. The main word is `NodeStands`.
+use Rattle.std.specs.Prelude.{◌≡◌, ◌≤◌, ℕ, Bool, false, ◌∷◌, ⊤}
 use Rattle.mesh_base.specs.declared.address.Mac.{Mac}
-use Rattle.mesh_base.specs.declared.client.Key.{Key}
 use Rattle.mesh_model.specs.Acts.Choosing.{acts_of}
-use Rattle.mesh_model.specs.Acts.RouteInputs.{route_log}
 use Rattle.mesh_model.specs.Clients.Log.{Given, Log}
 use Rattle.mesh_model.specs.Clients.Log as log
-use Rattle.mesh_model.specs.Clients.Mentions.{Mention, Sighted, is_wifi_on, mentions}
-use Rattle.mesh_model.specs.Packets.Numbers.{wifi_flag}
+use Rattle.mesh_model.specs.Clients.Mentions.{is_wifi_on}
+use Rattle.mesh_model.specs.Knowledge.Known.{Knowledge}
+use Rattle.mesh_model.specs.Knowledge.Steps.{knowledge}
 use Rattle.mesh_model.specs.Routes.Queries.{Queries}
 use Rattle.mesh_model.specs.Routes.RouteLog.{RouteLog, MayTick}
+use Rattle.mesh_node.specs.KnowledgeStands.{KnowledgeStands}
+use Rattle.mesh_node.specs.OwnStands.{HasClients, newest_moment}
 use Rattle.mesh_node.specs.declared.input.Input.{Input}
-use Rattle.mesh_node.specs.declared.input.Input.TheVariants.{Tick, Link, Frame, Wifi}
+use Rattle.mesh_node.specs.declared.input.Input.TheVariants.{Tick, Link, Frame, Gone, Join, Leave, Wifi}
 use Rattle.mesh_node.specs.declared.node.Node.{Node}
-use Rattle.tt_local.specs.Locals.{StandsFor}
 
 -- the node stands for this log of the node of an address
 pub record NodeStands {A : Type 0} (stands : A → Mac → RouteLog → Type 0)
-    (node : Node A) (me : Mac) (log : Log) : Type 0 where
+    (queries : Mac → Queries) (node : Node A) (me : Mac) (log : Log) : Type 0 where
   pub mac : node.me ≡ me
-  pub algo : stands node.algo me (route_log log)
-  pub locals : StandsFor node.locals (mentions me log)
+  pub kept : KnowledgeStands stands node.kept me (knowledge (queries me) me log)
+  pub clients : HasClients node.locals me log
   pub wifi : node.wifi ≡ is_wifi_on log
   pub alive : node.dead ≡ false
 
@@ -31,6 +31,9 @@ abbrev pub given_by : ℕ → Input → Given
 given_by number (Tick index) = log.Tick index
 given_by number (Link from tp bytes) = log.LinkFrame number from tp bytes.now
 given_by number (Frame src dst vid text) = log.Frame src dst vid text.now
+given_by number (Gone key) = log.Gone key
+given_by number (Join key) = log.Join key
+given_by number (Leave key) = log.Leave key
 given_by number (Wifi on) = log.Wifi on
 
 -- a log with one more input, and the acts that the node then puts
@@ -42,22 +45,22 @@ with_input q me log now given =
 abbrev pub is_dead : {A : Type 0} → Node A → Bool
 is_dead node = node.dead
 
--- an input may follow what the algorithm was given: a tick's index that of the tick before
-abbrev pub MayFollow : RouteLog → Input → Type 0
-MayFollow before (Tick index) = MayTick before index
-MayFollow before (Link from tp bytes) = ⊤
-MayFollow before (Frame src dst vid text) = ⊤
-MayFollow before (Wifi on) = ⊤
+-- an input may follow what is known: a tick's index follows that of the tick before
+abbrev pub MayFollow : Knowledge → Input → Type 0
+MayFollow known (Tick index) = MayTick known.routes index
+MayFollow known (Link from tp bytes) = ⊤
+MayFollow known (Frame src dst vid text) = ⊤
+MayFollow known (Gone key) = ⊤
+MayFollow known (Join key) = ⊤
+MayFollow known (Leave key) = ⊤
+MayFollow known (Wifi on) = ⊤
 
--- an input may come to a node, which stands for some log
-pub record MayTake {A : Type 0} (stands : A → Mac → RouteLog → Type 0) (node : Node A)
-    (input : Input) : Type 0 where
+-- an input may come to a node at a moment: the node stands for some log, and no input of it is
+-- later
+pub record MayTake {A : Type 0} (stands : A → Mac → RouteLog → Type 0)
+    (queries : Mac → Queries) (node : Node A) (now : ℕ) (input : Input) : Type 0 where
   pub me : Mac
   pub log : Log
-  pub stand : NodeStands stands node me log
-  pub follows : MayFollow (route_log log) input
-
--- the mention of a client that is sighted, with this setting for wireless clients
-abbrev pub sighting_of : ℕ → Key → Bool → Mention
-sighting_of now key wifi =
-    record { moment = now; key = key; news = Sighted (if wifi then wifi_flag else 0) }
+  pub stand : NodeStands stands queries node me log
+  pub later : newest_moment log ≤ now
+  pub follows : MayFollow (knowledge (queries me) me log) input

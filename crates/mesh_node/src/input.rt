@@ -1,4 +1,4 @@
-use mesh_base::{Mac, Vid};
+use mesh_base::{Key, Mac, Vid};
 
 /// What a node is given: a tick, a link frame, or what a line of a scenario gives it.
 #[derive(Clone, Copy, Debug)]
@@ -20,6 +20,12 @@ pub enum Input<'a> {
         vid: Vid,
         text: &'a [u8],
     },
+    /// A client departs from this node.
+    Gone(Key),
+    /// A client of this node joins a group.
+    Join(Key),
+    /// The last client of this node that was in a group leaves it.
+    Leave(Key),
     /// Whether the clients that are sighted from now on are on a wireless device.
     Wifi(bool),
 }

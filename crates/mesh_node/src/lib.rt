@@ -2,13 +2,29 @@
 
 #![tactic(auto)]
 
+mod addressee;
+mod answers;
+mod arrival;
+mod broadcasts;
+mod carried;
+mod client_frames;
+mod containers;
+mod deliveries;
 pub mod failure;
 pub mod input;
+mod kept;
 mod messages;
 pub mod node;
+mod ogms;
+mod on_the_way;
+mod packing;
 pub mod port;
+mod reading;
+mod roaming;
 mod rows;
-mod tables;
+mod sightings;
+mod taking;
+mod ticks;
 
 pub use failure::{NodeErr, PortErr};
 pub use input::Input;

@@ -1,32 +1,32 @@
 use super::{Act, Input, Node, NodeErr, Port, PortErr};
-use mesh_algo::{Algo, LinkRow};
 use mesh_base::{Key, Mac, Vid};
 use mesh_iv::Iv;
 
 const A: Mac = Mac([2, 0, 0, 0, 0, 10]);
 
-const B: Mac = Mac([2, 0, 0, 0, 0, 11]);
-
 const CLIENT: Mac = Mac([2, 0, 0, 0, 1, 1]);
 
-/// The first message of A, with its containers.
-const OWN: [u8; 36] = [
-    0, 15, 50, 0, 0, 0, 0, 1, 2, 0, 0, 0, 0, 10, 2, 0, 0, 0, 0, 10, 0, 255, 0, 12, 2, 1, 0, 0, 4,
-    1, 0, 4, 1, 0, 0, 0,
-];
+const KEY: Key = Key {
+    mac: CLIENT,
+    vid: Vid::UNTAGGED,
+};
 
-/// Two messages of B in one frame, and then one without a translation table.
-const FRAME: [u8; 100] = [
-    0, 15, 50, 0, 0, 0, 0, 1, 2, 0, 0, 0, 0, 11, 2, 0, 0, 0, 0, 11, 0, 255, 0, 12, 2, 1, 0, 0, 4,
-    1, 0, 4, 1, 0, 0, 0, 0, 15, 50, 0, 0, 0, 0, 2, 2, 0, 0, 0, 0, 11, 2, 0, 0, 0, 0, 11, 0, 255, 0,
-    12, 2, 1, 0, 0, 4, 1, 0, 4, 1, 0, 0, 0, 0, 15, 50, 0, 0, 0, 0, 3, 2, 0, 0, 0, 0, 11, 2, 0, 0,
-    0, 0, 11, 0, 255, 0, 4, 2, 1, 0, 0,
-];
+const GROUP: Key = Key {
+    mac: Mac([1, 0, 0x5e, 0, 0, 1]),
+    vid: Vid::UNTAGGED,
+};
 
-/// The first message of B as A sends it on before it has a quality.
-const SENT_ON: [u8; 36] = [
-    0, 15, 49, 5, 0, 0, 0, 1, 2, 0, 0, 0, 0, 11, 2, 0, 0, 0, 0, 11, 0, 0, 0, 12, 2, 1, 0, 0, 4, 1,
-    0, 4, 1, 0, 0, 0,
+const SIGHTING: Input<'static> = Input::Frame {
+    src: CLIENT,
+    dst: Mac::BROADCAST,
+    vid: Vid::UNTAGGED,
+    text: b"hi",
+};
+
+/// The first broadcast of A, with the frame of the sighting.
+const BROADCAST: [u8; 30] = [
+    1, 15, 50, 0, 0, 0, 0, 1, 2, 0, 0, 0, 0, 10, 255, 255, 255, 255, 255, 255, 2, 0, 0, 0, 1, 1,
+    0x88, 0xb5, b'h', b'i',
 ];
 
 /// A port with room for so many acts.
@@ -61,79 +61,71 @@ impl Port for Taken {
 }
 
 impl Taken {
-    // Whether the act at this place sends these bytes on all links.
-    fn has_sent(&self, place: usize, expected: &[u8]) -> bool {
+    // Whether the act at this place sends these bytes to a neighbour, or on all links.
+    fn has_sent(&self, place: usize, neighbour: Option<Mac>, expected: &[u8]) -> bool {
         match self.acts.as_slice().get(place) {
             Some(
                 Act::Link {
-                    to: None,
+                    to,
                     reason: None,
                     bytes,
                 },
-            ) => bytes.as_slice() == expected,
+            ) => *to == neighbour && bytes.as_slice() == expected,
             _ => false,
         }
     }
 }
 
 #[test]
-fn a_node_sends_its_own_messages_and_those_that_it_hears(rt: HostRuntime) -> Result<(), NodeErr> {
+fn a_first_tick_puts_nothing(rt: HostRuntime) -> Result<(), NodeErr> {
     let mut node = Node::new(rt.alloc(), A, Iv::new(rt.alloc(), A));
     let mut port = Taken {
         acts: Vec::new(rt.alloc()),
-        room: 3,
+        room: 1,
     };
     node.take(&mut port, 500, &Input::Tick { index: 1 })?;
     assert_eq!(rt; port.acts.len(), 0);
-    node.take(&mut port, 1000, &Input::Tick { index: 2 })?;
-    assert!(rt; port.has_sent(0, &OWN));
-    let frame = Input::Link {
-        from: B,
-        tp: 10,
-        bytes: &FRAME,
+    assert_eq!(rt; node.globals().len(), 0);
+    assert_eq!(rt; node.sync().mark_of(500, KEY), None);
+    Ok(())
+}
+
+#[test]
+fn a_frame_for_all_is_sent_and_its_client_present(rt: HostRuntime) -> Result<(), NodeErr> {
+    let mut node = Node::new(rt.alloc(), A, Iv::new(rt.alloc(), A));
+    let mut port = Taken {
+        acts: Vec::new(rt.alloc()),
+        room: 1,
     };
-    node.take(&mut port, 1001, &frame)?;
-    assert!(rt; port.has_sent(1, &SENT_ON));
-    assert_eq!(rt; port.acts.len(), 3);
-    assert_eq!(rt;
-        node.algo().link_at(1001, 0),
-        Some(LinkRow::Iv {
-            neigh: B,
-            rq: 2,
-            eq: 0
-        })
-    );
+    node.take(&mut port, 600, &SIGHTING)?;
+    assert_eq!(rt; port.acts.len(), 1);
+    assert!(rt; port.has_sent(0, None, &BROADCAST));
+    assert_eq!(rt; node.locals().present(600, KEY), Some(0));
+    Ok(())
+}
+
+#[test]
+fn a_joined_group_is_present(rt: HostRuntime) -> Result<(), NodeErr> {
+    let mut node = Node::new(rt.alloc(), A, Iv::new(rt.alloc(), A));
+    let mut port = Taken {
+        acts: Vec::new(rt.alloc()),
+        room: 0,
+    };
+    node.take(&mut port, 2, &Input::Join(GROUP))?;
+    assert_eq!(rt; node.locals().present(3, GROUP), Some(0));
     Ok(())
 }
 
 #[test]
 fn a_node_takes_nothing_after_a_refusal(rt: HostRuntime) -> Result<(), NodeErr> {
-    let mut node = Node::new(rt.alloc(), B, Iv::new(rt.alloc(), B));
+    let mut node = Node::new(rt.alloc(), A, Iv::new(rt.alloc(), A));
     let mut port = Taken {
         acts: Vec::new(rt.alloc()),
         room: 0,
     };
-    let sighting = Input::Frame {
-        src: CLIENT,
-        dst: Mac::BROADCAST,
-        vid: Vid::UNTAGGED,
-        text: b"hi",
-    };
-    node.take(&mut port, 0, &Input::Wifi(true))?;
-    node.take(&mut port, 0, &sighting)?;
-    let key = Key {
-        mac: CLIENT,
-        vid: Vid::UNTAGGED,
-    };
-    assert_eq!(rt; node.locals().present(0, key), Some(16));
-    let frame = Input::Link {
-        from: A,
-        tp: 10,
-        bytes: &OWN,
-    };
-    assert_eq!(rt; node.take(&mut port, 1001, &frame), Err(NodeErr::Frames));
+    assert_eq!(rt; node.take(&mut port, 0, &SIGHTING), Err(NodeErr::Frames));
     assert_eq!(rt;
-        node.take(&mut port, 1002, &Input::Wifi(false)),
+        node.take(&mut port, 1, &Input::Wifi(false)),
         Err(NodeErr::Dead)
     );
     assert_eq!(rt; port.acts.len(), 0);

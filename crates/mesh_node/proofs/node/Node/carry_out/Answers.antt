@@ -1,22 +1,83 @@
+use Rattle.std.proofs.Common.{Err, Ok, subst}
 use Rattle.std.proofs.lemmas.Result.{err_from_is_err_and}
-use Rattle.mesh_model.specs.Clients.Limits.{limit_of_mention}
-use Rattle.mesh_model.specs.Clients.Mentions.{is_wifi_on, key_of, mentions}
-use Rattle.mesh_node.specs.Errors.{HasClientCause}
-use Rattle.mesh_node.specs.NodeStands.{sighting_of}
-use Rattle.mesh_node.proofs.SightLemmas.{cause_by_wifi, sighting_refused, sighting_noted}
+use Rattle.mesh_model.specs.Clients.Limits.{passed_limit}
+use Rattle.mesh_model.specs.Clients.Log.{Join}
+use Rattle.mesh_model.specs.Knowledge.Steps.{knowledge}
+use Rattle.mesh_node.specs.NodeStands.{MayFollow}
+use Rattle.mesh_node.proofs.SightLemmas.{answered_leaves}
 use Rattle.mesh_node.proofs.node.Node.carry_out.Goals as goal
 
-pub returns-in_err-sight-in-Frame-clause-puts : goal.returns-in_err-sight-in-Frame-clause-puts
-returns-in_err-sight-in-Frame-clause-puts g c = λ me log number is.
-    let p = err_from_is_err_and c.from_residual-in_err-sight-in-Frame.result c.from_residual-in_err-sight-in-Frame.ensures.1 in
-    let mention = sighting_of c.args.now (key_of c.in-Frame.src c.in-Frame.vid) (is_wifi_on log) in
-    let limit = limit_of_mention (mentions me log) mention in
-    let error = c.in_err-sight-in-Frame.field-0.0 in
-    let cause : HasClientCause limit error = cause_by_wifi (mentions me log) c.args.now (key_of c.in-Frame.src c.in-Frame.vid) c.args.self.now.wifi (is_wifi_on log) is.wifi error
-    (c.in_err-sight-in-Frame.ensures.refused (mentions me log) is.locals) in
-    rw (p.1, p.2, c.in-Frame.is) (sighting_refused g.P.Port.takes g.P.Port.same g.P.Port.over limit error c.args.port.now (g.met.P.Port.same_refl c.args.port.now) cause)
+-- ---- ticks
 
-pub returns-in_ok-sight-in-Frame-clause-noted : goal.returns-in_ok-sight-in-Frame-clause-noted
-returns-in_ok-sight-in-Frame-clause-noted g c = λ me log number is.
-    rw c.in-Frame.is (sighting_noted g.A.Algo.stands c.args.self.now c.sight.new.self me log c.args.now c.in-Frame.src c.in-Frame.dst c.in-Frame.vid c.in-Frame.text.now _
-    is c.in_ok-sight-in-Frame.ensures.others (c.in_ok-sight-in-Frame.ensures.noted (mentions me log) is.locals))
+pub take_tick-requires : goal.take_tick-requires
+take_tick-requires g c =
+    let may = c.requires in
+    (may.me, may.log, may.stand, may.later, subst (MayFollow (knowledge (g.A.Algo.queries may.me) may.me may.log)) c.in-Tick.is may.follows)
+
+pub returns-in_err-take_tick-in-Tick-clause-puts : goal.returns-in_err-take_tick-in-Tick-clause-puts
+returns-in_err-take_tick-in-Tick-clause-puts g c = λ me log number is late.
+    let p = err_from_is_err_and c.from_residual.result c.from_residual.ensures.1 in
+    rw (p.1, p.2, c.in-Tick.is) (c.in_err-take_tick-in-Tick.ensures.puts me log is late)
+
+pub returns-in_ok-take_tick-in-Tick-clause-puts : goal.returns-in_ok-take_tick-in-Tick-clause-puts
+returns-in_ok-take_tick-in-Tick-clause-puts g c = λ me log number is late.
+    rw c.in-Tick.is (c.in_ok-take_tick-in-Tick.ensures.puts me log is late)
+
+pub returns-in_ok-take_tick-in-Tick-clause-noted : goal.returns-in_ok-take_tick-in-Tick-clause-noted
+returns-in_ok-take_tick-in-Tick-clause-noted g c = λ me log number is late.
+    rw c.in-Tick.is (c.in_ok-take_tick-in-Tick.ensures.noted me log is late)
+
+-- ---- link frames
+
+pub take_link-requires : goal.take_link-requires
+take_link-requires g c =
+    let may = c.requires in
+    (may.me, may.log, may.stand, may.later)
+
+pub returns-in_err-take_link-in-Link-clause-puts : goal.returns-in_err-take_link-in-Link-clause-puts
+returns-in_err-take_link-in-Link-clause-puts g c = λ me log number is late.
+    let p = err_from_is_err_and c.from_residual-in_err-take_link-in-Link.result c.from_residual-in_err-take_link-in-Link.ensures.1 in
+    rw (p.1, p.2, c.in-Link.is) (c.in_err-take_link-in-Link.ensures.puts me log number is late)
+
+pub returns-in_ok-take_link-in-Link-clause-puts : goal.returns-in_ok-take_link-in-Link-clause-puts
+returns-in_ok-take_link-in-Link-clause-puts g c = λ me log number is late.
+    rw c.in-Link.is (c.in_ok-take_link-in-Link.ensures.puts me log number is late)
+
+pub returns-in_ok-take_link-in-Link-clause-noted : goal.returns-in_ok-take_link-in-Link-clause-noted
+returns-in_ok-take_link-in-Link-clause-noted g c = λ me log number is late.
+    rw c.in-Link.is (c.in_ok-take_link-in-Link.ensures.noted me log number is late)
+
+-- ---- what lines give
+
+pub take_frame-requires : goal.take_frame-requires
+take_frame-requires g c =
+    let may = c.requires in
+    (may.me, may.log, may.stand, may.later)
+
+pub returns-in_err-take_frame-in-Frame-clause-puts : goal.returns-in_err-take_frame-in-Frame-clause-puts
+returns-in_err-take_frame-in-Frame-clause-puts g c = λ me log number is late.
+    let p = err_from_is_err_and c.from_residual-in_err-take_frame-in-Frame.result c.from_residual-in_err-take_frame-in-Frame.ensures.1 in
+    rw (p.1, p.2, c.in-Frame.is) (c.in_err-take_frame-in-Frame.ensures.puts me log is late)
+
+pub returns-in_ok-take_frame-in-Frame-clause-puts : goal.returns-in_ok-take_frame-in-Frame-clause-puts
+returns-in_ok-take_frame-in-Frame-clause-puts g c = λ me log number is late.
+    rw c.in-Frame.is (c.in_ok-take_frame-in-Frame.ensures.puts me log is late)
+
+pub returns-in_ok-take_frame-in-Frame-clause-noted : goal.returns-in_ok-take_frame-in-Frame-clause-noted
+returns-in_ok-take_frame-in-Frame-clause-noted g c = λ me log number is late.
+    rw c.in-Frame.is (c.in_ok-take_frame-in-Frame.ensures.noted me log is late)
+
+pub returns-in_err-join_group-in-Join-clause-puts : goal.returns-in_err-join_group-in-Join-clause-puts
+returns-in_err-join_group-in-Join-clause-puts g c = λ me log number is late.
+    let p = err_from_is_err_and c.from_residual-in_err-join_group-in-Join.result c.from_residual-in_err-join_group-in-Join.ensures.1 in
+    rw (p.1, p.2, c.in-Join.is) (answered_leaves g.P.Port.takes g.P.Port.same g.P.Port.over (passed_limit me log c.args.now (Join c.in-Join.key)) c.args.port.now
+    (Err c.in_err-join_group-in-Join.field-0.0) (g.met.P.Port.same_refl c.args.port.now) (c.in_err-join_group-in-Join.ensures.answers me log is late))
+
+pub returns-in_ok-join_group-in-Join-clause-puts : goal.returns-in_ok-join_group-in-Join-clause-puts
+returns-in_ok-join_group-in-Join-clause-puts g c = λ me log number is late.
+    rw c.in-Join.is (answered_leaves g.P.Port.takes g.P.Port.same g.P.Port.over (passed_limit me log c.args.now (Join c.in-Join.key)) c.args.port.now
+    (Ok tt) (g.met.P.Port.same_refl c.args.port.now) (c.in_ok-join_group-in-Join.ensures.answers me log is late))
+
+pub returns-in_ok-join_group-in-Join-clause-noted : goal.returns-in_ok-join_group-in-Join-clause-noted
+returns-in_ok-join_group-in-Join-clause-noted g c = λ me log number is late.
+    rw c.in-Join.is (c.in_ok-join_group-in-Join.ensures.noted me log is late)

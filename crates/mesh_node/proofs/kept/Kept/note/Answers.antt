@@ -1,0 +1,10 @@
+use Rattle.mesh_node.proofs.kept.Kept.note.Goals as goal
+
+pub returns-clause-noted : goal.returns-clause-noted
+returns-clause-noted g c = λ me known number stands. record {
+  routes = stands.routes;
+  tables = c.in_ok-heard.ensures.ok known.tables number stands.tables;
+  marks = stands.marks;
+  taken = stands.taken;
+  sent = stands.sent;
+}

@@ -1,0 +1,14 @@
+use Rattle.mesh_model.specs.Commits.History.{history}
+use Rattle.mesh_model.specs.Clients.Mentions.{mentions}
+use Rattle.mesh_node.proofs.OwnLemmas.{has_left}
+use Rattle.mesh_node.proofs.node.Node.leave_group.Goals as goal
+
+pub returns-clause-noted : goal.returns-clause-noted
+returns-clause-noted g c = λ me log is late. record {
+  mac = is.mac;
+  kept = is.kept;
+  clients = has_left (g.A.Algo.queries me) c.args.self.now.locals c.leave.new.self me log c.args.now c.args.key is.clients late
+      (c.leave.ensures.noted (mentions me log) (history me log) is.clients.since c.args.now is.clients.stand);
+  wifi = is.wifi;
+  alive = is.alive;
+}

@@ -1,0 +1,12 @@
+use Rattle.std.proofs.Common.{refl}
+use Rattle.mesh_node.proofs.OwnLemmas.{has_none}
+use Rattle.mesh_node.proofs.node.Node.new.Goals as goal
+
+pub returns : goal.returns
+returns g c = record {
+  mac = refl;
+  kept = c.new-2.ensures c.args.me c.requires;
+  clients = has_none _ c.args.me c.new.ensures;
+  wifi = refl;
+  alive = refl;
+}

@@ -1,0 +1,66 @@
+use Rattle.std.proofs.Common.{◌∷◌, Err, Ok, arith, subst, sym}
+use Rattle.std.proofs.lemmas.Result.{err_from_is_err_and}
+use Rattle.mesh_model.specs.Acts.Rows.{tick_acts}
+use Rattle.mesh_model.specs.Clients.Mentions.{mentions}
+use Rattle.mesh_model.specs.Commits.History.{history}
+use Rattle.mesh_model.specs.Knowledge.Steps.{knowledge}
+use Rattle.mesh_model.specs.Routes.RouteLog.{OwnTick}
+use Rattle.mesh_node.specs.KnowledgeStands.{KnowledgeStands}
+use Rattle.mesh_node.specs.Puts.{Puts}
+use Rattle.mesh_node.proofs.OwnLemmas.{has_ticked}
+use Rattle.mesh_node.proofs.node.Node.take_tick.Goals as goal
+
+pub tick-requires-clause-known : goal.tick-requires-clause-known
+tick-requires-clause-known g c =
+    let known = knowledge (g.A.Algo.queries c.requires.0) c.requires.0 c.requires.1 in
+    let is = c.requires.2 in
+    (known, subst (λ m. KnowledgeStands g.A.Algo.stands c.args.self.now.kept m known) (sym is.mac) is.kept, c.requires.4)
+
+pub tick-requires-clause-few : goal.tick-requires-clause-few
+tick-requires-clause-few g c =
+    let has = c.requires.2.clients in
+    let late = c.requires.3 in
+    let settled = has.settled in (
+      mentions c.requires.0 c.requires.1,
+      history c.requires.0 c.requires.1,
+      has.since,
+      has.stand,
+      omega (arith, settled, late),
+      record {
+        present = λ at later. has.few.present at (omega (arith, late, later));
+        committed = has.few.committed;
+      },
+    )
+
+pub returns-in_err-tick-clause-puts : goal.returns-in_err-tick-clause-puts
+returns-in_err-tick-clause-puts g c = λ me log is late.
+    let p = err_from_is_err_and c.from_residual.result c.from_residual.ensures.1 in
+    let known = knowledge (g.A.Algo.queries me) me log in
+    let settled = is.clients.settled in
+    rw (p.1, p.2) (subst (λ m. Puts g.P.Port.takes g.P.Port.same g.P.Port.over c.args.port.now
+    (tick_acts (g.A.Algo.queries m) m known.routes (mentions me log) (history me log) c.args.now c.args.index) (Err c.in_err-tick.field-0.0) c.tick.new.port) is.mac
+    (c.in_err-tick.ensures.puts known (mentions me log) (history me log) is.clients.since
+    (subst (λ m. KnowledgeStands g.A.Algo.stands c.args.self.now.kept m known) (sym is.mac) is.kept) is.clients.stand (omega (arith, settled, late))))
+
+pub returns-clause-puts : goal.returns-clause-puts
+returns-clause-puts g c = λ me log is late.
+    let known = knowledge (g.A.Algo.queries me) me log in
+    let settled = is.clients.settled in
+    subst (λ m. Puts g.P.Port.takes g.P.Port.same g.P.Port.over c.args.port.now
+    (tick_acts (g.A.Algo.queries m) m known.routes (mentions me log) (history me log) c.args.now c.args.index) (Ok tt) c.tick.new.port) is.mac
+    (c.in_ok-tick.ensures.puts known (mentions me log) (history me log) is.clients.since
+    (subst (λ m. KnowledgeStands g.A.Algo.stands c.args.self.now.kept m known) (sym is.mac) is.kept) is.clients.stand (omega (arith, settled, late)))
+
+pub returns-clause-noted : goal.returns-clause-noted
+returns-clause-noted g c = λ me log is late.
+    let known = knowledge (g.A.Algo.queries me) me log in
+    let settled = is.clients.settled in
+    record {
+      mac = is.mac;
+      kept = subst (λ m. KnowledgeStands g.A.Algo.stands c.tick.new.kept m (record known { routes = OwnTick c.args.now c.args.index ∷ known.routes })) is.mac
+          (c.in_ok-tick.ensures.ticked known (subst (λ m. KnowledgeStands g.A.Algo.stands c.args.self.now.kept m known) (sym is.mac) is.kept));
+      clients = has_ticked (g.A.Algo.queries me) c.args.self.now.locals c.tick.new.locals me log c.args.now c.args.index is.clients late
+          (c.in_ok-tick.ensures.committed (mentions me log) (history me log) is.clients.since is.clients.stand (omega (arith, settled, late)));
+      wifi = is.wifi;
+      alive = is.alive;
+    }

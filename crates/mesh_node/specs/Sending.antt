@@ -1,0 +1,25 @@
+-- A packet that can be written: its containers aren't longer than its header can tell, and it has a
+-- tail only where its kind has one. And an answer whose containers aren't longer. The main words
+-- are `IsWritable` and `FitsPacket`.
+use Rattle.std.specs.Prelude.{◌≡◌, ◌≤◌, ◌+◌, ◌*◌, ℕ, List, [], length, ⊤}
+use Rattle.mesh_codec.specs.Encoding.{FitsFragment, longest_containers}
+use Rattle.mesh_model.specs.declared.packet.Head.{Head}
+use Rattle.mesh_model.specs.Packets.Shapes.{TailKind, shape_of}
+use Rattle.mesh_model.specs.Packets.Shapes.TailKind.{containers, all_the_rest, nothing}
+use Rattle.mesh_model.specs.Tables.Answers.{Reply}
+
+-- a tail may follow the header of a kind that has this tail
+abbrev pub MayBeTail : TailKind → List ℕ → Type 0
+MayBeTail containers tail = length tail ≤ longest_containers
+MayBeTail all_the_rest tail = ⊤
+MayBeTail nothing tail = tail ≡ []
+
+-- a packet with this head and tail can be written
+pub record IsWritable (head : Head) (tail : List ℕ) : Type 0 where
+  pub fragment : FitsFragment head
+  pub fits : MayBeTail (shape_of head).tail tail
+
+-- the container of an answer, with 8 bytes for each checksum and 12 for each record, isn't longer
+abbrev pub FitsPacket : Reply → Type 0
+FitsPacket reply =
+    8 + 8 * length reply.stamp.sums + 12 * length reply.records ≤ longest_containers

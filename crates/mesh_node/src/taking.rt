@@ -1,0 +1,204 @@
+//! What a node does with what it is given: for each kind of input one function.
+
+ghost use Rattle.std.specs.Prelude.{◌≡◌, ◌≤◌, ℕ, if◌then◌else◌, OnOk};
+ghost use Rattle.mesh_base.specs.declared.address.Mac.{Mac};
+ghost use Rattle.mesh_codec.specs.Payloads.{seen_frame};
+ghost use Rattle.mesh_model.specs.Acts.Choosing.{acts_of};
+ghost use Rattle.mesh_model.specs.Clients.Limits.{passed_limit};
+ghost use Rattle.mesh_model.specs.Clients.Log.{Given, Log};
+ghost use Rattle.mesh_model.specs.Clients.Log as given;
+ghost use Rattle.mesh_model.specs.Knowledge.Steps.{knowledge};
+ghost use Rattle.mesh_model.specs.Packets.Numbers.{wifi_flag};
+ghost use Rattle.mesh_model.specs.Routes.RouteLog.{MayTick};
+ghost use Rattle.mesh_node.specs.FrameRows.{given_frame};
+ghost use Rattle.mesh_node.specs.NodeStands.{NodeStands, MayTake, given_by, is_dead, with_input};
+ghost use Rattle.mesh_node.specs.OwnStands.{newest_moment};
+ghost use Rattle.mesh_node.specs.Puts.{Answers, Leaves};
+
+use crate::arrival::{Arrival, Place};
+use crate::client_frames::frame;
+use crate::failure::NodeErr;
+use crate::input::Input;
+use crate::node::Node;
+use crate::port::Port;
+use crate::roaming::note_roamed;
+use crate::rows::link;
+use crate::ticks::tick;
+use mesh_algo::Algo;
+use mesh_base::{Key, Millis};
+use mesh_codec::ClientFrame;
+use mesh_tvlv::layout::WIFI;
+
+impl<A: Algo> Node<A> {
+    /// Takes what it is given, while it refused nothing: the row of the input.
+    pub(crate) fn carry_out<P: Port>(
+        &mut self,
+        port: &mut P,
+        now: Millis,
+        input: &Input<'_>,
+    ) -> Result<(), NodeErr>
+        requires { MayTake A.stands A.queries self.old now input.now }
+        ensures puts { (me : Mac) (log : Log) (number : ℕ) →
+            NodeStands A.stands A.queries self.old me log → newest_moment log ≤ now →
+            let given : Given = given_by number input.now in
+            Leaves P.takes P.same P.over (passed_limit me log now given)
+            port.old (acts_of (A.queries me) me log now given) result port.new }
+        ensures noted { (me : Mac) (log : Log) (number : ℕ) →
+            NodeStands A.stands A.queries self.old me log → newest_moment log ≤ now →
+            OnOk result (NodeStands A.stands A.queries self.new me
+            (with_input (A.queries me) me log now (given_by number input.now))) }
+        ensures alive { is_dead self.new ≡ is_dead self.old }
+    {
+        match *input {
+            Input::Tick { index } => self.take_tick(port, now, index)?,
+            Input::Link { from, tp, bytes } => {
+                self.take_link(port, Arrival { now, from, tp }, bytes)?;
+            }
+            Input::Frame {
+                src,
+                dst,
+                vid,
+                text,
+            } => {
+                let frame = ClientFrame {
+                    dst,
+                    src,
+                    vid,
+                    text,
+                };
+                self.take_frame(port, now, &frame)?;
+            }
+            Input::Gone(key) => self.lose_client(now, key),
+            Input::Join(key) => self.join_group(now, key)?,
+            Input::Leave(key) => self.leave_group(now, key),
+            Input::Wifi(on) => self.set_wifi(now, on),
+        }
+        Ok(())
+    }
+
+    // Takes a tick of its own.
+    fn take_tick<P: Port>(&mut self, port: &mut P, now: Millis, index: u64) -> Result<(), NodeErr>
+        requires { (me : Mac) × (log : Log) × NodeStands A.stands A.queries self.old me log
+            × (newest_moment log ≤ now)
+            × MayTick (knowledge (A.queries me) me log).routes index }
+        ensures puts { (me : Mac) (log : Log) → NodeStands A.stands A.queries self.old me log →
+            newest_moment log ≤ now →
+            Leaves P.takes P.same P.over (passed_limit me log now (given.Tick index)) port.old
+            (acts_of (A.queries me) me log now (given.Tick index)) result port.new }
+        ensures noted { (me : Mac) (log : Log) → NodeStands A.stands A.queries self.old me log →
+            newest_moment log ≤ now →
+            OnOk result (NodeStands A.stands A.queries self.new me
+            (with_input (A.queries me) me log now (given.Tick index))) }
+        ensures alive { is_dead self.new ≡ is_dead self.old }
+    {
+        let at = Place { me: self.me, now };
+        tick(&mut self.kept, port, &mut self.locals, at, index)?;
+        Ok(())
+    }
+
+    // Takes a link frame: the packets in it, and behind them the clients that roamed away.
+    fn take_link<P: Port>(
+        &mut self,
+        port: &mut P,
+        came: Arrival,
+        bytes: &[u8],
+    ) -> Result<(), NodeErr>
+        requires { (me : Mac) × (log : Log) × NodeStands A.stands A.queries self.old me log
+            × (newest_moment log ≤ came.now) }
+        ensures puts { (me : Mac) (log : Log) (number : ℕ) →
+            NodeStands A.stands A.queries self.old me log → newest_moment log ≤ came.now →
+            let given = given.LinkFrame number came.from came.tp bytes.now in
+            Leaves P.takes P.same P.over (passed_limit me log came.now given) port.old
+            (acts_of (A.queries me) me log came.now given) result port.new }
+        ensures noted { (me : Mac) (log : Log) (number : ℕ) →
+            NodeStands A.stands A.queries self.old me log → newest_moment log ≤ came.now →
+            let given = given.LinkFrame number came.from came.tp bytes.now in
+            OnOk result (NodeStands A.stands A.queries self.new me
+            (with_input (A.queries me) me log came.now given)) }
+        ensures alive { is_dead self.new ≡ is_dead self.old }
+    {
+        link(&mut self.kept, port, &self.locals, self.me, came, bytes)?;
+        note_roamed(&mut self.locals, self.me, bytes);
+        Ok(())
+    }
+
+    // Takes a frame of a client at this node.
+    fn take_frame<P: Port>(
+        &mut self,
+        port: &mut P,
+        now: Millis,
+        sent: &ClientFrame<'_>,
+    ) -> Result<(), NodeErr>
+        requires { (me : Mac) × (log : Log) × NodeStands A.stands A.queries self.old me log
+            × (newest_moment log ≤ now) }
+        ensures puts { (me : Mac) (log : Log) → NodeStands A.stands A.queries self.old me log →
+            newest_moment log ≤ now →
+            let given = given_frame (seen_frame sent.now) in
+            Leaves P.takes P.same P.over (passed_limit me log now given) port.old
+            (acts_of (A.queries me) me log now given) result port.new }
+        ensures noted { (me : Mac) (log : Log) → NodeStands A.stands A.queries self.old me log →
+            newest_moment log ≤ now →
+            OnOk result (NodeStands A.stands A.queries self.new me
+            (with_input (A.queries me) me log now (given_frame (seen_frame sent.now)))) }
+        ensures alive { is_dead self.new ≡ is_dead self.old }
+    {
+        let at = Place { me: self.me, now };
+        let flags = client_flags(self.wifi);
+        frame(&mut self.kept, port, &mut self.locals, at, flags, sent)?;
+        Ok(())
+    }
+
+    // Notes that a client departed.
+    fn lose_client(&mut self, now: Millis, key: Key)
+        ensures noted { (me : Mac) (log : Log) → NodeStands A.stands A.queries self.old me log →
+            newest_moment log ≤ now →
+            NodeStands A.stands A.queries self.new me
+            (with_input (A.queries me) me log now (given.Gone key)) }
+        ensures alive { is_dead self.new ≡ is_dead self.old }
+    {
+        self.locals.gone(key);
+    }
+
+    // Notes that a client joined a group.
+    fn join_group(&mut self, now: Millis, key: Key) -> Result<(), NodeErr>
+        ensures answers { (me : Mac) (log : Log) → NodeStands A.stands A.queries self.old me log →
+            newest_moment log ≤ now → Answers (passed_limit me log now (given.Join key)) result }
+        ensures noted { (me : Mac) (log : Log) → NodeStands A.stands A.queries self.old me log →
+            newest_moment log ≤ now →
+            OnOk result (NodeStands A.stands A.queries self.new me
+            (with_input (A.queries me) me log now (given.Join key))) }
+        ensures alive { is_dead self.new ≡ is_dead self.old }
+    {
+        self.locals.join(now, key)?;
+        Ok(())
+    }
+
+    // Notes that a group was left.
+    fn leave_group(&mut self, now: Millis, key: Key)
+        ensures noted { (me : Mac) (log : Log) → NodeStands A.stands A.queries self.old me log →
+            newest_moment log ≤ now →
+            NodeStands A.stands A.queries self.new me
+            (with_input (A.queries me) me log now (given.Leave key)) }
+        ensures alive { is_dead self.new ≡ is_dead self.old }
+    {
+        self.locals.leave(key);
+    }
+
+    // Sets whether the clients that are sighted are on a wireless device.
+    fn set_wifi(&mut self, now: Millis, on: bool)
+        ensures noted { (me : Mac) (log : Log) → NodeStands A.stands A.queries self.old me log →
+            newest_moment log ≤ now →
+            NodeStands A.stands A.queries self.new me
+            (with_input (A.queries me) me log now (given.Wifi on)) }
+        ensures alive { is_dead self.new ≡ is_dead self.old }
+    {
+        self.wifi = on;
+    }
+}
+
+// The flags of a client that is sighted, with this setting for wireless clients.
+fn client_flags(wifi: bool) -> u8
+    ensures { result ≡ (if wifi then wifi_flag else 0) }
+{
+    if wifi { WIFI } else { 0 }
+}
