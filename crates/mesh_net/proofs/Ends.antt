@@ -39,10 +39,11 @@ use Rattle.mesh_net.specs.NetStands.{NetStands, SeatsStand, IsNet, IsLive}
 use Rattle.mesh_net.proofs.PopLemmas.{popped_next, popped_waits, ticker_is, all_others, tick_or_later, ticks_next}
 use Rattle.mesh_net.specs.Reached.{IsReached, is_given, is_delivered, happens, IsOfLine}
 use Rattle.mesh_net.specs.Sent.{InStep, Logged, Grew}
-use Rattle.mesh_net.specs.Steps.{AreOnLinks, Begun, Gave, HasNodes, KeepsNet, MayTickAt, Settled, SettleTells, StepFails, Stepped, net_error, ticks_amid}
+use Rattle.mesh_net.specs.Steps.{AreOnLinks, ArePast, Begun, Gave, HasNodes, KeepsNet, MayTickAt, Settled, SettleTells, StepFails, Stepped, net_error, ticks_amid}
 use Rattle.mesh_net.specs.Tells.{Carried, Gains, StepTells}
 use Rattle.mesh_net.specs.Waiting.{IsPopped}
 use Rattle.mesh_net.proofs.LookUps.{some_one}
+use Rattle.mesh_net.proofs.MomentLemmas.{are_past, past_later}
 use Rattle.mesh_net.proofs.ReachedLemmas.{reached, of_line}
 use Rattle.mesh_net.proofs.TickLemmas.{may_tick, not_before}
 
@@ -157,7 +158,7 @@ module _ {A : Type 0} where
   -- the net stands for the mesh after a step
   pub stands_for : (queries : Mac → Queries) (stands : A → Mac → RouteLog → Type 0) (net done end : Net A) (choice : FrameChoice) (last : Happening) (ticks : List Happening) (clock : ℕ) (after : Mesh)
       → Settled net done → SameBut done end → net.dead ≡ false → net.post.choice ≡ choice → end.clock ≡ clock → end.last ≡ last → after.last ≡ last → last.moment ≤ clock → clock ≤ clock_limit
-      → SeatsStand stands net.seats.items after.nodes → InStep net.post net.sent.items last ticks after → ((x : Happening) → Has ticks x ↔ Has (first_ticks 0 after.nodes) x) → IsReached (scenario_setup queries) clock after
+      → SeatsStand queries stands net.seats.items after.nodes → InStep net.post net.sent.items last ticks after → ((x : Happening) → Has ticks x ↔ Has (first_ticks 0 after.nodes) x) → IsReached (scenario_setup queries) clock after
       → NetStands queries stands end choice clock after
   stands_for queries stands net done end choice last ticks clock after s b alive choice_is clock_is last_is is past low seats step same way = record {
     alive = b.dead ∙ s.dead ∙ alive;
@@ -166,7 +167,7 @@ module _ {A : Type 0} where
     last_is = last_is ∙ sym is;
     past = subst (λ (h : Happening). h.moment ≤ clock) (sym is) past;
     low = low;
-    seats = subst (λ (v : Vec (Seat A)). SeatsStand stands v.items after.nodes) (sym (b.seats ∙ s.seats)) seats;
+    seats = subst (λ (v : Vec (Seat A)). SeatsStand queries stands v.items after.nodes) (sym (b.seats ∙ s.seats)) seats;
     kept = subst (λ p. InStep p end.sent.items after.last (first_ticks 0 after.nodes) after) (sym b.post)
         (subst (λ (v : Vec Sending). InStep done.post v.items after.last (first_ticks 0 after.nodes) after) (sym b.sent)
         (subst (λ h. InStep done.post done.sent.items h (first_ticks 0 after.nodes) after) (sym is) (step_ticks done.post done.sent.items last ticks (first_ticks 0 after.nodes) after same (settled_step net done last ticks after s step))));
@@ -198,11 +199,11 @@ happening_tells setup mesh h net_errors.Memory t = tt
 
 module _ {A : Type 0} (queries : Mac → Queries) (stands : A → Mac → RouteLog → Type 0) where
   -- ---- a line, and a frame that is delivered again
-  pub begun_now : (net : Net A) (choice : FrameChoice) (mesh : Mesh) → NetStands queries stands net choice net.clock mesh → Begun stands net choice mesh.last (first_ticks 0 mesh.nodes) net.clock mesh
+  pub begun_now : (net : Net A) (choice : FrameChoice) (mesh : Mesh) → NetStands queries stands net choice net.clock mesh → Begun queries stands net choice mesh.last (first_ticks 0 mesh.nodes) net.clock mesh
   begun_now net choice mesh s = record {
     choice_is = s.choice_is;
     settled = s.settled;
-    stage = record { seats_stand = s.seats; step = s.kept; late = s.past; soon = s.low };
+    stage = record { seats_stand = s.seats; step = s.kept; past = are_past (scenario_setup queries) net.clock mesh s.reached; late = s.past; soon = s.low };
   }
 
   pub on_links : (net : Net A) (choice : FrameChoice) (clock : ℕ) (mesh : Mesh) → NetStands queries stands net choice clock mesh → AreOnLinks mesh
@@ -212,7 +213,7 @@ module _ {A : Type 0} (queries : Mac → Queries) (stands : A → Mac → RouteL
   same_has a b e x = (λ p. subst (λ hs. Has hs x) (sym e) p, λ p. subst (λ hs. Has hs x) e p)
 
   pub carried : (net amid done : Net A) (choice : FrameChoice) (mesh : Mesh) (old new new' : List Event) (attempt : Attempt)
-      → NetStands queries stands net choice net.clock mesh → KeepsNet net amid → Settled amid done → new' ≡ new → (g : Gave stands amid choice mesh.last (first_ticks 0 mesh.nodes) mesh old new attempt)
+      → NetStands queries stands net choice net.clock mesh → KeepsNet net amid → Settled amid done → new' ≡ new → (g : Gave queries stands amid choice mesh.last (first_ticks 0 mesh.nodes) mesh old new attempt)
       → first_ticks 0 g.after.nodes ≡ first_ticks 0 mesh.nodes → g.after.last ≡ mesh.last → IsReached (scenario_setup queries) net.clock g.after
       → Carried queries stands done choice net.clock mesh old new' attempt
   carried net amid done choice mesh old new new' attempt s k d told g same last way = record {
@@ -225,7 +226,7 @@ module _ {A : Type 0} (queries : Mac → Queries) (stands : A → Mac → RouteL
 
   pub carried_line : (net amid done : Net A) (choice : FrameChoice) (mesh : Mesh) (old new new' : List Event) (place : ℕ) (given : Given)
       → NetStands queries stands net choice net.clock mesh → KeepsNet net amid → Settled amid done → new' ≡ new → IsOfLine given
-      → Gave stands amid choice mesh.last (first_ticks 0 mesh.nodes) mesh old new (given_to (scenario_setup queries) place net.clock 0 given mesh)
+      → Gave queries stands amid choice mesh.last (first_ticks 0 mesh.nodes) mesh old new (given_to (scenario_setup queries) place net.clock 0 given mesh)
       → Carried queries stands done choice net.clock mesh old new' (given_to (scenario_setup queries) place net.clock 0 given mesh)
   carried_line net amid done choice mesh old new new' place given s k d told line g =
       let l = of_line mesh.frames given line in
@@ -235,7 +236,7 @@ module _ {A : Type 0} (queries : Mac → Queries) (stands : A → Mac → RouteL
 
   pub carried_frame : (net amid done : Net A) (choice : FrameChoice) (mesh : Mesh) (old new new' : List Event) (place : ℕ)
       → NetStands queries stands net choice net.clock mesh → KeepsNet net amid → Settled amid done → new' ≡ new
-      → Gave stands amid choice mesh.last (first_ticks 0 mesh.nodes) mesh old new (delivered (scenario_setup queries) place net.clock mesh)
+      → Gave queries stands amid choice mesh.last (first_ticks 0 mesh.nodes) mesh old new (delivered (scenario_setup queries) place net.clock mesh)
       → Carried queries stands done choice net.clock mesh old new' (delivered (scenario_setup queries) place net.clock mesh)
   carried_frame net amid done choice mesh old new new' place s k d told g =
       let e = delivered_effect (scenario_setup queries) mesh place net.clock g.after g.is in
@@ -250,8 +251,12 @@ module _ {A : Type 0} (queries : Mac → Queries) (stands : A → Mac → RouteL
       clash e = cc
   live_of net (inr live) alive = live
 
-  pub has_nodes : (net : Net A) → IsLive queries stands net → HasNodes stands net
-  has_nodes net live = record { nodes = live.mesh.nodes; seats_stand = live.standing.seats }
+  pub has_nodes : (net : Net A) → IsLive queries stands net → HasNodes queries stands net net.clock
+  has_nodes net live = record {
+    nodes = live.mesh.nodes;
+    seats_stand = live.standing.seats;
+    past = subst (λ now. ArePast now live.mesh.nodes) (sym live.standing.clock_is) (are_past (scenario_setup queries) live.clock live.mesh live.standing.reached);
+  }
 
   -- ---- a happening
   abbrev pub popped_net : Net A → List Happening → Net A
@@ -270,7 +275,18 @@ module _ {A : Type 0} (queries : Mac → Queries) (stands : A → Mac → RouteL
     h_low : h.moment ≤ clock_limit
     h_low = let w = popped.within in omega (arith, w, soon)
 
-    pub begun_step : Begun stands (popped_net net rest) choice h waiting_ticks h.moment mesh
+    -- the clock isn't after the happening
+    h_later : clock ≤ h.moment
+    h_later = let next = next_is in not_before queries clock mesh s.reached h next.happens next.after
+
+    -- nor is the newest input of a node
+    nodes_past : ArePast h.moment mesh.nodes
+    nodes_past = past_later clock h.moment mesh.nodes h_later (are_past (scenario_setup queries) clock mesh s.reached)
+
+    pub nodes_due : HasNodes queries stands (popped_net net rest) h.moment
+    nodes_due = record { nodes = mesh.nodes; seats_stand = s.seats; past = nodes_past }
+
+    pub begun_step : Begun queries stands (popped_net net rest) choice h waiting_ticks h.moment mesh
     begun_step = record {
       choice_is = s.choice_is;
       settled = s.settled;
@@ -291,18 +307,19 @@ module _ {A : Type 0} (queries : Mac → Queries) (stands : A → Mac → RouteL
           };
           older_is = s.kept.older_is;
         };
+        past = nodes_past;
         late = omega arith;
         soon = h_low;
       };
     }
 
-    pub tick_due : h.class ≡ NodeTick → MayTickAt stands (popped_net net rest) h.place
+    pub tick_due : h.class ≡ NodeTick → MayTickAt queries stands (popped_net net rest) h.place h.moment
     tick_due class =
         let k = ticker_is net.post.queue rest t h mesh sound s.kept.amid.waits popped class in
         let m : h.moment ≡ k.node.made + tick_time * suc (ticks_in k.node.log) = ap (λ (y : Happening). y.moment) k.is in
         let l = h_low in
         let few : ticks_in k.node.log < 4294967295 = omega (arith, m, l) in
-        record { nodes = mesh.nodes; seats_stand = s.seats; row = k.node; found = k.found; may = may_tick queries clock mesh h.place k.node s.reached k.found few; few = few }
+        record { nodes = mesh.nodes; seats_stand = s.seats; past = nodes_past; row = k.node; found = k.found; may = may_tick queries clock mesh h.place k.node s.reached k.found few; few = few }
 
     ticks_match : (after : Mesh) (class : Class) → h.class ≡ class → after_happening (scenario_setup queries) h mesh ≡ Ok after → (x : Happening) → Has (ticks_amid h.class h.place h.moment waiting_ticks) x ↔ Has (first_ticks 0 after.nodes) x
     ticks_match after LinkDelivery e is x =
@@ -318,7 +335,7 @@ module _ {A : Type 0} (queries : Mac → Queries) (stands : A → Mac → RouteL
         (ticks_next mesh after h k.node k.found k.is (λ place n f. subst (λ c. Was mesh.nodes after.frames (ticks_of c h.place place) place n) e (step.nodes place n f)) step.count (tick_or_later net.post.queue rest t h mesh sound s.kept.amid.waits popped) x)
 
     pub stepped : (amid done end : Net A) (old new new' : List Event) → KeepsNet (popped_net net rest) amid → Settled amid done → SameBut done end → end.clock ≡ h.moment → end.last ≡ h → new' ≡ new
-        → Gave stands amid choice h (ticks_amid h.class h.place h.moment waiting_ticks) mesh old new (effect (scenario_setup queries) h.class h.place h.moment mesh)
+        → Gave queries stands amid choice h (ticks_amid h.class h.place h.moment waiting_ticks) mesh old new (effect (scenario_setup queries) h.class h.place h.moment mesh)
         → Stepped queries stands end choice mesh t old new'
     stepped amid done end old new new' k d b clock_is last_is told g =
         let is : after_happening (scenario_setup queries) h mesh ≡ Ok (with_happening h g.after) = ap (on_ok (with_last h)) g.is in
@@ -331,7 +348,7 @@ module _ {A : Type 0} (queries : Mac → Queries) (stands : A → Mac → RouteL
           is = is;
           standing = stands_for queries stands amid done end choice h (ticks_amid h.class h.place h.moment waiting_ticks) h.moment (with_happening h g.after) d b (k.dead ∙ s.alive) g.choice_is clock_is last_is refl (omega arith) h_low
               g.seats_stand (step_last amid.post amid.sent.items h h (ticks_amid h.class h.place h.moment waiting_ticks) g.after g.step) (ticks_match (with_happening h g.after) h.class refl is)
-              (happens clock mesh (with_happening h g.after) h s.reached due.0 (not_before queries clock mesh s.reached h next.happens next.after) h_low is);
+              (happens clock mesh (with_happening h g.after) h s.reached due.0 h_later h_low is);
           logged = subst (Logged choice mesh (with_happening h g.after) old) (sym told) (record { more = g.logged.more; came = g.logged.came; told = g.logged.told });
         }
 

@@ -271,7 +271,7 @@ by_bool false f h = h refl
 
 pub given_ok : {A : Type 0} (queries : Mac → Queries) (stands : A → Mac → RouteLog → Type 0) (node : Node A) (choice : FrameChoice) (sender : Sender) (given : Given) (post post' : Post) (older : List Sending) (last : Happening) (ticks : List Happening) (row : NodeLog) (mesh : Mesh) (old new new' : List Event) (r : Result Unit NodeErr)
     → post' ≡ post → new' ≡ new → Gave queries choice sender given post older last ticks row mesh old new r
-    → OnOk r (NodeStands stands node row.mac (entry_of (scenario_setup queries) row sender.now given ∷ row.log))
+    → OnOk r (NodeStands stands queries node row.mac (entry_of (scenario_setup queries) row sender.now given ∷ row.log))
     → OnOk r (HasGiven queries stands node choice sender given post' older last ticks row mesh old new')
 given_ok queries stands node choice sender given post post' older last ticks row mesh old new new' (Ok done) same told gave stand = record {
   after = gave.after;

@@ -3,15 +3,17 @@ use Rattle.std.proofs.Common.{◌≡◌, ℕ, zero, suc, ◌<◌, List, [], ◌�
 use Rattle.mesh_base.specs.declared.address.Mac.{Mac}
 use Rattle.mesh_model.specs.declared.frame_choice.FrameChoice.{FrameChoice}
 use Rattle.mesh_model.specs.declared.happening.Happening.{Happening}
-use Rattle.mesh_model.specs.Acts.RouteInputs.{route_log}
 use Rattle.mesh_model.specs.Clients.Log as log
+use Rattle.mesh_model.specs.Knowledge.Known.{Knowledge}
+use Rattle.mesh_model.specs.Knowledge.Steps.{knowledge}
 use Rattle.mesh_model.specs.Net.Due.{ticks_in}
 use Rattle.mesh_model.specs.Net.Inputs.{given_to}
 use Rattle.mesh_model.specs.Net.Mesh.{NodeLog, NetLink, SentFrame, Mesh, Setup, address_at}
 use Rattle.mesh_model.specs.Net.Runs.{delivered, frame_given, frame_over, tick_given, ticked, throughput_between}
+use Rattle.mesh_model.specs.Routes.Queries.{Queries}
 use Rattle.mesh_model.specs.Routes.RouteLog.{RouteLog, MayTick}
 use Rattle.mesh_node.specs.declared.input.Input.{Input}
-use Rattle.mesh_node.specs.declared.input.Input.TheVariants.{Tick, Link, Frame, Wifi}
+use Rattle.mesh_node.specs.declared.input.Input.TheVariants.{Tick, Link, Frame, Gone, Join, Leave, Wifi}
 use Rattle.mesh_node.specs.NodeStands.{MayTake, MayFollow, given_by}
 use Rattle.mesh_net.specs.declared.row.Arrival.{Arrival}
 use Rattle.mesh_net.specs.declared.row.Sending.{Sending}
@@ -22,6 +24,7 @@ use Rattle.mesh_net.specs.NetStands.{SeatsStand}
 use Rattle.mesh_net.specs.Reached.{IsOfLine}
 use Rattle.mesh_net.specs.Steps.{AreOnLinks, Begun, Counts, HasNodes, MayTickAt}
 use Rattle.mesh_net.proofs.LookUps.{some_one, got_there}
+use Rattle.mesh_net.proofs.MomentLemmas.{past_at}
 use Rattle.mesh_net.proofs.SeatLemmas.{seat_at, seats_length}
 
 -- ---- what a line gives
@@ -29,41 +32,47 @@ pub line_counts : (ticks number : ℕ) (input : Input) → IsOfLine (given_by nu
 line_counts ticks number (Tick index) line = absurd line
 line_counts ticks number (Link from tp bytes) line = absurd line
 line_counts ticks number (Frame src dst vid text) line = tt
+line_counts ticks number (Gone key) line = tt
+line_counts ticks number (Join key) line = tt
+line_counts ticks number (Leave key) line = tt
 line_counts ticks number (Wifi on) line = tt
 
-line_follows : (before : RouteLog) (number : ℕ) (input : Input) → IsOfLine (given_by number input) → MayFollow before input
+line_follows : (before : Knowledge) (number : ℕ) (input : Input) → IsOfLine (given_by number input) → MayFollow before input
 line_follows before number (Tick index) line = absurd line
 line_follows before number (Link from tp bytes) line = absurd line
 line_follows before number (Frame src dst vid text) line = tt
+line_follows before number (Gone key) line = tt
+line_follows before number (Join key) line = tt
+line_follows before number (Leave key) line = tt
 line_follows before number (Wifi on) line = tt
 
-module _ {A : Type 0} (stands : A → Mac → RouteLog → Type 0) where
-  -- a node takes what follows on each log
-  may_take : (seats : List (Seat A)) (nodes : List NodeLog) (place : ℕ) (seat : Seat A) (input : Input) → SeatsStand stands seats nodes → slice_get seats place ≡ Some seat
-      → ((row : NodeLog) → slice_get nodes place ≡ Some row → MayFollow (route_log row.log) input) → MayTake stands seat.node input
-  may_take seats nodes place seat input stand found follows =
-      let row = seat_at stands seats nodes place seat stand found in
-      record { me = row.0.mac; log = row.0.log; stand = row.2.node; follows = follows row.0 row.1 }
+module _ {A : Type 0} (queries : Mac → Queries) (stands : A → Mac → RouteLog → Type 0) where
+  -- what a node knows
+  abbrev known_of : NodeLog → Knowledge
+  known_of row = knowledge (queries row.mac) row.mac row.log
 
-  pub line_taken : (net : Net A) (place number : ℕ) (input : Input) → HasNodes stands net → IsOfLine (given_by number input) → (seat : Seat A) → slice_get net.seats.items place ≡ Some seat → MayTake stands seat.node input
-  line_taken net place number input has line seat found = may_take net.seats.items has.nodes place seat input has.seats_stand found (λ row e. line_follows (route_log row.log) number input line)
+  -- a node takes what follows all that it may know, at a moment that isn't before its newest input
+  pub may_take : (net : Net A) (place now : ℕ) (input : Input) → HasNodes queries stands net now → ((known : Knowledge) → MayFollow known input) → (seat : Seat A) → slice_get net.seats.items place ≡ Some seat → MayTake stands queries seat.node now input
+  may_take net place now input has follows seat found =
+      let row = seat_at queries stands net.seats.items has.nodes place seat has.seats_stand found in
+      record { me = row.0.mac; log = row.0.log; stand = row.2.node; later = past_at now place has.nodes row.0 has.past row.1; follows = follows (known_of row.0) }
 
-  pub link_taken : (net : Net A) (place : ℕ) (input : Input) → HasNodes stands net → ((before : RouteLog) → MayFollow before input) → (seat : Seat A) → slice_get net.seats.items place ≡ Some seat → MayTake stands seat.node input
-  link_taken net place input has any seat found = may_take net.seats.items has.nodes place seat input has.seats_stand found (λ row e. any (route_log row.log))
+  pub line_taken : (net : Net A) (place now number : ℕ) (input : Input) → HasNodes queries stands net now → IsOfLine (given_by number input) → (seat : Seat A) → slice_get net.seats.items place ≡ Some seat → MayTake stands queries seat.node now input
+  line_taken net place now number input has line = may_take net place now input has (λ known. line_follows known number input line)
 
   -- ---- a tick
   -- the node that ticks
-  pub record Ticker (seats : List (Seat A)) (place index : ℕ) : Type 0 where
+  pub record Ticker (seats : List (Seat A)) (place now index : ℕ) : Type 0 where
     pub seat : Seat A
     pub found : slice_get seats place ≡ Some seat
     pub low : seat.ticks < 4294967296
-    pub may : (index ≡ suc seat.ticks) → MayTake stands seat.node (Tick index)
+    pub may : (index ≡ suc seat.ticks) → MayTake stands queries seat.node now (Tick index)
 
-  pub ticker : (net : Net A) (place index : ℕ) → MayTickAt stands net place → Ticker net.seats.items place index
-  ticker net place index may =
-      let l : place < length net.seats.items = subst (λ n. place < n) (sym (seats_length stands net.seats.items may.nodes may.seats_stand)) (got_low may.nodes place may.row may.found) in
+  pub ticker : (net : Net A) (place now index : ℕ) → MayTickAt queries stands net place now → Ticker net.seats.items place now index
+  ticker net place now index may =
+      let l : place < length net.seats.items = subst (λ n. place < n) (sym (seats_length queries stands net.seats.items may.nodes may.seats_stand)) (got_low may.nodes place may.row may.found) in
       let there = got_there net.seats.items place l in
-      let row = seat_at stands net.seats.items may.nodes place there.0 may.seats_stand there.1 in
+      let row = seat_at queries stands net.seats.items may.nodes place there.0 may.seats_stand there.1 in
       let same : may.row ≡ row.0 = some_one may.row row.0 (sym may.found ∙ row.1) in
       let ticks_is : there.0.ticks ≡ ticks_in may.row.log = row.2.ticks ∙ ap (λ (r : NodeLog). ticks_in r.log) (sym same) in
       let few = may.few in
@@ -75,7 +84,8 @@ module _ {A : Type 0} (stands : A → Mac → RouteLog → Type 0) where
           me = row.0.mac;
           log = row.0.log;
           stand = row.2.node;
-          follows = subst (λ (r : NodeLog). MayTick (route_log r.log) index) same (subst (MayTick (route_log may.row.log)) (sym (e ∙ ap suc ticks_is)) may.may);
+          later = past_at now place may.nodes row.0 may.past row.1;
+          follows = subst (λ (r : NodeLog). MayTick (known_of r).routes index) same (subst (MayTick (known_of may.row).routes) (sym (e ∙ ap suc ticks_is)) may.may);
         };
       }
     where
@@ -84,20 +94,20 @@ module _ {A : Type 0} (stands : A → Mac → RouteLog → Type 0) where
       got_low (y ∷ ys) zero x e = omega arith
       got_low (y ∷ ys) (suc i) x e = let l = got_low ys i x e in omega (arith, l)
 
-  pub tick_taken : (seats : List (Seat A)) (place index : ℕ) (t : Ticker seats place index) → index ≡ suc t.seat.ticks → (seat : Seat A) → slice_get seats place ≡ Some seat → MayTake stands seat.node (Tick index)
-  tick_taken seats place index t e seat found = subst (λ (s : Seat A). MayTake stands s.node (Tick index)) (some_one t.seat seat (sym t.found ∙ found)) (t.may e)
+  pub tick_taken : (seats : List (Seat A)) (place now index : ℕ) (t : Ticker seats place now index) → index ≡ suc t.seat.ticks → (seat : Seat A) → slice_get seats place ≡ Some seat → MayTake stands queries seat.node now (Tick index)
+  tick_taken seats place now index t e seat found = subst (λ (s : Seat A). MayTake stands queries s.node now (Tick index)) (some_one t.seat seat (sym t.found ∙ found)) (t.may e)
 
   -- the index counts on
-  pub tick_counts : (seats : List (Seat A)) (nodes : List NodeLog) (place index : ℕ) (t : Ticker seats place index) → index ≡ suc t.seat.ticks → SeatsStand stands seats nodes → (row : NodeLog) → slice_get nodes place ≡ Some row → index ≡ suc (ticks_in row.log)
-  tick_counts seats nodes place index t e stand row found =
-      let r = seat_at stands seats nodes place t.seat stand t.found in
+  pub tick_counts : (seats : List (Seat A)) (nodes : List NodeLog) (place now index : ℕ) (t : Ticker seats place now index) → index ≡ suc t.seat.ticks → SeatsStand queries stands seats nodes → (row : NodeLog) → slice_get nodes place ≡ Some row → index ≡ suc (ticks_in row.log)
+  tick_counts seats nodes place now index t e stand row found =
+      let r = seat_at queries stands seats nodes place t.seat stand t.found in
       e ∙ ap suc (r.2.ticks ∙ ap (λ (x : NodeLog). ticks_in x.log) (some_one r.0 row (sym r.1 ∙ found)))
 
   -- a tick gives its node the index
-  pub ticked_is : (setup : Setup) (seats : List (Seat A)) (mesh : Mesh) (place now index : ℕ) (t : Ticker seats place index) → index ≡ suc t.seat.ticks → SeatsStand stands seats mesh.nodes
+  pub ticked_is : (setup : Setup) (seats : List (Seat A)) (mesh : Mesh) (place now index : ℕ) (t : Ticker seats place now index) → index ≡ suc t.seat.ticks → SeatsStand queries stands seats mesh.nodes
       → ticked setup place now mesh ≡ given_to setup place now index (log.Tick index) mesh
   ticked_is setup seats mesh place now index t e stand =
-      let r = seat_at stands seats mesh.nodes place t.seat stand t.found in
+      let r = seat_at queries stands seats mesh.nodes place t.seat stand t.found in
       let i : suc (ticks_in r.0.log) ≡ index = sym (e ∙ ap suc r.2.ticks) in
       ap (λ o. tick_given setup place now o mesh) r.1 ∙ ap (λ n. given_to setup place now n (log.Tick n) mesh) i
 
@@ -111,7 +121,7 @@ module _ {A : Type 0} (stands : A → Mac → RouteLog → Type 0) where
       → delivered setup place now mesh ≡ given_to setup link.to now frame.root (log.LinkFrame (suc place) (address_at link.from mesh.nodes) (throughput_between link.to link.from mesh.links) frame.bytes) mesh
   delivered_is setup mesh place now frame link found on = ap (λ o. frame_given setup place now o mesh) found ∙ ap (λ o. frame_over setup place now frame o mesh) on
 
-  comes_at : (setup : Setup) (net : Net A) (choice : FrameChoice) (last : Happening) (ticks : List Happening) (now : ℕ) (mesh : Mesh) (place : ℕ) (frame : SentFrame) (link : NetLink) (arrival : Arrival) → Begun stands net choice last ticks now mesh
+  comes_at : (setup : Setup) (net : Net A) (choice : FrameChoice) (last : Happening) (ticks : List Happening) (now : ℕ) (mesh : Mesh) (place : ℕ) (frame : SentFrame) (link : NetLink) (arrival : Arrival) → Begun queries stands net choice last ticks now mesh
       → slice_get mesh.frames place ≡ Some frame → slice_get mesh.links frame.link ≡ Some link → ArrivalIs (net.sent.items ++ net.post.fresh.items) mesh frame link arrival → Comes setup net mesh place now arrival
   comes_at setup net choice last ticks now mesh place frame link arrival begun found on a = record {
     sending = a.sending;
@@ -132,7 +142,7 @@ module _ {A : Type 0} (stands : A → Mac → RouteLog → Type 0) where
   none_some x o a b = cc
 
   -- what comes is kept
-  pub comes : (setup : Setup) (net : Net A) (choice : FrameChoice) (last : Happening) (ticks : List Happening) (now : ℕ) (mesh : Mesh) (place : ℕ) (o : Option Arrival) (arrival : Arrival) → o ≡ Some arrival → Begun stands net choice last ticks now mesh → AreOnLinks mesh
+  pub comes : (setup : Setup) (net : Net A) (choice : FrameChoice) (last : Happening) (ticks : List Happening) (now : ℕ) (mesh : Mesh) (place : ℕ) (o : Option Arrival) (arrival : Arrival) → o ≡ Some arrival → Begun queries stands net choice last ticks now mesh → AreOnLinks mesh
       → ((frame : SentFrame) (link : NetLink) → slice_get mesh.frames place ≡ Some frame → slice_get mesh.links frame.link ≡ Some link → (a : Arrival) × (o ≡ Some a) × ArrivalIs (net.sent.items ++ net.post.fresh.items) mesh frame link a)
       → (slice_get mesh.frames place ≡ None → o ≡ None) → Comes setup net mesh place now arrival
   comes setup net choice last ticks now mesh place o arrival is begun on some none = by_frame (slice_get mesh.frames place)

@@ -9,6 +9,7 @@ pub mod ActLemmas
 pub mod GiveLemmas
 pub mod Back
 pub mod ReachedLemmas
+pub mod MomentLemmas
 pub mod SeatLemmas
 pub mod StepLemmas
 pub mod InputLemmas

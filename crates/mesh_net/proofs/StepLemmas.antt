@@ -15,7 +15,7 @@ use Rattle.mesh_model.specs.Routes.Queries.{Queries}
 use Rattle.mesh_model.specs.Routes.RouteLog.{RouteLog}
 use Rattle.mesh_node.specs.declared.failure.NodeErr.{NodeErr}
 use Rattle.mesh_node.specs.declared.input.Input.{Input}
-use Rattle.mesh_node.specs.declared.input.Input.TheVariants.{Tick, Link, Frame, Wifi}
+use Rattle.mesh_node.specs.declared.input.Input.TheVariants.{Tick, Link, Frame, Gone, Join, Leave, Wifi}
 use Rattle.mesh_node.specs.NodeStands.{given_by}
 use Rattle.mesh_net.specs.declared.post.Post.{Post}
 use Rattle.mesh_net.specs.declared.row.Occasion.{Occasion}
@@ -38,11 +38,14 @@ pub ticks_are : (ticks number : ℕ) (input : Input) → Counts ticks input → 
 ticks_are ticks number (Tick index) counts = omega (arith, counts)
 ticks_are ticks number (Link from tp bytes) counts = omega arith
 ticks_are ticks number (Frame src dst vid text) counts = omega arith
+ticks_are ticks number (Gone key) counts = omega arith
+ticks_are ticks number (Join key) counts = omega arith
+ticks_are ticks number (Leave key) counts = omega arith
 ticks_are ticks number (Wifi on) counts = omega arith
 
 module _ {A : Type 0} (queries : Mac → Queries) (stands : A → Mac → RouteLog → Type 0) where
   -- where a net has no node, the mesh has none
-  pub none_at : (seats : List (Seat A)) (rows : List NodeLog) (i : ℕ) → SeatsStand stands seats rows → slice_get seats i ≡ None → slice_get rows i ≡ None
+  pub none_at : (seats : List (Seat A)) (rows : List NodeLog) (i : ℕ) → SeatsStand queries stands seats rows → slice_get seats i ≡ None → slice_get rows i ≡ None
   none_at [] [] i all e = refl
   none_at [] (row ∷ rows) i all e = absurd all
   none_at (s ∷ seats) [] i all e = absurd all
@@ -51,8 +54,8 @@ module _ {A : Type 0} (queries : Mac → Queries) (stands : A → Mac → RouteL
 
   -- nothing is given where there is no node
   pub tried_none : (seats : List (Seat A)) (post : Post) (older : List Sending) (last : Happening) (ticks : List Happening) (mesh : Mesh) (at : Occasion) (given : Given) (log : List Event)
-      → Stage stands seats post older last ticks at.now mesh → slice_get seats at.place ≡ None
-      → Tried stands seats post post.choice older last ticks mesh log log (given_to (scenario_setup queries) at.place at.now at.root given mesh)
+      → Stage queries stands seats post older last ticks at.now mesh → slice_get seats at.place ≡ None
+      → Tried queries stands seats post post.choice older last ticks mesh log log (given_to (scenario_setup queries) at.place at.now at.root given mesh)
   tried_none seats post older last ticks mesh at given log stage none = record {
     after = mesh;
     is = ap (λ o. given_node (scenario_setup queries) at.place at.now at.root given o mesh) (none_at seats mesh.nodes at.place stage.seats_stand none);
@@ -64,23 +67,23 @@ module _ {A : Type 0} (queries : Mac → Queries) (stands : A → Mac → RouteL
 
   -- who sends amid a step may
   pub may_send : (seats : List (Seat A)) (post : Post) (older : List Sending) (last : Happening) (ticks : List Happening) (mesh : Mesh) (sender : Sender) (row : NodeLog)
-      → Stage stands seats post older last ticks sender.now mesh → slice_get mesh.nodes sender.place ≡ Some row → MaySend sender last mesh
+      → Stage queries stands seats post older last ticks sender.now mesh → slice_get mesh.nodes sender.place ≡ Some row → MaySend sender last mesh
   may_send seats post older last ticks mesh sender row stage found = record { place = slice_get_within mesh.nodes sender.place row found; late = stage.late; soon = stage.soon }
 
   -- a node was given something
   pub tried_given : (seats : List (Seat A)) (post post' : Post) (older : List Sending) (last : Happening) (ticks : List Happening) (mesh : Mesh) (sender : Sender) (number : ℕ) (input : Input) (row : NodeLog) (seat : Seat A) (log log' : List Event)
-      → Stage stands seats post older last ticks sender.now mesh → CountsOn sender.place input mesh → slice_get mesh.nodes sender.place ≡ Some row
+      → Stage queries stands seats post older last ticks sender.now mesh → CountsOn sender.place input mesh → slice_get mesh.nodes sender.place ≡ Some row
       → seat.mac ≡ row.mac → seat.ticks ≡ ticks_with (ticks_in row.log) input
       → HasGiven queries stands seat.node post.choice sender (given_by number input) post' older last ticks row mesh log log'
-      → Tried stands (slice_set seats sender.place seat) post' post.choice older last ticks mesh log log' (given_to (scenario_setup queries) sender.place sender.now sender.root (given_by number input) mesh)
+      → Tried queries stands (slice_set seats sender.place seat) post' post.choice older last ticks mesh log log' (given_to (scenario_setup queries) sender.place sender.now sender.root (given_by number input) mesh)
   tried_given seats post post' older last ticks mesh sender number input row seat log log' stage counts found mac ticks_is g =
       let entry : LogEntry = entry_of (scenario_setup queries) row sender.now (given_by number input) in
       record {
         after = g.after;
         is = g.is;
         choice_is = g.choice_is;
-        seats_stand = subst (SeatsStand stands (slice_set seats sender.place seat)) (sym g.nodes)
-            (seat_set stands seats mesh.nodes sender.place seat row entry stage.seats_stand found (record {
+        seats_stand = subst (SeatsStand queries stands (slice_set seats sender.place seat)) (sym g.nodes)
+            (seat_set queries stands seats mesh.nodes sender.place seat row entry stage.seats_stand found (record {
               node = g.node_stands;
               mac = mac;
               ticks = ticks_is ∙ ticks_are (ticks_in row.log) number input (counts row found);
@@ -91,24 +94,24 @@ module _ {A : Type 0} (queries : Mac → Queries) (stands : A → Mac → RouteL
 
   -- a node was given something, or refused it
   pub tried_if_given : (seats : List (Seat A)) (post post' : Post) (older : List Sending) (last : Happening) (ticks : List Happening) (mesh : Mesh) (sender : Sender) (number : ℕ) (input : Input) (row : NodeLog) (seat : Seat A) (log log' : List Event) (r : Result Unit NodeErr)
-      → Stage stands seats post older last ticks sender.now mesh → CountsOn sender.place input mesh → slice_get mesh.nodes sender.place ≡ Some row
+      → Stage queries stands seats post older last ticks sender.now mesh → CountsOn sender.place input mesh → slice_get mesh.nodes sender.place ≡ Some row
       → seat.mac ≡ row.mac → seat.ticks ≡ ticks_with (ticks_in row.log) input
       → OnOk r (HasGiven queries stands seat.node post.choice sender (given_by number input) post' older last ticks row mesh log log')
-      → OnOk r (Tried stands (slice_set seats sender.place seat) post' post.choice older last ticks mesh log log' (given_to (scenario_setup queries) sender.place sender.now sender.root (given_by number input) mesh))
+      → OnOk r (Tried queries stands (slice_set seats sender.place seat) post' post.choice older last ticks mesh log log' (given_to (scenario_setup queries) sender.place sender.now sender.root (given_by number input) mesh))
   tried_if_given seats post post' older last ticks mesh sender number input row seat log log' (Ok done) stage counts found mac ticks_is g =
       tried_given seats post post' older last ticks mesh sender number input row seat log log' stage counts found mac ticks_is g
   tried_if_given seats post post' older last ticks mesh sender number input row seat log log' (Err error) stage counts found mac ticks_is g = tt
 
   -- ---- said of another attempt, which is the same
   pub tried_as : (seats : List (Seat A)) (post : Post) (choice choice' : FrameChoice) (older : List Sending) (last : Happening) (ticks : List Happening) (mesh : Mesh) (log log' : List Event) (attempt attempt' : Attempt) (r : Result Unit NodeErr)
-      → choice ≡ choice' → attempt ≡ attempt' → OnOk r (Tried stands seats post choice older last ticks mesh log log' attempt) → OnOk r (Tried stands seats post choice' older last ticks mesh log log' attempt')
+      → choice ≡ choice' → attempt ≡ attempt' → OnOk r (Tried queries stands seats post choice older last ticks mesh log log' attempt) → OnOk r (Tried queries stands seats post choice' older last ticks mesh log log' attempt')
   tried_as seats post choice choice' older last ticks mesh log log' attempt attempt' r same is tried =
-      subst (λ a. OnOk r (Tried stands seats post choice' older last ticks mesh log log' a)) is (subst (λ k. OnOk r (Tried stands seats post k older last ticks mesh log log' attempt)) same tried)
+      subst (λ a. OnOk r (Tried queries stands seats post choice' older last ticks mesh log log' a)) is (subst (λ k. OnOk r (Tried queries stands seats post k older last ticks mesh log log' attempt)) same tried)
 
   -- ---- one more happening waits
   pub stage_waits : (seats : List (Seat A)) (post : Post) (older : List Sending) (last : Happening) (ticks : List Happening) (now : ℕ) (mesh : Mesh) (queue : List Happening) (h next : Happening)
-      → Stage stands seats post older last ticks now mesh → h ≡ next → ((x : Happening) → Has queue x ↔ (x ≡ h) ⊎ Has post.queue x)
-      → Stage stands seats (record post { queue = queue }) older last (next ∷ ticks) now mesh
+      → Stage queries stands seats post older last ticks now mesh → h ≡ next → ((x : Happening) → Has queue x ↔ (x ≡ h) ⊎ Has post.queue x)
+      → Stage queries stands seats (record post { queue = queue }) older last (next ∷ ticks) now mesh
   stage_waits seats post older last ticks now mesh queue h next stage is gained = record {
     seats_stand = stage.seats_stand;
     step = record {
@@ -126,6 +129,7 @@ module _ {A : Type 0} (queries : Mac → Queries) (stands : A → Mac → RouteL
       };
       older_is = stage.step.older_is;
     };
+    past = stage.past;
     late = stage.late;
     soon = stage.soon;
   }

@@ -1,14 +1,22 @@
 -- Ticks of the nodes of a mesh that is reached: each has its number, and what is to come isn't
 -- before the clock.
-use Rattle.std.proofs.Common.{◌≡◌, ℕ, zero, suc, ◌+◌, ◌<◌, ◌≤◌, ◌⊎◌, inl, inr, Bool, true, false, cond, List, [], ◌∷◌, slice_get, Option, Some, None, Ok, fold, refl, sym, ap, ◌∙◌, subst, arith}
+use Rattle.std.proofs.Common.{◌≡◌, ℕ, zero, suc, ◌+◌, ◌<◌, ◌≤◌, ◌⊎◌, inl, inr, Bool, true, false, not, if◌then◌else◌, List, [], ◌∷◌, slice_get, Option, Some, None, Ok, refl, sym, ap, ◌∙◌, subst, arith}
+use Rattle.mesh_base.specs.Address.{is_broadcast}
 use Rattle.mesh_base.specs.declared.address.Mac.{Mac}
+use Rattle.mesh_base.specs.declared.client.Key.{Key}
 use Rattle.mesh_model.specs.declared.act.Act.{Act}
 use Rattle.mesh_model.specs.declared.ending.LimitName.{LimitName}
 use Rattle.mesh_model.specs.declared.happening.Class.{Class}
 use Rattle.mesh_model.specs.declared.happening.Class.TheVariants.{LinkDelivery, NodeTick}
 use Rattle.mesh_model.specs.declared.happening.Happening.{Happening}
-use Rattle.mesh_model.specs.Acts.RouteInputs.{route_log, after_packet, is_taken}
+use Rattle.mesh_model.specs.declared.packet.Head.{Head}
+use Rattle.mesh_model.specs.declared.packet.Head.TheVariants.{IvOgm, Bcast, Elp, Ogm2, Unicast, Frag, Unicast4, Icmp, Utvlv}
 use Rattle.mesh_model.specs.Clients.Log.{Given, Tick, LinkFrame, Frame, Gone, Join, Leave, Arp, Dhcp, Wifi, Log, LogEntry}
+use Rattle.mesh_model.specs.Clients.Mentions.{key_of}
+use Rattle.mesh_model.specs.Knowledge.Known.{Broadcast, Knowledge, agreed_byte, is_new_broadcast}
+use Rattle.mesh_model.specs.Knowledge.Steps.{Coming, knowledge, next_knowledge, after_announcement, after_answer, after_broadcast, after_containers, after_frame, after_head, after_message, after_packet, after_packets, after_roaming, after_sighting, after_taken, before_announcement, released_under, with_head}
+use Rattle.mesh_model.specs.Knowledge.Told.{Message, TableMessage, Asks, Answers, Neither, message_in, message_of}
+use Rattle.mesh_model.specs.Marks.Calls.{Forgotten}
 use Rattle.mesh_model.specs.Net.Due.{ticks_by, ticks_in}
 use Rattle.mesh_model.specs.Net.Happenings.{Before}
 use Rattle.mesh_model.specs.Net.Inputs.{entry_of, noted, noted_at, given_to, given_node, unless_passed, with_entry}
@@ -17,11 +25,15 @@ use Rattle.mesh_model.specs.Net.Mesh.{NodeLog, NetLink, SentFrame, Mesh, Setup, 
 use Rattle.mesh_model.specs.Net.Next.{Happens}
 use Rattle.mesh_model.specs.Net.Runs.{after_happening, effect, frame_given, frame_over, throughput_between, tick_given, with_last}
 use Rattle.mesh_model.specs.Net.Sending.{Attempt, Actor, after_acts}
+use Rattle.mesh_model.specs.Packets.Containers.{containers_of}
+use Rattle.mesh_model.specs.Packets.Contents.{first_roaming, first_table}
 use Rattle.mesh_model.specs.Packets.FirstPacket.{Packet}
 use Rattle.mesh_model.specs.Packets.LinkFrame.{link_frame}
+use Rattle.mesh_model.specs.Routes.Addresses.{same_mac}
 use Rattle.mesh_model.specs.Routes.Queries.{Queries}
-use Rattle.mesh_model.specs.Routes.RouteLog.{RouteLog, HeadCame, FollowsIndex, MayTick, last_index, own_ticks}
+use Rattle.mesh_model.specs.Routes.RouteLog.{FollowsIndex, MayTick, last_index, own_ticks}
 use Rattle.mesh_model.specs.Run.Steps.{new_node}
+use Rattle.mesh_model.specs.Tables.Known.{Answered, Dropped, known_by}
 use Rattle.mesh_laws.proofs.Schedule.Added.{added}
 use Rattle.mesh_laws.proofs.Schedule.Members.{get_last}
 use Rattle.mesh_laws.proofs.Schedule.Order.{moments}
@@ -32,48 +44,109 @@ use Rattle.mesh_net.specs.Reached.{IsReached, begins, joins, links, is_given, is
 use Rattle.mesh_net.proofs.LookUps.{some_one}
 use Rattle.mesh_net.proofs.ReachedLemmas.{reached, of_line}
 
--- ---- route logs
-packet_index : (now : ℕ) (from : Mac) (tp : ℕ) (l : RouteLog) (p : Packet) (b : Bool) → is_taken p ≡ b → last_index (after_packet now from tp l p) ≡ last_index l
-packet_index now from tp l p true e = ap (λ c. last_index (cond c (HeadCame now from tp p.head ∷ l) l)) e
-packet_index now from tp l p false e = ap (λ c. last_index (cond c (HeadCame now from tp p.head ∷ l) l)) e
+-- ---- what a node knows of its ticks
+-- how many ticks an algorithm had, and the index of the last
+abbrev counted : Knowledge → ℕ × Option ℕ
+counted known = (own_ticks known.routes, last_index known.routes)
 
-packets_index : (now : ℕ) (from : Mac) (tp : ℕ) (l : RouteLog) (ps : List Packet) → last_index (fold (after_packet now from tp) l ps) ≡ last_index l
-packets_index now from tp l [] = refl
-packets_index now from tp l (p ∷ ps) = packets_index now from tp (after_packet now from tp l p) ps ∙ packet_index now from tp l p (is_taken p) refl
+either_counted : (b : Bool) (x y known : Knowledge) → counted x ≡ counted known → counted y ≡ counted known → counted (if b then x else y) ≡ counted known
+either_counted true x y known e f = e
+either_counted false x y known e f = f
 
-packet_ticks : (now : ℕ) (from : Mac) (tp : ℕ) (l : RouteLog) (p : Packet) (b : Bool) → is_taken p ≡ b → own_ticks (after_packet now from tp l p) ≡ own_ticks l
-packet_ticks now from tp l p true e = ap (λ c. own_ticks (cond c (HeadCame now from tp p.head ∷ l) l)) e
-packet_ticks now from tp l p false e = ap (λ c. own_ticks (cond c (HeadCame now from tp p.head ∷ l) l)) e
+-- an originator message adds a head, and no tick
+message_counted : (q : Queries) (came : Coming) (head : Head) (message : Message) (known : Knowledge) → counted (after_message q came head message known) ≡ counted known
+message_counted q came head message known =
+    let heard : Knowledge = with_head came head known in
+    either_counted (q.hear known.routes came.now came.from came.throughput head).accepted (after_announcement q came message (before_announcement q came head message.orig known)) heard known
+    (either_counted (not (q.live known.routes came.now message.orig)) (record heard { tables = Dropped message.orig ∷ heard.tables; marks = Forgotten message.orig ∷ heard.marks }) heard known refl refl)
+    refl
 
-packets_ticks : (now : ℕ) (from : Mac) (tp : ℕ) (l : RouteLog) (ps : List Packet) → own_ticks (fold (after_packet now from tp) l ps) ≡ own_ticks l
-packets_ticks now from tp l [] = refl
-packets_ticks now from tp l (p ∷ ps) = packets_ticks now from tp (after_packet now from tp l p) ps ∙ packet_ticks now from tp l p (is_taken p) refl
+taken_counted : (q : Queries) (came : Coming) (head : Head) (message : Option Message) (known : Knowledge) → counted (after_taken q came head message known) ≡ counted known
+taken_counted q came head None known = refl
+taken_counted q came head (Some message) known = message_counted q came head message known
 
-no_more : (n : ℕ) → n ≡ 0 + n
-no_more n = omega arith
+answer_counted : (q : Queries) (now : ℕ) (src : Mac) (message : TableMessage) (known : Knowledge) → counted (after_answer q now src message known) ≡ counted known
+answer_counted q now src (Asks full stamp) known = refl
+answer_counted q now src (Answers stamp carried) known = either_counted (q.live known.routes now src) (record known {
+  tables = Answered src stamp carried ∷ known.tables;
+  marks = released_under src (agreed_byte (known_by (Answered src stamp carried ∷ known.tables) src)) known.marks;
+}) known known refl refl
+answer_counted q now src Neither known = refl
+
+roaming_counted : (q : Queries) (now : ℕ) (src : Mac) (key : Option Key) (known : Knowledge) → counted (after_roaming q now src key known) ≡ counted known
+roaming_counted q now src None known = refl
+roaming_counted q now src (Some key) known = refl
+
+containers_counted : (q : Queries) (now : ℕ) (src : Mac) (tail : List ℕ) (known : Knowledge) → counted (after_containers q now src tail known) ≡ counted known
+containers_counted q now src tail known =
+    let message = message_in (first_table (containers_of tail)) in
+    roaming_counted q now src (first_roaming (containers_of tail)) (after_answer q now src message known) ∙ answer_counted q now src message known
+
+broadcast_counted : (me : Mac) (broadcast : Broadcast) (known : Knowledge) → counted (after_broadcast me broadcast known) ≡ counted known
+broadcast_counted me broadcast known = either_counted (is_new_broadcast me broadcast known.taken) (record known { taken = broadcast ∷ known.taken }) known known refl refl
+
+head_counted : (q : Queries) (me : Mac) (came : Coming) (message : Option Message) (tail : List ℕ) (head : Head) (known : Knowledge) → counted (after_head q me came message tail head known) ≡ counted known
+head_counted q me came message tail (IvOgm ttl flags seq orig prev tq) known = taken_counted q came (IvOgm ttl flags seq orig prev tq) message known
+head_counted q me came message tail (Bcast ttl seq orig) known = broadcast_counted me (record { orig = orig; number = seq }) known
+head_counted q me came message tail (Elp orig seq interval) known = refl
+head_counted q me came message tail (Ogm2 ttl flags seq orig throughput) known = taken_counted q came (Ogm2 ttl flags seq orig throughput) message known
+head_counted q me came message tail (Unicast ttl ttvn dst) known = refl
+head_counted q me came message tail (Frag ttl number priority dst orig seq total) known = refl
+head_counted q me came message tail (Unicast4 ttl ttvn dst src subtype) known = refl
+head_counted q me came message tail (Icmp ttl msg dst orig uid seq) known = refl
+head_counted q me came message tail (Utvlv ttl dst src) known =
+    either_counted (same_mac dst me) (after_containers q came.now src tail known) known known (containers_counted q came.now src tail known) refl
+
+packets_counted : (q : Queries) (me : Mac) (came : Coming) (known : Knowledge) (packets : List Packet) → counted (after_packets q me came known packets) ≡ counted known
+packets_counted q me came known [] = refl
+packets_counted q me came known (p ∷ ps) = packets_counted q me came (after_packet q me came known p) ps ∙ head_counted q me came (message_of p) p.tail p.head known
+
+frame_counted : (dst : Mac) (known : Knowledge) → counted (after_frame dst known) ≡ counted known
+frame_counted dst known = either_counted (is_broadcast dst) (record known { sent = suc known.sent }) known known refl refl
+
+-- the index of the last tick after an input
+abbrev pub index_by : Given → Option ℕ → Option ℕ
+index_by (Tick index) last = Some index
+index_by (LinkFrame number from throughput bytes) last = last
+index_by (Frame src dst vid text) last = last
+index_by (Gone key) last = last
+index_by (Join key) last = last
+index_by (Leave key) last = last
+index_by (Arp mac own_ip asked_ip vid) last = last
+index_by (Dhcp key text) last = last
+index_by (Wifi on) last = last
+
+-- the index of a node's last tick
+abbrev pub index_in : Log → Option ℕ
+index_in [] = None
+index_in (entry ∷ older) = index_by entry.given (index_in older)
+
+no_more : (known : Knowledge) → counted known ≡ (0 + own_ticks known.routes, last_index known.routes)
+no_more known = ap (λ n. (n, last_index known.routes)) (omega arith)
+
+-- an input adds its tick, and no other
+next_counted : (q : Queries) (me : Mac) (older : Log) (known : Knowledge) (now : ℕ) (given : Given) → counted (next_knowledge q me older known now given) ≡ (ticks_by given + own_ticks known.routes, index_by given (last_index known.routes))
+next_counted q me older known now (Tick index) = ap (λ n. (n, Some index)) (omega arith)
+next_counted q me older known now (LinkFrame number from throughput bytes) =
+    packets_counted q me (record { now = now; from = from; throughput = throughput; number = number }) known (link_frame bytes).packets ∙ no_more known
+next_counted q me older known now (Frame src dst vid text) = frame_counted dst (after_sighting q me older now (key_of src vid) known) ∙ no_more known
+next_counted q me older known now (Gone key) = no_more known
+next_counted q me older known now (Join key) = no_more known
+next_counted q me older known now (Leave key) = no_more known
+next_counted q me older known now (Arp mac own_ip asked_ip vid) = no_more known
+next_counted q me older known now (Dhcp key text) = no_more known
+next_counted q me older known now (Wifi on) = no_more known
 
 -- an algorithm has the ticks of its node
-ticks_by_log : (now : ℕ) (given : Given) (acts : List Act) (log : Log) → own_ticks (route_log log) ≡ ticks_in log → own_ticks (route_log (record { moment = now; given = given; acts = acts } ∷ log)) ≡ ticks_by given + ticks_in log
-ticks_by_log now (Tick index) acts log e = omega (arith, e)
-ticks_by_log now (LinkFrame number from throughput bytes) acts log e =
-    let p = packets_ticks now from throughput (route_log log) (link_frame bytes).packets in
-    p ∙ e ∙ no_more (ticks_in log)
-ticks_by_log now (Frame src dst vid text) acts log e = omega (arith, e)
-ticks_by_log now (Gone key) acts log e = omega (arith, e)
-ticks_by_log now (Join key) acts log e = omega (arith, e)
-ticks_by_log now (Leave key) acts log e = omega (arith, e)
-ticks_by_log now (Arp mac own_ip asked_ip vid) acts log e = omega (arith, e)
-ticks_by_log now (Dhcp key text) acts log e = omega (arith, e)
-ticks_by_log now (Wifi on) acts log e = omega (arith, e)
-
-ticks_of_log : (log : Log) → own_ticks (route_log log) ≡ ticks_in log
-ticks_of_log [] = refl
-ticks_of_log (entry ∷ older) = ticks_by_log entry.moment entry.given entry.acts older (ticks_of_log older)
+log_counted : (q : Queries) (me : Mac) (log : Log) → counted (knowledge q me log) ≡ (ticks_in log, index_in log)
+log_counted q me [] = refl
+log_counted q me (entry ∷ older) =
+    next_counted q me older (knowledge q me older) entry.moment entry.given ∙ ap (λ (c : ℕ × Option ℕ). (ticks_by entry.given + c.0, index_by entry.given c.1)) (log_counted q me older)
 
 -- ---- numbers
 -- the next tick has the number that follows
 abbrev pub Numbered : Log → Type 0
-Numbered log = FollowsIndex (last_index (route_log log)) (suc (ticks_in log))
+Numbered log = FollowsIndex (index_in log) (suc (ticks_in log))
 
 -- an input that isn't a tick, or is the next
 abbrev pub IsInOrder : Log → Given → Type 0
@@ -95,21 +168,19 @@ index_of (Wifi on) = 0
 
 -- an input that isn't a tick leaves the number of the next
 same_number : (index : Option ℕ) (ticks : ℕ) → FollowsIndex index (suc ticks) → FollowsIndex index (suc (0 + ticks))
-same_number index ticks n = subst (λ k. FollowsIndex index (suc k)) (no_more ticks) n
+same_number index ticks n = subst (λ k. FollowsIndex index (suc k)) (omega arith) n
 
 numbered_next : (log : Log) (now : ℕ) (given : Given) (acts : List Act) → IsInOrder log given → Numbered log → Numbered (record { moment = now; given = given; acts = acts } ∷ log)
 numbered_next log now (Tick index) acts (inl e) n = absurd (omega (arith, e))
 numbered_next log now (Tick index) acts (inr e) n = let i : index ≡ suc (ticks_in log) = ap index_of e in omega (arith, i)
-numbered_next log now (LinkFrame number from throughput bytes) acts o n =
-    same_number (last_index (fold (after_packet now from throughput) (route_log log) (link_frame bytes).packets)) (ticks_in log)
-    (subst (λ i. FollowsIndex i (suc (ticks_in log))) (sym (packets_index now from throughput (route_log log) (link_frame bytes).packets)) n)
-numbered_next log now (Frame src dst vid text) acts o n = same_number (last_index (route_log log)) (ticks_in log) n
-numbered_next log now (Gone key) acts o n = same_number (last_index (route_log log)) (ticks_in log) n
-numbered_next log now (Join key) acts o n = same_number (last_index (route_log log)) (ticks_in log) n
-numbered_next log now (Leave key) acts o n = same_number (last_index (route_log log)) (ticks_in log) n
-numbered_next log now (Arp mac own_ip asked_ip vid) acts o n = same_number (last_index (route_log log)) (ticks_in log) n
-numbered_next log now (Dhcp key text) acts o n = same_number (last_index (route_log log)) (ticks_in log) n
-numbered_next log now (Wifi on) acts o n = same_number (last_index (route_log log)) (ticks_in log) n
+numbered_next log now (LinkFrame number from throughput bytes) acts o n = same_number (index_in log) (ticks_in log) n
+numbered_next log now (Frame src dst vid text) acts o n = same_number (index_in log) (ticks_in log) n
+numbered_next log now (Gone key) acts o n = same_number (index_in log) (ticks_in log) n
+numbered_next log now (Join key) acts o n = same_number (index_in log) (ticks_in log) n
+numbered_next log now (Leave key) acts o n = same_number (index_in log) (ticks_in log) n
+numbered_next log now (Arp mac own_ip asked_ip vid) acts o n = same_number (index_in log) (ticks_in log) n
+numbered_next log now (Dhcp key text) acts o n = same_number (index_in log) (ticks_in log) n
+numbered_next log now (Wifi on) acts o n = same_number (index_in log) (ticks_in log) n
 
 abbrev pub AllNumbered : List NodeLog → Type 0
 AllNumbered nodes = (place : ℕ) (node : NodeLog) → slice_get nodes place ≡ Some node → Numbered node.log
@@ -176,10 +247,14 @@ all_numbered queries _ _ (happens clock mesh after h way next later within e) = 
 all_numbered queries _ _ (passes clock later mesh way l low quiet) = all_numbered queries clock mesh way
 
 -- the next tick of a node that has few
-pub may_tick : (queries : Mac → Queries) (clock : ℕ) (mesh : Mesh) (place : ℕ) (node : NodeLog) → IsReached (scenario_setup queries) clock mesh → slice_get mesh.nodes place ≡ Some node → ticks_in node.log < 4294967295 → MayTick (route_log node.log) (suc (ticks_in node.log))
+pub may_tick : (queries : Mac → Queries) (clock : ℕ) (mesh : Mesh) (place : ℕ) (node : NodeLog) → IsReached (scenario_setup queries) clock mesh → slice_get mesh.nodes place ≡ Some node → ticks_in node.log < 4294967295 → MayTick (knowledge (queries node.mac) node.mac node.log).routes (suc (ticks_in node.log))
 may_tick queries clock mesh place node way found few =
-    let t = ticks_of_log node.log in
-    record { follows = all_numbered queries clock mesh way place node found; few = omega (arith, t, few) }
+    let c = log_counted (queries node.mac) node.mac node.log in
+    let t : own_ticks (knowledge (queries node.mac) node.mac node.log).routes ≡ ticks_in node.log = ap (λ (p : ℕ × Option ℕ). p.0) c in
+    record {
+      follows = subst (λ (p : ℕ × Option ℕ). FollowsIndex p.1 (suc (ticks_in node.log))) (sym c) (all_numbered queries clock mesh way place node found);
+      few = omega (arith, t, few);
+    }
 
 -- ---- what is to come
 pub not_before : (queries : Mac → Queries) (clock : ℕ) (mesh : Mesh) → IsReached (scenario_setup queries) clock mesh → (x : Happening) → Happens mesh x → Before mesh.last x → clock ≤ x.moment

@@ -29,7 +29,7 @@ pub record HasGiven {A : Type 0} (queries : Mac → Queries) (stands : A → Mac
   pub after : Mesh
   pub is : given_to (scenario_setup queries) sender.place sender.now sender.root given before
       ≡ Ok after
-  pub node_stands : NodeStands stands node row.mac
+  pub node_stands : NodeStands stands queries node row.mac
       (entry_of (scenario_setup queries) row sender.now given ∷ row.log)
   pub nodes : after.nodes ≡ noted_at sender.place
       (entry_of (scenario_setup queries) row sender.now given) before.nodes

@@ -1,6 +1,6 @@
--- What a net keeps of a mesh besides its nodes: a row for each link, how many frames it carried, the
--- places of the links that leave each node, and of each frame its link and its sending. An act is
--- one sending; the frames of an act share it. The main word is `PostStands`.
+-- What a net keeps of a mesh besides its nodes: a row for each link, how many frames it carried,
+-- the places of the links that leave each node, and of each frame its link and its sending. An act
+-- is one sending; the frames of an act share it. The main word is `PostStands`.
 use Rattle.std.specs.Prelude.{◌≡◌, ℕ, ◌<◌, ◌≤◌, List, [], ◌∷◌, length, slice_get, Some, None, ⊤}
 use Rattle.mesh_model.specs.Net.Mesh.{NodeLog, NetLink, SentFrame, Mesh, address_at}
 use Rattle.mesh_model.specs.Net.Limits.{frames_limit, frame_bytes_limit}
@@ -26,7 +26,8 @@ pub record RowIs (nodes : List NodeLog) (link : NetLink) (row : Row) : Type 0 wh
   pub most : link.delay ≤ delay_limit
 
 -- the row at the place of a link
-pub record HasRow (nodes : List NodeLog) (rows : List Row) (place : ℕ) (link : NetLink) : Type 0 where
+pub record HasRow (nodes : List NodeLog) (rows : List Row) (place : ℕ) (link : NetLink)
+    : Type 0 where
   pub row : Row
   pub found : slice_get rows place ≡ Some row
   pub is : RowIs nodes link row

@@ -1,6 +1,6 @@
 -- What a net stands for: a clock and a mesh that is reached, and which frames it is to show. The
--- names of the mesh's nodes, and its events, are no matter of the net: it stands for a mesh whatever
--- they are. The main word is `NetStands`.
+-- names of the mesh's nodes, and its events, are no matter of the net: it stands for a mesh
+-- whatever they are. The main word is `NetStands`.
 use Rattle.std.specs.Prelude.{◌≡◌, ℕ, ◌<◌, ◌≤◌, ◌⊎◌, true, false, List, [], ◌∷◌, length, ⊤}
 use Rattle.mesh_base.specs.declared.address.Mac.{Mac}
 use Rattle.mesh_model.specs.declared.frame_choice.FrameChoice.{FrameChoice}
@@ -17,20 +17,20 @@ use Rattle.mesh_net.specs.Reached.{IsReached}
 use Rattle.mesh_net.specs.Sent.{InStep}
 
 -- a node at its place stands for a node of the mesh
-pub record SeatIs {A : Type 0} (stands : A → Mac → RouteLog → Type 0) (seat : Seat A)
-    (row : NodeLog) : Type 0 where
-  pub node : NodeStands stands seat.node row.mac row.log
+pub record SeatIs {A : Type 0} (queries : Mac → Queries) (stands : A → Mac → RouteLog → Type 0)
+    (seat : Seat A) (row : NodeLog) : Type 0 where
+  pub node : NodeStands stands queries seat.node row.mac row.log
   pub mac : seat.mac ≡ row.mac
   pub ticks : seat.ticks ≡ ticks_in row.log
 
 -- the nodes stand for those of the mesh, each for that at its place
-abbrev pub SeatsStand : {A : Type 0} → (A → Mac → RouteLog → Type 0) → List (Seat A)
-    → List NodeLog → Type 0
-SeatsStand stands [] [] = ⊤
-SeatsStand stands [] (row ∷ rows) = ⊥
-SeatsStand stands (seat ∷ seats) [] = ⊥
-SeatsStand stands (seat ∷ seats) (row ∷ rows) =
-    SeatIs stands seat row × SeatsStand stands seats rows
+abbrev pub SeatsStand : {A : Type 0} → (Mac → Queries) → (A → Mac → RouteLog → Type 0)
+    → List (Seat A) → List NodeLog → Type 0
+SeatsStand queries stands [] [] = ⊤
+SeatsStand queries stands [] (row ∷ rows) = ⊥
+SeatsStand queries stands (seat ∷ seats) [] = ⊥
+SeatsStand queries stands (seat ∷ seats) (row ∷ rows) =
+    SeatIs queries stands seat row × SeatsStand queries stands seats rows
 
 -- a net stands for a choice of frames, a clock and a mesh
 pub record NetStands {A : Type 0} (queries : Mac → Queries) (stands : A → Mac → RouteLog → Type 0)
@@ -41,7 +41,7 @@ pub record NetStands {A : Type 0} (queries : Mac → Queries) (stands : A → Ma
   pub last_is : net.last ≡ mesh.last
   pub past : mesh.last.moment ≤ clock
   pub low : clock ≤ clock_limit
-  pub seats : SeatsStand stands net.seats.items mesh.nodes
+  pub seats : SeatsStand queries stands net.seats.items mesh.nodes
   -- what is kept besides the nodes, between two steps; those wait that are to come
   pub kept : InStep net.post net.sent.items mesh.last (first_ticks 0 mesh.nodes) mesh
   pub settled : net.post.fresh.items ≡ []

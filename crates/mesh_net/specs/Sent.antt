@@ -58,7 +58,8 @@ sent_on_all actor reason bytes (way ∷ rest) mesh =
     sent_on_all actor reason bytes rest (sent_on actor reason bytes way mesh)
 
 -- a sending at a place has these bytes and this root
-pub record IsSending (sendings : List Sending) (place : ℕ) (bytes : List ℕ) (root : ℕ) : Type 0 where
+pub record IsSending (sendings : List Sending) (place : ℕ) (bytes : List ℕ) (root : ℕ)
+    : Type 0 where
   pub sending : Sending
   pub found : slice_get sendings place ≡ Some sending
   pub bytes_are : sending.bytes ≡ bytes
@@ -116,7 +117,8 @@ pub record HasRoom (mesh : Mesh) (now more : ℕ) : Type 0 where
   pub small : total_bytes mesh.frames + more ≤ frame_bytes_limit
   pub soon : now ≤ clock_limit
 
--- what is kept has one frame more, of so many bytes, on the link at a place, and its deliveries wait
+-- what is kept has one frame more, of so many bytes, on the link at a place, and its deliveries
+-- wait
 pub record Carries (old new : Post) (sender : Sender) (parcel size way : ℕ) (lane : Lane) : Type 0
   where
     pub rows : new.rows.items ≡ old.rows.items

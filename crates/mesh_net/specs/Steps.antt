@@ -10,7 +10,7 @@ use Rattle.mesh_model.specs.declared.frame_choice.FrameChoice.{FrameChoice}
 use Rattle.mesh_model.specs.declared.happening.Class.{Class}
 use Rattle.mesh_model.specs.declared.happening.Class.TheVariants.{LinkDelivery, NodeTick}
 use Rattle.mesh_model.specs.declared.happening.Happening.{Happening}
-use Rattle.mesh_model.specs.Acts.RouteInputs.{route_log}
+use Rattle.mesh_model.specs.Knowledge.Steps.{knowledge}
 use Rattle.mesh_model.specs.Net.Due.{tick_time, ticks_in}
 use Rattle.mesh_model.specs.Net.Limits.{clock_limit, scenario_setup}
 use Rattle.mesh_model.specs.Net.Mesh.{NodeLog, SentFrame, Mesh, Setup}
@@ -23,7 +23,8 @@ use Rattle.mesh_model.specs.Routes.RouteLog.{RouteLog, MayTick}
 use Rattle.mesh_node.specs.declared.failure.NodeErr.{NodeErr}
 use Rattle.mesh_node.specs.declared.failure.NodeErr.TheVariants as node_errors
 use Rattle.mesh_node.specs.declared.input.Input.{Input}
-use Rattle.mesh_node.specs.declared.input.Input.TheVariants.{Tick, Link, Frame, Wifi}
+use Rattle.mesh_node.specs.declared.input.Input.TheVariants.{Tick, Link, Frame, Gone, Join, Leave, Wifi}
+use Rattle.mesh_node.specs.OwnStands.{newest_moment}
 use Rattle.mesh_net.specs.declared.failure.NetErr.{NetErr}
 use Rattle.mesh_net.specs.declared.failure.NetErr.TheVariants as net_errors
 use Rattle.mesh_net.specs.declared.net.Net.{Net}
@@ -40,6 +41,9 @@ abbrev pub ticks_with : ℕ → Input → ℕ
 ticks_with ticks (Tick index) = index
 ticks_with ticks (Link from tp bytes) = ticks
 ticks_with ticks (Frame src dst vid text) = ticks
+ticks_with ticks (Gone key) = ticks
+ticks_with ticks (Join key) = ticks
+ticks_with ticks (Leave key) = ticks
 ticks_with ticks (Wifi on) = ticks
 
 -- an input's index, where it is a tick, is that of the next tick after so many
@@ -47,14 +51,23 @@ abbrev pub Counts : ℕ → Input → Type 0
 Counts ticks (Tick index) = index ≡ suc ticks
 Counts ticks (Link from tp bytes) = ⊤
 Counts ticks (Frame src dst vid text) = ⊤
+Counts ticks (Gone key) = ⊤
+Counts ticks (Join key) = ⊤
+Counts ticks (Leave key) = ⊤
 Counts ticks (Wifi on) = ⊤
 
+-- the newest input of each node is not after a moment
+abbrev pub ArePast : ℕ → List NodeLog → Type 0
+ArePast now [] = ⊤
+ArePast now (node ∷ nodes) = (newest_moment node.log ≤ now) × ArePast now nodes
+
 -- nodes and what is kept besides, amid a step at a moment in a mesh
-pub record Stage {A : Type 0} (stands : A → Mac → RouteLog → Type 0) (seats : List (Seat A))
-    (post : Post) (older : List Sending) (last : Happening) (ticks : List Happening) (now : ℕ)
-    (mesh : Mesh) : Type 0 where
-  pub seats_stand : SeatsStand stands seats mesh.nodes
+pub record Stage {A : Type 0} (queries : Mac → Queries) (stands : A → Mac → RouteLog → Type 0)
+    (seats : List (Seat A)) (post : Post) (older : List Sending) (last : Happening)
+    (ticks : List Happening) (now : ℕ) (mesh : Mesh) : Type 0 where
+  pub seats_stand : SeatsStand queries stands seats mesh.nodes
   pub step : InStep post older last ticks mesh
+  pub past : ArePast now mesh.nodes
   pub late : last.moment ≤ now
   pub soon : now ≤ clock_limit
 
@@ -64,36 +77,39 @@ CountsOn place input mesh =
     (row : NodeLog) → slice_get mesh.nodes place ≡ Some row → Counts (ticks_in row.log) input
 
 -- something was tried amid a step: the mesh after it
-pub record Tried {A : Type 0} (stands : A → Mac → RouteLog → Type 0) (seats : List (Seat A))
-    (post : Post) (choice : FrameChoice) (older : List Sending) (last : Happening)
-    (ticks : List Happening) (before : Mesh) (old new : List Event) (attempt : Attempt) : Type 0
-  where
-    pub after : Mesh
-    pub is : attempt ≡ Ok after
-    pub choice_is : post.choice ≡ choice
-    pub seats_stand : SeatsStand stands seats after.nodes
-    pub step : InStep post older last ticks after
-    pub logged : Logged choice before after old new
+pub record Tried {A : Type 0} (queries : Mac → Queries) (stands : A → Mac → RouteLog → Type 0)
+    (seats : List (Seat A)) (post : Post) (choice : FrameChoice) (older : List Sending)
+    (last : Happening) (ticks : List Happening) (before : Mesh) (old new : List Event)
+    (attempt : Attempt) : Type 0 where
+  pub after : Mesh
+  pub is : attempt ≡ Ok after
+  pub choice_is : post.choice ≡ choice
+  pub seats_stand : SeatsStand queries stands seats after.nodes
+  pub step : InStep post older last ticks after
+  pub logged : Logged choice before after old new
 
 -- ---- the net
--- the nodes of a net stand for some
-pub record HasNodes {A : Type 0} (stands : A → Mac → RouteLog → Type 0) (net : Net A) : Type 0 where
+-- the nodes of a net stand for some, which were given nothing after a moment
+pub record HasNodes {A : Type 0} (queries : Mac → Queries) (stands : A → Mac → RouteLog → Type 0)
+    (net : Net A) (now : ℕ) : Type 0 where
   pub nodes : List NodeLog
-  pub seats_stand : SeatsStand stands net.seats.items nodes
+  pub seats_stand : SeatsStand queries stands net.seats.items nodes
+  pub past : ArePast now nodes
 
 -- a step at a moment begins in a mesh, when a happening is the last and these ticks wait
-pub record Begun {A : Type 0} (stands : A → Mac → RouteLog → Type 0) (net : Net A)
-    (choice : FrameChoice) (last : Happening) (ticks : List Happening) (now : ℕ) (mesh : Mesh)
-    : Type 0 where
+pub record Begun {A : Type 0} (queries : Mac → Queries) (stands : A → Mac → RouteLog → Type 0)
+    (net : Net A) (choice : FrameChoice) (last : Happening) (ticks : List Happening) (now : ℕ)
+    (mesh : Mesh) : Type 0 where
   pub choice_is : net.post.choice ≡ choice
   pub settled : net.post.fresh.items ≡ []
-  pub stage : Stage stands net.seats.items net.post net.sent.items last ticks now mesh
+  pub stage : Stage queries stands net.seats.items net.post net.sent.items last ticks now mesh
 
 -- something was tried in such a step of a net
-abbrev pub Gave : {A : Type 0} → (A → Mac → RouteLog → Type 0) → Net A → FrameChoice → Happening
-    → List Happening → Mesh → List Event → List Event → Attempt → Type 0
-Gave stands net choice last ticks before old new attempt =
-    Tried stands net.seats.items net.post choice net.sent.items last ticks before old new attempt
+abbrev pub Gave : {A : Type 0} → (Mac → Queries) → (A → Mac → RouteLog → Type 0) → Net A
+    → FrameChoice → Happening → List Happening → Mesh → List Event → List Event → Attempt → Type 0
+Gave queries stands net choice last ticks before old new attempt =
+    Tried queries stands net.seats.items net.post choice net.sent.items last ticks before old new
+    attempt
 
 -- what a step leaves as it is, until it is settled
 pub record KeepsNet {A : Type 0} (old new : Net A) : Type 0 where
@@ -107,22 +123,23 @@ abbrev pub AreOnLinks : Mesh → Type 0
 AreOnLinks mesh = (place : ℕ) (frame : SentFrame) → slice_get mesh.frames place ≡ Some frame
     → frame.link < length mesh.links
 
--- the node at a place of a net may tick
-pub record MayTickAt {A : Type 0} (stands : A → Mac → RouteLog → Type 0) (net : Net A)
-    (place : ℕ) : Type 0 where
+-- the node at a place of a net may tick at a moment
+pub record MayTickAt {A : Type 0} (queries : Mac → Queries) (stands : A → Mac → RouteLog → Type 0)
+    (net : Net A) (place now : ℕ) : Type 0 where
   pub nodes : List NodeLog
-  pub seats_stand : SeatsStand stands net.seats.items nodes
+  pub seats_stand : SeatsStand queries stands net.seats.items nodes
+  pub past : ArePast now nodes
   pub row : NodeLog
   pub found : slice_get nodes place ≡ Some row
-  pub may : MayTick (route_log row.log) (suc (ticks_in row.log))
+  pub may : MayTick (knowledge (queries row.mac) row.mac row.log).routes (suc (ticks_in row.log))
   pub few : ticks_in row.log < 4294967295
 
 -- the tick of the node at a place that is due at a moment
 abbrev pub tick_now : ℕ → ℕ → Happening
 tick_now place now = record { moment = now; class = NodeTick; place = place }
 
--- the ticks that wait amid a step, by the class of its happening: behind a tick, the next one of the
--- node too
+-- the ticks that wait amid a step, by the class of its happening: behind a tick, the next one of
+-- the node too
 abbrev pub ticks_amid : Class → ℕ → ℕ → List Happening → List Happening
 ticks_amid LinkDelivery place now others = others
 ticks_amid NodeTick place now others = tick_now place (now + tick_time) ∷ others
@@ -248,4 +265,5 @@ abbrev pub SliceTells : Setup → FrameChoice → Mesh → ℕ → List Event �
 SliceTells setup choice before t old new (net_errors.Limit limit) =
     StoppedAt setup choice before t old new limit
 SliceTells setup choice before t old new net_errors.Dead = ⊥
-SliceTells setup choice before t old new net_errors.Memory = BrokeOffAt setup choice before t old new
+SliceTells setup choice before t old new net_errors.Memory =
+    BrokeOffAt setup choice before t old new

@@ -23,8 +23,8 @@ use Rattle.mesh_net.specs.declared.net.Net.{Net}
 use Rattle.mesh_net.specs.NetStands.{NetStands}
 use Rattle.mesh_net.specs.Reached.{with_node, with_link}
 
--- a log that gained the events that a mesh has and an earlier one hadn't, as far as the choice shows
--- them
+-- a log that gained the events that a mesh has and an earlier one hadn't, as far as the choice
+-- shows them
 abbrev pub Gains : FrameChoice → Mesh → Mesh → List Event → List Event → Type 0
 Gains choice before after old new =
     new ≡ old ++ filter (is_shown choice) (events_since before after)

@@ -22,6 +22,7 @@ abbrev pub IsSomeDue : List Happening → ℕ → Type 0
 IsSomeDue waiting t = (x : Happening) × Has waiting x × (x.moment ≤ t)
 
 -- those wait that are deliveries of these frames after a happening, and these ticks
-abbrev pub Awaits : List Happening → Happening → List Happening → List NetLink → List SentFrame → Type 0
+abbrev pub Awaits : List Happening → Happening → List Happening → List NetLink → List SentFrame
+    → Type 0
 Awaits waiting last ticks links frames = (x : Happening) → Has waiting x ↔
     (Has (deliveries links 0 frames) x × Before last x) ⊎ Has ticks x

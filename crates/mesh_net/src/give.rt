@@ -4,6 +4,7 @@ ghost use Rattle.mesh_model.specs.Net.Inputs.{given_to};
 ghost use Rattle.mesh_model.specs.Net.Limits.{scenario_setup, clock_limit};
 ghost use Rattle.mesh_model.specs.Net.Mesh.{NodeLog, Mesh};
 ghost use Rattle.mesh_node.specs.NodeStands.{NodeStands, MayTake, given_by, is_dead};
+ghost use Rattle.mesh_node.specs.OwnStands.{newest_moment};
 ghost use Rattle.mesh_net.specs.declared.row.Sending.{Sending};
 ghost use Rattle.mesh_net.specs.declared.seat.Seat.{Seat};
 ghost use Rattle.mesh_net.specs.Given.{HasGiven, GiveTells};
@@ -26,18 +27,21 @@ pub(crate) fn give<A: Algo>(
     sender: Sender,
     input: &Input<'_>,
 ) -> Result<(), NodeErr>
-    requires { is_dead node.old ≡ false → MayTake A.stands node.old input.now }
+    requires { is_dead node.old ≡ false → MayTake A.stands A.queries node.old sender.now
+        input.now }
     ensures given { (older : List Sending) (last : Happening) (ticks : List Happening)
         (mesh : Mesh) (row : NodeLog) (number : ℕ) →
         slice_get mesh.nodes sender.place ≡ Some row →
-        NodeStands A.stands node.old row.mac row.log → sender.mac ≡ row.mac →
+        NodeStands A.stands A.queries node.old row.mac row.log →
+        newest_moment row.log ≤ sender.now → sender.mac ≡ row.mac →
         InStep post.old older last ticks mesh → MaySend sender last mesh →
         OnOk result (HasGiven A.queries A.stands node.new post.old.choice sender
         (given_by number input.now) post.new older last ticks row mesh log.old log.new) }
     ensures cause { (older : List Sending) (last : Happening) (ticks : List Happening)
         (mesh : Mesh) (row : NodeLog) (number : ℕ) →
         slice_get mesh.nodes sender.place ≡ Some row →
-        NodeStands A.stands node.old row.mac row.log → sender.mac ≡ row.mac →
+        NodeStands A.stands A.queries node.old row.mac row.log →
+        newest_moment row.log ≤ sender.now → sender.mac ≡ row.mac →
         InStep post.old older last ticks mesh → MaySend sender last mesh →
         IfErr result (GiveTells (given_to (scenario_setup A.queries) sender.place sender.now
         sender.root (given_by number input.now) mesh)) }
@@ -57,17 +61,17 @@ pub(crate) fn give_at<A: Algo>(
     input: &Input<'_>,
 ) -> Result<(), NodeErr>
     requires { (seat : Seat A) → slice_get seats.old.items at.place ≡ Some seat →
-        MayTake A.stands seat.node input.now }
+        MayTake A.stands A.queries seat.node at.now input.now }
     ensures given { (older : List Sending) (last : Happening) (ticks : List Happening)
         (mesh : Mesh) (number : ℕ) →
-        Stage A.stands seats.old.items post.old older last ticks at.now mesh →
+        Stage A.queries A.stands seats.old.items post.old older last ticks at.now mesh →
         CountsOn at.place input.now mesh →
-        OnOk result (Tried A.stands seats.new.items post.new post.old.choice older last ticks mesh
-        log.old log.new (given_to (scenario_setup A.queries) at.place at.now at.root
+        OnOk result (Tried A.queries A.stands seats.new.items post.new post.old.choice older last
+        ticks mesh log.old log.new (given_to (scenario_setup A.queries) at.place at.now at.root
         (given_by number input.now) mesh)) }
     ensures cause { (older : List Sending) (last : Happening) (ticks : List Happening)
         (mesh : Mesh) (number : ℕ) →
-        Stage A.stands seats.old.items post.old older last ticks at.now mesh →
+        Stage A.queries A.stands seats.old.items post.old older last ticks at.now mesh →
         CountsOn at.place input.now mesh →
         IfErr result (GiveTells (given_to (scenario_setup A.queries) at.place at.now at.root
         (given_by number input.now) mesh)) }
@@ -92,6 +96,11 @@ fn ticks_with(ticks: u64, input: &Input<'_>) -> u64
 {
     match *input {
         Input::Tick { index } => index,
-        Input::Link { .. } | Input::Frame { .. } | Input::Wifi(_) => ticks,
+        Input::Link { .. }
+        | Input::Frame { .. }
+        | Input::Gone(_)
+        | Input::Join(_)
+        | Input::Leave(_)
+        | Input::Wifi(_) => ticks,
     }
 }

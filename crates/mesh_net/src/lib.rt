@@ -17,7 +17,7 @@ mod shown;
 pub use failure::NetErr;
 pub use link::Link;
 pub use mesh_node::{Input, Node};
-pub use net::Net;
+pub use net::{CLOCK_LIMIT, Net};
 
 #[cfg(test)]
 mod tests;

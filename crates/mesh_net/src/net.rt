@@ -36,8 +36,8 @@ const TICK_TIME: Millis = 500;
 const NODES_LIMIT: usize = 64;
 /// The most links.
 const LINKS_LIMIT: usize = 512;
-/// The last moment.
-const CLOCK_LIMIT: Millis = 1_099_511_627_776;
+/// The last moment, in milliseconds.
+pub const CLOCK_LIMIT: Millis = 1_099_511_627_776;
 
 /// A net of nodes with a routing algorithm.
 #[derive(Drop)]
@@ -80,7 +80,8 @@ impl<A: Algo + Drop> Net<A> {
         requires algo { A.stands algo me [] }
         ensures joins { (choice : FrameChoice) (clock : ℕ) (mesh : Mesh) →
             NetStands A.queries A.stands self.old choice clock mesh →
-            IfOk result (λ place. HasJoined A.queries A.stands self.new choice clock mesh me place) }
+            IfOk result (λ place.
+            HasJoined A.queries A.stands self.new choice clock mesh me place) }
 
         // The first cause counts: an earlier refusal, the limit, memory.
         ensures cause { (choice : FrameChoice) (clock : ℕ) (mesh : Mesh) →
@@ -174,7 +175,8 @@ impl<A: Algo + Drop> Net<A> {
         // The first cause counts: an earlier refusal, the limit, memory.
         ensures cause { (choice : FrameChoice) (clock : ℕ) (mesh : Mesh) →
             NetStands A.queries A.stands self.old choice clock mesh →
-            IfErr result (StepTells (delivered (scenario_setup A.queries) (number - 1) clock mesh)) }
+            IfErr result
+            (StepTells (delivered (scenario_setup A.queries) (number - 1) clock mesh)) }
         ensures as_before { OnErr result (log.new ≡ log.old) }
         ensures dead { IsDead self.old → IsErrOf result NetErr.Dead }
         ensures refused { OnErr result (IsDead self.new) }
@@ -188,8 +190,8 @@ impl<A: Algo + Drop> Net<A> {
         self.settle(given, before, log)
     }
 
-    /// Carries out all happenings until a moment, in order, and lets the time pass. The moment isn't
-    /// before the clock.
+    /// Carries out all happenings until a moment, in order, and lets the time pass. The moment
+    /// isn't before the clock.
     pub fn run_to(&mut self, t: Millis, log: &mut Events) -> Result<(), NetErr>
         requires net { IsNet A.queries A.stands self.old }
         requires later { (choice : FrameChoice) (clock : ℕ) (mesh : Mesh) →
@@ -220,8 +222,8 @@ impl<A: Algo + Drop> Net<A> {
             NetStands A.queries A.stands self.old choice clock mesh → clock ≤ t }
         ensures ran { (choice : FrameChoice) (clock : ℕ) (mesh : Mesh) →
             NetStands A.queries A.stands self.old choice clock mesh →
-            IfOk result (Ran A.queries A.stands (scenario_setup A.queries) self.new choice clock mesh
-            t most log.old log.new) }
+            IfOk result (Ran A.queries A.stands (scenario_setup A.queries) self.new choice clock
+            mesh t most log.old log.new) }
 
         // The first cause counts: an earlier refusal, the clock, the first limit or want of memory.
         ensures cause { (choice : FrameChoice) (clock : ℕ) (mesh : Mesh) →
@@ -241,7 +243,7 @@ impl<A: Algo + Drop> Net<A> {
         ensures { (choice : FrameChoice) (clock : ℕ) (mesh : Mesh) (row : NodeLog) →
             NetStands A.queries A.stands self.now choice clock mesh →
             slice_get mesh.nodes node ≡ Some row →
-            NodeStands A.stands result.now row.mac row.log }
+            NodeStands A.stands A.queries result.now row.mac row.log }
     {
         &self.seats[node as usize].node
     }
@@ -272,7 +274,8 @@ impl<A: Algo + Drop> Net<A> {
         requires { A.stands algo me [] }
         ensures joins { (choice : FrameChoice) (clock : ℕ) (mesh : Mesh) →
             NetStands A.queries A.stands self.old choice clock mesh →
-            IfOk result (λ place. HasJoined A.queries A.stands self.new choice clock mesh me place) }
+            IfOk result (λ place.
+            HasJoined A.queries A.stands self.new choice clock mesh me place) }
         ensures cause { (choice : FrameChoice) (clock : ℕ) (mesh : Mesh) →
             NetStands A.queries A.stands self.old choice clock mesh →
             IfErr result (NodeTells (length mesh.nodes)) }
@@ -324,7 +327,8 @@ impl<A: Algo + Drop> Net<A> {
 
     // The address of the node at a place.
     fn mac_at(&self, place: u32) -> Mac
-        ensures { (nodes : List NodeLog) → SeatsStand A.stands self.now.seats.items nodes →
+        ensures { (nodes : List NodeLog) →
+            SeatsStand A.queries A.stands self.now.seats.items nodes →
             result ≡ address_at place nodes }
     {
         match self.seats.get(place as usize) {
@@ -360,7 +364,8 @@ impl<A: Algo + Drop> Net<A> {
             NetStands A.queries A.stands self.old choice clock mesh → clock ≤ t }
         ensures ran { (choice : FrameChoice) (clock : ℕ) (mesh : Mesh) →
             NetStands A.queries A.stands self.old choice clock mesh →
-            IfOk result (RanOn A.queries A.stands self.new choice clock mesh t most log.old log.new) }
+            IfOk result
+            (RanOn A.queries A.stands self.new choice clock mesh t most log.old log.new) }
         ensures cause { (choice : FrameChoice) (clock : ℕ) (mesh : Mesh) →
             NetStands A.queries A.stands self.old choice clock mesh →
             IfErr result (SliceTells (scenario_setup A.queries) choice mesh t log.old log.new) }
@@ -403,7 +408,8 @@ impl<A: Algo + Drop> Net<A> {
         requires soon { t ≤ clock_limit }
         ensures stepped { (choice : FrameChoice) (clock : ℕ) (mesh : Mesh) →
             NetStands A.queries A.stands self.old choice clock mesh →
-            IfOk result (StepLeaves A.queries A.stands self.new choice clock mesh t log.old log.new) }
+            IfOk result
+            (StepLeaves A.queries A.stands self.new choice clock mesh t log.old log.new) }
         ensures cause { (choice : FrameChoice) (clock : ℕ) (mesh : Mesh) →
             NetStands A.queries A.stands self.old choice clock mesh →
             IfErr result (StepFails A.queries mesh t) }
@@ -423,16 +429,17 @@ impl<A: Algo + Drop> Net<A> {
 
     // Carries out what happens.
     fn happen(&mut self, h: Happening, log: &mut Events) -> Result<(), NodeErr>
-        requires nodes { HasNodes A.stands self.old }
-        requires tick { h.class ≡ NodeTick → MayTickAt A.stands self.old h.place }
+        requires nodes { HasNodes A.queries A.stands self.old h.moment }
+        requires tick { h.class ≡ NodeTick →
+            MayTickAt A.queries A.stands self.old h.place h.moment }
         ensures given { (choice : FrameChoice) (last : Happening) (others : List Happening)
-            (mesh : Mesh) → Begun A.stands self.old choice last others h.moment mesh →
+            (mesh : Mesh) → Begun A.queries A.stands self.old choice last others h.moment mesh →
             AreOnLinks mesh →
-            OnOk result (Gave A.stands self.new choice last
+            OnOk result (Gave A.queries A.stands self.new choice last
             (ticks_amid h.class h.place h.moment others) mesh log.old log.new
             (effect (scenario_setup A.queries) h.class h.place h.moment mesh)) }
         ensures cause { (choice : FrameChoice) (last : Happening) (others : List Happening)
-            (mesh : Mesh) → Begun A.stands self.old choice last others h.moment mesh →
+            (mesh : Mesh) → Begun A.queries A.stands self.old choice last others h.moment mesh →
             AreOnLinks mesh →
             IfErr result (GiveTells
             (effect (scenario_setup A.queries) h.class h.place h.moment mesh)) }
@@ -489,15 +496,17 @@ impl<A: Algo + Drop> Net<A> {
 
     // Gives the node at a place what a line gives it.
     fn input_at(&mut self, place: u32, input: &Input<'_>, log: &mut Events) -> Result<(), NodeErr>
-        requires nodes { HasNodes A.stands self.old }
+        requires nodes { HasNodes A.queries A.stands self.old self.old.clock }
         requires line { IsOfLine (given_by 0 input.now) }
         ensures given { (choice : FrameChoice) (last : Happening) (ticks : List Happening)
-            (mesh : Mesh) → Begun A.stands self.old choice last ticks self.old.clock mesh →
-            OnOk result (Gave A.stands self.new choice last ticks mesh log.old log.new
+            (mesh : Mesh) →
+            Begun A.queries A.stands self.old choice last ticks self.old.clock mesh →
+            OnOk result (Gave A.queries A.stands self.new choice last ticks mesh log.old log.new
             (given_to (scenario_setup A.queries) place self.old.clock 0 (given_by 0 input.now)
             mesh)) }
         ensures cause { (choice : FrameChoice) (last : Happening) (ticks : List Happening)
-            (mesh : Mesh) → Begun A.stands self.old choice last ticks self.old.clock mesh →
+            (mesh : Mesh) →
+            Begun A.queries A.stands self.old choice last ticks self.old.clock mesh →
             IfErr result (GiveTells (given_to (scenario_setup A.queries) place self.old.clock 0
             (given_by 0 input.now) mesh)) }
         ensures kept { KeepsNet self.old self.new }
@@ -513,14 +522,14 @@ impl<A: Algo + Drop> Net<A> {
 
     // Gives the node at the end of its link the frame at a place.
     fn deliver_at(&mut self, place: u32, now: Millis, log: &mut Events) -> Result<(), NodeErr>
-        requires { HasNodes A.stands self.old }
+        requires { HasNodes A.queries A.stands self.old now }
         ensures given { (choice : FrameChoice) (last : Happening) (ticks : List Happening)
-            (mesh : Mesh) → Begun A.stands self.old choice last ticks now mesh →
+            (mesh : Mesh) → Begun A.queries A.stands self.old choice last ticks now mesh →
             AreOnLinks mesh →
-            OnOk result (Gave A.stands self.new choice last ticks mesh log.old log.new
+            OnOk result (Gave A.queries A.stands self.new choice last ticks mesh log.old log.new
             (delivered (scenario_setup A.queries) place now mesh)) }
         ensures cause { (choice : FrameChoice) (last : Happening) (ticks : List Happening)
-            (mesh : Mesh) → Begun A.stands self.old choice last ticks now mesh →
+            (mesh : Mesh) → Begun A.queries A.stands self.old choice last ticks now mesh →
             AreOnLinks mesh →
             IfErr result (GiveTells (delivered (scenario_setup A.queries) place now mesh)) }
         ensures kept { KeepsNet self.old self.new }
@@ -547,14 +556,14 @@ impl<A: Algo + Drop> Net<A> {
 
     // The node at a place ticks.
     fn tick_at(&mut self, place: u32, now: Millis, log: &mut Events) -> Result<(), NodeErr>
-        requires { MayTickAt A.stands self.old place }
+        requires { MayTickAt A.queries A.stands self.old place now }
         ensures given { (choice : FrameChoice) (last : Happening) (others : List Happening)
-            (mesh : Mesh) → Begun A.stands self.old choice last others now mesh →
-            OnOk result (Gave A.stands self.new choice last
+            (mesh : Mesh) → Begun A.queries A.stands self.old choice last others now mesh →
+            OnOk result (Gave A.queries A.stands self.new choice last
             (tick_now place (now + tick_time) ∷ others) mesh log.old log.new
             (ticked (scenario_setup A.queries) place now mesh)) }
         ensures cause { (choice : FrameChoice) (last : Happening) (others : List Happening)
-            (mesh : Mesh) → Begun A.stands self.old choice last others now mesh →
+            (mesh : Mesh) → Begun A.queries A.stands self.old choice last others now mesh →
             IfErr result (GiveTells (ticked (scenario_setup A.queries) place now mesh)) }
         ensures kept { KeepsNet self.old self.new }
         ensures grew { Grew log.old log.new }

@@ -4,7 +4,7 @@ use Rattle.mesh_net.proofs.tests.connect.Goals as goal
 
 pub add_link-requires-clause-rules : goal.add_link-requires-clause-rules
 add_link-requires-clause-rules c = λ choice clock mesh s.
-    let same = seats_length _ c.args.net.now.seats.items mesh.nodes s.seats in
+    let same = seats_length _ _ c.args.net.now.seats.items mesh.nodes s.seats in
     let count = c.len-count.ensures in
     let from = c.if-from-count.false in
     let to = c.if-to-count.false in

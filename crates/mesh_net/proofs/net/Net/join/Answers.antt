@@ -12,42 +12,42 @@ use Rattle.mesh_net.proofs.net.Net.join.Goals as goal
 
 pub returns-then-len-ge-NODES_LIMIT-clause-cause : goal.returns-then-len-ge-NODES_LIMIT-clause-cause
 returns-then-len-ge-NODES_LIMIT-clause-cause g c = λ choice clock mesh st.
-    let all = seats_length g.A.Algo.stands c.args.self.now.seats.items mesh.nodes st.seats in
+    let all = seats_length g.A.Algo.queries g.A.Algo.stands c.args.self.now.seats.items mesh.nodes st.seats in
     let len = c.len.ensures in
     let full = c.if-len-ge-NODES_LIMIT.true in
     (refl, omega (arith, all, len, full))
 
 pub returns-in_err-place-clause-cause : goal.returns-in_err-place-clause-cause
 returns-in_err-place-clause-cause g c = λ choice clock mesh st.
-    let all = seats_length g.A.Algo.stands c.args.self.now.seats.items mesh.nodes st.seats in
+    let all = seats_length g.A.Algo.queries g.A.Algo.stands c.args.self.now.seats.items mesh.nodes st.seats in
     let len = c.len.ensures in
     let room = c.if-len-ge-NODES_LIMIT.false in
     node_memory c.from_residual.result (length mesh.nodes) (omega (arith, all, len, room)) c.from_residual.ensures.1
 
 pub returns-in_err-push-clause-cause : goal.returns-in_err-push-clause-cause
 returns-in_err-push-clause-cause g c = λ choice clock mesh st.
-    let all = seats_length g.A.Algo.stands c.args.self.now.seats.items mesh.nodes st.seats in
+    let all = seats_length g.A.Algo.queries g.A.Algo.stands c.args.self.now.seats.items mesh.nodes st.seats in
     let len = c.len.ensures in
     let room = c.if-len-ge-NODES_LIMIT.false in
     node_memory c.from_residual-in_err-push.result (length mesh.nodes) (omega (arith, all, len, room)) c.from_residual-in_err-push.ensures.1
 
 pub returns-in_err-add_node-clause-cause : goal.returns-in_err-add_node-clause-cause
 returns-in_err-add_node-clause-cause g c = λ choice clock mesh st.
-    let all = seats_length g.A.Algo.stands c.args.self.now.seats.items mesh.nodes st.seats in
+    let all = seats_length g.A.Algo.queries g.A.Algo.stands c.args.self.now.seats.items mesh.nodes st.seats in
     let len = c.len.ensures in
     let room = c.if-len-ge-NODES_LIMIT.false in
     node_memory c.from_residual-in_err-add_node.result (length mesh.nodes) (omega (arith, all, len, room)) c.from_residual-in_err-add_node.ensures.1
 
 pub returns-in_err-push-2-clause-cause : goal.returns-in_err-push-2-clause-cause
 returns-in_err-push-2-clause-cause g c = λ choice clock mesh st.
-    let all = seats_length g.A.Algo.stands c.args.self.now.seats.items mesh.nodes st.seats in
+    let all = seats_length g.A.Algo.queries g.A.Algo.stands c.args.self.now.seats.items mesh.nodes st.seats in
     let len = c.len.ensures in
     let room = c.if-len-ge-NODES_LIMIT.false in
     node_memory c.from_residual-in_err-push-2.result (length mesh.nodes) (omega (arith, all, len, room)) c.from_residual-in_err-push-2.ensures.1
 
 pub returns-clause-joins : goal.returns-clause-joins
 returns-clause-joins g c = λ choice clock mesh st.
-    let all = seats_length g.A.Algo.stands c.args.self.now.seats.items mesh.nodes st.seats in
+    let all = seats_length g.A.Algo.queries g.A.Algo.stands c.args.self.now.seats.items mesh.nodes st.seats in
     let len = c.len.ensures in
     let len2 = c.len-2.ensures in
     let place = c.in_ok-place.ensures.is in
@@ -74,7 +74,7 @@ returns-clause-joins g c = λ choice clock mesh st.
             last_is = st.last_is;
             past = st.past;
             low = low;
-            seats = seat_joined g.A.Algo.stands c.args.self.now.seats.items c.push-2.new.self.items mesh.nodes (record { node = c.new.result; mac = c.args.me; ticks = 0 }) new c.in_ok-push-2.ensures.items st.seats (record {
+            seats = seat_joined g.A.Algo.queries g.A.Algo.stands c.args.self.now.seats.items c.push-2.new.self.items mesh.nodes (record { node = c.new.result; mac = c.args.me; ticks = 0 }) new c.in_ok-push-2.ensures.items st.seats (record {
               node = c.new.ensures;
               mac = refl;
               ticks = refl;

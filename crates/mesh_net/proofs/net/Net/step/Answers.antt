@@ -3,8 +3,13 @@ use Rattle.std.proofs.lemmas.Result.{err_from_is_err_and}
 use Rattle.mesh_net.specs.NetStands.{NetStands}
 use Rattle.mesh_net.proofs.PopLemmas.{none_quiet}
 use Rattle.mesh_net.proofs.ReachedLemmas.{reached}
-use Rattle.mesh_net.proofs.Ends.{begun_step, failed, ok_has, on_links, popped_net, stepped, tick_due, waiting_ticks}
+use Rattle.mesh_net.proofs.Ends.{begun_step, failed, nodes_due, ok_has, on_links, popped_net, stepped, tick_due, waiting_ticks}
 use Rattle.mesh_net.proofs.net.Net.step.Goals as goal
+
+pub happen-given-requires-clause-nodes : goal.happen-given-requires-clause-nodes
+happen-given-requires-clause-nodes g c =
+    let live = c.requires.live in
+    nodes_due g.A.Algo.queries g.A.Algo.stands c.args.self.now c.pop_due.new.self c.args.t c.in-Some.h live.choice live.clock live.mesh live.standing c.in-Some.ensures.some c.requires.soon
 
 pub happen-given-requires-clause-tick : goal.happen-given-requires-clause-tick
 happen-given-requires-clause-tick g c =
