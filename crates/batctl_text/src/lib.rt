@@ -1,8 +1,9 @@
 //! Printed text: the tables of a node, after batctl(8), the text of `decode`, and the lines of what
 //! happens in a run.
 //!
-//! Each call appends whole lines to a buffer, or leaves it as it was where memory runs out. A line
-//! is a list of parts: `put_line` puts their texts together, and then appends the line.
+//! Each call appends whole lines to a buffer, or leaves it as it was where memory runs out. A
+//! `LineText` holds a line while it is put together, and then appends it: the lines of `decode` put
+//! one part after another, and `put_line` takes the parts of the others as a list.
 
 #![tactic(auto)]
 
@@ -19,6 +20,7 @@ mod part;
 mod route_table;
 mod whole_line;
 
+pub use container_line::vlan_line;
 pub use decoding::decode_text;
 pub use event_line::line;
 pub use global_table::{entry_line, global_header, global_line, mark_line};

@@ -1,4 +1,5 @@
-ghost use Rattle.std.specs.Prelude.{◌≡◌, ◌≤◌, ◌++◌, [], OnOk, OnErr};
+ghost use Rattle.std.specs.Prelude.{◌≡◌, ◌≤◌, ◌++◌, [], ◌∷◌, OnOk, OnErr};
+ghost use Rattle.mesh_model.specs.Scenario.Lines.{newline};
 
 use mesh_base::NoMemory;
 use std::alloc::Global;
@@ -9,8 +10,7 @@ const ROOM: usize = 128;
 
 /// The text of a line while it is put together.
 ///
-/// Bytes are gathered in an array, which takes half of the time of appending each part to a vector.
-/// What it has no room for goes on in a vector.
+/// Bytes are gathered in an array. What it has no room for goes on in a vector.
 #[derive(Drop)]
 pub struct LineText {
     front: Vec<u8>,
@@ -65,8 +65,8 @@ impl LineText {
         Ok(())
     }
 
-    /// Appends the line to a text.
-    pub fn append_to(&self, out: &mut Vec<u8>) -> Result<(), NoMemory>
+    /// Appends what was put together to a text.
+    fn append_to(&self, out: &mut Vec<u8>) -> Result<(), NoMemory>
         ensures ok { OnOk result (out.new.items ≡ out.old.items ++ self.now) }
         ensures err { OnErr result (out.new.items ≡ out.old.items) }
     {
@@ -78,6 +78,16 @@ impl LineText {
             out.truncate(before);
             return Err(NoMemory);
         }
+        Ok(())
+    }
+
+    /// Ends the line, and appends it to a text.
+    pub fn end(&mut self, out: &mut Vec<u8>) -> Result<(), NoMemory>
+        ensures ok { OnOk result (out.new.items ≡ out.old.items ++ self.old ++ newline ∷ []) }
+        ensures err { OnErr result (out.new.items ≡ out.old.items) }
+    {
+        self.put(b"\n")?;
+        self.append_to(out)?;
         Ok(())
     }
 }

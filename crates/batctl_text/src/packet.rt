@@ -4,8 +4,8 @@ ghost use Rattle.std.specs.Prelude.{◌≡◌, ◌++◌, ℕ, OnOk, OnErr};
 ghost use Rattle.mesh_model.specs.declared.packet.Head.TheVariants.{IvOgm, Bcast, Elp, Ogm2, Unicast, Frag, Unicast4, Icmp, Utvlv};
 ghost use Rattle.mesh_model.specs.Text.PacketLines.{packet_line};
 
-use crate::part::Part::{Address, Flags, Number, Text};
-use crate::whole_line::put_line;
+use crate::line_text::LineText;
+use crate::part::{put_named_address, put_named_flags, put_named_number};
 use mesh_base::{Mac, NoMemory};
 use mesh_model::Head;
 
@@ -25,20 +25,18 @@ fn put_iv_ogm(
         ≡ out.old.items ++ packet_line (IvOgm ttl flags seq orig prev tq) len) }
     ensures err { OnErr result (out.new.items ≡ out.old.items) }
 {
-    put_line(
-        out,
-        &[
-            Text(b"packet "),
-            Text(b"iv_ogm"),
-            Number(b" ttl=", u64::from(ttl)),
-            Flags(b" flags=", flags),
-            Number(b" seq=", u64::from(seq)),
-            Address(b" orig=", orig),
-            Address(b" prev=", prev),
-            Number(b" tq=", u64::from(tq)),
-            Number(b" tvlv=", len as u64),
-        ],
-    )
+    let mut line = LineText::new(*out.allocator());
+    line.put(b"packet ")?;
+    line.put(b"iv_ogm")?;
+    put_named_number(&mut line, b" ttl=", u64::from(ttl))?;
+    put_named_flags(&mut line, b" flags=", flags)?;
+    put_named_number(&mut line, b" seq=", u64::from(seq))?;
+    put_named_address(&mut line, b" orig=", orig)?;
+    put_named_address(&mut line, b" prev=", prev)?;
+    put_named_number(&mut line, b" tq=", u64::from(tq))?;
+    put_named_number(&mut line, b" tvlv=", len as u64)?;
+    line.end(out)?;
+    Ok(())
 }
 
 // A broadcast.
@@ -48,17 +46,15 @@ fn put_bcast(out: &mut Vec<u8>, ttl: u8, seq: u32, orig: Mac, len: usize) -> Res
         ≡ out.old.items ++ packet_line (Bcast ttl seq orig) len) }
     ensures err { OnErr result (out.new.items ≡ out.old.items) }
 {
-    put_line(
-        out,
-        &[
-            Text(b"packet "),
-            Text(b"bcast"),
-            Number(b" ttl=", u64::from(ttl)),
-            Number(b" seq=", u64::from(seq)),
-            Address(b" orig=", orig),
-            Number(b" data=", len as u64),
-        ],
-    )
+    let mut line = LineText::new(*out.allocator());
+    line.put(b"packet ")?;
+    line.put(b"bcast")?;
+    put_named_number(&mut line, b" ttl=", u64::from(ttl))?;
+    put_named_number(&mut line, b" seq=", u64::from(seq))?;
+    put_named_address(&mut line, b" orig=", orig)?;
+    put_named_number(&mut line, b" data=", len as u64)?;
+    line.end(out)?;
+    Ok(())
 }
 
 // A message of the echo location protocol.
@@ -68,16 +64,14 @@ fn put_elp(out: &mut Vec<u8>, orig: Mac, seq: u32, interval: u32) -> Result<(), 
         ≡ out.old.items ++ packet_line (Elp orig seq interval) tail_len) }
     ensures err { OnErr result (out.new.items ≡ out.old.items) }
 {
-    put_line(
-        out,
-        &[
-            Text(b"packet "),
-            Text(b"elp"),
-            Address(b" orig=", orig),
-            Number(b" seq=", u64::from(seq)),
-            Number(b" interval=", u64::from(interval)),
-        ],
-    )
+    let mut line = LineText::new(*out.allocator());
+    line.put(b"packet ")?;
+    line.put(b"elp")?;
+    put_named_address(&mut line, b" orig=", orig)?;
+    put_named_number(&mut line, b" seq=", u64::from(seq))?;
+    put_named_number(&mut line, b" interval=", u64::from(interval))?;
+    line.end(out)?;
+    Ok(())
 }
 
 // An originator message of algorithm V.
@@ -95,19 +89,17 @@ fn put_ogm2(
         ≡ out.old.items ++ packet_line (Ogm2 ttl flags seq orig throughput) len) }
     ensures err { OnErr result (out.new.items ≡ out.old.items) }
 {
-    put_line(
-        out,
-        &[
-            Text(b"packet "),
-            Text(b"ogm2"),
-            Number(b" ttl=", u64::from(ttl)),
-            Flags(b" flags=", flags),
-            Number(b" seq=", u64::from(seq)),
-            Address(b" orig=", orig),
-            Number(b" tvlv=", len as u64),
-            Number(b" tp=", u64::from(throughput)),
-        ],
-    )
+    let mut line = LineText::new(*out.allocator());
+    line.put(b"packet ")?;
+    line.put(b"ogm2")?;
+    put_named_number(&mut line, b" ttl=", u64::from(ttl))?;
+    put_named_flags(&mut line, b" flags=", flags)?;
+    put_named_number(&mut line, b" seq=", u64::from(seq))?;
+    put_named_address(&mut line, b" orig=", orig)?;
+    put_named_number(&mut line, b" tvlv=", len as u64)?;
+    put_named_number(&mut line, b" tp=", u64::from(throughput))?;
+    line.end(out)?;
+    Ok(())
 }
 
 // A frame for one node.
@@ -117,17 +109,15 @@ fn put_unicast(out: &mut Vec<u8>, ttl: u8, ttvn: u8, dst: Mac, len: usize) -> Re
         ≡ out.old.items ++ packet_line (Unicast ttl ttvn dst) len) }
     ensures err { OnErr result (out.new.items ≡ out.old.items) }
 {
-    put_line(
-        out,
-        &[
-            Text(b"packet "),
-            Text(b"unicast"),
-            Number(b" ttl=", u64::from(ttl)),
-            Number(b" ttvn=", u64::from(ttvn)),
-            Address(b" dst=", dst),
-            Number(b" data=", len as u64),
-        ],
-    )
+    let mut line = LineText::new(*out.allocator());
+    line.put(b"packet ")?;
+    line.put(b"unicast")?;
+    put_named_number(&mut line, b" ttl=", u64::from(ttl))?;
+    put_named_number(&mut line, b" ttvn=", u64::from(ttvn))?;
+    put_named_address(&mut line, b" dst=", dst)?;
+    put_named_number(&mut line, b" data=", len as u64)?;
+    line.end(out)?;
+    Ok(())
 }
 
 // A fragment.
@@ -147,21 +137,19 @@ fn put_frag(
         ≡ out.old.items ++ packet_line (Frag ttl number priority dst orig seq total) len) }
     ensures err { OnErr result (out.new.items ≡ out.old.items) }
 {
-    put_line(
-        out,
-        &[
-            Text(b"packet "),
-            Text(b"frag"),
-            Number(b" ttl=", u64::from(ttl)),
-            Number(b" no=", u64::from(number)),
-            Number(b" prio=", u64::from(priority)),
-            Address(b" dst=", dst),
-            Address(b" orig=", orig),
-            Number(b" seq=", u64::from(seq)),
-            Number(b" total=", u64::from(total)),
-            Number(b" data=", len as u64),
-        ],
-    )
+    let mut line = LineText::new(*out.allocator());
+    line.put(b"packet ")?;
+    line.put(b"frag")?;
+    put_named_number(&mut line, b" ttl=", u64::from(ttl))?;
+    put_named_number(&mut line, b" no=", u64::from(number))?;
+    put_named_number(&mut line, b" prio=", u64::from(priority))?;
+    put_named_address(&mut line, b" dst=", dst)?;
+    put_named_address(&mut line, b" orig=", orig)?;
+    put_named_number(&mut line, b" seq=", u64::from(seq))?;
+    put_named_number(&mut line, b" total=", u64::from(total))?;
+    put_named_number(&mut line, b" data=", len as u64)?;
+    line.end(out)?;
+    Ok(())
 }
 
 // A frame for one node with its sender.
@@ -179,19 +167,17 @@ fn put_unicast4(
         ≡ out.old.items ++ packet_line (Unicast4 ttl ttvn dst src subtype) len) }
     ensures err { OnErr result (out.new.items ≡ out.old.items) }
 {
-    put_line(
-        out,
-        &[
-            Text(b"packet "),
-            Text(b"unicast4"),
-            Number(b" ttl=", u64::from(ttl)),
-            Number(b" ttvn=", u64::from(ttvn)),
-            Address(b" dst=", dst),
-            Address(b" src=", src),
-            Number(b" sub=", u64::from(subtype)),
-            Number(b" data=", len as u64),
-        ],
-    )
+    let mut line = LineText::new(*out.allocator());
+    line.put(b"packet ")?;
+    line.put(b"unicast4")?;
+    put_named_number(&mut line, b" ttl=", u64::from(ttl))?;
+    put_named_number(&mut line, b" ttvn=", u64::from(ttvn))?;
+    put_named_address(&mut line, b" dst=", dst)?;
+    put_named_address(&mut line, b" src=", src)?;
+    put_named_number(&mut line, b" sub=", u64::from(subtype))?;
+    put_named_number(&mut line, b" data=", len as u64)?;
+    line.end(out)?;
+    Ok(())
 }
 
 // A message of ping or traceroute.
@@ -209,19 +195,17 @@ fn put_icmp(
         ≡ out.old.items ++ packet_line (Icmp ttl msg dst orig uid seq) tail_len) }
     ensures err { OnErr result (out.new.items ≡ out.old.items) }
 {
-    put_line(
-        out,
-        &[
-            Text(b"packet "),
-            Text(b"icmp"),
-            Number(b" ttl=", u64::from(ttl)),
-            Number(b" msg=", u64::from(msg)),
-            Address(b" dst=", dst),
-            Address(b" orig=", orig),
-            Number(b" uid=", u64::from(uid)),
-            Number(b" seq=", u64::from(seq)),
-        ],
-    )
+    let mut line = LineText::new(*out.allocator());
+    line.put(b"packet ")?;
+    line.put(b"icmp")?;
+    put_named_number(&mut line, b" ttl=", u64::from(ttl))?;
+    put_named_number(&mut line, b" msg=", u64::from(msg))?;
+    put_named_address(&mut line, b" dst=", dst)?;
+    put_named_address(&mut line, b" orig=", orig)?;
+    put_named_number(&mut line, b" uid=", u64::from(uid))?;
+    put_named_number(&mut line, b" seq=", u64::from(seq))?;
+    line.end(out)?;
+    Ok(())
 }
 
 // Containers for one node.
@@ -231,17 +215,15 @@ fn put_utvlv(out: &mut Vec<u8>, ttl: u8, dst: Mac, src: Mac, len: usize) -> Resu
         ≡ out.old.items ++ packet_line (Utvlv ttl dst src) len) }
     ensures err { OnErr result (out.new.items ≡ out.old.items) }
 {
-    put_line(
-        out,
-        &[
-            Text(b"packet "),
-            Text(b"utvlv"),
-            Number(b" ttl=", u64::from(ttl)),
-            Address(b" dst=", dst),
-            Address(b" src=", src),
-            Number(b" tvlv=", len as u64),
-        ],
-    )
+    let mut line = LineText::new(*out.allocator());
+    line.put(b"packet ")?;
+    line.put(b"utvlv")?;
+    put_named_number(&mut line, b" ttl=", u64::from(ttl))?;
+    put_named_address(&mut line, b" dst=", dst)?;
+    put_named_address(&mut line, b" src=", src)?;
+    put_named_number(&mut line, b" tvlv=", len as u64)?;
+    line.end(out)?;
+    Ok(())
 }
 
 /// Appends the line of a packet with this head, whose tail has so many bytes.

@@ -1,6 +1,6 @@
 //! The parts of a line: texts, numbers, addresses, VLANs, flags, checksums and ages.
 
-ghost use Rattle.std.specs.Prelude.{◌≡◌, ◌/◌, ◌%◌, ◌++◌, ◌<◌, decimal, slice_index, codes, List, [], ◌∷◌, OnOk};
+ghost use Rattle.std.specs.Prelude.{◌≡◌, ◌/◌, ◌%◌, ◌++◌, ◌<◌, decimal, slice_index, List, [], ◌∷◌, OnOk};
 ghost use Rattle.hex.specs.Hex.{encode_lower, lower_digits};
 ghost use Rattle.mesh_base.specs.Address.{hex_of_byte, mac_text, pairs_text};
 ghost use Rattle.mesh_model.specs.Text.PacketLines.{named_number, named_address, named_flags};
@@ -24,14 +24,8 @@ pub enum Part<'a> {
     Number(&'a [u8], u64),
     /// An address behind its name.
     Address(&'a [u8], Mac),
-    /// A byte of flags behind its name, as two hex digits.
-    Flags(&'a [u8], u8),
-    /// Type, version and length of a container.
-    Container { kind: u8, version: u8, len: usize },
     /// A VLAN: `-`, its number, or `raw:` and its wire number.
     Vlan(Vid),
-    /// A checksum as eight hex digits.
-    Sum(u32),
     /// The flags of an entry, a letter or `-` each.
     Marks(u8),
     /// An age, or `-` for none.
@@ -44,6 +38,16 @@ pub enum Part<'a> {
     Hex(&'a [u8]),
 }
 
+// Appends a number of some digits.
+fn put_digits(line: &mut LineText, number: u64) -> Result<(), NoMemory>
+    ensures { OnOk result (line.new ≡ line.old ++ decimal number) }
+{
+    let mut digits = itoa::Buffer::new();
+    line.put(digits.format(number).as_bytes())?;
+    Ok(())
+}
+
+#[inline(always)]
 fn put_number(line: &mut LineText, number: u64) -> Result<(), NoMemory>
     ensures { OnOk result (line.new ≡ line.old ++ decimal number) }
 {
@@ -51,12 +55,13 @@ fn put_number(line: &mut LineText, number: u64) -> Result<(), NoMemory>
         line.put(&[b'0' + number as u8])?;
         return Ok(());
     }
-    let mut digits = itoa::Buffer::new();
-    line.put(digits.format(number).as_bytes())?;
+    put_digits(line, number)?;
     Ok(())
 }
 
-fn put_named_number(line: &mut LineText, name: &[u8], number: u64) -> Result<(), NoMemory>
+/// Appends a number in decimal behind its name.
+#[inline(always)]
+pub fn put_named_number(line: &mut LineText, name: &[u8], number: u64) -> Result<(), NoMemory>
     ensures { OnOk result (line.new ≡ line.old ++ named_number name.now number) }
 {
     line.put(name)?;
@@ -64,7 +69,9 @@ fn put_named_number(line: &mut LineText, name: &[u8], number: u64) -> Result<(),
     Ok(())
 }
 
-fn put_named_address(line: &mut LineText, name: &[u8], mac: Mac) -> Result<(), NoMemory>
+/// Appends an address behind its name.
+#[inline(always)]
+pub fn put_named_address(line: &mut LineText, name: &[u8], mac: Mac) -> Result<(), NoMemory>
     ensures { OnOk result (line.new ≡ line.old ++ named_address name.now mac) }
 {
     line.put(name)?;
@@ -72,21 +79,14 @@ fn put_named_address(line: &mut LineText, name: &[u8], mac: Mac) -> Result<(), N
     Ok(())
 }
 
-fn put_named_flags(line: &mut LineText, name: &[u8], flags: u8) -> Result<(), NoMemory>
+/// Appends a byte of flags behind its name, as two hex digits.
+#[inline(always)]
+pub fn put_named_flags(line: &mut LineText, name: &[u8], flags: u8) -> Result<(), NoMemory>
     ensures { OnOk result (line.new ≡ line.old ++ named_flags name.now flags) }
 {
     line.put(name)?;
-    line.put(&[high_digit(flags), low_digit(flags)])?;
-    Ok(())
-}
-
-fn put_container(line: &mut LineText, kind: u8, version: u8, len: usize) -> Result<(), NoMemory>
-    ensures { OnOk result (line.new ≡ line.old ++ (named_number (codes "tvlv ") kind
-        ++ named_number (codes " version=") version ++ named_number (codes " len=") len)) }
-{
-    put_named_number(line, b"tvlv ", u64::from(kind))?;
-    put_named_number(line, b" version=", u64::from(version))?;
-    put_named_number(line, b" len=", len as u64)?;
+    line.put(&[high_digit(flags)])?;
+    line.put(&[low_digit(flags)])?;
     Ok(())
 }
 
@@ -130,8 +130,9 @@ fn low_digit(byte: u8) -> u8
     b"0123456789abcdef"[usize::from(byte % HEX)]
 }
 
+/// Appends a VLAN: `-`, its number, or `raw:` and its wire number.
 #[tactic(auto, unfolding(mesh_model::specs::Text::Tables::vid_text))]
-fn put_vid(line: &mut LineText, vid: Vid) -> Result<(), NoMemory>
+pub fn put_vid(line: &mut LineText, vid: Vid) -> Result<(), NoMemory>
     ensures { OnOk result (line.new ≡ line.old ++ vid_text vid) }
 {
     if vid == Vid::UNTAGGED {
@@ -145,8 +146,9 @@ fn put_vid(line: &mut LineText, vid: Vid) -> Result<(), NoMemory>
     Ok(())
 }
 
+/// Appends a checksum as eight hex digits.
 #[tactic(auto, unfolding(mesh_model::specs::Text::Tables::sum_text))]
-fn put_sum(line: &mut LineText, sum: u32) -> Result<(), NoMemory>
+pub fn put_sum(line: &mut LineText, sum: u32) -> Result<(), NoMemory>
     ensures { OnOk result (line.new ≡ line.old ++ sum_text sum) }
 {
     let mut digits = [0; 8];
@@ -224,10 +226,7 @@ pub fn put_part(line: &mut LineText, part: &Part<'_>) -> Result<(), NoMemory>
         Part::Text(text) => line.put(text)?,
         Part::Number(name, value) => put_named_number(line, name, value)?,
         Part::Address(name, mac) => put_named_address(line, name, mac)?,
-        Part::Flags(name, flags) => put_named_flags(line, name, flags)?,
-        Part::Container { kind, version, len } => put_container(line, kind, version, len)?,
         Part::Vlan(vid) => put_vid(line, vid)?,
-        Part::Sum(sum) => put_sum(line, sum)?,
         Part::Marks(flags) => put_marks(line, flags)?,
         Part::Age(age) => put_age(line, age)?,
         Part::Hop(mac) => put_hop(line, mac)?,

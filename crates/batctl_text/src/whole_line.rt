@@ -1,20 +1,19 @@
 //! A line, whole or not at all.
 
-ghost use Rattle.std.specs.Prelude.{◌≡◌, ◌++◌, OnOk, OnErr};
-ghost use Rattle.batctl_text.specs.Inner.Parts.{parts_line};
+ghost use Rattle.std.specs.Prelude.{◌≡◌, ◌++◌, OnOk, OnErr, flat_map};
+ghost use Rattle.batctl_text.specs.Inner.Parts.{part_text, parts_line};
 
 use crate::line_text::LineText;
 use crate::part::{Part, put_part};
 use mesh_base::NoMemory;
 
-// Appends parts and a newline.
+// Appends parts.
 fn put_parts(line: &mut LineText, parts: &[Part<'_>]) -> Result<(), NoMemory>
-    ensures { OnOk result (line.new ≡ line.old ++ parts_line parts.now) }
+    ensures { OnOk result (line.new ≡ line.old ++ flat_map part_text parts.now) }
 {
     for part in parts {
         put_part(line, part)?;
     }
-    line.put(b"\n")?;
     Ok(())
 }
 
@@ -25,6 +24,6 @@ pub fn put_line(out: &mut Vec<u8>, parts: &[Part<'_>]) -> Result<(), NoMemory>
 {
     let mut line = LineText::new(*out.allocator());
     put_parts(&mut line, parts)?;
-    line.append_to(out)?;
+    line.end(out)?;
     Ok(())
 }

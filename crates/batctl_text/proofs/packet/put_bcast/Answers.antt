@@ -1,6 +1,23 @@
-use Rattle.mesh_model.specs.Text.PacketLines.{packet_line}
+use Rattle.std.proofs.Common.{[], ◌∷◌}
+use Rattle.std.specs.Prelude.{codes}
+use Rattle.mesh_model.specs.Packets.Shapes.{bcast}
+use Rattle.mesh_model.specs.Text.PacketLines.{packet_line, named_address, named_number}
+use Rattle.batctl_text.proofs.LinesLemmas.{line-put}
 use Rattle.batctl_text.proofs.packet.put_bcast.Goals as goal
 
 pub returns-clause-ok : goal.returns-clause-ok
 unfolding packet_line
-returns-clause-ok c = rw (c.from.ensures, c.from-2.ensures) at c.put_line.ensures.ok
+returns-clause-ok c = line-put _ _
+    (codes "packet " ∷ bcast.word ∷ named_number (codes " ttl=") c.args.ttl ∷ named_number (codes " seq=") c.args.seq ∷
+    named_address (codes " orig=") c.args.orig ∷ named_number (codes " data=") c.args.len ∷ [])
+    (rw (
+      c.in_ok-put_named_number-3.ensures,
+      c.in_ok-put_named_address.ensures,
+      c.in_ok-put_named_number-2.ensures,
+      c.in_ok-put_named_number.ensures,
+      c.in_ok-put-2.ensures,
+      c.in_ok-put.ensures,
+      c.new-line.ensures,
+      c.from.ensures,
+      c.from-2.ensures,
+    ) at c.in_ok-end.ensures.ok)

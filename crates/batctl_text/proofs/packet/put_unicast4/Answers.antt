@@ -1,6 +1,27 @@
-use Rattle.mesh_model.specs.Text.PacketLines.{packet_line}
+use Rattle.std.proofs.Common.{[], ◌∷◌}
+use Rattle.std.specs.Prelude.{codes}
+use Rattle.mesh_model.specs.Packets.Shapes.{unicast4}
+use Rattle.mesh_model.specs.Text.PacketLines.{packet_line, named_address, named_number}
+use Rattle.batctl_text.proofs.LinesLemmas.{line-put}
 use Rattle.batctl_text.proofs.packet.put_unicast4.Goals as goal
 
 pub returns-clause-ok : goal.returns-clause-ok
 unfolding packet_line
-returns-clause-ok c = rw (c.from.ensures, c.from-2.ensures, c.from-3.ensures) at c.put_line.ensures.ok
+returns-clause-ok c = line-put _ _
+    (codes "packet " ∷ unicast4.word ∷ named_number (codes " ttl=") c.args.ttl ∷ named_number (codes " ttvn=") c.args.ttvn ∷
+    named_address (codes " dst=") c.args.dst ∷ named_address (codes " src=") c.args.src ∷ named_number (codes " sub=") c.args.subtype ∷
+    named_number (codes " data=") c.args.len ∷ [])
+    (rw (
+      c.in_ok-put_named_number-4.ensures,
+      c.in_ok-put_named_number-3.ensures,
+      c.in_ok-put_named_address-2.ensures,
+      c.in_ok-put_named_address.ensures,
+      c.in_ok-put_named_number-2.ensures,
+      c.in_ok-put_named_number.ensures,
+      c.in_ok-put-2.ensures,
+      c.in_ok-put.ensures,
+      c.new-line.ensures,
+      c.from.ensures,
+      c.from-2.ensures,
+      c.from-3.ensures,
+    ) at c.in_ok-end.ensures.ok)
