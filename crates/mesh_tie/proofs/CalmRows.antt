@@ -1,0 +1,100 @@
+-- The rows that say nothing of tables, a line each.
+use Rattle.std.proofs.Common.{◌-◌, ℕ, suc, Bool, true, false, cond, ◌||◌, nat_le, List, [], ◌∷◌, ◌++◌, length, drop, Option, Some, None}
+use Rattle.std.specs.List.{AllByRecursion}
+use Rattle.std.specs.Option.{unwrap_or}
+use Rattle.std.specs.Prelude.{◌==◌}
+use Rattle.mesh_base.specs.Address.{is_broadcast, is_group}
+use Rattle.mesh_base.specs.declared.address.Mac.{Mac}
+use Rattle.mesh_base.specs.declared.event.Reason.{Reason}
+use Rattle.mesh_base.specs.declared.event.Reason.TheVariants.{Fwd}
+use Rattle.mesh_base.specs.declared.event.LossReason.TheVariants.{Ttl, NoRoute}
+use Rattle.mesh_base.specs.declared.event.LossReason.{LossReason}
+use Rattle.mesh_model.specs.declared.act.Act.{Act}
+use Rattle.mesh_model.specs.declared.packet.Head.TheVariants.{Bcast, Unicast}
+use Rattle.mesh_model.specs.Acts.FrameRows.{Place, addressed, arrived, broadcast_acts, broadcast_on, frame_acts, handed_out, handed_out_if, here_acts, is_present, lost, lost_if, on_route, on_way, passed_frame, readdressed}
+use Rattle.mesh_model.specs.Acts.Packing.{sent_to, sent_to_all}
+use Rattle.mesh_model.specs.Acts.Rows.{alias_acts, alias_event}
+use Rattle.mesh_model.specs.Clients.Mentions.{Mention, key_of}
+use Rattle.mesh_model.specs.Commits.Aliases.{last_alias}
+use Rattle.mesh_model.specs.Knowledge.Addressee.{Way, addressee}
+use Rattle.mesh_model.specs.Knowledge.Known.{Broadcast, Knowledge, is_new_broadcast, told_at}
+use Rattle.mesh_model.specs.Packets.Layout.{spelling}
+use Rattle.mesh_model.specs.Packets.Payload.{ClientFrame, client_frame_of, payload_spelling}
+use Rattle.mesh_model.specs.Routes.Queries.{Queries}
+use Rattle.mesh_model.specs.Tables.Versions.{Version}
+use Rattle.mesh_tie.proofs.EntryLemmas.{each_appended}
+use Rattle.mesh_tie.proofs.HeadLemmas.{bcast_frame, unicast_frame}
+use Rattle.mesh_tie.proofs.Sayable.{IsCalm}
+
+-- ---- packets that carry client frames
+pub calm_bcast : (ttl seq : ℕ) (orig : Mac) (tail : List ℕ) → IsCalm (sent_to_all (Bcast ttl seq orig) tail)
+calm_bcast ttl seq orig tail = bcast_frame (drop 2 (spelling (Bcast ttl seq orig) tail))
+
+pub calm_unicast : (next : Mac) (reason : Option Reason) (ttl ttvn : ℕ) (dst : Mac) (tail : List ℕ) → IsCalm (sent_to next reason (Unicast ttl ttvn dst) tail)
+calm_unicast next reason ttl ttvn dst tail = unicast_frame (drop 2 (spelling (Unicast ttl ttvn dst) tail))
+
+calm_if : (b : Bool) (xs ys : List Act) → AllByRecursion IsCalm xs → AllByRecursion IsCalm ys → AllByRecursion IsCalm (cond b xs ys)
+calm_if true xs ys a b = a
+calm_if false xs ys a b = b
+
+-- ---- the rows
+calm_handed : (at : Place) (o : Option ClientFrame) → AllByRecursion IsCalm (handed_out_if at o)
+calm_handed at None = tt
+calm_handed at (Some frame) = (tt, tt)
+
+calm_lost : (at : Place) (reason : LossReason) (o : Option ClientFrame) → AllByRecursion IsCalm (lost_if at reason o)
+calm_lost at reason None = tt
+calm_lost at reason (Some frame) = (tt, tt)
+
+pub calm_broadcast : (known : Knowledge) (at : Place) (ttl : ℕ) (broadcast : Broadcast) (tail : List ℕ) → AllByRecursion IsCalm (broadcast_acts known at ttl broadcast tail)
+unfolding broadcast_acts
+calm_broadcast known at ttl broadcast tail = calm_if (is_new_broadcast at.me broadcast known.taken) (handed_out_if at (client_frame_of tail) ++ broadcast_on ttl broadcast tail) []
+    (each_appended IsCalm (handed_out_if at (client_frame_of tail)) (broadcast_on ttl broadcast tail) (calm_handed at (client_frame_of tail))
+    (calm_if (nat_le ttl 1) [] (sent_to_all (Bcast (ttl - 1) broadcast.number broadcast.orig) tail ∷ []) tt (calm_bcast (ttl - 1) broadcast.number broadcast.orig tail, tt))) tt
+
+calm_on_route : (at : Place) (ttl ttvn : ℕ) (dst : Mac) (tail : List ℕ) (next : Option Mac) → AllByRecursion IsCalm (on_route at ttl ttvn dst tail next)
+calm_on_route at ttl ttvn dst tail None = calm_lost at NoRoute (client_frame_of tail)
+calm_on_route at ttl ttvn dst tail (Some next) = (calm_unicast next (Some Fwd) (ttl - 1) ttvn dst tail, tt)
+
+pub calm_passed : (q : Queries) (known : Knowledge) (at : Place) (ttl ttvn : ℕ) (dst : Mac) (tail : List ℕ) → AllByRecursion IsCalm (passed_frame q known at ttl ttvn dst tail)
+unfolding passed_frame
+calm_passed q known at ttl ttvn dst tail = calm_if (nat_le ttl 1) (lost_if at Ttl (client_frame_of tail)) (on_route at ttl ttvn dst tail (q.route known.routes at.now dst))
+    (calm_lost at Ttl (client_frame_of tail)) (calm_on_route at ttl ttvn dst tail (q.route known.routes at.now dst))
+
+calm_addressed : (q : Queries) (known : Knowledge) (now ttl : ℕ) (way : Way) (tail : List ℕ) → IsCalm (addressed q known now ttl way tail)
+calm_addressed q known now ttl way tail = calm_unicast way.next (Some way.reason) ttl (unwrap_or (told_at q known now way.orig) 0) way.orig tail
+
+calm_readdressed : (q : Queries) (known : Knowledge) (at : Place) (ttl : ℕ) (frame : ClientFrame) (tail : List ℕ) (way : Option Way) → AllByRecursion IsCalm (readdressed q known at ttl frame tail way)
+calm_readdressed q known at ttl frame tail None = (tt, tt)
+calm_readdressed q known at ttl frame tail (Some way) = calm_if (nat_le ttl 1) (lost at Ttl frame ∷ []) (addressed q known at.now (ttl - 1) way tail ∷ []) (tt, tt) (calm_addressed q known at.now (ttl - 1) way tail, tt)
+
+calm_arrived : (q : Queries) (known : Knowledge) (ms : List Mention) (at : Place) (ttl : ℕ) (tail : List ℕ) (o : Option ClientFrame) → AllByRecursion IsCalm (arrived q known ms at ttl tail o)
+calm_arrived q known ms at ttl tail None = tt
+calm_arrived q known ms at ttl tail (Some frame) =
+    let way = addressee q known at.now (key_of frame.dst frame.vid) in
+    calm_if (is_group frame.dst || is_present ms at.now (key_of frame.dst frame.vid)) (handed_out at frame ∷ []) (readdressed q known at ttl frame tail way) (tt, tt) (calm_readdressed q known at ttl frame tail way)
+
+pub calm_here : (q : Queries) (known : Knowledge) (ms : List Mention) (at : Place) (ttl : ℕ) (tail : List ℕ) → AllByRecursion IsCalm (here_acts q known ms at ttl tail)
+unfolding here_acts
+calm_here q known ms at ttl tail = calm_arrived q known ms at ttl tail (client_frame_of tail)
+
+calm_on_way : (q : Queries) (known : Knowledge) (at : Place) (frame : ClientFrame) (way : Option Way) → AllByRecursion IsCalm (on_way q known at frame way)
+calm_on_way q known at frame None = (tt, tt)
+calm_on_way q known at frame (Some way) = (calm_addressed q known at.now 50 way (payload_spelling frame), tt)
+
+pub calm_frame : (q : Queries) (known : Knowledge) (ms : List Mention) (at : Place) (frame : ClientFrame) → AllByRecursion IsCalm (frame_acts q known ms at frame)
+unfolding frame_acts
+calm_frame q known ms at frame =
+    let way = on_way q known at frame (addressee q known at.now (key_of frame.dst frame.vid)) in
+    let handed = cond (is_present ms at.now (key_of frame.dst frame.vid)) (handed_out at frame ∷ []) way in
+    calm_if (is_broadcast frame.dst) (sent_to_all (Bcast 50 (suc known.sent) at.me) (payload_spelling frame) ∷ []) (cond (is_group frame.dst) [] handed)
+    (calm_bcast 50 (suc known.sent) at.me (payload_spelling frame), tt)
+    (calm_if (is_group frame.dst) [] handed tt
+    (calm_if (is_present ms at.now (key_of frame.dst frame.vid)) (handed_out at frame ∷ []) way (tt, tt) (calm_on_way q known at frame (addressee q known at.now (key_of frame.dst frame.vid)))))
+
+calm_event : (me : Mac) (number : ℕ) (o : Option ℕ) → AllByRecursion IsCalm (alias_event me number o)
+calm_event me number None = tt
+calm_event me number (Some earlier) = (tt, tt)
+
+pub calm_alias : (me : Mac) (before after : List Version) → AllByRecursion IsCalm (alias_acts me before after)
+calm_alias me before after = calm_if (length after == length before) [] (alias_event me (length before) (last_alias after)) tt (calm_event me (length before) (last_alias after))

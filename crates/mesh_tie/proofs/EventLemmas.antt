@@ -1,0 +1,250 @@
+-- The events of frames that were sent by table.
+use Rattle.std.proofs.Common.{◌≡◌, ◌≢◌, ◌⊎◌, inl, inr, ℕ, zero, suc, Bool, true, false, nat_eq, List, [], ◌∷◌, ◌++◌, slice_get, Some, Ok, refl, sym, ap, subst, ◌∙◌}
+use Rattle.std.proofs.lemmas.Bool.{eq-eqb, eqb-true, true≢false}
+use Rattle.mesh_base.specs.declared.address.Mac.{Mac}
+use Rattle.mesh_base.specs.declared.event.Event.{Event}
+use Rattle.mesh_base.specs.declared.event.Event.TheVariants.{Alias, FrameSent}
+use Rattle.mesh_base.specs.declared.event.Reason.TheVariants.{Table}
+use Rattle.mesh_model.specs.declared.act.Act.{Act}
+use Rattle.mesh_model.specs.declared.act.Act.TheVariants.{Link, Print}
+use Rattle.mesh_model.specs.Clients.Log.{Given, Tick, LinkFrame, Log, LogEntry}
+use Rattle.mesh_model.specs.Commits.History.{commits}
+use Rattle.mesh_model.specs.Knowledge.Steps.{next_knowledge}
+use Rattle.mesh_model.specs.Net.Due.{ticks_in}
+use Rattle.mesh_model.specs.Net.Inputs.{entry_of, given_to, noted_at, noting}
+use Rattle.mesh_model.specs.Net.Limits.{scenario_setup}
+use Rattle.mesh_model.specs.Net.Mesh.{NodeLog, Mesh}
+use Rattle.mesh_model.specs.Net.Next.{Has}
+use Rattle.mesh_model.specs.Routes.Queries.{Queries}
+use Rattle.mesh_model.specs.Tables.Known.{TableCalls}
+use Rattle.mesh_laws.specs.Machine.Agreement.{HasNoAlias}
+use Rattle.mesh_laws.proofs.Schedule.Members.{has_left, has_right, one_some}
+use Rattle.mesh_laws.proofs.Schedule.Steps.{get_front}
+use Rattle.mesh_tie.specs.ByTable.{IsSentByTable}
+use Rattle.mesh_tie.specs.LinesByTable.{EventsByTableAreRight, SentRightly, ToldNoneOf}
+use Rattle.mesh_tie.specs.Originators.{commits_of, log_of}
+use Rattle.mesh_tie.specs.Steps.{IsReachable, Steps, begins, frame_comes, goes_on, line_gives, link_joins, node_joins, node_ticks, time_passes}
+use Rattle.mesh_tie.specs.Tie.{CommitsFit, known_at_node}
+use Rattle.mesh_tie.specs.TieLaws.{AllKeep}
+use Rattle.mesh_tie.proofs.CommitLemmas.{Follows}
+use Rattle.mesh_tie.proofs.FitLemmas.{commits_always_fit}
+use Rattle.mesh_tie.proofs.LogLemmas.{Grows, grows_same}
+use Rattle.mesh_tie.proofs.MeshSteps.{LogAfter, Reached, follows_line, got_noted, grows_after, log_after, log_joined, reached}
+use Rattle.mesh_tie.proofs.NameSteps.{AllName, More, act_of, frame_acts_name, line_acts, next_calls, sent_grows, tick_names}
+use Rattle.mesh_tie.proofs.NamesRows.{ActNames}
+use Rattle.mesh_tie.proofs.Sayable.{one_or_two}
+use Rattle.mesh_tie.proofs.SeenLemmas.{aliases_are_seen, calm_commits, line_calm}
+use Rattle.mesh_tie.proofs.SentLemmas.{HasGiven, IsSending, given_is}
+
+-- ---- lists that are split
+-- an item between two parts of a list of two lists is in the first or in the second
+pub data Split {X : Type 0} (xs ys front : List X) (e : X) : Type 0 where
+  in_first : (back : List X) → xs ≡ front ++ e ∷ back → Split xs ys front e
+  in_second : (more : List X) → front ≡ xs ++ more → Has ys e → Split xs ys front e
+
+head_is : {X : Type 0} (a b : X) (as_tail bs : List X) → a ∷ as_tail ≡ b ∷ bs → (a ≡ b) × (as_tail ≡ bs)
+head_is a b xs ys e = (cc, cc)
+
+pub split : {X : Type 0} (xs ys front : List X) (e : X) (back : List X) → xs ++ ys ≡ front ++ e ∷ back → Split xs ys front e
+split [] ys front e back is = in_second front refl (subst (λ zs. Has zs e) (sym is) (has_right front (e ∷ back) e (inl refl)))
+split (x ∷ xs) ys [] e back is = in_first xs (ap (λ y. y ∷ xs) (head_is x e (xs ++ ys) back is).0)
+split (x ∷ xs) ys (f ∷ front) e back is = go (split xs ys front e back (head_is x f (xs ++ ys) (front ++ e ∷ back) is).1)
+  where
+    same : x ≡ f
+    same = (head_is x f (xs ++ ys) (front ++ e ∷ back) is).0
+
+    go : Split xs ys front e → Split (x ∷ xs) ys (f ∷ front) e
+    go (in_first rest p) = in_first rest (ap (λ y. y ∷ xs) same ∙ ap (λ zs. f ∷ zs) p)
+    go (in_second more p has) = in_second more (ap (λ y. y ∷ front) (sym same) ∙ ap (λ zs. x ∷ zs) p) has
+
+-- ---- nodes
+got_other : (at : ℕ) (entry : LogEntry) (nodes : List NodeLog) (place : ℕ) → at ≢ place → slice_get (noted_at at entry nodes) place ≡ slice_get nodes place
+got_other at entry [] place other = refl
+got_other zero entry (node ∷ rest) zero other = absurd (other refl)
+got_other zero entry (node ∷ rest) (suc place) other = refl
+got_other (suc at) entry (node ∷ rest) zero other = refl
+got_other (suc at) entry (node ∷ rest) (suc place) other = got_other at entry rest place (λ same. other (ap suc same))
+
+same_place : (a b : ℕ) → (a ≡ b) ⊎ (a ≢ b)
+same_place a b = go (nat_eq a b) refl
+  where
+    go : (t : Bool) → nat_eq a b ≡ t → (a ≡ b) ⊎ (a ≢ b)
+    go true is = inl (eqb-true a b is)
+    go false is = inr (λ same. true≢false (sym (eq-eqb a b same) ∙ is))
+
+-- ---- one input
+-- what was sent rightly stays so
+rightly_later : (queries : Mac → Queries) (orig : Mac) (mesh after : Mesh) (place now root : ℕ) (node : NodeLog) (given : Given) (me : Mac) (bytes : List ℕ) → slice_get mesh.nodes place ≡ Some node → Follows node.log given
+    → LogAfter orig node (entry_of (scenario_setup queries) node now given) (log_of orig mesh.nodes) (log_of orig (noted_at place (entry_of (scenario_setup queries) node now given) mesh.nodes))
+    → given_to (scenario_setup queries) place now root given mesh ≡ Ok after → SentRightly queries orig mesh me bytes → SentRightly queries orig after me bytes
+rightly_later queries orig mesh after place now root node given me bytes found next l is s = go (same_place place s.place)
+  where
+    entry : LogEntry
+    entry = entry_of (scenario_setup queries) node now given
+
+    later : Log
+    later = log_of orig (noted_at place (entry_of (scenario_setup queries) node now given) mesh.nodes)
+
+    has : HasGiven (scenario_setup queries) place now root node given mesh after
+    has = given_is (scenario_setup queries) place now root node given mesh after found is
+
+    grows : Grows orig (log_of orig mesh.nodes) later
+    grows = grows_after orig node entry (log_of orig mesh.nodes) later l next
+
+    calls : More (known_at_node queries node).tables (next_knowledge (queries node.mac) node.mac node.log (known_at_node queries node) now given).tables
+    calls = next_calls (queries node.mac) node.mac node.log (known_at_node queries node) now given
+
+    as_after : (all : TableCalls) → IsSentByTable all orig later (mesh.frames ++ has.more) bytes → IsSentByTable all orig (log_of orig after.nodes) after.frames bytes
+    as_after all b = subst (λ log. IsSentByTable all orig log after.frames bytes) (ap (log_of orig) (sym has.nodes)) (subst (λ fs. IsSentByTable all orig later fs bytes) (sym has.frames) b)
+
+    go : (place ≡ s.place) ⊎ (place ≢ s.place) → SentRightly queries orig after me bytes
+    go (inr other) = record {
+      place = s.place;
+      node = s.node;
+      found = ap (λ ns. slice_get ns s.place) has.nodes ∙ got_other place entry mesh.nodes s.place other ∙ s.found;
+      mac_is = s.mac_is;
+      by_table = as_after (known_at_node queries s.node).tables (sent_grows (known_at_node queries s.node).tables [] orig (log_of orig mesh.nodes) later mesh.frames has.more bytes grows s.by_table);
+    }
+    go (inl same) =
+        let one : node ≡ s.node = one_some node s.node (sym found ∙ ap (slice_get mesh.nodes) same ∙ s.found) in
+        let mine : IsSentByTable (known_at_node queries node).tables orig (log_of orig mesh.nodes) mesh.frames bytes =
+        subst (λ n. IsSentByTable (known_at_node queries n).tables orig (log_of orig mesh.nodes) mesh.frames bytes) (sym one) s.by_table in
+        record {
+          place = place;
+          node = noting entry node;
+          found = ap (λ ns. slice_get ns place) has.nodes ∙ got_noted mesh.nodes place node entry found;
+          mac_is = ap (λ (n : NodeLog). n.mac) one ∙ s.mac_is;
+          by_table = as_after (next_knowledge (queries node.mac) node.mac node.log (known_at_node queries node) now given).tables
+              (subst (λ all. IsSentByTable all orig later (mesh.frames ++ has.more) bytes) (sym calls.1)
+              (sent_grows (known_at_node queries node).tables calls.0 orig (log_of orig mesh.nodes) later mesh.frames has.more bytes grows mine));
+        }
+
+-- what the acts of an input send by table
+rightly_now : (queries : Mac → Queries) (orig : Mac) (mesh after : Mesh) (place now root : ℕ) (node : NodeLog) (given : Given) (number moment : ℕ) (me next : Mac) (bytes : List ℕ) → slice_get mesh.nodes place ≡ Some node
+    → (is : given_to (scenario_setup queries) place now root given mesh ≡ Ok after)
+    → AllName (next_knowledge (queries node.mac) node.mac node.log (known_at_node queries node) now given).tables orig (log_of orig (noted_at place (entry_of (scenario_setup queries) node now given) mesh.nodes)) mesh.frames (entry_of (scenario_setup queries) node now given).acts
+    → (found : slice_get mesh.nodes place ≡ Some node) → Has (given_is (scenario_setup queries) place now root node given mesh after found is).more_events (FrameSent number moment me next (Some Table) bytes) → SentRightly queries orig after me bytes
+rightly_now queries orig mesh after place now root node given number moment me next bytes there is names found sent = go (has.came (FrameSent number moment me next (Some Table) bytes) sent)
+  where
+    entry : LogEntry
+    entry = entry_of (scenario_setup queries) node now given
+
+    later : Log
+    later = log_of orig (noted_at place (entry_of (scenario_setup queries) node now given) mesh.nodes)
+
+    has : HasGiven (scenario_setup queries) place now root node given mesh after
+    has = given_is (scenario_setup queries) place now root node given mesh after found is
+
+    all : TableCalls
+    all = (next_knowledge (queries node.mac) node.mac node.log (known_at_node queries node) now given).tables
+
+    no_print : (acts : List Act) → AllName all orig later mesh.frames acts → Has acts (Print (FrameSent number moment me next (Some Table) bytes)) → ⊥
+    no_print [] each has = has
+    no_print (act ∷ rest) each (inl same) = subst (ActNames all orig later mesh.frames) (sym same) each.0 number moment me next (Some Table) bytes refl
+    no_print (act ∷ rest) each (inr has) = no_print rest each.1 has
+
+    go : Has entry.acts (Print (FrameSent number moment me next (Some Table) bytes)) ⊎ IsSending entry.acts node.mac (FrameSent number moment me next (Some Table) bytes) → SentRightly queries orig after me bytes
+    go (inl printed) = absurd (no_print entry.acts names printed)
+    go (inr s) =
+        let mac : me ≡ node.mac = let e = s.is in cc in
+        let why : Some Table ≡ s.reason = let e = s.is in cc in
+        let what : bytes ≡ s.bytes = let e = s.is in cc in
+        let act : Has entry.acts (Link s.to (Some Table) bytes) = subst (λ b. Has entry.acts (Link s.to (Some Table) b)) (sym what) (subst (λ r. Has entry.acts (Link s.to r s.bytes)) (sym why) s.act) in
+        record {
+          place = place;
+          node = noting entry node;
+          found = ap (λ ns. slice_get ns place) has.nodes ∙ got_noted mesh.nodes place node entry found;
+          mac_is = sym mac;
+          by_table = subst (λ log. IsSentByTable all orig log after.frames bytes) (ap (log_of orig) (sym has.nodes))
+              (subst (λ fs. IsSentByTable all orig later fs bytes) (sym has.frames)
+              (sent_grows all [] orig later later mesh.frames has.more bytes (grows_same orig later later refl) (act_of all orig later mesh.frames s.to bytes entry.acts names act)));
+        }
+
+-- ---- all steps
+-- each event of a frame that was sent by table, before which none told of an alias
+abbrev AllRight : (Mac → Queries) → Mac → Mesh → Type 0
+AllRight queries orig mesh = (before after : List Event) (number moment : ℕ) (me next : Mac) (bytes : List ℕ) → mesh.events ≡ before ++ FrameSent number moment me next (Some Table) bytes ∷ after → ToldNoneOf orig before → SentRightly queries orig mesh me bytes
+
+-- the acts of an input name rightly, where no event before told of an alias
+abbrev NamesNow : (Mac → Queries) → Mac → Mesh → ℕ → ℕ → NodeLog → Given → Type 0
+NamesNow queries orig mesh place now node given = ToldNoneOf orig mesh.events
+    → AllName (next_knowledge (queries node.mac) node.mac node.log (known_at_node queries node) now given).tables orig (log_of orig (noted_at place (entry_of (scenario_setup queries) node now given) mesh.nodes)) mesh.frames (entry_of (scenario_setup queries) node now given).acts
+
+given_right : (queries : Mac → Queries) (orig : Mac) (mesh after : Mesh) (place now root : ℕ) (node : NodeLog) (given : Given) → slice_get mesh.nodes place ≡ Some node → Follows node.log given
+    → LogAfter orig node (entry_of (scenario_setup queries) node now given) (log_of orig mesh.nodes) (log_of orig (noted_at place (entry_of (scenario_setup queries) node now given) mesh.nodes))
+    → given_to (scenario_setup queries) place now root given mesh ≡ Ok after → NamesNow queries orig mesh place now node given → AllRight queries orig mesh → AllRight queries orig after
+given_right queries orig mesh after place now root node given found next l is names right before back number moment me to bytes events none =
+    go (split mesh.events has.more_events before (FrameSent number moment me to (Some Table) bytes) back (sym has.events ∙ events))
+  where
+    has : HasGiven (scenario_setup queries) place now root node given mesh after
+    has = given_is (scenario_setup queries) place now root node given mesh after found is
+
+    go : Split mesh.events has.more_events before (FrameSent number moment me to (Some Table) bytes) → SentRightly queries orig after me bytes
+    go (in_first rest p) = rightly_later queries orig mesh after place now root node given me bytes found next l is (right before rest number moment me to bytes p none)
+    go (in_second more p sent) = rightly_now queries orig mesh after place now root node given number moment me to bytes found is
+        (names (λ n e told. none n e (subst (λ es. Has es (Alias orig n e)) (sym p) (has_left mesh.events more (Alias orig n e) told)))) found sent
+
+-- an input that is no tick leaves the commits without an alias
+calm_clear : (queries : Mac → Queries) (orig : Mac) (mesh : Mesh) (place now : ℕ) (node : NodeLog) (given : Given) → IsReachable queries mesh
+    → LogAfter orig node (entry_of (scenario_setup queries) node now given) (log_of orig mesh.nodes) (log_of orig (noted_at place (entry_of (scenario_setup queries) node now given) mesh.nodes))
+    → ((index : ℕ) → given ≡ Tick index → ⊥) → ToldNoneOf orig mesh.events → HasNoAlias (commits orig (log_of orig (noted_at place (entry_of (scenario_setup queries) node now given) mesh.nodes)))
+calm_clear queries orig mesh place now node given r l calm none = go (one_or_two node.mac orig)
+  where
+    entry : LogEntry
+    entry = entry_of (scenario_setup queries) node now given
+
+    clear : HasNoAlias (commits_of orig mesh)
+    clear = aliases_are_seen queries mesh r orig none
+
+    go : (node.mac ≡ orig) ⊎ (node.mac ≢ orig) → HasNoAlias (commits orig (log_of orig (noted_at place (entry_of (scenario_setup queries) node now given) mesh.nodes)))
+    go (inl same) =
+        let parts = l.itself same in
+        subst (λ log. HasNoAlias (commits orig log)) (sym parts.1) (subst HasNoAlias (sym (calm_commits orig node.log entry calm)) (subst (λ log. HasNoAlias (commits orig log)) parts.0 clear))
+    go (inr other) = subst (λ log. HasNoAlias (commits orig log)) (sym (l.other other)) clear
+
+joined_right : (queries : Mac → Queries) (orig : Mac) (mesh : Mesh) (new : NodeLog) → new.log ≡ [] → AllRight queries orig mesh → AllRight queries orig (record mesh { nodes = mesh.nodes ++ new ∷ [] })
+joined_right queries orig mesh new empty right before back number moment me to bytes events none =
+    let s = right before back number moment me to bytes events none in
+    record {
+      place = s.place;
+      node = s.node;
+      found = get_front mesh.nodes (new ∷ []) s.place s.node s.found;
+      mac_is = s.mac_is;
+      by_table = subst (λ log. IsSentByTable (known_at_node queries s.node).tables orig log mesh.frames bytes) (sym (log_joined orig mesh.nodes new empty)) s.by_table;
+    }
+
+step_right : (queries : Mac → Queries) (mesh after : Mesh) → AllKeep queries → IsReachable queries mesh → Reached queries mesh → CommitsFit after → Steps queries mesh after → (orig : Mac) → AllRight queries orig mesh → AllRight queries orig after
+step_right queries mesh _ keep r h fit (node_joins _ node empty whole fresh) orig right = joined_right queries orig mesh node empty right
+step_right queries mesh _ keep r h fit (link_joins _ link) orig right = λ before back number moment me to bytes events none. let s = right before back number moment me to bytes events none in
+    record { place = s.place; node = s.node; found = s.found; mac_is = s.mac_is; by_table = s.by_table }
+step_right queries mesh after keep r h fit (line_gives _ _ place now node given found may of is) orig right =
+    let l = log_after queries orig mesh place node (entry_of (scenario_setup queries) node now given) h.holds.orderly found in
+    given_right queries orig mesh after place now 0 node given found (follows_line node.log given of) l is
+    (λ none. line_acts queries mesh place now node given orig h found of (calm_clear queries orig mesh place now node given r l (line_calm given of) none)) right
+step_right queries mesh after keep r h fit (node_ticks _ _ place now node found may is) orig right =
+    let index = suc (ticks_in node.log) in
+    let entry = entry_of (scenario_setup queries) node now (Tick index) in
+    let l = log_after queries orig mesh place node entry h.holds.orderly found in
+    given_right queries orig mesh after place now index node (Tick index) found refl l is (λ none. tick_names queries mesh place now node orig (log_of orig (noted_at place entry mesh.nodes))) right
+step_right queries mesh after keep r h fit (frame_comes _ _ place now number throughput from node frame found may sent whole is) orig right =
+    let given = LinkFrame (suc number) from throughput frame.bytes in
+    let l = log_after queries orig mesh place node (entry_of (scenario_setup queries) node now given) h.holds.orderly found in
+    given_right queries orig mesh after place now frame.root node given found tt l is
+    (λ none. frame_acts_name queries mesh after place now number throughput from node frame orig keep h fit found sent whole is (calm_clear queries orig mesh place now node given r l (λ index e. no_tick index e) none)) right
+  where
+    no_tick : (index : ℕ) → LinkFrame (suc number) from throughput frame.bytes ≡ Tick index → ⊥
+    no_tick index e = cc
+step_right queries mesh _ keep r h fit (time_passes _ happening) orig right = λ before back number moment me to bytes events none. let s = right before back number moment me to bytes events none in
+    record { place = s.place; node = s.node; found = s.found; mac_is = s.mac_is; by_table = s.by_table }
+
+no_events : (before : List Event) (e : Event) (after : List Event) → [] ≡ before ++ e ∷ after → ⊥
+no_events [] e after is = cc
+no_events (first ∷ before) e after is = cc
+
+all_right : (queries : Mac → Queries) → AllKeep queries → (mesh : Mesh) → IsReachable queries mesh → (orig : Mac) → AllRight queries orig mesh
+all_right queries keep _ begins orig = λ before back number moment me to bytes events none. absurd (no_events before (FrameSent number moment me to (Some Table) bytes) back events)
+all_right queries keep _ (goes_on mesh after r s) orig =
+    step_right queries mesh after keep r (reached queries keep (commits_always_fit queries) mesh r) (commits_always_fit queries after (goes_on mesh after r s)) s orig (all_right queries keep mesh r orig)
+
+pub events_by_table_are_right : EventsByTableAreRight
+events_by_table_are_right queries keep mesh r orig before after number moment me next bytes events none = all_right queries keep mesh r orig before after number moment me next bytes events none

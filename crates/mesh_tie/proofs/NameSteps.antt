@@ -1,0 +1,397 @@
+-- What every node ever sent by table, by the acts in its log.
+use Rattle.std.proofs.Common.{◌≡◌, ◌≢◌, ◌⊎◌, inl, inr, ◌-◌, ℕ, suc, Bool, true, false, cond, not, List, [], ◌∷◌, ◌++◌, slice_get, Option, Some, None, Ok, refl, sym, ap, subst, ◌∙◌, arith, append_assoc}
+use Rattle.std.specs.List.{AllByRecursion}
+use Rattle.mesh_base.specs.declared.address.Mac.{Mac}
+use Rattle.mesh_base.specs.declared.client.Key.{Key}
+use Rattle.mesh_base.specs.declared.event.Reason.TheVariants.{Table}
+use Rattle.mesh_model.specs.declared.act.Act.{Act}
+use Rattle.mesh_model.specs.declared.act.Act.TheVariants.{Link, Lan, Print}
+use Rattle.mesh_model.specs.declared.packet.Head.{Head}
+use Rattle.mesh_model.specs.declared.packet.Head.TheVariants.{IvOgm, Bcast, Elp, Ogm2, Unicast, Frag, Unicast4, Icmp, Utvlv}
+use Rattle.mesh_model.specs.Acts.Choosing.{acts_of, client_acts, sighting_acts}
+use Rattle.mesh_model.specs.Acts.Rows.{Own, own_by, packet_acts, packets_acts, tick_acts}
+use Rattle.mesh_model.specs.Clients.Log.{Given, Tick, LinkFrame, Frame, Gone, Join, Leave, Arp, Dhcp, Wifi, Log, LogEntry}
+use Rattle.mesh_model.specs.Clients.Mentions.{key_of, mentions, next_mentions}
+use Rattle.mesh_model.specs.Commits.History.{commits, history}
+use Rattle.mesh_model.specs.Knowledge.Known.{Knowledge, agreed_byte, is_new_broadcast}
+use Rattle.mesh_model.specs.Knowledge.Steps.{Coming, advertised, after_announcement, after_answer, after_broadcast, after_containers, after_head, after_message, after_packet, after_packets, after_roaming, after_sighting, after_taken, before_announcement, knowledge, next_knowledge, released_under, with_head, with_life}
+use Rattle.mesh_model.specs.Knowledge.Told.{Message, TableMessage, Asks, Answers, Neither, message_in, message_of, message_with}
+use Rattle.mesh_model.specs.Net.Due.{ticks_in}
+use Rattle.mesh_model.specs.Net.Inputs.{entry_of, given_to, noted_at, noting}
+use Rattle.mesh_model.specs.Net.Limits.{scenario_setup}
+use Rattle.mesh_model.specs.Net.Mesh.{NodeLog, SentFrame, Mesh}
+use Rattle.mesh_model.specs.Net.Next.{Has}
+use Rattle.mesh_model.specs.Packets.Bodies.{TtData}
+use Rattle.mesh_model.specs.Packets.Containers.{containers_of}
+use Rattle.mesh_model.specs.Packets.Contents.{first_roaming, first_table}
+use Rattle.mesh_model.specs.Packets.FirstPacket.{Packet}
+use Rattle.mesh_model.specs.Packets.LinkFrame.{link_frame}
+use Rattle.mesh_model.specs.Packets.Payload.{ClientFrame}
+use Rattle.mesh_model.specs.Routes.Addresses.{same_mac}
+use Rattle.mesh_model.specs.Routes.Queries.{Queries}
+use Rattle.mesh_model.specs.Tables.Known.{Answered, Dropped, TableCalls, known_by, names}
+use Rattle.mesh_model.specs.Tables.Versions.{Version}
+use Rattle.mesh_laws.specs.Machine.Agreement.{HasNoAlias}
+use Rattle.mesh_laws.specs.Machine.World.{World, commit_numbered}
+use Rattle.mesh_laws.proofs.Schedule.Members.{one_some}
+use Rattle.mesh_laws.proofs.Schedule.Steps.{get_front}
+use Rattle.mesh_tie.specs.ByTable.{FramesByTable, HadCome, IsSentByTable}
+use Rattle.mesh_tie.specs.Originators.{commits_of, log_of}
+use Rattle.mesh_tie.specs.Sayings.{PacketSays}
+use Rattle.mesh_tie.specs.Sources.{IsWhole, KeepsOriginators}
+use Rattle.mesh_tie.specs.Steps.{IsOfLine, IsReachable, Steps, begins, frame_comes, goes_on, line_gives, link_joins, node_joins, node_ticks, time_passes}
+use Rattle.mesh_tie.specs.Tie.{CommitsFit, IsTied, KnowsWhole, NodeIsTied, known_at_node}
+use Rattle.mesh_tie.specs.TieLaws.{AllKeep}
+use Rattle.mesh_tie.proofs.CommitLemmas.{Follows, numbered_next}
+use Rattle.mesh_tie.proofs.EntryLemmas.{each_appended}
+use Rattle.mesh_tie.proofs.FitLemmas.{commits_always_fit}
+use Rattle.mesh_tie.proofs.KnowsLemmas.{packet_knows, sighting_knows}
+use Rattle.mesh_tie.proofs.LogLemmas.{Grows, grows_same}
+use Rattle.mesh_tie.proofs.MeshSteps.{LogAfter, Reached, Renewed, another, came_in, fits_among, follows_line, frame_ready, got_front, grows_after, itself, log_after, log_joined, midway_of, reached, renewed}
+use Rattle.mesh_tie.proofs.NamesRows.{ActNames, CanName, IsClear, found_told, frame_names, packet_names, plain_advert, plain_names, plain_tick}
+use Rattle.mesh_tie.proofs.NodeSteps.{Ready, line_same, packet_goes, ready_later}
+use Rattle.mesh_tie.proofs.PacketSteps.{CameIn}
+use Rattle.mesh_tie.proofs.Sayable.{one_or_two, packet_more}
+use Rattle.mesh_tie.proofs.SentLemmas.{HasGiven, given_is}
+
+-- ---- what comes for tables only grows
+abbrev pub More : TableCalls → TableCalls → Type 0
+More before after = (newer : TableCalls) × (after ≡ newer ++ before)
+
+more_same : (before after : TableCalls) → after ≡ before → More before after
+more_same before after same = ([], same)
+
+more_then : (a b c : TableCalls) → More a b → More b c → More a c
+more_then a b c m n = (n.0 ++ m.0, n.1 ∙ ap (λ x. n.0 ++ x) m.1 ∙ sym (append_assoc n.0 m.0 a))
+
+taken_more : (q : Queries) (came : Coming) (head : Head) (source : Mac) (o : Option TtData) (known : Knowledge) → More known.tables (after_taken q came head (message_with source o) known).tables
+taken_more q came head source None known = more_same known.tables known.tables refl
+taken_more q came head source (Some table) known = go (q.hear known.routes came.now came.from came.throughput head).accepted
+  where
+    message : Message
+    message = record { orig = source; table = table }
+
+    life : (b : Bool) → More known.tables (with_life source b (with_head came head known)).tables
+    life true = (Dropped source ∷ [], refl)
+    life false = ([], refl)
+
+    go : (b : Bool) → More known.tables (cond b (after_announcement q came message (before_announcement q came head source known)) (with_head came head known)).tables
+    go true = more_then known.tables (before_announcement q came head source known).tables (after_announcement q came message (before_announcement q came head source known)).tables
+        (life (not (q.live known.routes came.now source))) (Rattle.mesh_model.specs.Knowledge.Steps.announcement came message ∷ [], refl)
+    go false = ([], refl)
+
+answer_more : (q : Queries) (now : ℕ) (src : Mac) (message : TableMessage) (known : Knowledge) → More known.tables (after_answer q now src message known).tables
+answer_more q now src (Asks full stamp) known = ([], refl)
+answer_more q now src (Answers stamp carried) known = go (q.live known.routes now src)
+  where
+    more : Knowledge
+    more = record known { tables = Answered src stamp carried ∷ known.tables; marks = released_under src (agreed_byte (known_by (Answered src stamp carried ∷ known.tables) src)) known.marks }
+
+    go : (b : Bool) → More known.tables (cond b more known).tables
+    go true = (Answered src stamp carried ∷ [], refl)
+    go false = ([], refl)
+answer_more q now src Neither known = ([], refl)
+
+roamed_same : (q : Queries) (now : ℕ) (src : Mac) (key : Option Key) (known : Knowledge) → (after_roaming q now src key known).tables ≡ known.tables
+roamed_same q now src None known = refl
+roamed_same q now src (Some key) known = refl
+
+packet_calls : (q : Queries) (me : Mac) (came : Coming) (packet : Packet) (known : Knowledge) → More known.tables (after_packet q me came known packet).tables
+packet_calls q me came packet known = go packet.head packet.tail
+  where
+    both : (b : Bool) (one : Knowledge) → More known.tables one.tables → More known.tables (cond b one known).tables
+    both true one m = m
+    both false one m = ([], refl)
+
+    go : (head : Head) (tail : List ℕ) → More known.tables (after_head q me came (message_of (record { head = head; tail = tail })) tail head known).tables
+    go (IvOgm ttl flags seq o prev tq) tail = taken_more q came (IvOgm ttl flags seq o prev tq) o (first_table (containers_of tail)) known
+    go (Bcast ttl seq o) tail = both (is_new_broadcast me (record { orig = o; number = seq }) known.taken) (record known { taken = record { orig = o; number = seq } ∷ known.taken }) ([], refl)
+    go (Elp o seq interval) tail = ([], refl)
+    go (Ogm2 ttl flags seq o throughput) tail = taken_more q came (Ogm2 ttl flags seq o throughput) o (first_table (containers_of tail)) known
+    go (Unicast ttl ttvn dst) tail = ([], refl)
+    go (Frag ttl number priority dst o seq total) tail = ([], refl)
+    go (Unicast4 ttl ttvn dst src subtype) tail = ([], refl)
+    go (Icmp ttl msg dst o uid seq) tail = ([], refl)
+    go (Utvlv ttl dst src) tail =
+        let answer : Knowledge = after_answer q came.now src (message_in (first_table (containers_of tail))) known in
+        both (same_mac dst me) (after_containers q came.now src tail known)
+        (more_then known.tables answer.tables (after_containers q came.now src tail known).tables (answer_more q came.now src (message_in (first_table (containers_of tail))) known)
+        (more_same answer.tables (after_containers q came.now src tail known).tables (roamed_same q came.now src (first_roaming (containers_of tail)) answer)))
+
+packets_calls : (q : Queries) (me : Mac) (came : Coming) (packets : List Packet) (known : Knowledge) → More known.tables (after_packets q me came known packets).tables
+packets_calls q me came [] known = ([], refl)
+packets_calls q me came (packet ∷ rest) known =
+    more_then known.tables (after_packet q me came known packet).tables (after_packets q me came (after_packet q me came known packet) rest).tables
+    (packet_calls q me came packet known) (packets_calls q me came rest (after_packet q me came known packet))
+
+pub next_calls : (q : Queries) (me : Mac) (older : Log) (known : Knowledge) (now : ℕ) (given : Given) → More known.tables (next_knowledge q me older known now given).tables
+next_calls q me older known now (Tick index) = ([], refl)
+next_calls q me older known now (LinkFrame number from throughput bytes) = packets_calls q me (record { now = now; from = from; throughput = throughput; number = number }) (link_frame bytes).packets known
+next_calls q me older known now (Frame src dst vid text) = more_same known.tables (next_knowledge q me older known now (Frame src dst vid text)).tables (go (Rattle.mesh_base.specs.Address.is_broadcast dst))
+  where
+    then : Knowledge
+    then = after_sighting q me older now (key_of src vid) known
+
+    go : (b : Bool) → (cond b (record then { sent = suc then.sent }) then).tables ≡ known.tables
+    go true = refl
+    go false = refl
+next_calls q me older known now (Gone key) = ([], refl)
+next_calls q me older known now (Join key) = ([], refl)
+next_calls q me older known now (Leave key) = ([], refl)
+next_calls q me older known now (Arp mac own_ip asked_ip vid) = ([], refl)
+next_calls q me older known now (Dhcp key text) = ([], refl)
+next_calls q me older known now (Wifi on) = ([], refl)
+
+-- ---- packets
+can_name : (all : TableCalls) (orig : Mac) (log : Log) (frames : List SentFrame) (w : World) (m : ℕ) (known : Knowledge) → More known.tables all → KnowsWhole known → IsClear orig log w → NodeIsTied orig log frames (known_by known.tables orig) (w.nodes m) → CanName all orig log frames known
+can_name all orig log frames w m known more whole clear tied = record {
+  whole = whole;
+  newer = more.0;
+  all_is = more.1;
+  found = λ key agreed named. found_told orig log frames w m known.tables key clear tied agreed named;
+}
+
+packets_name : (all : TableCalls) (orig : Mac) (log : Log) (frames : List SentFrame) (root : ℕ) (w : World) (m : ℕ) (q : Queries) (me : Mac) (own : Own) (came : Coming) (packets : List Packet) (known : Knowledge)
+    → KeepsOriginators me q → IsWhole came.from → CameIn frames root came.number → Ready orig w m me own → NodeIsTied orig log frames (known_by known.tables orig) (w.nodes m)
+    → ((packet : Packet) → Has packets packet → PacketSays orig log w.said root packet) → HasNoAlias w.commits → w.commits ≡ commits orig log → KnowsWhole known → More (after_packets q me came known packets).tables all
+    → AllByRecursion (ActNames all orig log frames) (packets_acts q me own came known packets)
+unfolding packets_acts
+packets_name all orig log frames root w m q me own came [] known keeps from f r tied says none made whole more = tt
+packets_name all orig log frames root w m q me own came (packet ∷ rest) known keeps from f r tied says none made whole more =
+    let then = after_packet q me came known packet in
+    let one = packet_goes orig log frames root w m q me own came packet known keeps from f r tied (says packet (inl refl)) in
+    let later : More known.tables all = more_then known.tables (after_packets q me came known (packet ∷ rest)).tables all (packets_calls q me came (packet ∷ rest) known) more in
+    let clear : IsClear orig log w = record { base = r.base; none = none; commits = made } in
+    each_appended (ActNames all orig log frames) (packet_acts q me own came known packet) (packets_acts q me own came then rest)
+    (packet_names all orig log frames q me own came packet known (can_name all orig log frames w m known later whole clear tied))
+    (packets_name all orig log frames root one.world m q me own came rest then keeps from f (ready_later orig w one.world m me own r one.path one.commits) one.tied
+    (λ p has. packet_more orig log w.said one.world.said root p one.more (says p (inr has))) (subst HasNoAlias (sym one.commits) none) (one.commits ∙ made)
+    (packet_knows q me came packet known (says packet (inl refl)).addresses whole) more)
+
+-- ---- one input
+-- the acts of an input, from the world midway
+line_names : (orig : Mac) (log : Log) (frames : List SentFrame) (v : World) (m : ℕ) (q : Queries) (me : Mac) (mine : Log) (now : ℕ) (given : Given) → IsOfLine given → KnowsWhole (knowledge q me mine) → IsClear orig log v
+    → NodeIsTied orig log frames (known_by (knowledge q me mine).tables orig) (v.nodes m) → AllByRecursion (ActNames (knowledge q me mine).tables orig log frames) (acts_of q me mine now given)
+line_names orig log frames v m q me mine now (Tick index) of k clear tied = absurd of
+line_names orig log frames v m q me mine now (LinkFrame number from throughput bytes) of k clear tied = absurd of
+line_names orig log frames v m q me mine now (Frame src dst vid text) of k clear tied =
+    let client : ClientFrame = record { dst = dst; src = src; vid = vid; text = text } in
+    let key = key_of src vid in
+    let known = knowledge q me mine in
+    let seen = after_sighting q me mine now key known in
+    let ms = next_mentions me mine (mentions me mine) now (Frame src dst vid text) in
+    each_appended (ActNames known.tables orig log frames) (sighting_acts q me mine now key) (client_acts q me mine now client)
+    (plain_names known.tables orig log frames (sighting_acts q me mine now key) (plain_advert me key (advertised q me mine known now key)))
+    (frame_names known.tables orig log frames q seen ms (record { me = me; now = now }) client
+    (can_name known.tables orig log frames v m seen ([], refl) (sighting_knows q me mine now key known k) clear tied))
+line_names orig log frames v m q me mine now (Gone key) of k clear tied = tt
+line_names orig log frames v m q me mine now (Join key) of k clear tied = tt
+line_names orig log frames v m q me mine now (Leave key) of k clear tied = tt
+line_names orig log frames v m q me mine now (Arp mac own_ip asked_ip vid) of k clear tied =
+    plain_names (knowledge q me mine).tables orig log frames (sighting_acts q me mine now (key_of mac vid)) (plain_advert me (key_of mac vid) (advertised q me mine (knowledge q me mine) now (key_of mac vid)))
+line_names orig log frames v m q me mine now (Dhcp key text) of k clear tied =
+    plain_names (knowledge q me mine).tables orig log frames (sighting_acts q me mine now key) (plain_advert me key (advertised q me mine (knowledge q me mine) now key))
+line_names orig log frames v m q me mine now (Wifi on) of k clear tied = tt
+
+-- ---- it stays so
+name_grows : (all newer : TableCalls) (orig : Mac) (log after : Log) (frames more : List SentFrame) (payload : List ℕ) → Grows orig log after → HadCome all orig log frames payload → HadCome (newer ++ all) orig after (frames ++ more) payload
+name_grows all newer orig log after frames more payload g h =
+    let n = h.names_client in
+    record {
+      came = h.came;
+      newer = newer ++ h.newer;
+      all_is = ap (λ x. newer ++ x) h.all_is ∙ sym (append_assoc newer h.newer h.came);
+      names_client = record {
+        client = n.client;
+        carried = n.carried;
+        last = n.last;
+        told = n.told;
+        frame = n.frame;
+        sent = get_front frames more (n.last.frame - 1) n.frame n.sent;
+        past = let past = n.past in let ticks = g.ticks in omega (arith, past, ticks);
+        named = subst (λ c. Rattle.std.specs.Prelude.IsTrue (names (key_of n.client.dst n.client.vid) (Some c))) (sym (g.roots n.frame.root n.past)) n.named;
+      };
+    }
+
+pub sent_grows : (all newer : TableCalls) (orig : Mac) (log after : Log) (frames more : List SentFrame) (bytes : List ℕ) → Grows orig log after → IsSentByTable all orig log frames bytes → IsSentByTable (newer ++ all) orig after (frames ++ more) bytes
+sent_grows all newer orig log after frames more bytes g s = record {
+  ttl = s.ttl;
+  ttvn = s.ttvn;
+  dst = s.dst;
+  payload = s.payload;
+  whole = s.whole;
+  bytes_are = s.bytes_are;
+  had_come = λ same. name_grows all newer orig log after frames more s.payload g (s.had_come same);
+}
+
+act_grows : (all newer : TableCalls) (orig : Mac) (log after : Log) (frames more : List SentFrame) (act : Act) → Grows orig log after → ActNames all orig log frames act → ActNames (newer ++ all) orig after (frames ++ more) act
+act_grows all newer orig log after frames more (Link to reason bytes) g a = λ is. sent_grows all newer orig log after frames more bytes g (a is)
+act_grows all newer orig log after frames more (Lan bytes) g a = tt
+act_grows all newer orig log after frames more (Print event) g a = a
+
+abbrev pub AllName : TableCalls → Mac → Log → List SentFrame → List Act → Type 0
+AllName all orig log frames acts = AllByRecursion (ActNames all orig log frames) acts
+
+acts_grow : (all newer : TableCalls) (orig : Mac) (log after : Log) (frames more : List SentFrame) (acts : List Act) → Grows orig log after → AllName all orig log frames acts → AllName (newer ++ all) orig after (frames ++ more) acts
+acts_grow all newer orig log after frames more [] g a = tt
+acts_grow all newer orig log after frames more (act ∷ acts) g a = (act_grows all newer orig log after frames more act g a.0, acts_grow all newer orig log after frames more acts g a.1)
+
+-- what a mesh's logs say of what was sent by table
+abbrev Named : (Mac → Queries) → Mac → Mesh → Type 0
+Named queries orig mesh = (place : ℕ) (node : NodeLog) (entry : LogEntry) → slice_get mesh.nodes place ≡ Some node → Has node.log entry → AllName (known_at_node queries node).tables orig (log_of orig mesh.nodes) mesh.frames entry.acts
+
+-- an input at a node
+given_named : (queries : Mac → Queries) (orig : Mac) (mesh after : Mesh) (place now root : ℕ) (node : NodeLog) (given : Given) → Named queries orig mesh → slice_get mesh.nodes place ≡ Some node → Follows node.log given
+    → LogAfter orig node (entry_of (scenario_setup queries) node now given) (log_of orig mesh.nodes) (log_of orig (noted_at place (entry_of (scenario_setup queries) node now given) mesh.nodes))
+    → given_to (scenario_setup queries) place now root given mesh ≡ Ok after
+    → AllName (next_knowledge (queries node.mac) node.mac node.log (known_at_node queries node) now given).tables orig (log_of orig (noted_at place (entry_of (scenario_setup queries) node now given) mesh.nodes)) mesh.frames (entry_of (scenario_setup queries) node now given).acts
+    → Named queries orig after
+given_named queries orig mesh after place now root node given named found next l is new at n e got has =
+    subst (λ log. AllName (known_at_node queries n).tables orig log after.frames e.acts) (ap (log_of orig) (sym given_has.nodes))
+    (subst (λ fs. AllName (known_at_node queries n).tables orig later fs e.acts) (sym given_has.frames)
+    (go (renewed place entry mesh.nodes at n (subst (λ ns. slice_get ns at ≡ Some n) given_has.nodes got))))
+  where
+    entry : LogEntry
+    entry = entry_of (scenario_setup queries) node now given
+
+    later : Log
+    later = log_of orig (noted_at place (entry_of (scenario_setup queries) node now given) mesh.nodes)
+
+    given_has : HasGiven (scenario_setup queries) place now root node given mesh after
+    given_has = given_is (scenario_setup queries) place now root node given mesh after found is
+
+    grows : Grows orig (log_of orig mesh.nodes) later
+    grows = grows_after orig node entry (log_of orig mesh.nodes) later l next
+
+    calls : More (known_at_node queries node).tables (next_knowledge (queries node.mac) node.mac node.log (known_at_node queries node) now given).tables
+    calls = next_calls (queries node.mac) node.mac node.log (known_at_node queries node) now given
+
+    here : Has (entry ∷ node.log) e → AllName (next_knowledge (queries node.mac) node.mac node.log (known_at_node queries node) now given).tables orig later (mesh.frames ++ given_has.more) e.acts
+    here (inl same) = subst (λ (x : LogEntry). AllName (next_knowledge (queries node.mac) node.mac node.log (known_at_node queries node) now given).tables orig later (mesh.frames ++ given_has.more) x.acts) (sym same)
+        (acts_grow (next_knowledge (queries node.mac) node.mac node.log (known_at_node queries node) now given).tables [] orig later later mesh.frames given_has.more entry.acts (grows_same orig later later refl) new)
+    here (inr older) = subst (λ all. AllName all orig later (mesh.frames ++ given_has.more) e.acts) (sym calls.1)
+        (acts_grow (known_at_node queries node).tables calls.0 orig (log_of orig mesh.nodes) later mesh.frames given_has.more e.acts grows (named place node e found older))
+
+    go : Renewed place entry mesh.nodes at n → AllName (known_at_node queries n).tables orig later (mesh.frames ++ given_has.more) e.acts
+    go (another d old) = acts_grow (known_at_node queries n).tables [] orig (log_of orig mesh.nodes) later mesh.frames given_has.more e.acts grows (named at n e old has)
+    go (itself before same old noted) =
+        let one : node ≡ before = one_some node before (sym found ∙ ap (slice_get mesh.nodes) same ∙ old) in
+        let after_is : noting entry node ≡ n = ap (noting entry) one ∙ sym noted in
+        subst (λ (x : NodeLog). AllName (known_at_node queries x).tables orig later (mesh.frames ++ given_has.more) e.acts) after_is
+        (here (subst (λ (x : NodeLog). Has x.log e) (sym after_is) has))
+
+-- ---- commits only grow
+commits_kept : (orig : Mac) (node : NodeLog) (entry : LogEntry) (log after : Log) → LogAfter orig node entry log after → (n : ℕ) (version : Version) → commit_numbered n (commits orig log) ≡ Some version → commit_numbered n (commits orig after) ≡ Some version
+commits_kept orig node entry log after l n version is = go (one_or_two node.mac orig)
+  where
+    go : (node.mac ≡ orig) ⊎ (node.mac ≢ orig) → commit_numbered n (commits orig after) ≡ Some version
+    go (inl same) =
+        let parts = l.itself same in
+        ap (λ x. commit_numbered n (commits orig x)) parts.1
+        ∙ numbered_next (mentions orig node.log) (history orig node.log) entry.moment entry.given n version (ap (λ x. commit_numbered n (commits orig x)) (sym parts.0) ∙ is)
+    go (inr other) = ap (λ x. commit_numbered n (commits orig x)) (l.other other) ∙ is
+
+none_before : (before after : List Version) → ((n : ℕ) (version : Version) → commit_numbered n before ≡ Some version → commit_numbered n after ≡ Some version) → HasNoAlias after → HasNoAlias before
+none_before before after kept none one other a b = none one other (a.0, kept a.0 one a.1) (b.0, kept b.0 other b.1)
+
+-- ---- all steps
+joined_named : (queries : Mac → Queries) (orig : Mac) (mesh : Mesh) (new : NodeLog) → new.log ≡ [] → Named queries orig mesh → Named queries orig (record mesh { nodes = mesh.nodes ++ new ∷ [] })
+joined_named queries orig mesh new empty named at n e got has = subst (λ log. AllName (known_at_node queries n).tables orig log mesh.frames e.acts) (sym (log_joined orig mesh.nodes new empty)) (go (got_front mesh.nodes new at n got))
+  where
+    go : (slice_get mesh.nodes at ≡ Some n) ⊎ ((n ≡ new) × (slice_get mesh.nodes at ≡ None)) → AllName (known_at_node queries n).tables orig (log_of orig mesh.nodes) mesh.frames e.acts
+    go (inl old) = named at n e old has
+    go (inr is) = absurd (subst (λ l. Has l e) (ap (λ (x : NodeLog). x.log) is.0 ∙ empty) has)
+
+-- where the mesh before is named, once no two commits are an alias
+abbrev NamedIf : (Mac → Queries) → Mac → Mesh → Type 0
+NamedIf queries orig mesh = HasNoAlias (commits_of orig mesh) → Named queries orig mesh
+
+-- what the acts of a step's input name, where no two commits behind it are an alias
+pub line_acts : (queries : Mac → Queries) (mesh : Mesh) (place now : ℕ) (node : NodeLog) (given : Given) (orig : Mac) → Reached queries mesh → slice_get mesh.nodes place ≡ Some node → IsOfLine given
+    → HasNoAlias (commits orig (log_of orig (noted_at place (entry_of (scenario_setup queries) node now given) mesh.nodes)))
+    → AllName (next_knowledge (queries node.mac) node.mac node.log (known_at_node queries node) now given).tables orig (log_of orig (noted_at place (entry_of (scenario_setup queries) node now given) mesh.nodes)) mesh.frames (entry_of (scenario_setup queries) node now given).acts
+line_acts queries mesh place now node given orig h found of clear =
+    let entry = entry_of (scenario_setup queries) node now given in
+    let log = log_of orig (noted_at place entry mesh.nodes) in
+    let l = log_after queries orig mesh place node entry h.holds.orderly found in
+    let tie = h.ties orig in
+    let v = midway_of queries orig mesh node entry log tie.0 l (follows_line node.log given of) tie.1 tie.2 in
+    subst (λ all. AllName all orig log mesh.frames entry.acts) (sym (line_same (queries node.mac) node.mac node.log (known_at_node queries node) now given of))
+    (line_names orig log mesh.frames v.0 place (queries node.mac) node.mac node.log now given of (h.holds.orderly.knows place node found)
+    (record { base = v.1.base; none = subst HasNoAlias (sym v.1.commits) clear; commits = v.1.commits }) (v.1.nodes place node found))
+
+pub tick_names : (queries : Mac → Queries) (mesh : Mesh) (place now : ℕ) (node : NodeLog) (orig : Mac) (log : Log)
+    → AllName (known_at_node queries node).tables orig log mesh.frames (entry_of (scenario_setup queries) node now (Tick (suc (ticks_in node.log)))).acts
+tick_names queries mesh place now node orig log =
+    let known = known_at_node queries node in
+    plain_names known.tables orig log mesh.frames (tick_acts (queries node.mac) node.mac known.routes (mentions node.mac node.log) (history node.mac node.log) now (suc (ticks_in node.log)))
+    (plain_tick (queries node.mac) node.mac known.routes (mentions node.mac node.log) (history node.mac node.log) now (suc (ticks_in node.log)))
+
+pub frame_acts_name : (queries : Mac → Queries) (mesh after : Mesh) (place now number throughput : ℕ) (from : Mac) (node : NodeLog) (frame : SentFrame) (orig : Mac) → AllKeep queries → Reached queries mesh → CommitsFit after → slice_get mesh.nodes place ≡ Some node
+    → slice_get mesh.frames number ≡ Some frame → IsWhole from → given_to (scenario_setup queries) place now frame.root (LinkFrame (suc number) from throughput frame.bytes) mesh ≡ Ok after
+    → HasNoAlias (commits orig (log_of orig (noted_at place (entry_of (scenario_setup queries) node now (LinkFrame (suc number) from throughput frame.bytes)) mesh.nodes)))
+    → AllName (next_knowledge (queries node.mac) node.mac node.log (known_at_node queries node) now (LinkFrame (suc number) from throughput frame.bytes)).tables orig
+    (log_of orig (noted_at place (entry_of (scenario_setup queries) node now (LinkFrame (suc number) from throughput frame.bytes)) mesh.nodes)) mesh.frames
+    (entry_of (scenario_setup queries) node now (LinkFrame (suc number) from throughput frame.bytes)).acts
+frame_acts_name queries mesh after place now number throughput from node frame orig keep h fit found sent whole is clear =
+    let given = LinkFrame (suc number) from throughput frame.bytes in
+    let entry = entry_of (scenario_setup queries) node now given in
+    let log = log_of orig (noted_at place entry mesh.nodes) in
+    let has = given_is (scenario_setup queries) place now frame.root node given mesh after found is in
+    let l = log_after queries orig mesh place node entry h.holds.orderly found in
+    let tie = h.ties orig in
+    let v = midway_of queries orig mesh node entry log tie.0 l tt tie.1 tie.2 in
+    let known = known_at_node queries node in
+    let came : Coming = record { now = now; from = from; throughput = throughput; number = suc number } in
+    let packets = (link_frame frame.bytes).packets in
+    packets_name (after_packets (queries node.mac) node.mac came known packets).tables orig log mesh.frames frame.root v.0 place (queries node.mac) node.mac (own_by node.mac node.log) came packets known (keep node.mac) whole
+    (came_in mesh number frame sent)
+    (frame_ready queries orig mesh place now (suc number) throughput from node frame.bytes (log_of orig mesh.nodes) log h.holds.orderly found l (h.holds.fits place node found)
+    (subst (λ ns. Rattle.mesh_tie.proofs.EntryLemmas.OfCommits Rattle.mesh_tie.specs.Tie.FitsEntry (commits orig (log_of orig ns))) has.nodes (fits_among after.nodes fit orig)) v.0 v.1)
+    (v.1.nodes place node found) (v.1.frames number frame sent) (subst HasNoAlias (sym v.1.commits) clear) v.1.commits (h.holds.orderly.knows place node found) ([], refl)
+
+step_named : (queries : Mac → Queries) (mesh after : Mesh) → AllKeep queries → Reached queries mesh → CommitsFit after → Steps queries mesh after → (orig : Mac) → NamedIf queries orig mesh → NamedIf queries orig after
+step_named queries mesh _ keep h fit (node_joins _ node empty whole fresh) orig named none = joined_named queries orig mesh node empty (named (subst (λ l. HasNoAlias (commits orig l)) (log_joined orig mesh.nodes node empty) none))
+step_named queries mesh _ keep h fit (link_joins _ link) orig named none = named none
+step_named queries mesh after keep h fit (line_gives _ _ place now node given found may of is) orig named none =
+    let entry = entry_of (scenario_setup queries) node now given in
+    let log = log_of orig (noted_at place entry mesh.nodes) in
+    let has = given_is (scenario_setup queries) place now 0 node given mesh after found is in
+    let l = log_after queries orig mesh place node entry h.holds.orderly found in
+    let clear : HasNoAlias (commits orig log) = subst (λ ns. HasNoAlias (commits orig (log_of orig ns))) (has.nodes) none in
+    given_named queries orig mesh after place now 0 node given (named (none_before (commits orig (log_of orig mesh.nodes)) (commits orig log) (commits_kept orig node entry (log_of orig mesh.nodes) log l) clear)) found (follows_line node.log given of) l is
+    (line_acts queries mesh place now node given orig h found of clear)
+step_named queries mesh after keep h fit (node_ticks _ _ place now node found may is) orig named none =
+    let index = suc (ticks_in node.log) in
+    let entry = entry_of (scenario_setup queries) node now (Tick index) in
+    let log = log_of orig (noted_at place entry mesh.nodes) in
+    let has = given_is (scenario_setup queries) place now index node (Tick index) mesh after found is in
+    let l = log_after queries orig mesh place node entry h.holds.orderly found in
+    let clear : HasNoAlias (commits orig log) = subst (λ ns. HasNoAlias (commits orig (log_of orig ns))) (has.nodes) none in
+    given_named queries orig mesh after place now index node (Tick index) (named (none_before (commits orig (log_of orig mesh.nodes)) (commits orig log) (commits_kept orig node entry (log_of orig mesh.nodes) log l) clear)) found refl l is
+    (tick_names queries mesh place now node orig log)
+step_named queries mesh after keep h fit (frame_comes _ _ place now number throughput from node frame found may sent whole is) orig named none =
+    let given = LinkFrame (suc number) from throughput frame.bytes in
+    let entry = entry_of (scenario_setup queries) node now given in
+    let log = log_of orig (noted_at place entry mesh.nodes) in
+    let has = given_is (scenario_setup queries) place now frame.root node given mesh after found is in
+    let l = log_after queries orig mesh place node entry h.holds.orderly found in
+    let clear : HasNoAlias (commits orig log) = subst (λ ns. HasNoAlias (commits orig (log_of orig ns))) (has.nodes) none in
+    given_named queries orig mesh after place now frame.root node given (named (none_before (commits orig (log_of orig mesh.nodes)) (commits orig log) (commits_kept orig node entry (log_of orig mesh.nodes) log l) clear)) found tt l is
+    (frame_acts_name queries mesh after place now number throughput from node frame orig keep h fit found sent whole is clear)
+step_named queries mesh _ keep h fit (time_passes _ happening) orig named none = named none
+
+all_named : (queries : Mac → Queries) → AllKeep queries → (mesh : Mesh) → IsReachable queries mesh → (orig : Mac) → NamedIf queries orig mesh
+all_named queries keep _ begins orig = λ none place node entry got has. cc
+all_named queries keep _ (goes_on mesh after r s) orig =
+    step_named queries mesh after keep (reached queries keep (commits_always_fit queries) mesh r) (commits_always_fit queries after (goes_on mesh after r s)) s orig (all_named queries keep mesh r orig)
+
+-- an act among others
+pub act_of : (all : TableCalls) (orig : Mac) (log : Log) (frames : List SentFrame) (to : Option Mac) (bytes : List ℕ) (acts : List Act) → AllName all orig log frames acts → Has acts (Link to (Some Table) bytes) → IsSentByTable all orig log frames bytes
+act_of all orig log frames to bytes [] each has = absurd has
+act_of all orig log frames to bytes (act ∷ rest) each (inl is) = subst (ActNames all orig log frames) (sym is) each.0 refl
+act_of all orig log frames to bytes (act ∷ rest) each (inr has) = act_of all orig log frames to bytes rest each.1 has
+
+pub frames_by_table : FramesByTable
+frames_by_table queries orig mesh is place node entry found has to bytes sent =
+    act_of (known_at_node queries node).tables orig (log_of orig mesh.nodes) mesh.frames to bytes entry.acts (all_named queries is.keep mesh is.reachable orig is.none place node entry found has) sent

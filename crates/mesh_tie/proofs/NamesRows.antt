@@ -1,0 +1,366 @@
+-- What acts send by table: no row does but those of client frames.
+use Rattle.std.proofs.Common.{◌≡◌, ◌⊎◌, inl, inr, ◌≤◌, ◌-◌, ◌&&◌, ◌||◌, ◌==◌, ℕ, suc, Bool, true, false, cond, nat_eq, nat_lt, nat_le, List, [], ◌∷◌, ◌++◌, length, filter, slice_get, Option, Some, None, option_map, option_and_then, is_some, IsTrue, refl, sym, ap, subst, ◌∙◌}
+use Rattle.std.specs.List.{AllByRecursion}
+use Rattle.std.specs.Option.{option_or, unwrap_or}
+use Rattle.mesh_base.specs.Address.{is_broadcast, is_group}
+use Rattle.mesh_base.specs.declared.address.Mac.{Mac}
+use Rattle.mesh_base.specs.declared.client.Key.{Key}
+use Rattle.mesh_base.specs.declared.event.Event.{Event}
+use Rattle.mesh_base.specs.declared.event.Event.TheVariants.{FrameSent}
+use Rattle.mesh_base.specs.declared.event.Reason.{Reason}
+use Rattle.mesh_base.specs.declared.event.Reason.TheVariants.{Roam, Table, Old}
+use Rattle.mesh_base.specs.declared.event.LossReason.TheVariants.{Ttl, NoRoute}
+use Rattle.mesh_model.specs.declared.act.Act.{Act}
+use Rattle.mesh_model.specs.declared.act.Act.TheVariants.{Link, Lan, Print}
+use Rattle.mesh_model.specs.declared.packet.Head.{Head}
+use Rattle.mesh_model.specs.declared.packet.Head.TheVariants.{IvOgm, Bcast, Elp, Ogm2, Unicast, Frag, Unicast4, Icmp, Utvlv}
+use Rattle.mesh_model.specs.declared.table_outcome.Request.{Request}
+use Rattle.mesh_model.specs.Acts.FrameRows.{Place, addressed, advert_acts, arrived, broadcast_acts, broadcast_on, frame_acts, handed_out, handed_out_if, here_acts, is_present, lost, lost_if, on_route, on_way, passed_frame, readdressed}
+use Rattle.mesh_model.specs.Acts.OwnContainers.{own_containers}
+use Rattle.mesh_model.specs.Acts.Packing.{reply_containers, request_containers, sent_over, sent_to_all}
+use Rattle.mesh_model.specs.Acts.Rows.{Own, accepted_acts, alias_acts, alias_event, commit_acts, head_acts, message_acts, ogm_acts, packet_acts, place_at, taken_acts, tick_acts}
+use Rattle.mesh_model.specs.Acts.TableRows.{on_the_way, other_containers, own_answer, request_acts, way_reply}
+use Rattle.mesh_model.specs.Clients.Mentions.{Mention, key_of}
+use Rattle.mesh_model.specs.Commits.Aliases.{last_alias}
+use Rattle.mesh_model.specs.Commits.Announcements.{announcement, commit_at_root}
+use Rattle.mesh_model.specs.Commits.History.{History, commits, committed, is_commit_tick, present_table}
+use Rattle.mesh_model.specs.Clients.Log.{Log}
+use Rattle.mesh_model.specs.Knowledge.Addressee.{Way, addressee, best_holder, marked_way, table_reason, table_way, way_to}
+use Rattle.mesh_model.specs.Knowledge.Known.{Broadcast, Knowledge, is_new_broadcast, known_at, told_at}
+use Rattle.mesh_model.specs.Knowledge.Steps.{Coming, before_announcement, request_out}
+use Rattle.mesh_model.specs.Knowledge.Told.{Message, TableMessage, Asks, Answers, Neither, message_in, message_of, message_with, stamp_told}
+use Rattle.mesh_model.specs.Marks.RoamingMarks.{mark_of}
+use Rattle.mesh_model.specs.Net.Due.{ticks_in}
+use Rattle.mesh_model.specs.Net.Mesh.{SentFrame}
+use Rattle.mesh_model.specs.Net.Next.{Has}
+use Rattle.mesh_model.specs.Packets.Containers.{containers_of, containers_spelling}
+use Rattle.mesh_model.specs.Packets.Contents.{first_table}
+use Rattle.mesh_model.specs.Packets.FirstPacket.{Packet}
+use Rattle.mesh_model.specs.Packets.Payload.{ClientFrame, client_frame_of, payload_spelling}
+use Rattle.mesh_model.specs.Routes.Addresses.{is_smaller, same_mac}
+use Rattle.mesh_model.specs.Routes.BestRoute.{best, better}
+use Rattle.mesh_model.specs.Routes.Queries.{Queries}
+use Rattle.mesh_model.specs.Routes.RouteLog.{RouteLog}
+use Rattle.mesh_model.specs.Tables.Answers.{Reply}
+use Rattle.mesh_model.specs.Tables.Changes.{flags_at}
+use Rattle.mesh_model.specs.Tables.Known.{Known, LastTold, TableCalls, agrees, holders_by, is_agreed, known_by, names, nothing, originators_by}
+use Rattle.mesh_model.specs.Tables.Versions.{Version}
+use Rattle.mesh_laws.specs.Machine.Agreement.{HasNoAlias}
+use Rattle.mesh_laws.specs.Machine.Moves.{Reaches}
+use Rattle.mesh_laws.specs.Machine.World.{Told, World, commit_numbered, start}
+use Rattle.mesh_laws.proofs.DifferenceLemmas.{agrees_by_checksums}
+use Rattle.mesh_laws.proofs.MachineLemmas.{agreed_hold_the_told}
+use Rattle.mesh_laws.proofs.Schedule.Members.{filter_has}
+use Rattle.mesh_tie.specs.ByTable.{IsSentByTable}
+use Rattle.mesh_tie.specs.Originators.{number_at_root}
+use Rattle.mesh_tie.specs.Tie.{IsToldBy, KnowsWhole, NodeIsTied}
+use Rattle.mesh_tie.proofs.CommitLemmas.{at_root}
+use Rattle.mesh_tie.proofs.EntryLemmas.{each_appended}
+use Rattle.mesh_tie.proofs.KnowsLemmas.{addressee_whole}
+
+-- ---- acts that send nothing by table
+abbrev pub IsNoFrame : Event → Type 0
+IsNoFrame event = (number moment : ℕ) (from to : Mac) (reason : Option Reason) (bytes : List ℕ) → event ≡ FrameSent number moment from to reason bytes → ⊥
+
+abbrev pub IsPlain : Act → Type 0
+IsPlain (Link to reason bytes) = reason ≡ Some Table → ⊥
+IsPlain (Lan bytes) = Unit {0}
+IsPlain (Print event) = IsNoFrame event
+
+plain_if : (b : Bool) (xs ys : List Act) → AllByRecursion IsPlain xs → AllByRecursion IsPlain ys → AllByRecursion IsPlain (cond b xs ys)
+plain_if true xs ys a b = a
+plain_if false xs ys a b = b
+
+plain_over : (next : Option Mac) (head : Head) (tail : List ℕ) → AllByRecursion IsPlain (sent_over next head tail)
+plain_over None head tail = tt
+plain_over (Some to) head tail = ((λ is. cc), tt)
+
+plain_message : (o : Option Head) (tail : List ℕ) → AllByRecursion IsPlain (message_acts o tail)
+unfolding message_acts
+plain_message None tail = tt
+plain_message (Some head) tail = ((λ is. cc), tt)
+
+plain_request : (me : Mac) (next : Option Mac) (message : Message) (o : Option Request) → AllByRecursion IsPlain (request_acts me next message o)
+plain_request me next message None = tt
+plain_request me next message (Some request) = plain_over next (Utvlv 50 message.orig me) (request_containers request (stamp_told message.table))
+
+plain_own : (q : Queries) (me : Mac) (known : Knowledge) (now : ℕ) (own : Own) (asker : Mac) (message : TableMessage) → AllByRecursion IsPlain (own_answer q me known now own.last own.told asker message)
+unfolding own_answer
+plain_own q me known now own asker (Asks full stamp) = plain_over (q.route known.routes now asker) (Utvlv 50 asker me) (reply_containers (Rattle.mesh_model.specs.Tables.Answers.own_reply full stamp.byte own.last own.told))
+plain_own q me known now own asker (Answers stamp carried) = tt
+plain_own q me known now own asker Neither = tt
+
+plain_other : (q : Queries) (known : Knowledge) (now ttl : ℕ) (dst src : Mac) (tail : List ℕ) → AllByRecursion IsPlain (other_containers q known now ttl dst src tail)
+unfolding other_containers
+plain_other q known now ttl dst src tail = go (way_reply q known now dst (message_in (first_table (containers_of tail))))
+  where
+    go : (o : Option Reply) → AllByRecursion IsPlain (on_the_way q known now ttl dst src tail o)
+    go None = plain_if (nat_le ttl 1) [] (sent_over (q.route known.routes now dst) (Utvlv (ttl - 1) dst src) tail) tt (plain_over (q.route known.routes now dst) (Utvlv (ttl - 1) dst src) tail)
+    go (Some reply) = plain_over (q.route known.routes now src) (Utvlv 50 src dst) (reply_containers reply)
+
+plain_ogm : (q : Queries) (me : Mac) (came : Coming) (head : Head) (message : Message) (tail : List ℕ) (known : Knowledge) → AllByRecursion IsPlain (ogm_acts q me came head message tail known)
+unfolding ogm_acts
+plain_ogm q me came head message tail known =
+    let heard = q.hear known.routes came.now came.from came.throughput head in
+    each_appended IsPlain (message_acts heard.forward tail) (cond heard.accepted (accepted_acts q me came head message known) []) (plain_message heard.forward tail)
+    (plain_if heard.accepted (accepted_acts q me came head message known) []
+    (plain_request me (q.route (before_announcement q came head message.orig known).routes came.now message.orig) message (request_out q (before_announcement q came head message.orig known) came.now message)) tt)
+
+plain_handed : (at : Place) (o : Option ClientFrame) → AllByRecursion IsPlain (handed_out_if at o)
+plain_handed at None = tt
+plain_handed at (Some frame) = ((λ number moment from to reason bytes is. cc), tt)
+
+plain_lost : (at : Place) (reason : Rattle.mesh_base.specs.declared.event.LossReason.LossReason) (o : Option ClientFrame) → AllByRecursion IsPlain (lost_if at reason o)
+plain_lost at why None = tt
+plain_lost at why (Some frame) = ((λ number moment from to reason bytes is. cc), tt)
+
+plain_broadcast : (known : Knowledge) (at : Place) (ttl : ℕ) (broadcast : Broadcast) (tail : List ℕ) → AllByRecursion IsPlain (broadcast_acts known at ttl broadcast tail)
+unfolding broadcast_acts
+plain_broadcast known at ttl broadcast tail = plain_if (is_new_broadcast at.me broadcast known.taken) (handed_out_if at (client_frame_of tail) ++ broadcast_on ttl broadcast tail) []
+    (each_appended IsPlain (handed_out_if at (client_frame_of tail)) (broadcast_on ttl broadcast tail) (plain_handed at (client_frame_of tail))
+    (plain_if (nat_le ttl 1) [] (sent_to_all (Bcast (ttl - 1) broadcast.number broadcast.orig) tail ∷ []) tt ((λ is. cc), tt))) tt
+
+plain_on_route : (at : Place) (ttl ttvn : ℕ) (dst : Mac) (tail : List ℕ) (next : Option Mac) → AllByRecursion IsPlain (on_route at ttl ttvn dst tail next)
+plain_on_route at ttl ttvn dst tail None = plain_lost at NoRoute (client_frame_of tail)
+plain_on_route at ttl ttvn dst tail (Some next) = ((λ is. cc), tt)
+
+plain_passed : (q : Queries) (known : Knowledge) (at : Place) (ttl ttvn : ℕ) (dst : Mac) (tail : List ℕ) → AllByRecursion IsPlain (passed_frame q known at ttl ttvn dst tail)
+unfolding passed_frame
+plain_passed q known at ttl ttvn dst tail = plain_if (nat_le ttl 1) (lost_if at Ttl (client_frame_of tail)) (on_route at ttl ttvn dst tail (q.route known.routes at.now dst))
+    (plain_lost at Ttl (client_frame_of tail)) (plain_on_route at ttl ttvn dst tail (q.route known.routes at.now dst))
+
+plain_event : (me : Mac) (number : ℕ) (o : Option ℕ) → AllByRecursion IsPlain (alias_event me number o)
+plain_event me n None = tt
+plain_event me n (Some earlier) = ((λ number moment from to reason bytes is. cc), tt)
+
+pub plain_tick : (q : Queries) (me : Mac) (routes : RouteLog) (ms : List Mention) (before : History) (now index : ℕ) → AllByRecursion IsPlain (tick_acts q me routes ms before now index)
+unfolding tick_acts
+plain_tick q me routes ms before now index =
+    let after = committed (present_table ms now) before in
+    plain_if (is_commit_tick index) (commit_acts q me routes index before after) []
+    (each_appended IsPlain (alias_acts me before.commits after.commits) (message_acts (q.beats routes index).ogm (containers_spelling (own_containers (announcement after))))
+    (plain_if (length after.commits == length before.commits) [] (alias_event me (length before.commits) (last_alias after.commits)) tt (plain_event me (length before.commits) (last_alias after.commits)))
+    (plain_message (q.beats routes index).ogm (containers_spelling (own_containers (announcement after))))) tt
+
+pub plain_advert : (me : Mac) (key : Key) (o : Option Way) → AllByRecursion IsPlain (advert_acts me key o)
+plain_advert me key None = tt
+plain_advert me key (Some way) = ((λ is. cc), tt)
+
+-- ---- why something is sent by table
+some_one : {X : Type 0} (x y : X) → Some x ≡ Some y → x ≡ y
+some_one x y e = cc
+
+best_has : (score : Mac → ℕ) (macs : List Mac) (mac : Mac) → best score macs ≡ Some mac → Has macs mac
+best_has score [] mac is = cc
+best_has score (k ∷ rest) mac is = go (best score rest) is (λ m e. best_has score rest m e)
+  where
+    go : (o : Option Mac) → better score k o ≡ Some mac → ((m : Mac) → o ≡ Some m → Has rest m) → Has (k ∷ rest) mac
+    go None e more = by (nat_lt 0 (score k)) e
+      where
+        by : (b : Bool) → cond b (Some k) None ≡ Some mac → Has (k ∷ rest) mac
+        by true e = inl (sym (some_one k mac e))
+        by false e = cc
+    go (Some j) e more = by (nat_lt (score j) (score k) || (nat_eq (score j) (score k) && is_smaller k j)) e
+      where
+        by : (b : Bool) → cond b (Some k) (Some j) ≡ Some mac → Has (k ∷ rest) mac
+        by true e = inl (sym (some_one k mac e))
+        by false e = inr (more mac e)
+
+holder_names : (q : Queries) (known : Knowledge) (now : ℕ) (key : Key) (mac : Mac) → best_holder q known now key ≡ Some mac → names key (known_by known.tables mac).held ≡ true
+holder_names q known now key mac is =
+    let among = best_has (q.metric known.routes now) (filter (q.live known.routes now) (holders_by known.tables key)) mac is in
+    let holder = (filter_has (q.live known.routes now) (holders_by known.tables key) mac among).1 in
+    (filter_has (λ orig. names key (known_by known.tables orig).held) (originators_by known.tables) mac holder).0
+
+-- a way by table is to an originator whose table agrees and names the client
+record IsTableWay (known : Knowledge) (key : Key) (way : Way) : Type 0 where
+  agreed : is_agreed (known_by known.tables way.orig) ≡ true
+  named : names key (known_by known.tables way.orig).held ≡ true
+
+agreed_reason : (b : Bool) → cond b Table Old ≡ Table → b ≡ true
+agreed_reason true is = refl
+agreed_reason false is = cc
+
+live_agreed : (live : Bool) (known : Known) → is_agreed (cond live known nothing) ≡ true → is_agreed known ≡ true
+live_agreed true known is = is
+live_agreed false known is = cc
+
+to_way : (reason : Reason) (mac : Mac) (o : Option Mac) (way : Way) → option_map (λ next. record { orig = mac; next = next; reason = reason }) o ≡ Some way → (way.orig ≡ mac) × (way.reason ≡ reason)
+to_way reason mac None way is = cc
+to_way reason mac (Some next) way is =
+    let same : record { orig = mac; next = next; reason = reason } ≡ way = cc in
+    (ap (λ (w : Way). w.orig) (sym same), ap (λ (w : Way). w.reason) (sym same))
+
+by_marks : (q : Queries) (known : Knowledge) (now : ℕ) (o : Option Mac) (way : Way) → option_and_then (way_to q known now Roam) o ≡ Some way → way.reason ≡ Roam
+by_marks q known now None way is = cc
+by_marks q known now (Some mac) way is = (to_way Roam mac (q.route known.routes now mac) way is).1
+
+by_tables : (q : Queries) (known : Knowledge) (now : ℕ) (key : Key) (o : Option Mac) (way : Way) → best_holder q known now key ≡ o → option_and_then (λ orig. way_to q known now (table_reason q known now orig) orig) o ≡ Some way → way.reason ≡ Table → IsTableWay known key way
+by_tables q known now key None way found is reason = cc
+by_tables q known now key (Some mac) way found is reason =
+    let parts = to_way (table_reason q known now mac) mac (q.route known.routes now mac) way is in
+    let agreed : is_agreed (known_by known.tables mac) ≡ true = live_agreed (q.live known.routes now mac) (known_by known.tables mac) (agreed_reason (is_agreed (known_at q known now mac)) (sym parts.1 ∙ reason)) in
+    record {
+      agreed = subst (λ m. is_agreed (known_by known.tables m) ≡ true) (sym parts.0) agreed;
+      named = subst (λ m. names key (known_by known.tables m).held ≡ true) (sym parts.0) (holder_names q known now key mac found);
+    }
+
+table_is : (q : Queries) (known : Knowledge) (now : ℕ) (key : Key) (way : Way) → addressee q known now key ≡ Some way → way.reason ≡ Table → IsTableWay known key way
+table_is q known now key way is reason = go (marked_way q known now key) refl is
+  where
+    go : (o : Option Way) → marked_way q known now key ≡ o → option_or o (table_way q known now key) ≡ Some way → IsTableWay known key way
+    go None marked e = by_tables q known now key (best_holder q known now key) way refl e reason
+    go (Some w) marked e =
+        let roam : w.reason ≡ Roam = by_marks q known now (mark_of now known.marks key) w marked in
+        let both : Roam ≡ Table = sym roam ∙ ap (λ (x : Way). x.reason) (some_one w way e) ∙ reason in
+        absurd (not_roam both)
+      where
+        not_roam : Roam ≡ Table → ⊥
+        not_roam e = cc
+
+-- ---- what an agreed table names
+pub record FoundTold (orig : Mac) (log : Log) (frames : List SentFrame) (came : TableCalls) (key : Key) : Type 0 where
+  pub last : LastTold
+  pub told : (known_by came orig).told ≡ Some last
+  pub frame : SentFrame
+  pub sent : slice_get frames (last.frame - 1) ≡ Some frame
+  pub past : frame.root ≤ ticks_in log
+  pub named : IsTrue (names key (Some (commit_at_root orig log frame.root)))
+
+-- where a world is tied, and no two commits are an alias, what agrees is of the told commit
+pub record IsClear (orig : Mac) (log : Log) (w : World) : Type 0 where
+  pub base : Reaches start w
+  pub none : HasNoAlias w.commits
+  pub commits : w.commits ≡ commits orig log
+
+pub found_told : (orig : Mac) (log : Log) (frames : List SentFrame) (w : World) (m : ℕ) (came : TableCalls) (key : Key) → IsClear orig log w → NodeIsTied orig log frames (known_by came orig) (w.nodes m)
+    → is_agreed (known_by came orig) ≡ true → names key (known_by came orig).held ≡ true → FoundTold orig log frames came key
+found_told orig log frames w m came key clear tied agreed named = by_told (known_by came orig).told (known_by came orig).held refl refl agreed named tied.told
+  where
+    with_both : (last : LastTold) (held : Version) → (known_by came orig).told ≡ Some last → (known_by came orig).held ≡ Some held → agrees (Some last.stamp) (Some held) ≡ true → names key (Some held) ≡ true
+        → IsToldBy orig log frames (Some last) (w.nodes m).told → FoundTold orig log frames came key
+    with_both last held told holds agreed named t =
+        let what : Told = record { number = number_at_root orig log t.0.root; byte = last.stamp.byte; sums = last.stamp.sums } in
+        let agree = (agrees_by_checksums last.stamp held).0 agreed in
+        let commit = agreed_hold_the_told w clear.base clear.none m what held t.3 (tied.held ∙ holds) agree in
+        let both : Some commit.0 ≡ Some (commit_at_root orig log t.0.root) = sym commit.1 ∙ ap (commit_numbered what.number) clear.commits ∙ at_root orig log t.0.root in
+        let table = commit.2 ∙ ap (λ (v : Version). v.table) (some_one commit.0 (commit_at_root orig log t.0.root) both) in
+        record {
+          last = last;
+          told = told;
+          frame = t.0;
+          sent = t.1;
+          past = t.2;
+          named = ap (λ (es : List Rattle.mesh_base.specs.declared.client.Entry.Entry). is_some (flags_at es key)) (sym table) ∙ named;
+        }
+
+    by_told : (told : Option LastTold) (held : Option Version) → (known_by came orig).told ≡ told → (known_by came orig).held ≡ held → agrees (option_map (λ (t : LastTold). t.stamp) told) held ≡ true → names key held ≡ true
+        → IsToldBy orig log frames told (w.nodes m).told → FoundTold orig log frames came key
+    by_told None held is holds agreed named t = cc
+    by_told (Some last) None is holds agreed named t = cc
+    by_told (Some last) (Some held) is holds agreed named t = with_both last held is holds agreed named t
+
+-- ---- what acts send by table
+abbrev pub ActNames : TableCalls → Mac → Log → List SentFrame → Act → Type 0
+ActNames all orig log frames (Link to reason bytes) = reason ≡ Some Table → IsSentByTable all orig log frames bytes
+ActNames all orig log frames (Lan bytes) = Unit {0}
+ActNames all orig log frames (Print event) = IsNoFrame event
+
+plain_act : (all : TableCalls) (orig : Mac) (log : Log) (frames : List SentFrame) (act : Act) → IsPlain act → ActNames all orig log frames act
+plain_act all orig log frames (Link to reason bytes) plain = λ is. absurd (plain is)
+plain_act all orig log frames (Lan bytes) plain = tt
+plain_act all orig log frames (Print event) plain = plain
+
+pub plain_names : (all : TableCalls) (orig : Mac) (log : Log) (frames : List SentFrame) (acts : List Act) → AllByRecursion IsPlain acts → AllByRecursion (ActNames all orig log frames) acts
+plain_names all orig log frames [] plain = tt
+plain_names all orig log frames (act ∷ acts) plain = (plain_act all orig log frames act plain.0, plain_names all orig log frames acts plain.1)
+
+-- a node that knows this, of all that came for tables until later
+pub record CanName (all : TableCalls) (orig : Mac) (log : Log) (frames : List SentFrame) (known : Knowledge) : Type 0 where
+  pub whole : KnowsWhole known
+  pub newer : TableCalls
+  pub all_is : all ≡ newer ++ known.tables
+  pub found : (key : Key) → is_agreed (known_by known.tables orig) ≡ true → names key (known_by known.tables orig).held ≡ true → FoundTold orig log frames known.tables key
+
+addressed_names : (all : TableCalls) (orig : Mac) (log : Log) (frames : List SentFrame) (q : Queries) (known : Knowledge) (now ttl : ℕ) (client : ClientFrame) (way : Way) (payload : List ℕ) → CanName all orig log frames known
+    → addressee q known now (key_of client.dst client.vid) ≡ Some way → (payload ≡ payload_spelling client) ⊎ (client_frame_of payload ≡ Some client) → ActNames all orig log frames (addressed q known now ttl way payload)
+addressed_names all orig log frames q known now ttl client way payload can is carried reason =
+    let by = table_is q known now (key_of client.dst client.vid) way is (some_one way.reason Table reason) in
+    record {
+      ttl = ttl;
+      ttvn = unwrap_or (told_at q known now way.orig) 0;
+      dst = way.orig;
+      payload = payload;
+      whole = addressee_whole q known now (key_of client.dst client.vid) can.whole way is;
+      bytes_are = refl;
+      had_come = λ same.
+          let f = can.found (key_of client.dst client.vid) (subst (λ o. is_agreed (known_by known.tables o) ≡ true) same by.agreed) (subst (λ o. names (key_of client.dst client.vid) (known_by known.tables o).held ≡ true) same by.named) in
+          record {
+            came = known.tables;
+            newer = can.newer;
+            all_is = can.all_is;
+            names_client = record { client = client; carried = carried; last = f.last; told = f.told; frame = f.frame; sent = f.sent; past = f.past; named = f.named };
+          };
+    }
+
+names_if : (all : TableCalls) (orig : Mac) (log : Log) (frames : List SentFrame) (b : Bool) (xs ys : List Act) → AllByRecursion (ActNames all orig log frames) xs → AllByRecursion (ActNames all orig log frames) ys → AllByRecursion (ActNames all orig log frames) (cond b xs ys)
+names_if all orig log frames true xs ys a b = a
+names_if all orig log frames false xs ys a b = b
+
+-- a client frame of a line
+pub frame_names : (all : TableCalls) (orig : Mac) (log : Log) (frames : List SentFrame) (q : Queries) (known : Knowledge) (ms : List Mention) (at : Place) (client : ClientFrame) → CanName all orig log frames known
+    → AllByRecursion (ActNames all orig log frames) (frame_acts q known ms at client)
+unfolding frame_acts
+frame_names all orig log frames q known ms at client can =
+    let key = key_of client.dst client.vid in
+    let sent = on_way q known at client (addressee q known at.now key) in
+    let handed = cond (is_present ms at.now key) (handed_out at client ∷ []) sent in
+    names_if all orig log frames (is_broadcast client.dst) (sent_to_all (Bcast 50 (suc known.sent) at.me) (payload_spelling client) ∷ []) (cond (is_group client.dst) [] handed) ((λ is. cc), tt)
+    (names_if all orig log frames (is_group client.dst) [] handed tt
+    (names_if all orig log frames (is_present ms at.now key) (handed_out at client ∷ []) sent ((λ number moment from to reason bytes is. cc), tt) (go (addressee q known at.now key) refl)))
+  where
+    go : (o : Option Way) → addressee q known at.now (key_of client.dst client.vid) ≡ o → AllByRecursion (ActNames all orig log frames) (on_way q known at client o)
+    go None none = ((λ number moment from to reason bytes is. cc), tt)
+    go (Some way) is = (addressed_names all orig log frames q known at.now 50 client way (payload_spelling client) can is (inl refl), tt)
+
+here_names : (all : TableCalls) (orig : Mac) (log : Log) (frames : List SentFrame) (q : Queries) (known : Knowledge) (ms : List Mention) (at : Place) (ttl : ℕ) (tail : List ℕ) → CanName all orig log frames known
+    → AllByRecursion (ActNames all orig log frames) (here_acts q known ms at ttl tail)
+unfolding here_acts
+here_names all orig log frames q known ms at ttl tail can = by_frame (client_frame_of tail) refl
+  where
+    by_way : (client : ClientFrame) → client_frame_of tail ≡ Some client → (o : Option Way) → addressee q known at.now (key_of client.dst client.vid) ≡ o → AllByRecursion (ActNames all orig log frames) (readdressed q known at ttl client tail o)
+    by_way client carried None none = ((λ number moment from to reason bytes is. cc), tt)
+    by_way client carried (Some way) is = names_if all orig log frames (nat_le ttl 1) (lost at Ttl client ∷ []) (addressed q known at.now (ttl - 1) way tail ∷ []) ((λ number moment from to reason bytes is. cc), tt)
+        (addressed_names all orig log frames q known at.now (ttl - 1) client way tail can is (inr carried), tt)
+
+    by_frame : (o : Option ClientFrame) → client_frame_of tail ≡ o → AllByRecursion (ActNames all orig log frames) (arrived q known ms at ttl tail o)
+    by_frame None carried = tt
+    by_frame (Some client) carried = names_if all orig log frames (is_group client.dst || is_present ms at.now (key_of client.dst client.vid)) (handed_out at client ∷ [])
+        (readdressed q known at ttl client tail (addressee q known at.now (key_of client.dst client.vid))) ((λ number moment from to reason bytes is. cc), tt) (by_way client carried (addressee q known at.now (key_of client.dst client.vid)) refl)
+
+-- a packet
+pub packet_names : (all : TableCalls) (orig : Mac) (log : Log) (frames : List SentFrame) (q : Queries) (me : Mac) (own : Own) (came : Coming) (packet : Packet) (known : Knowledge) → CanName all orig log frames known
+    → AllByRecursion (ActNames all orig log frames) (packet_acts q me own came known packet)
+unfolding packet_acts
+packet_names all orig log frames q me own came packet known can = go packet.head packet.tail
+  where
+    taken : (head : Head) (tail : List ℕ) (o : Option Message) → AllByRecursion IsPlain (taken_acts q me came head o tail known)
+    taken head tail None = tt
+    taken head tail (Some message) = plain_ogm q me came head message tail known
+
+    plain : (acts : List Act) → AllByRecursion IsPlain acts → AllByRecursion (ActNames all orig log frames) acts
+    plain acts p = plain_names all orig log frames acts p
+
+    go : (head : Head) (tail : List ℕ) → AllByRecursion (ActNames all orig log frames) (head_acts q me own came known (message_of (record { head = head; tail = tail })) tail head)
+    go (IvOgm ttl flags seq o prev tq) tail = plain (taken_acts q me came (IvOgm ttl flags seq o prev tq) (message_with o (first_table (containers_of tail))) tail known) (taken (IvOgm ttl flags seq o prev tq) tail (message_with o (first_table (containers_of tail))))
+    go (Bcast ttl seq o) tail = plain (broadcast_acts known (place_at me came) ttl (record { orig = o; number = seq }) tail) (plain_broadcast known (place_at me came) ttl (record { orig = o; number = seq }) tail)
+    go (Elp o seq interval) tail = tt
+    go (Ogm2 ttl flags seq o throughput) tail = plain (taken_acts q me came (Ogm2 ttl flags seq o throughput) (message_with o (first_table (containers_of tail))) tail known) (taken (Ogm2 ttl flags seq o throughput) tail (message_with o (first_table (containers_of tail))))
+    go (Unicast ttl ttvn dst) tail = names_if all orig log frames (same_mac dst me) (here_acts q known own.mentions (place_at me came) ttl tail) (passed_frame q known (place_at me came) ttl ttvn dst tail)
+        (here_names all orig log frames q known own.mentions (place_at me came) ttl tail can) (plain (passed_frame q known (place_at me came) ttl ttvn dst tail) (plain_passed q known (place_at me came) ttl ttvn dst tail))
+    go (Frag ttl number priority dst o seq total) tail = tt
+    go (Unicast4 ttl ttvn dst src subtype) tail = tt
+    go (Icmp ttl msg dst o uid seq) tail = tt
+    go (Utvlv ttl dst src) tail = names_if all orig log frames (same_mac dst me) (own_answer q me known came.now own.last own.told src (message_in (first_table (containers_of tail)))) (other_containers q known came.now ttl dst src tail)
+        (plain (own_answer q me known came.now own.last own.told src (message_in (first_table (containers_of tail)))) (plain_own q me known came.now own src (message_in (first_table (containers_of tail)))))
+        (plain (other_containers q known came.now ttl dst src tail) (plain_other q known came.now ttl dst src tail))

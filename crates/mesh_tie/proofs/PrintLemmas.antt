@@ -1,0 +1,257 @@
+-- What is printed of frames that were sent by table.
+use Rattle.std.proofs.Common.{◌≡◌, inl, inr, ◌+◌, ◌-◌, ◌&&◌, ℕ, Bool, true, false, cond, not, nat_le, nat_lt, List, [], ◌∷◌, ◌++◌, length, map, Option, Some, None, option_map, is_some, Ok, Err, refl, sym, ap, subst, ◌∙◌, append-nil}
+use Rattle.std.specs.Option.{option_map_or}
+use Rattle.mesh_base.specs.Address.{is_broadcast, is_group}
+use Rattle.mesh_base.specs.declared.event.Event.{Event}
+use Rattle.mesh_base.specs.declared.event.Event.TheVariants.{Alias, FrameSent}
+use Rattle.mesh_base.specs.declared.event.Reason.TheVariants.{Table as ByTable}
+use Rattle.mesh_base.specs.declared.names.NodeName.{NodeName}
+use Rattle.mesh_model.specs.declared.ending.LimitName.TheVariants.{Clock, Input, Line, Links, Nodes}
+use Rattle.mesh_model.specs.declared.ending.Refusal.{Refusal}
+use Rattle.mesh_model.specs.declared.ending.Stop.TheVariants.{Limit}
+use Rattle.mesh_model.specs.declared.frame_choice.FrameChoice.{FrameChoice}
+use Rattle.mesh_model.specs.declared.line_form.Command.{Command}
+use Rattle.mesh_model.specs.declared.line_form.Command.TheVariants.{Nothing, Algo, Node, Link, Lan, Frame, Gone, Join, Leave, Arp, Dhcp, Wifi, GwOff, GwServer, GwClient, Mcast, Dat, Alfred, Put, Get, Ping, Trace, Run as RunFor, Deliver, Show, Decode}
+use Rattle.mesh_model.specs.declared.line_form.Table.{Table}
+use Rattle.mesh_model.specs.declared.line_form.Table.TheVariants.{Originators, Neighbors, Locals, Globals, Claims, Gateways, Groups, Addresses, Facts}
+use Rattle.mesh_model.specs.Clients.Log.{Given}
+use Rattle.mesh_model.specs.Clients.Log.{Frame as FrameGiven, Gone as GoneGiven, Join as JoinGiven, Leave as LeaveGiven, Wifi as WifiGiven}
+use Rattle.mesh_model.specs.Net.Due.{ticks_by}
+use Rattle.mesh_model.specs.Net.Inputs.{given_to}
+use Rattle.mesh_model.specs.Net.Limits.{clock_limit, links_limit, nodes_limit}
+use Rattle.mesh_model.specs.Net.Mesh.{NodeLog, NetLink, Mesh}
+use Rattle.mesh_model.specs.Net.Next.{Has}
+use Rattle.mesh_model.specs.Net.Runs.{Course, PassedLimit, begin, delivered, run_to}
+use Rattle.mesh_model.specs.Net.Sending.{Attempt}
+use Rattle.mesh_model.specs.Routes.AlgorithmIv.{iv_queries}
+use Rattle.mesh_model.specs.Run.Outcome.{Outcome, Ends, Goes, reached}
+use Rattle.mesh_model.specs.Run.Passing.{after_attempt, course_outcome, events_since, gone_on, run_until}
+use Rattle.mesh_model.specs.Run.PlainRun.{Run, after_line, after_lines, after_outcome, after_reading, line_outcome, passes_input, passes_line, plain_run, start}
+use Rattle.mesh_model.specs.Run.Rules.{after_step, carried_out, first_refused_rule, iv_setup, unless_refused}
+use Rattle.mesh_model.specs.Run.Shown.{after_print, shown}
+use Rattle.mesh_model.specs.Run.State.{Printed, LocalsShown, OriginatorsShown, NeighborsShown, GlobalsShown, Decoded, Happened, State, names_of, node_named, place_of}
+use Rattle.mesh_model.specs.Run.Steps.{Step, at_node, input_step, link_step, new_node, show_step, step_of, with_link, with_node}
+use Rattle.mesh_model.specs.Scenario.Commands.{command_of_line}
+use Rattle.mesh_model.specs.Scenario.Halt.{Halt}
+use Rattle.mesh_model.specs.Scenario.Lines.{content, lines_of}
+use Rattle.mesh_model.specs.Scenario.Readings.{Reading}
+use Rattle.mesh_laws.specs.Soundness.{GivesItsBytes}
+use Rattle.mesh_laws.proofs.Lines.Courses.{Follows, going_follows, since_is}
+use Rattle.mesh_laws.proofs.Schedule.Steps.{Effect, delivered_effect, no_ticks, tickless}
+use Rattle.mesh_tie.specs.LinesByTable.{LinesByTableAreRight}
+use Rattle.mesh_tie.proofs.EventLemmas.{events_by_table_are_right}
+use Rattle.mesh_tie.proofs.IvLemmas.{iv_keeps}
+use Rattle.mesh_tie.proofs.LineReach.{plain_runs_are_reachable}
+
+-- ---- the events among what is printed
+events_in : List Printed → List Event
+events_in [] = []
+events_in (LocalsShown table ∷ rest) = events_in rest
+events_in (OriginatorsShown table ∷ rest) = events_in rest
+events_in (NeighborsShown table ∷ rest) = events_in rest
+events_in (GlobalsShown table ∷ rest) = events_in rest
+events_in (Decoded bytes ∷ rest) = events_in rest
+events_in (Happened names event ∷ rest) = event ∷ events_in rest
+
+events_both : (xs ys : List Printed) → events_in (xs ++ ys) ≡ events_in xs ++ events_in ys
+unfolding events_in
+events_both [] ys = refl
+events_both (LocalsShown table ∷ xs) ys = events_both xs ys
+events_both (OriginatorsShown table ∷ xs) ys = events_both xs ys
+events_both (NeighborsShown table ∷ xs) ys = events_both xs ys
+events_both (GlobalsShown table ∷ xs) ys = events_both xs ys
+events_both (Decoded bytes ∷ xs) ys = events_both xs ys
+events_both (Happened names event ∷ xs) ys = ap (λ es. event ∷ es) (events_both xs ys)
+
+events_happened : (names : List NodeName) (es : List Event) → events_in (map (Happened names) es) ≡ es
+unfolding events_in
+events_happened names [] = refl
+events_happened names (e ∷ es) = ap (λ xs. e ∷ xs) (events_happened names es)
+
+printed_has : (xs : List Printed) (event : Event) → Has (events_in xs) event → (names : List NodeName) × Has xs (Happened names event)
+unfolding events_in
+printed_has [] event has = absurd has
+printed_has (LocalsShown table ∷ xs) event has = let p = printed_has xs event has in (p.0, inr p.1)
+printed_has (OriginatorsShown table ∷ xs) event has = let p = printed_has xs event has in (p.0, inr p.1)
+printed_has (NeighborsShown table ∷ xs) event has = let p = printed_has xs event has in (p.0, inr p.1)
+printed_has (GlobalsShown table ∷ xs) event has = let p = printed_has xs event has in (p.0, inr p.1)
+printed_has (Decoded bytes ∷ xs) event has = let p = printed_has xs event has in (p.0, inr p.1)
+printed_has (Happened names e ∷ xs) event (inl same) = (names, inl (ap (Happened names) same))
+printed_has (Happened names e ∷ xs) event (inr has) = let p = printed_has xs event has in (p.0, inr p.1)
+
+-- ---- they are those of the mesh
+SameEvents : State → Type 0
+SameEvents state = events_in state.printed ≡ state.mesh.events
+
+abbrev SameOutcome : Outcome → Type 0
+SameOutcome outcome = SameEvents (reached outcome)
+
+gone_same : (state : State) (now : ℕ) (mesh : Mesh) → Follows state.mesh mesh → SameEvents state → SameEvents (gone_on state now mesh)
+unfolding SameEvents
+gone_same state now mesh f same =
+    events_both state.printed (map (Happened (names_of mesh.nodes)) (events_since state.mesh mesh))
+    ∙ ap (λ es. es ++ events_in (map (Happened (names_of mesh.nodes)) (events_since state.mesh mesh))) same
+    ∙ ap (λ es. state.mesh.events ++ es) (events_happened (names_of mesh.nodes) (events_since state.mesh mesh) ∙ since_is state.mesh mesh f) ∙ sym f.events
+
+effect_follows : (now : ℕ) (mesh after : Mesh) → Effect iv_setup no_ticks now mesh after → Follows mesh after
+effect_follows now mesh after effect = record { more = effect.adds.more_events; events = effect.adds.events; names = effect.names }
+
+attempt_same : (state : State) (attempt : Attempt) → SameEvents state → ((after : Mesh) → attempt ≡ Ok after → Follows state.mesh after) → SameOutcome (after_attempt state attempt)
+attempt_same state (Ok after) same follows = gone_same state state.clock after (follows after refl) same
+attempt_same state (Err limit) same follows = same
+
+at_same : (state : State) (step : ℕ → Step) (o : Option ℕ) → SameEvents state → ((place : ℕ) → SameOutcome (step place state)) → SameOutcome (option_map_or (λ place. step place state) o (Goes state))
+at_same state step None same all = same
+at_same state step (Some place) same all = all place
+
+line_same : (state : State) (name : List ℕ) (given : Given) → SameEvents state → ticks_by given ≡ 0 → GivesItsBytes state.mesh.frames given → SameOutcome (at_node name (input_step iv_setup given) state)
+line_same state name given same none gives = at_same state (input_step iv_setup given) (place_of state name) same (λ place.
+    attempt_same state (given_to iv_setup place state.clock 0 given state.mesh) same (λ after is. effect_follows state.clock state.mesh after (tickless iv_setup state.mesh place state.clock 0 given after none gives is)))
+
+frame_same : (state : State) (name : List ℕ) (given : Given) (group : Bool) → SameEvents state → ticks_by given ≡ 0 → GivesItsBytes state.mesh.frames given → SameOutcome (after_step state (cond group None (Some (at_node name (input_step iv_setup given)))))
+frame_same state name given true same none gives = same
+frame_same state name given false same none gives = line_same state name given same none gives
+
+full_same : (b : Bool) (stopped : Outcome) (state : State) → SameOutcome stopped → SameEvents state → SameOutcome (cond b stopped (Goes state))
+full_same true stopped state a b = a
+full_same false stopped state a b = b
+
+with_node_same : (state : State) (node : NodeLog) → SameEvents state → SameEvents (with_node state node)
+unfolding SameEvents
+with_node_same state node same = same
+
+with_link_same : (state : State) (link : NetLink) → SameEvents state → SameEvents (with_link state link)
+unfolding SameEvents
+with_link_same state link same = same
+
+course_same : (state : State) (t : ℕ) (o : Course) (stop : Option PassedLimit) → Follows state.mesh o.mesh → SameEvents state → SameOutcome (course_outcome state t o.mesh stop)
+course_same state t o None f same = gone_same state t o.mesh f same
+course_same state t o (Some p) f same = gone_same state p.moment o.mesh f same
+
+time_same : (state : State) (t : ℕ) (past : Bool) → SameEvents state → SameOutcome (cond past (Ends state (Limit Clock)) (run_until iv_setup t state))
+time_same state t true same = same
+time_same state t false same = course_same state t (run_to iv_setup t state.mesh) (run_to iv_setup t state.mesh).stop (going_follows iv_setup t (begin state.mesh)) same
+
+-- something printed that is no event
+abbrev IsNoEvent : Printed → Type 0
+IsNoEvent printed = events_in (printed ∷ []) ≡ []
+
+print_same : (state : State) (printed : Printed) → IsNoEvent printed → SameEvents state → SameEvents (after_print state printed)
+unfolding SameEvents
+print_same state printed none same = events_both state.printed (printed ∷ []) ∙ ap (λ es. events_in state.printed ++ es) none ∙ append-nil (events_in state.printed) ∙ same
+
+show_same : (state : State) (print : ℕ → NodeLog → Printed) (o : Option NodeLog) → ((node : NodeLog) → IsNoEvent (print state.clock node)) → SameEvents state
+    → SameOutcome (option_map_or (λ node. Goes (after_print state (print state.clock node))) o (Goes state))
+show_same state print None none same = same
+show_same state print (Some node) none same = print_same state (print state.clock node) (none node) same
+
+shown_same : (state : State) (name : List ℕ) (o : Option (ℕ → NodeLog → Printed)) → ((print : ℕ → NodeLog → Printed) → o ≡ Some print → (node : NodeLog) → IsNoEvent (print state.clock node)) → SameEvents state
+    → SameOutcome (after_step state (option_map (show_step name) o))
+shown_same state name None none same = same
+shown_same state name (Some print) none same = show_same state print (node_named state name) (none print refl) same
+
+-- the tables that are shown are no events
+abbrev IfShown : ℕ → NodeLog → Option (ℕ → NodeLog → Printed) → Type 0
+IfShown now node None = Unit {0}
+IfShown now node (Some print) = IsNoEvent (print now node)
+
+shown_none : (table : Table) (now : ℕ) (node : NodeLog) → IfShown now node (shown table)
+unfolding events_in
+shown_none Originators now node = refl
+shown_none Neighbors now node = refl
+shown_none Locals now node = refl
+shown_none Globals now node = refl
+shown_none Claims now node = tt
+shown_none Gateways now node = tt
+shown_none Groups now node = tt
+shown_none Addresses now node = tt
+shown_none Facts now node = tt
+
+tables_same : (table : Table) (now : ℕ) (print : ℕ → NodeLog → Printed) → shown table ≡ Some print → (node : NodeLog) → IsNoEvent (print now node)
+tables_same table now print is node = subst (IfShown now node) is (shown_none table now node)
+
+decoded_none : (bytes : List ℕ) → IsNoEvent (Decoded bytes)
+unfolding events_in
+decoded_none bytes = refl
+
+command_same : (state : State) (command : Command) → SameEvents state → SameOutcome (after_step state (step_of iv_setup command))
+command_same state Nothing same = same
+command_same state (Algo algorithm) same = same
+command_same state (Node name mac) same = full_same (nat_le nodes_limit (length state.mesh.nodes)) (Ends state (Limit Nodes)) (with_node state (new_node name mac state.clock)) same (with_node_same state (new_node name mac state.clock) same)
+command_same state (Link from to delay pattern throughput) same =
+    let link : ℕ → ℕ → NetLink = λ start end. record { from = start; to = end; delay = delay; pattern = pattern; throughput = throughput } in
+    at_same state (λ start. at_node to (λ end. link_step (link start end))) (place_of state from) same (λ start.
+    at_same state (λ end. link_step (link start end)) (place_of state to) same (λ end.
+    full_same (nat_le links_limit (length state.mesh.links)) (Ends state (Limit Links)) (with_link state (link start end)) same (with_link_same state (link start end) same)))
+command_same state (Lan name gateways) same = same
+command_same state (Frame place src dst vid text) same = frame_same state place (FrameGiven src dst vid text) (is_group dst && not (is_broadcast dst)) same refl tt
+command_same state (Gone place key) same = line_same state place (GoneGiven key) same refl tt
+command_same state (Join node key) same = line_same state node (JoinGiven key) same refl tt
+command_same state (Leave node key) same = line_same state node (LeaveGiven key) same refl tt
+command_same state (Arp node mac own asked vid) same = same
+command_same state (Dhcp node key text) same = same
+command_same state (Wifi node on) same = line_same state node (WifiGiven on) same refl tt
+command_same state (GwOff node) same = same
+command_same state (GwServer node down up) same = same
+command_same state (GwClient node policy) same = same
+command_same state (Mcast node flags) same = same
+command_same state (Dat node on) same = same
+command_same state (Alfred node mode) same = same
+command_same state (Put node type_no version text) same = same
+command_same state (Get node type_no) same = same
+command_same state (Ping node target) same = same
+command_same state (Trace node target) same = same
+command_same state (RunFor time) same = time_same state (state.clock + time) (nat_lt clock_limit (state.clock + time)) same
+command_same state (Deliver number) same = attempt_same state (delivered iv_setup (number - 1) state.clock state.mesh) same (λ after is. effect_follows state.clock state.mesh after (delivered_effect iv_setup state.mesh (number - 1) state.clock after is))
+command_same state (Show node table) same = shown_same state node (shown table) (λ print is. tables_same table state.clock print is) same
+command_same state (Decode bytes) same = print_same state (Decoded bytes) (decoded_none bytes) same
+
+carried_same : (state : State) (command : Command) → SameEvents state → SameOutcome (carried_out iv_setup state command)
+carried_same state command same = go (first_refused_rule state command)
+  where
+    go : (o : Option Refusal) → SameOutcome (unless_refused state o (after_step state (step_of iv_setup command)))
+    go None = command_same state command same
+    go (Some refusal) = same
+
+reading_same : (state : State) (r : Reading) → SameEvents state → SameOutcome (after_reading state r)
+reading_same state (Ok command) same = carried_same state command same
+reading_same state (Err stop) same = same
+
+line_keeps : (state : State) (before : ℕ) (line : List ℕ) → SameEvents state → SameOutcome (line_outcome state before line)
+unfolding line_outcome
+line_keeps state before line same = go (passes_line before line) (passes_input before line)
+  where
+    go : (l i : Bool) → SameOutcome (cond l (Ends state (Limit Line)) (cond i (Ends state (Limit Input)) (after_reading state (command_of_line (content line)))))
+    go true i = same
+    go false true = same
+    go false false = reading_same state (command_of_line (content line)) same
+
+outcome_same : (run : Run) (line : List ℕ) (o : Outcome) → SameOutcome o → SameEvents (after_outcome run line o).state
+outcome_same run line (Goes state) same = same
+outcome_same run line (Ends state stop) same = same
+
+after_same : (run : Run) (line : List ℕ) → SameEvents run.state → SameEvents (after_line run line).state
+after_same run line same = go run.halt
+  where
+    go : (o : Option Halt) → SameEvents (cond (is_some o) run (after_outcome run line (line_outcome run.state run.bytes line))).state
+    go None = outcome_same run line (line_outcome run.state run.bytes line) (line_keeps run.state run.bytes line same)
+    go (Some halt) = same
+
+lines_same : (run : Run) (lines : List (List ℕ)) → SameEvents run.state → SameEvents (after_lines run lines).state
+lines_same run [] same = same
+lines_same run (line ∷ lines) same = lines_same (after_line run line) lines (after_same run line same)
+
+plain_same : (choice : FrameChoice) (input : List ℕ) → events_in (plain_run choice input).state.printed ≡ (plain_run choice input).state.mesh.events
+unfolding plain_run SameEvents events_in
+plain_same choice input = lines_same (start choice) (lines_of input) refl
+
+-- ---- the law
+pub lines_by_table_are_right : LinesByTableAreRight
+unfolding events_in
+lines_by_table_are_right choice input orig before after names number moment me next bytes printed none =
+    let run = plain_run choice input in
+    let event : Event = FrameSent number moment me next (Some ByTable) bytes in
+    let events : run.state.mesh.events ≡ events_in before ++ event ∷ events_in after =
+    sym (plain_same choice input) ∙ ap events_in printed ∙ events_both before (Happened names event ∷ after) in
+    events_by_table_are_right iv_queries iv_keeps run.state.mesh (plain_runs_are_reachable choice input) orig (events_in before) (events_in after) number moment me next bytes events
+    (λ n e told. let p = printed_has before (Alias orig n e) told in none p.0 n e p.1)

@@ -1,0 +1,187 @@
+-- What is put of a table is read again: an announcement, an answer; a request and an advertisement
+-- are no answers.
+use Rattle.std.proofs.Common.{◌≡◌, ◌≤◌, ◌<◌, ◌+◌, ◌*◌, ◌/◌, ◌%◌, ℕ, suc, Bool, true, false, cond, List, [], ◌∷◌, ◌++◌, length, map, flat_map, refl, sym, ap, ap₂, ◌∙◌, arith, Option, Some, None, nat_lt, length-append}
+use Rattle.std.specs.List.{AllByRecursion, cons_option}
+use Rattle.std.proofs.lemmas.List.Elements.{All-from_recursion, All-cons, All-nil}
+use Rattle.mesh_base.specs.declared.client.Entry.{Entry}
+use Rattle.mesh_base.specs.declared.client.Key.{Key}
+use Rattle.mesh_model.specs.declared.table_change.Change.{Change}
+use Rattle.mesh_model.specs.declared.table_outcome.Request.{Request}
+use Rattle.mesh_model.specs.declared.table_outcome.Request.TheVariants.{Full, Changes}
+use Rattle.mesh_model.specs.Acts.OwnContainers.{arp_table_container, own_containers}
+use Rattle.mesh_model.specs.Acts.Packing.{request_containers, request_flags, roaming_container, table_container, table_told, with_full}
+use Rattle.mesh_model.specs.Commits.Announcements.{record_of_change}
+use Rattle.mesh_model.specs.Knowledge.Told.{Answers, Neither, carried_told, change_told, changes_told, message_in, stamp_told, table_message}
+use Rattle.mesh_model.specs.Packets.Bodies.{TtChange, TtData, VlanSum, change_of, entry_of_change, tt_data, vlans_size}
+use Rattle.mesh_model.specs.Packets.BodySpellings.{change_spelling, tt_spelling, vlan_spelling}
+use Rattle.mesh_model.specs.Packets.Containers.{Container, FitsLength, container_spelling, containers_of, containers_spelling}
+use Rattle.mesh_model.specs.Packets.Contents.{first_of, first_table}
+use Rattle.mesh_model.specs.Packets.Numbers.{ogm_diff_flag, response_flag}
+use Rattle.mesh_model.specs.Tables.Judging.{Carried}
+use Rattle.mesh_model.specs.Tables.Sums.{sums_of}
+use Rattle.mesh_model.specs.Tables.Versions.{Stamp, Version}
+use Rattle.mesh_tvlv.specs.Laws.{FitsKey, FitsTable, FitsVlan}
+use Rattle.mesh_tvlv.proofs.SpellingLemmas.{read_back}
+use Rattle.mesh_tvlv.proofs.TableLemmas.{record_back, table_back}
+use Rattle.mesh_tie.specs.Tie.{FitsAnswer, FitsEntry}
+use Rattle.mesh_tie.specs.TieLaws.{stamp_of_commit}
+use Rattle.mesh_tie.proofs.RoomLemmas.{sums_few, table_fits}
+use Rattle.mesh_tie.proofs.SumLemmas.{sums_few_of, sums_fit, sums_told_same}
+
+-- ---- records
+-- a change that a record can tell
+abbrev pub FitsChange : Change → Type 0
+FitsChange change = FitsEntry change.entry
+
+change_same : (change : Change) → FitsChange change → change_told (record_of_change change) ≡ change
+change_same change fits =
+    let back = record_back change.entry change.del in
+    let entry : entry_of_change (change_of change.entry change.del) ≡ change.entry = back.0 ∙ ap (λ n. record { key = change.entry.key; flags = n }) fits.flags in
+    ap₂ (λ (e : Entry) (d : Bool). record { entry = e; del = d }) entry back.1
+
+changes_same : (changes : List Change) → AllByRecursion FitsChange changes → map change_told (map record_of_change changes) ≡ changes
+changes_same [] fits = refl
+changes_same (change ∷ changes) fits = ap₂ (λ c cs. c ∷ cs) (change_same change fits.0) (changes_same changes fits.1)
+
+keys_fit : (changes : List Change) → AllByRecursion FitsChange changes → AllByRecursion (λ (c : TtChange). FitsKey c.key) (map record_of_change changes)
+keys_fit [] fits = tt
+keys_fit (change ∷ changes) fits = (fits.0.key, keys_fit changes fits.1)
+
+-- ---- lengths
+vlans_long : (sums : List VlanSum) → length (flat_map vlan_spelling sums) ≡ 8 * length sums
+vlans_long [] = omega arith
+vlans_long (s ∷ sums) = let rest = vlans_long sums in omega (arith, length-append (vlan_spelling s) (flat_map vlan_spelling sums), rest)
+
+change_long : (change : TtChange) → FitsKey change.key → length (change_spelling change) ≡ 12
+change_long change fits = let six = fits.address in omega (arith, length-append change.key.mac.0 (change.key.vid.0 / 256 % 256 ∷ change.key.vid.0 % 256 ∷ []), six)
+
+changes_long : (changes : List TtChange) → AllByRecursion (λ (c : TtChange). FitsKey c.key) changes → length (flat_map change_spelling changes) ≡ 12 * length changes
+changes_long [] fits = omega arith
+changes_long (c ∷ changes) fits =
+    let rest = changes_long changes fits.1 in
+    let one = change_long c fits.0 in
+    omega (arith, length-append (change_spelling c) (flat_map change_spelling changes), rest, one)
+
+body_long : (table : TtData) → AllByRecursion (λ (c : TtChange). FitsKey c.key) table.changes → length (tt_spelling table) ≡ 4 + 8 * length table.vlans + 12 * length table.changes
+body_long table fits =
+    let vlans = vlans_long table.vlans in
+    let changes = changes_long table.changes fits in
+    omega (arith, vlans, changes, length-append (flat_map vlan_spelling table.vlans) (flat_map change_spelling table.changes))
+
+-- ---- tables
+-- what is told of a version with these records is told again
+pub record IsToldAgain (flags : ℕ) (version : Version) (records : List Change) (tail : List ℕ) : Type 0 where
+  pub small : length tail < 65536
+  pub found : first_table (containers_of tail) ≡ Some (table_told flags (stamp_of_commit version) records)
+  pub stamp : stamp_told (table_told flags (stamp_of_commit version) records) ≡ stamp_of_commit version
+  pub changes : changes_told (table_told flags (stamp_of_commit version) records) ≡ records
+
+length_mapped : {X Y : Type 0} (f : X → Y) (xs : List X) → length (map f xs) ≡ length xs
+length_mapped f [] = refl
+length_mapped f (x ∷ xs) = ap suc (length_mapped f xs)
+
+fits_table : (flags : ℕ) (version : Version) (records : List Change) → FitsAnswer version.table → AllByRecursion FitsChange records → FitsTable (table_told flags (stamp_of_commit version) records)
+fits_table flags version records table changes = record {
+  vlans = let few = table.few in omega (arith, few, sums_few_of version.table);
+  each_vlan = All-from_recursion FitsVlan (sums_of version.table) (sums_fit version.table table.each);
+  each_change = All-from_recursion (λ (c : TtChange). FitsKey c.key) (map record_of_change records) (keys_fit records changes);
+}
+
+body_small : (flags : ℕ) (version : Version) (records : List Change) → FitsAnswer version.table → AllByRecursion FitsChange records → length records ≤ 1024
+    → length (tt_spelling (table_told flags (stamp_of_commit version) records)) ≤ 20484
+body_small flags version records table changes few =
+    let long = body_long (table_told flags (stamp_of_commit version) records) (keys_fit records changes) in
+    let sums = sums_few_of version.table in
+    let some = table.few in
+    omega (arith, long, sums, some, few, length_mapped record_of_change records)
+
+one_long : (c : Container) → length (containers_spelling (c ∷ [])) ≡ 4 + length c.body
+one_long c = omega (arith, length-append (container_spelling c) [])
+
+two_long : (a c : Container) → length (containers_spelling (a ∷ c ∷ [])) ≡ 8 + length a.body + length c.body
+two_long a c = omega (arith, length-append (container_spelling a) (container_spelling c ++ []), length-append (container_spelling c) [])
+
+pub reply_again : (flags : ℕ) (version : Version) (records : List Change) → FitsAnswer version.table → AllByRecursion FitsChange records → length records ≤ 1024
+    → IsToldAgain flags version records (containers_spelling (table_container (table_told flags (stamp_of_commit version) records) ∷ []))
+reply_again flags version records table changes few =
+    let told = table_told flags (stamp_of_commit version) records in
+    let small = body_small flags version records table changes few in
+    record {
+      small = omega (arith, one_long (table_container told), small);
+      found = ap first_table (read_back (table_container told ∷ []) (All-cons FitsLength (table_container told) [] (omega (arith, small)) (All-nil FitsLength))).0
+          ∙ ap (λ (o : Option TtData). first_of (cons_option o [])) (table_back told (fits_table flags version records table changes));
+      stamp = ap (λ sums. record { byte = version.byte; sums = sums }) (sums_told_same version.table);
+      changes = changes_same records changes;
+    }
+
+pub own_again : (version : Version) (records : List Change) → FitsAnswer version.table → AllByRecursion FitsChange records → length records ≤ 1024
+    → IsToldAgain ogm_diff_flag version records (containers_spelling (own_containers (table_told ogm_diff_flag (stamp_of_commit version) records)))
+own_again version records table changes few =
+    let told = table_told ogm_diff_flag (stamp_of_commit version) records in
+    let small = body_small ogm_diff_flag version records table changes few in
+    record {
+      small = omega (arith, two_long arp_table_container (table_container told), small);
+      found = ap first_table (read_back (arp_table_container ∷ table_container told ∷ [])
+          (All-cons FitsLength arp_table_container (table_container told ∷ []) (omega arith) (All-cons FitsLength (table_container told) [] (omega (arith, small)) (All-nil FitsLength)))).0
+          ∙ ap (λ (o : Option TtData). first_of (cons_option o [])) (table_back told (fits_table ogm_diff_flag version records table changes));
+      stamp = ap (λ sums. record { byte = version.byte; sums = sums }) (sums_told_same version.table);
+      changes = changes_same records changes;
+    }
+
+-- an answer is read as one
+pub answers_again : (full : Bool) (version : Version) (records : List Change) (tail : List ℕ) → IsToldAgain (with_full response_flag full) version records tail
+    → message_in (first_table (containers_of tail)) ≡ Answers (stamp_of_commit version) (carried_told full records)
+answers_again true version records tail told = ap message_in told.found ∙ ap₂ (λ s cs. Answers s (carried_told true cs)) told.stamp told.changes
+answers_again false version records tail told = ap message_in told.found ∙ ap₂ (λ s cs. Answers s (carried_told false cs)) told.stamp told.changes
+
+-- ---- what is no answer
+-- no answer is among containers
+abbrev pub HoldsNoAnswer : List ℕ → Type 0
+HoldsNoAnswer tail = (stamp : Stamp) (carried : Carried) → message_in (first_table (containers_of tail)) ≡ Answers stamp carried → ⊥
+
+pub advert_answers_none : (key : Key) → FitsKey key → HoldsNoAnswer (containers_spelling (roaming_container key ∷ []))
+advert_answers_none key fits stamp carried is =
+    let six = fits.address in
+    let small : FitsLength (roaming_container key) = omega (arith, length-append key.mac.0 (key.vid.0 / 256 % 256 ∷ key.vid.0 % 256 ∷ []), six) in
+    let none : message_in (first_table (containers_of (containers_spelling (roaming_container key ∷ [])))) ≡ Neither =
+    ap (λ cs. message_in (first_table cs)) (read_back (roaming_container key ∷ []) (All-cons FitsLength (roaming_container key) [] small (All-nil FitsLength))).0 in
+    let both = sym none ∙ is in absurd cc
+
+pub advert_small : (key : Key) → FitsKey key → length (containers_spelling (roaming_container key ∷ [])) < 65536
+advert_small key fits =
+    let six = fits.address in
+    omega (arith, one_long (roaming_container key), length-append key.mac.0 (key.vid.0 / 256 % 256 ∷ key.vid.0 % 256 ∷ []), six)
+
+-- a request, by its flags
+asks : (request : Request) (vlans : List VlanSum) (ttvn : ℕ) (changes : List TtChange) (stamp : Stamp) (carried : Carried)
+    → table_message (record { flags = request_flags request; ttvn = ttvn; vlans = vlans; changes = changes }) ≡ Answers stamp carried → ⊥
+asks Full vlans ttvn changes stamp carried is = cc
+asks Changes vlans ttvn changes stamp carried is = cc
+
+asked : (request : Request) (stamp : Stamp) (b : Bool) (told : Stamp) (carried : Carried)
+    → message_in (first_of (cons_option (cond b None (Some (tt_data 4 (tt_spelling (table_told (request_flags request) stamp []))))) [])) ≡ Answers told carried → ⊥
+asked request stamp true told carried is = cc
+asked request stamp false told carried is =
+    let body = tt_spelling (table_told (request_flags request) stamp []) in
+    asks request (tt_data 4 body).vlans (tt_data 4 body).ttvn (tt_data 4 body).changes told carried is
+
+-- a request is no answer
+pub request_answers_none : (request : Request) (stamp : Stamp) → 8 + 8 * length stamp.sums < 65536 → HoldsNoAnswer (request_containers request stamp)
+request_answers_none request stamp room told carried is =
+    let body = tt_spelling (table_told (request_flags request) stamp []) in
+    let c = table_container (table_told (request_flags request) stamp []) in
+    let long : length body ≡ 4 + 8 * length stamp.sums = (let vlans = vlans_long stamp.sums in omega (arith, vlans, length-append (flat_map vlan_spelling stamp.sums) [])) in
+    let read : containers_of (request_containers request stamp) ≡ c ∷ [] = (read_back (c ∷ []) (All-cons FitsLength c [] (omega (arith, long, room)) (All-nil FitsLength))).0 in
+    asked request stamp (nat_lt (length body) (4 + vlans_size body)) told carried (ap (λ cs. message_in (first_table cs)) (sym read) ∙ is)
+
+pub request_small : (request : Request) (stamp : Stamp) → 8 + 8 * length stamp.sums < 65536 → length (request_containers request stamp) < 65536
+request_small request stamp room =
+    let c = table_container (table_told (request_flags request) stamp []) in
+    let vlans = vlans_long stamp.sums in
+    omega (arith, one_long c, vlans, length-append (flat_map vlan_spelling stamp.sums) [], room)
+
+-- the sums of a table in containers find room in a request
+pub told_room : (tail : List ℕ) (table : TtData) → length tail < 65536 → first_table (containers_of tail) ≡ Some table → 8 + 8 * length (stamp_told table).sums < 65536
+told_room tail table small is =
+    let room = table_fits tail table is in
+    omega (arith, room, small, sums_few table.vlans)

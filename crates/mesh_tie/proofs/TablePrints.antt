@@ -1,0 +1,253 @@
+-- What is printed of tables.
+use Rattle.std.proofs.Common.{◌≡◌, inl, inr, ◌+◌, ◌-◌, ◌&&◌, ℕ, Bool, true, false, cond, not, nat_le, nat_lt, List, [], ◌∷◌, ◌++◌, length, map, Option, Some, None, option_map, option_and_then, slice_get, append_assoc, is_some, Ok, Err, refl, sym, ap, subst, ◌∙◌, append-nil}
+use Rattle.std.specs.Option.{option_map_or}
+use Rattle.mesh_base.specs.Address.{is_broadcast, is_group}
+use Rattle.mesh_base.specs.declared.event.Event.{Event}
+use Rattle.mesh_base.specs.declared.event.Event.TheVariants.{Alias}
+use Rattle.mesh_model.specs.declared.ending.LimitName.TheVariants.{Clock, Input, Line, Links, Nodes}
+use Rattle.mesh_model.specs.declared.ending.Refusal.{Refusal}
+use Rattle.mesh_model.specs.declared.ending.Stop.TheVariants.{Limit}
+use Rattle.mesh_model.specs.declared.frame_choice.FrameChoice.{FrameChoice}
+use Rattle.mesh_model.specs.declared.line_form.Command.{Command}
+use Rattle.mesh_model.specs.declared.line_form.Command.TheVariants.{Nothing, Algo, Node, Link, Lan, Frame, Gone, Join, Leave, Arp, Dhcp, Wifi, GwOff, GwServer, GwClient, Mcast, Dat, Alfred, Put, Get, Ping, Trace, Run as RunFor, Deliver, Show, Decode}
+use Rattle.mesh_model.specs.declared.line_form.Table.{Table}
+use Rattle.mesh_model.specs.declared.line_form.Table.TheVariants.{Originators, Neighbors, Locals, Globals, Claims, Gateways, Groups, Addresses, Facts}
+use Rattle.mesh_model.specs.Clients.Log.{Given}
+use Rattle.mesh_model.specs.Clients.Log.{Frame as FrameGiven, Gone as GoneGiven, Join as JoinGiven, Leave as LeaveGiven, Wifi as WifiGiven}
+use Rattle.mesh_model.specs.Net.Inputs.{given_to}
+use Rattle.mesh_model.specs.Net.Limits.{clock_limit, links_limit, nodes_limit}
+use Rattle.mesh_model.specs.Net.Mesh.{NodeLog, NetLink, Mesh}
+use Rattle.mesh_model.specs.Net.Next.{Has}
+use Rattle.mesh_model.specs.Net.Runs.{PassedLimit, delivered, run_to}
+use Rattle.mesh_model.specs.Net.Sending.{Attempt}
+use Rattle.mesh_model.specs.Run.Outcome.{Outcome, Ends, Goes, reached}
+use Rattle.mesh_model.specs.Run.Passing.{after_attempt, course_outcome, events_since, gone_on, run_until}
+use Rattle.mesh_model.specs.Run.PlainRun.{Run, after_line, after_lines, after_outcome, after_reading, line_outcome, passes_input, passes_line, plain_run, start}
+use Rattle.mesh_model.specs.Run.Rules.{after_step, carried_out, first_refused_rule, iv_setup, unless_refused}
+use Rattle.mesh_model.specs.Run.Shown.{after_print, global_table, shown}
+use Rattle.mesh_model.specs.Run.State.{Printed, GlobalsShown, Decoded, Happened, State, names_of, node_named, place_of}
+use Rattle.mesh_model.specs.Run.Steps.{Step, at_node, input_step, link_step, new_node, show_step, step_of, with_link, with_node}
+use Rattle.mesh_model.specs.Scenario.Commands.{command_of_line}
+use Rattle.mesh_model.specs.Scenario.Halt.{Halt}
+use Rattle.mesh_model.specs.Scenario.Lines.{content, lines_of}
+use Rattle.mesh_model.specs.Scenario.Readings.{Reading}
+use Rattle.mesh_model.specs.Text.GlobalTables.{GlobalPart, GlobalTable}
+use Rattle.mesh_laws.proofs.Schedule.Members.{has_left, map_has}
+use Rattle.mesh_tie.specs.ShownTables.{IsOfCommit, PrintedNone, PrintedTablesAreCommitted}
+use Rattle.mesh_tie.proofs.EventLemmas.{Split, in_first, in_second, split}
+use Rattle.mesh_tie.proofs.ShownLemmas.{shown_tables_are_committed}
+
+-- ---- what a line adds
+-- a table is that of a node of a state
+record OfNode (state : State) (table : GlobalTable) : Type 0 where
+  place : ℕ
+  node : NodeLog
+  found : slice_get state.mesh.nodes place ≡ Some node
+  is : table ≡ global_table state.clock node
+
+-- what is printed after a state, where each table is that of a node of it
+record Added (state after : State) : Type 0 where
+  new : List Printed
+  printed : after.printed ≡ state.printed ++ new
+  tables : (table : GlobalTable) → Has new (GlobalsShown table) → OfNode state table
+
+abbrev AddsTo : State → Outcome → Type 0
+AddsTo state outcome = Added state (reached outcome)
+
+adds_none : (state after : State) → after.printed ≡ state.printed → Added state after
+adds_none state after same = record { new = []; printed = same ∙ sym (append-nil state.printed); tables = λ table has. absurd has }
+
+adds_events : (state : State) (now : ℕ) (mesh : Mesh) → Added state (gone_on state now mesh)
+adds_events state now mesh = record {
+  new = map (Happened (names_of mesh.nodes)) (events_since state.mesh mesh);
+  printed = refl;
+  tables = λ table has. absurd (no_table table (map_has (Happened (names_of mesh.nodes)) (events_since state.mesh mesh) (GlobalsShown table) has));
+}
+  where
+    no_table : (table : GlobalTable) → (e : Event) × Has (events_since state.mesh mesh) e × (GlobalsShown table ≡ Happened (names_of mesh.nodes) e) → ⊥
+    no_table table p = let e = p.2 in cc
+
+adds_attempt : (state : State) (attempt : Attempt) → AddsTo state (after_attempt state attempt)
+adds_attempt state (Ok after) = adds_events state state.clock after
+adds_attempt state (Err limit) = adds_none state state refl
+
+adds_at : (state : State) (step : ℕ → Step) (o : Option ℕ) → ((place : ℕ) → AddsTo state (step place state)) → AddsTo state (option_map_or (λ place. step place state) o (Goes state))
+adds_at state step None all = adds_none state state refl
+adds_at state step (Some place) all = all place
+
+adds_line : (state : State) (name : List ℕ) (given : Given) → AddsTo state (at_node name (input_step iv_setup given) state)
+adds_line state name given = adds_at state (input_step iv_setup given) (place_of state name) (λ place. adds_attempt state (given_to iv_setup place state.clock 0 given state.mesh))
+
+adds_frame : (state : State) (name : List ℕ) (given : Given) (group : Bool) → AddsTo state (after_step state (cond group None (Some (at_node name (input_step iv_setup given)))))
+adds_frame state name given true = adds_none state state refl
+adds_frame state name given false = adds_line state name given
+
+adds_full : (b : Bool) (state : State) (stopped : Outcome) (after : State) → AddsTo state stopped → Added state after → AddsTo state (cond b stopped (Goes after))
+adds_full true state stopped after a b = a
+adds_full false state stopped after a b = b
+
+adds_course : (state : State) (t : ℕ) (mesh : Mesh) (stop : Option PassedLimit) → AddsTo state (course_outcome state t mesh stop)
+adds_course state t mesh None = adds_events state t mesh
+adds_course state t mesh (Some p) = adds_events state p.moment mesh
+
+adds_time : (state : State) (t : ℕ) (past : Bool) → AddsTo state (cond past (Ends state (Limit Clock)) (run_until iv_setup t state))
+adds_time state t true = adds_none state state refl
+adds_time state t false = adds_course state t (run_to iv_setup t state.mesh).mesh (run_to iv_setup t state.mesh).stop
+
+-- what is printed of a node
+adds_print : (state : State) (one : Printed) → ((table : GlobalTable) → GlobalsShown table ≡ one → OfNode state table) → Added state (after_print state one)
+adds_print state one of = record { new = one ∷ []; printed = refl; tables = λ table has. only table has }
+  where
+    only : (table : GlobalTable) → Has (one ∷ []) (GlobalsShown table) → OfNode state table
+    only table (inl is) = of table is
+    only table (inr none) = absurd none
+
+-- a table that is printed of a node is its own
+abbrev PrintsOwn : State → Option (ℕ → NodeLog → Printed) → Type 0
+PrintsOwn state None = Unit {0}
+PrintsOwn state (Some print) = (node : NodeLog) (table : GlobalTable) → GlobalsShown table ≡ print state.clock node → table ≡ global_table state.clock node
+
+prints_own : (state : State) (table : Table) → PrintsOwn state (shown table)
+prints_own state Originators = λ node t is. cc
+prints_own state Neighbors = λ node t is. cc
+prints_own state Locals = λ node t is. cc
+prints_own state Globals = λ node t is. cc
+prints_own state Claims = tt
+prints_own state Gateways = tt
+prints_own state Groups = tt
+prints_own state Addresses = tt
+prints_own state Facts = tt
+
+node_at : (state : State) (o : Option ℕ) (node : NodeLog) → option_and_then (slice_get state.mesh.nodes) o ≡ Some node → (place : ℕ) × (slice_get state.mesh.nodes place ≡ Some node)
+node_at state None node is = cc
+node_at state (Some place) node is = (place, is)
+
+adds_show : (state : State) (name : List ℕ) (o : Option (ℕ → NodeLog → Printed)) → PrintsOwn state o → AddsTo state (after_step state (option_map (show_step name) o))
+adds_show state name None own = adds_none state state refl
+adds_show state name (Some print) own = go (node_named state name) (λ node is. node_at state (place_of state name) node is)
+  where
+    go : (o : Option NodeLog) → ((node : NodeLog) → o ≡ Some node → (place : ℕ) × (slice_get state.mesh.nodes place ≡ Some node)) → AddsTo state (option_map_or (λ node. Goes (after_print state (print state.clock node))) o (Goes state))
+    go None at = adds_none state state refl
+    go (Some node) at = adds_print state (print state.clock node) (λ table is. let p = at node refl in record { place = p.0; node = node; found = p.1; is = own node table is })
+
+adds_command : (state : State) (command : Command) → AddsTo state (after_step state (step_of iv_setup command))
+adds_command state Nothing = adds_none state state refl
+adds_command state (Algo algorithm) = adds_none state state refl
+adds_command state (Node name mac) = adds_full (nat_le nodes_limit (length state.mesh.nodes)) state (Ends state (Limit Nodes)) (with_node state (new_node name mac state.clock)) (adds_none state state refl) (adds_none state (with_node state (new_node name mac state.clock)) refl)
+adds_command state (Link from to delay pattern throughput) =
+    let link : ℕ → ℕ → NetLink = λ start end. record { from = start; to = end; delay = delay; pattern = pattern; throughput = throughput } in
+    adds_at state (λ start. at_node to (λ end. link_step (link start end))) (place_of state from) (λ start.
+    adds_at state (λ end. link_step (link start end)) (place_of state to) (λ end.
+    adds_full (nat_le links_limit (length state.mesh.links)) state (Ends state (Limit Links)) (with_link state (link start end)) (adds_none state state refl) (adds_none state (with_link state (link start end)) refl)))
+adds_command state (Lan name gateways) = adds_none state state refl
+adds_command state (Frame place src dst vid text) = adds_frame state place (FrameGiven src dst vid text) (is_group dst && not (is_broadcast dst))
+adds_command state (Gone place key) = adds_line state place (GoneGiven key)
+adds_command state (Join node key) = adds_line state node (JoinGiven key)
+adds_command state (Leave node key) = adds_line state node (LeaveGiven key)
+adds_command state (Arp node mac own asked vid) = adds_none state state refl
+adds_command state (Dhcp node key text) = adds_none state state refl
+adds_command state (Wifi node on) = adds_line state node (WifiGiven on)
+adds_command state (GwOff node) = adds_none state state refl
+adds_command state (GwServer node down up) = adds_none state state refl
+adds_command state (GwClient node policy) = adds_none state state refl
+adds_command state (Mcast node flags) = adds_none state state refl
+adds_command state (Dat node on) = adds_none state state refl
+adds_command state (Alfred node mode) = adds_none state state refl
+adds_command state (Put node type_no version text) = adds_none state state refl
+adds_command state (Get node type_no) = adds_none state state refl
+adds_command state (Ping node target) = adds_none state state refl
+adds_command state (Trace node target) = adds_none state state refl
+adds_command state (RunFor time) = adds_time state (state.clock + time) (nat_lt clock_limit (state.clock + time))
+adds_command state (Deliver number) = adds_attempt state (delivered iv_setup (number - 1) state.clock state.mesh)
+adds_command state (Show node table) = adds_show state node (shown table) (prints_own state table)
+adds_command state (Decode bytes) = adds_print state (Decoded bytes) (λ table is. absurd (no_table table is))
+  where
+    no_table : (table : GlobalTable) → GlobalsShown table ≡ Decoded bytes → ⊥
+    no_table table is = cc
+
+adds_carried : (state : State) (command : Command) → AddsTo state (carried_out iv_setup state command)
+adds_carried state command = go (first_refused_rule state command)
+  where
+    go : (o : Option Refusal) → AddsTo state (unless_refused state o (after_step state (step_of iv_setup command)))
+    go None = adds_command state command
+    go (Some refusal) = adds_none state state refl
+
+adds_reading : (state : State) (r : Reading) → AddsTo state (after_reading state r)
+adds_reading state (Ok command) = adds_carried state command
+adds_reading state (Err stop) = adds_none state state refl
+
+adds_by_line : (state : State) (before : ℕ) (line : List ℕ) → AddsTo state (line_outcome state before line)
+unfolding line_outcome
+adds_by_line state before line = go (passes_line before line) (passes_input before line)
+  where
+    go : (l i : Bool) → AddsTo state (cond l (Ends state (Limit Line)) (cond i (Ends state (Limit Input)) (after_reading state (command_of_line (content line)))))
+    go true i = adds_none state state refl
+    go false true = adds_none state state refl
+    go false false = adds_reading state (command_of_line (content line))
+
+adds_outcome : (run : Run) (line : List ℕ) (o : Outcome) → AddsTo run.state o → Added run.state (after_outcome run line o).state
+adds_outcome run line (Goes state) a = a
+adds_outcome run line (Ends state stop) a = a
+
+adds_after : (run : Run) (line : List ℕ) → Added run.state (after_line run line).state
+adds_after run line = go run.halt
+  where
+    go : (o : Option Halt) → Added run.state (cond (is_some o) run (after_outcome run line (line_outcome run.state run.bytes line))).state
+    go None = adds_outcome run line (line_outcome run.state run.bytes line) (adds_by_line run.state run.bytes line)
+    go (Some halt) = adds_none run.state run.state refl
+
+-- ---- a whole run
+-- a part that was printed is of a commit, behind some of the lines
+record OfLines (choice : FrameChoice) (all : List (List ℕ)) (part : GlobalPart) : Type 0 where
+  done : List (List ℕ)
+  rest : List (List ℕ)
+  all_is : all ≡ done ++ rest
+  of_commit : IsOfCommit (after_lines (start choice) done).state.mesh part
+
+-- each part that these lines printed is so
+abbrev PartsAre : FrameChoice → List (List ℕ) → Type 0
+PartsAre choice lines = (before after : List Printed) (table : GlobalTable) (part : GlobalPart) → (after_lines (start choice) lines).state.printed ≡ before ++ GlobalsShown table ∷ after
+    → Has table.parts part → part.row.ok ≡ true → PrintedNone part.row.orig before → OfLines choice lines part
+
+lines_more : (run : Run) (xs : List (List ℕ)) (y : List ℕ) → after_lines run (xs ++ y ∷ []) ≡ after_line (after_lines run xs) y
+lines_more run [] y = refl
+lines_more run (x ∷ xs) y = lines_more (after_line run x) xs y
+
+parts_next : (choice : FrameChoice) (lines : List (List ℕ)) (line : List ℕ) → PartsAre choice lines → PartsAre choice (lines ++ line ∷ [])
+parts_next choice lines line all before after table part printed has ok none =
+    go (split run.state.printed a.new before (GlobalsShown table) after (sym a.printed ∙ sym (ap (λ (r : Run). r.state.printed) (lines_more (start choice) lines line)) ∙ printed))
+  where
+    run : Run
+    run = after_lines (start choice) lines
+
+    a : Added run.state (after_line run line).state
+    a = adds_after run line
+
+    go : Split run.state.printed a.new before (GlobalsShown table) → OfLines choice (lines ++ line ∷ []) part
+    go (in_first back p) =
+        let o = all before back table part p has ok none in
+        record { done = o.done; rest = o.rest ++ line ∷ []; all_is = ap (λ ls. ls ++ line ∷ []) o.all_is ∙ append_assoc o.done o.rest (line ∷ []); of_commit = o.of_commit }
+    go (in_second more p new) =
+        let n = a.tables table new in
+        record {
+          done = lines;
+          rest = line ∷ [];
+          all_is = refl;
+          of_commit = shown_tables_are_committed choice lines n.place n.node part n.found (subst (λ (t : GlobalTable). Has t.parts part) n.is has) ok
+              (λ names number earlier told. none names number earlier (subst (λ xs. Has xs (Happened names (Alias part.row.orig number earlier))) (sym p) (has_left run.state.printed more (Happened names (Alias part.row.orig number earlier)) told)));
+        }
+
+-- the lines that are left, behind those that were done
+parts_all : (choice : FrameChoice) (done left : List (List ℕ)) → PartsAre choice done → PartsAre choice (done ++ left)
+parts_all choice done [] all = subst (PartsAre choice) (sym (append-nil done)) all
+parts_all choice done (line ∷ left) all = subst (PartsAre choice) (append_assoc done (line ∷ []) left) (parts_all choice (done ++ line ∷ []) left (parts_next choice done line all))
+
+none_printed : (before : List Printed) (one : Printed) (after : List Printed) → [] ≡ before ++ one ∷ after → ⊥
+none_printed [] one after is = cc
+none_printed (first ∷ before) one after is = cc
+
+pub printed_tables_are_committed : PrintedTablesAreCommitted
+unfolding plain_run
+printed_tables_are_committed choice input before after table part printed has ok none =
+    let o = parts_all choice [] (lines_of input) (λ before after table part is has ok none. absurd (none_printed before (GlobalsShown table) after is)) before after table part printed has ok none in
+    (o.done, o.rest, o.all_is, o.of_commit)

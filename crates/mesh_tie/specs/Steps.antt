@@ -1,0 +1,80 @@
+-- The steps of a mesh: a node or a link joins, a node is given what a line gives, a node ticks, a
+-- frame that was sent comes to a node. A frame may come to any node, at any later moment, over and
+-- over or never, so whatever a network loses, repeats, holds or delivers late is a list of these
+-- steps. The main words are `Steps` and `IsReachable`.
+use Rattle.std.specs.Prelude.{◌≡◌, ◌≤◌, ◌<◌, ◌^◌, ℕ, suc, List, [], ◌∷◌, ◌++◌, slice_get, Some, Ok, ⊤}
+use Rattle.std.specs.List.{AllByRecursion}
+use Rattle.mesh_base.specs.declared.address.Mac.{Mac}
+use Rattle.mesh_base.specs.declared.client.Key.{Key}
+use Rattle.mesh_model.specs.declared.happening.Happening.{Happening}
+use Rattle.mesh_model.specs.Clients.Log.{Given, Tick, LinkFrame, Frame, Gone, Join, Leave, Arp, Dhcp, Wifi, Log}
+use Rattle.mesh_model.specs.Clients.Mentions.{key_of}
+use Rattle.mesh_model.specs.Net.Due.{ticks_in}
+use Rattle.mesh_model.specs.Net.Inputs.{given_to}
+use Rattle.mesh_model.specs.Net.Limits.{scenario_setup}
+use Rattle.mesh_model.specs.Net.Mesh.{NodeLog, NetLink, SentFrame, Mesh, empty_mesh}
+use Rattle.mesh_model.specs.Routes.Queries.{Queries}
+use Rattle.mesh_tvlv.specs.Laws.{FitsKey}
+use Rattle.mesh_tie.specs.Sources.{IsWhole}
+
+-- a client whose address is of six bytes, and whose VLAN's wire number fits two
+pub record IsClient (key : Key) : Type 0 where
+  pub fits : FitsKey key
+  pub bytes : AllByRecursion (λ byte. byte < 2 ^ 8) key.mac.0
+
+-- what a line gives a node: no tick and no frame, and clients that records can tell
+abbrev pub IsOfLine : Given → Type 0
+IsOfLine (Tick index) = ⊥
+IsOfLine (LinkFrame number from throughput bytes) = ⊥
+IsOfLine (Frame src dst vid text) = IsClient (key_of src vid)
+IsOfLine (Gone key) = IsClient key
+IsOfLine (Join key) = IsClient key
+IsOfLine (Leave key) = IsClient key
+IsOfLine (Arp mac own_ip asked_ip vid) = IsClient (key_of mac vid)
+IsOfLine (Dhcp key text) = IsClient key
+IsOfLine (Wifi on) = ⊤
+
+-- the moment of the newest entry of a log, 0 where there is none
+abbrev pub newest_moment : Log → ℕ
+newest_moment [] = 0
+newest_moment (entry ∷ older) = entry.moment
+
+-- a node may be given something at a moment: none of what it had was later
+abbrev pub MayBeGiven : NodeLog → ℕ → Type 0
+MayBeGiven node now = newest_moment node.log ≤ now
+
+-- no node has an address
+abbrev pub IsNew : Mac → List NodeLog → Type 0
+IsNew mac nodes = (place : ℕ) (other : NodeLog) →
+    slice_get nodes place ≡ Some other → other.mac ≡ mac → ⊥
+
+-- one step of a mesh whose nodes have these algorithms
+pub data Steps (queries : Mac → Queries) : Mesh → Mesh → Type 0 where
+  node_joins : (mesh : Mesh) (node : NodeLog) →
+      node.log ≡ [] → IsWhole node.mac → IsNew node.mac mesh.nodes →
+      Steps queries mesh (record mesh { nodes = mesh.nodes ++ node ∷ [] })
+  link_joins : (mesh : Mesh) (link : NetLink) →
+      Steps queries mesh (record mesh { links = mesh.links ++ link ∷ [] })
+  line_gives : (mesh after : Mesh) (place now : ℕ) (node : NodeLog) (given : Given) →
+      slice_get mesh.nodes place ≡ Some node → MayBeGiven node now → IsOfLine given →
+      given_to (scenario_setup queries) place now 0 given mesh ≡ Ok after →
+      Steps queries mesh after
+  node_ticks : (mesh after : Mesh) (place now : ℕ) (node : NodeLog) →
+      slice_get mesh.nodes place ≡ Some node → MayBeGiven node now →
+      given_to (scenario_setup queries) place now (suc (ticks_in node.log))
+      (Tick (suc (ticks_in node.log))) mesh ≡ Ok after →
+      Steps queries mesh after
+  frame_comes : (mesh after : Mesh) (place now number throughput : ℕ) (from : Mac)
+      (node : NodeLog) (frame : SentFrame) →
+      slice_get mesh.nodes place ≡ Some node → MayBeGiven node now →
+      slice_get mesh.frames number ≡ Some frame → IsWhole from →
+      given_to (scenario_setup queries) place now frame.root
+      (LinkFrame (suc number) from throughput frame.bytes) mesh ≡ Ok after →
+      Steps queries mesh after
+  time_passes : (mesh : Mesh) (h : Happening) → Steps queries mesh (record mesh { last = h })
+
+-- a mesh to which any number of steps lead
+pub data IsReachable (queries : Mac → Queries) : Mesh → Type 0 where
+  begins : IsReachable queries empty_mesh
+  goes_on : (mesh after : Mesh) → IsReachable queries mesh → Steps queries mesh after →
+      IsReachable queries after

@@ -1,0 +1,22 @@
+//! What was ever sent of an originator's tables, while no two of its commits are an alias.
+
+ghost use Rattle.mesh_tie.specs.ByTable.{FramesByTable};
+ghost use Rattle.mesh_tie.specs.TieLaws.{AnswersCarry, MessagesAnnounce};
+
+/// Every originator message announces the commit of its root: its byte, its sums, and its changes
+/// or none.
+pub fn messages_announce_their_commits()
+    ensures { MessagesAnnounce }
+{}
+
+/// Every answer carries a commit of its source in full, or the changes that lead to one, under that
+/// commit's byte and sums.
+pub fn answers_carry_commits()
+    ensures { AnswersCarry }
+{}
+
+/// Every client frame that a node sent by table is for a client that is named by the commit which
+/// the last message announced that the node had accepted.
+pub fn frames_by_table_are_for_named_clients()
+    ensures { FramesByTable }
+{}
