@@ -7,8 +7,10 @@ pub mod EndLemmas
 pub mod ReadLemmas
 pub mod InputLemmas
 pub mod RowLemmas
+pub mod KnownLemmas
 pub mod NetLemmas
 pub mod PlaceLemmas
 pub mod StepLemmas
 pub mod PassLemmas
 pub mod SliceLemmas
+pub mod Right

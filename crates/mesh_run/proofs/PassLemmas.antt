@@ -20,7 +20,7 @@ use Rattle.mesh_laws.specs.HappeningLaws.{CanRun}
 use Rattle.mesh_laws.specs.LineLaws.{IsBehind}
 use Rattle.mesh_laws.specs.Soundness.{rank}
 use Rattle.mesh_laws.proofs.Lines.Courses.{Follows, going_follows}
-use Rattle.mesh_laws.proofs.Lines.Seen.{KeepsClients, turns_keep_clients}
+use Rattle.mesh_laws.proofs.Lines.KeptLinks.{KeepsLinks, turns_keep_links}
 use Rattle.mesh_laws.proofs.Lines.Slices.{behind_follows, ends_behind, goes_on_behind, risen}
 use Rattle.mesh_run.specs.Inner.Passages.{HasAdvanced, passage_by}
 use Rattle.mesh_run.specs.Inner.Scene.{IvNetStands, Passes, SceneStands, iv_stands}
@@ -41,15 +41,14 @@ TellsFrom state t old new error = RunTells iv_setup state.choice state.mesh t ol
 abbrev behind : (net : Net Tables) (state : State) (t : ℕ) (old new : List Event) (more : Bool) → (ran : RanFrom net state t old new more) → IsBehind iv_setup t state.mesh ran.after
 behind net state t old new more ran = record { count = ran.count; taken = ran.taken; goes = ran.goes }
 
-keeps : (t : ℕ) (before after : Mesh) → (b : IsBehind iv_setup t before after) → KeepsClients before after
-keeps t before after b = subst (λ (o : Course). KeepsClients before o.mesh) b.taken (turns_keep_clients iv_setup t b.count (begin before))
+keeps : (t : ℕ) (before after : Mesh) → (b : IsBehind iv_setup t before after) → KeepsLinks before after
+keeps t before after b = subst (λ (o : Course). KeepsLinks before o.mesh) b.taken (turns_keep_links iv_setup t b.count (begin before))
 
 -- a scene that only its net and its events change
 pub record OnlyPassed (old new : Scene) (net : Net Tables) : Type 0 where
   pub net_is : new.net ≡ net
   pub names_are : new.names ≡ old.names
   pub ends_are : new.ends.items ≡ old.ends.items
-  pub clients_are : new.clients ≡ old.clients
 
 some_of_two : {X : Type 0} (x y : X) → Some x ≡ Some y → x ≡ y
 some_of_two x y e = cc
@@ -70,7 +69,7 @@ passes t state old new net before events text (Ok true) passage stands only low 
     subst (Passes t state new text) (some_of_two Going passage is) (record {
       mid = gone_on state ran.now ran.after;
       leads = goes_on_behind iv_setup t ran.now state ran.after b;
-      stands = stands_gone old new state ran.now ran.after stands standing only.names_are only.ends_are only.clients_are named (keeps t state.mesh ran.after b);
+      stands = stands_gone old new state ran.now ran.after stands standing only.names_are only.ends_are named (keeps t state.mesh ran.after b);
       text = text_gone old state ran.now ran.after events text stands named (ran.gains ∙ fresh ran.after) says;
     })
 passes t state old new net before events text (Ok false) passage stands only low is ran tells fresh says =
@@ -82,7 +81,7 @@ passes t state old new net before events text (Ok false) passage stands only low
     subst (Passes t state new text) (some_of_two Ended passage is) (record {
       mid = gone_on state t ran.after;
       leads = ends_behind iv_setup t state ran.after b (net_sound new.net state.choice t ran.after standing) ended.0;
-      stands = stands_gone old new state t ran.after stands standing only.names_are only.ends_are only.clients_are named (keeps t state.mesh ran.after b);
+      stands = stands_gone old new state t ran.after stands standing only.names_are only.ends_are named (keeps t state.mesh ran.after b);
       text = text_gone old state t ran.after events text stands named (ran.gains ∙ fresh ran.after) says;
     })
 passes t state old new net before events text (Err (Limit limit)) passage stands only low is ran tells fresh says = either tells

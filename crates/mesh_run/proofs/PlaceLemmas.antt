@@ -72,21 +72,11 @@ pub linked : (scene : Scene) (state : State) (from to : ℕ) → SceneStands sce
 linked scene state from to stands =
     ap (list_any (λ (other : LinkEnds). other.from == from && other.to == to)) stands.ends_are ∙ any_map ends_of (λ (other : LinkEnds). other.from == from && other.to == to) state.mesh.links
 
--- and a link leaves a node where one of them begins there
-pub leaving : (scene : Scene) (state : State) (place : ℕ) → SceneStands scene state
-    → list_any (λ (ends : LinkEnds). ends.from == place) scene.ends.items ≡ list_any (λ (link : NetLink). link.from == place) state.mesh.links
-leaving scene state place stands =
-    ap (list_any (λ (ends : LinkEnds). ends.from == place)) stands.ends_are ∙ any_map ends_of (λ (ends : LinkEnds). ends.from == place) state.mesh.links
-
 -- ---- lists that grow at their end
 
 pub map_last : {X Y : Type 0} (f : X → Y) (xs : List X) (x : X) → map f (xs ++ x ∷ []) ≡ map f xs ++ f x ∷ []
 map_last f [] x = refl
 map_last f (y ∷ ys) x = ap (λ zs. f y ∷ zs) (map_last f ys x)
-
-pub any_last : {X : Type 0} (test : X → Bool) (xs : List X) (x : X) → test x ≡ false → list_any test (xs ++ x ∷ []) ≡ list_any test xs
-any_last test [] x no_test = ap (λ b. b || false) no_test
-any_last test (y ∷ ys) x no_test = ap (λ b. test y || b) (any_last test ys x no_test)
 
 -- ---- the name of a node
 

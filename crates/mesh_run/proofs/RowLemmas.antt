@@ -1,7 +1,9 @@
 -- Lists that grow row by row.
-use Rattle.std.proofs.Common.{◌≡◌, ℕ, zero, suc, ◌+◌, List, [], ◌∷◌, ◌++◌, length, take, slice_get, Some, refl, sym, ap, ◌∙◌, append_assoc, append-nil, length-append, arith}
+use Rattle.std.proofs.Common.{◌≡◌, ℕ, zero, suc, ◌+◌, List, [], ◌∷◌, ◌++◌, length, take, slice_get, Option, Some, None, option_map, refl, sym, ap, ◌∙◌, append_assoc, append-nil, length-append, arith}
 use Rattle.std.specs.Prelude.{flat_map}
 use Rattle.std.proofs.lemmas.List.Concat.{flat_map-append}
+use Rattle.mesh_base.specs.declared.client.Vid.{Vid}
+use Rattle.mesh_model.specs.Packets.Bodies.{VlanSum}
 
 pub take-next : {X : Type 0} (xs : List X) (i : ℕ) (x : X) → slice_get xs i ≡ Some x → take (suc i) xs ≡ take i xs ++ x ∷ []
 take-next [] i x found = cc
@@ -22,3 +24,15 @@ texts-next line old mid new xs i x found is more =
     let next : i + 1 ≡ suc i = omega arith in
     more ∙ ap (λ front. front ++ line x) is ∙ append_assoc old (flat_map line (take i xs)) (line x)
     ∙ ap (λ rest. old ++ rest) (ap (λ last. flat_map line (take i xs) ++ last) (sym (append-nil (line x))) ∙ sym (flat_map-append line (take i xs) (x ∷ [])) ∙ ap (flat_map line) (sym (take-next xs i x found)) ∙ ap (λ n. flat_map line (take n xs)) (sym next))
+
+-- a VLAN and its sum
+abbrev pub vlan_pair : VlanSum → Vid × ℕ
+vlan_pair named = (named.vid, named.sum)
+
+-- a VLAN and its sum are those that are named there
+pub sum_named : (pair : Vid × ℕ) (named : Option VlanSum) → Some pair ≡ option_map vlan_pair named → named ≡ Some (record { vid = pair.0; sum = pair.1 })
+sum_named pair None e = cc
+sum_named pair (Some n) e = ap (λ (p : Vid × ℕ). Some (record { vid = p.0; sum = p.1 })) (sym (both e))
+  where
+    both : Some pair ≡ Some (vlan_pair n) → pair ≡ vlan_pair n
+    both p = cc

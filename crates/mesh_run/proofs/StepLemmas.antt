@@ -1,13 +1,15 @@
 -- What commands do to a state, and to the scene that stands for it.
-use Rattle.std.proofs.Common.{◌≡◌, ℕ, ◌+◌, ◌-◌, ◌<◌, ◌≤◌, ◌⊎◌, inl, inr, get_or, Bool, true, false, ◌||◌, List, [], ◌∷◌, ◌++◌, length, map, filter, slice_get, Option, Some, None, is_some, Ok, Err, refl, sym, ap, ◌∙◌, subst, append-nil, arith}
+use Rattle.std.proofs.Common.{◌≡◌, ℕ, ◌+◌, ◌-◌, ◌<◌, ◌≤◌, ◌⊎◌, inl, inr, get_or, Bool, true, false, ◌||◌, ◌&&◌, List, [], ◌∷◌, ◌++◌, length, map, filter, slice_get, Option, Some, None, is_some, Ok, Err, refl, sym, ap, ◌∙◌, subst, append-nil, arith}
 use Rattle.std.specs.Prelude.{bytes_eq, flat_map, nat_le, nat_lt, not, ◌==◌, if◌then◌else◌}
 use Rattle.std.specs.List.{list_any}
+use Rattle.std.specs.Option.{option_or}
 use Rattle.std.proofs.lemmas.Bool.{le-leb}
 use Rattle.std.proofs.lemmas.List.Concat.{flat_map-append}
 use Rattle.std.proofs.lemmas.Bool.Decides.{nat_tests}
 use Rattle.std.proofs.lemmas.Option.{slice_get_cases}
-use Rattle.mesh_base.specs.Address.{is_broadcast}
+use Rattle.mesh_base.specs.Address.{is_broadcast, is_group}
 use Rattle.mesh_base.specs.declared.address.Mac.{Mac}
+use Rattle.mesh_base.specs.declared.client.Key.{Key}
 use Rattle.mesh_base.specs.declared.client.Vid.{Vid}
 use Rattle.mesh_base.specs.declared.event.Event.{Event}
 use Rattle.mesh_base.specs.declared.names.NodeName.{NodeName}
@@ -17,29 +19,31 @@ use Rattle.mesh_model.specs.declared.ending.Refusal.TheVariants.{AddressTaken, L
 use Rattle.mesh_model.specs.declared.ending.Stop.TheVariants.{Refused}
 use Rattle.mesh_model.specs.declared.ending.Stop.TheVariants.{Limit as StopLimit}
 use Rattle.mesh_model.specs.declared.frame_choice.FrameChoice.{FrameChoice}
-use Rattle.mesh_model.specs.declared.line_form.Command.TheVariants.{Node, Link, Frame, Run, Deliver, Show}
-use Rattle.mesh_model.specs.declared.line_form.Table.TheVariants.{Locals, Originators, Neighbors}
-use Rattle.mesh_model.specs.Clients.Log.{Frame as GivenFrame}
+use Rattle.mesh_model.specs.declared.line_form.Command.TheVariants.{Node, Link, Frame, Gone, Join, Leave, Wifi, Run, Deliver, Show}
+use Rattle.mesh_model.specs.declared.line_form.Table.TheVariants.{Globals, Locals, Originators, Neighbors}
+use Rattle.mesh_model.specs.Clients.Log.{Given}
+use Rattle.mesh_model.specs.Clients.Log.{Frame as GivenFrame, Gone as GivenGone, Join as GivenJoin, Leave as GivenLeave, Wifi as GivenWifi}
 use Rattle.mesh_model.specs.Net.Inputs.{given_to}
 use Rattle.mesh_model.specs.Net.Mesh.{NodeLog, NetLink, Mesh, has_address}
 use Rattle.mesh_model.specs.Net.Runs.{delivered, leads}
 use Rattle.mesh_model.specs.Net.Sending.{Attempt}
-use Rattle.mesh_model.specs.Run.Demands.{had_client, is_known}
+use Rattle.mesh_model.specs.Run.Demands.{is_known, refusal_if}
 use Rattle.mesh_model.specs.Run.Outcome.{Ends, Goes, Outcome}
 use Rattle.mesh_model.specs.Run.Passing.{after_attempt, events_since, gone_on, run_until}
-use Rattle.mesh_model.specs.Run.Rules.{carried_out, iv_setup}
-use Rattle.mesh_model.specs.Run.Shown.{after_print, link_table, local_table, orig_table}
-use Rattle.mesh_model.specs.Run.State.{Happened, LocalsShown, NeighborsShown, OriginatorsShown, Printed, State, names_of, place_of, printed_text, text_of}
-use Rattle.mesh_model.specs.Run.Steps.{new_node, with_link, with_node}
+use Rattle.mesh_model.specs.Run.Rules.{carried_out, iv_setup, unless_refused}
+use Rattle.mesh_model.specs.Run.Shown.{after_print, global_table, link_table, local_table, orig_table}
+use Rattle.mesh_model.specs.Run.State.{GlobalsShown, Happened, LocalsShown, NeighborsShown, OriginatorsShown, Printed, State, names_of, place_of, printed_text, text_of}
+use Rattle.mesh_model.specs.Run.Steps.{at_node, input_step, new_node, with_link, with_node}
 use Rattle.mesh_model.specs.Text.Events.{event_line, event_text, is_shown}
 use Rattle.mesh_net.specs.Tells.{LinkTells, NodeTells, StepTells}
 use Rattle.mesh_net.specs.declared.failure.NetErr.{NetErr}
 use Rattle.mesh_net.specs.declared.failure.NetErr.TheVariants.{Limit, Dead, Memory}
-use Rattle.mesh_laws.proofs.Lines.Seen.{KeepsClients, frame_is_seen}
 use Rattle.mesh_laws.proofs.Schedule.Steps.{tickless}
-use Rattle.mesh_run.specs.Inner.Scene.{Carries, HasLineCause, IvNetStands, SceneStands, ends_of, fault_of}
+use Rattle.mesh_net.specs.Reached.{IsOfLine}
+use Rattle.mesh_run.specs.Inner.Scene.{Carries, HasLineCause, IvNetStands, SceneStands, ends_of, fault_of, given_at}
 use Rattle.mesh_run.specs.declared.scene.Scene.{Scene}
-use Rattle.mesh_run.proofs.PlaceLemmas.{any_last, map_last, place_within}
+use Rattle.mesh_run.proofs.NetLemmas.{of_line}
+use Rattle.mesh_run.proofs.PlaceLemmas.{map_last, place_within}
 
 -- ---- a new node
 
@@ -67,9 +71,9 @@ node_fails state name mac Memory free apart tells = tt
 
 pub node_carries : (state : State) (old new : Scene) (name : List ℕ) (mac : Mac) → SceneStands old state → is_known state name ≡ false → list_any (has_address mac) state.mesh.nodes ≡ false
     → length state.mesh.nodes ≤ 63 → IvNetStands new.net state.choice state.clock (record state.mesh { nodes = state.mesh.nodes ++ new_node name mac state.clock ∷ [] })
-    → new.names.nodes ≡ old.names.nodes ++ record { mac = mac; name = name } ∷ [] → new.ends.items ≡ old.ends.items → new.clients ≡ old.clients
+    → new.names.nodes ≡ old.names.nodes ++ record { mac = mac; name = name } ∷ [] → new.ends.items ≡ old.ends.items
     → Carries (carried_out iv_setup state (Node name mac)) state new []
-node_carries state old new name mac stands free apart room net names ends clients =
+node_carries state old new name mac stands free apart room net names ends =
     let node = new_node name mac state.clock in
     record {
       after = with_node state node;
@@ -79,7 +83,6 @@ node_carries state old new name mac stands free apart room net names ends client
         names_are = names ∙ ap (λ (ns : List NodeName). ns ++ record { mac = mac; name = name } ∷ []) stands.names_are
             ∙ sym (map_last (λ (n : NodeLog). record { mac = n.mac; name = n.name }) state.mesh.nodes node);
         ends_are = ends ∙ stands.ends_are;
-        clients_are = clients ∙ stands.clients_are ∙ sym (any_last had_client state.mesh.nodes node refl);
       };
       text = sym (append-nil (text_of state));
     }
@@ -117,9 +120,9 @@ link_fails state from to pattern delay tp start end Memory starts ends apart fre
 pub link_carries : (state : State) (old new : Scene) (from to pattern : List ℕ) (delay tp start end : ℕ) → SceneStands old state → place_of state from ≡ Some start → place_of state to ≡ Some end
     → bytes_eq from to ≡ false → list_any (leads start end) state.mesh.links ≡ false → length state.mesh.links ≤ 511
     → IvNetStands new.net state.choice state.clock (record state.mesh { links = state.mesh.links ++ record { from = start; to = end; delay = delay; pattern = pattern; throughput = tp } ∷ [] })
-    → new.names ≡ old.names → new.ends.items ≡ old.ends.items ++ record { from = start; to = end } ∷ [] → new.clients ≡ old.clients
+    → new.names ≡ old.names → new.ends.items ≡ old.ends.items ++ record { from = start; to = end } ∷ []
     → Carries (carried_out iv_setup state (Link from to delay pattern tp)) state new []
-link_carries state old new from to pattern delay tp start end stands starts leads_to apart free room net names ends clients =
+link_carries state old new from to pattern delay tp start end stands starts leads_to apart free room net names ends =
     let link : NetLink = record { from = start; to = end; delay = delay; pattern = pattern; throughput = tp } in
     record {
       after = with_link state link;
@@ -128,7 +131,6 @@ link_carries state old new from to pattern delay tp start end stands starts lead
         net_is = net;
         names_are = ap (λ (n : _). n.nodes) names ∙ stands.names_are;
         ends_are = ends ∙ ap (λ es. es ++ ends_of link ∷ []) stands.ends_are ∙ sym (map_last ends_of state.mesh.links link);
-        clients_are = clients ∙ stands.clients_are;
       };
       text = sym (append-nil (text_of state));
     }
@@ -158,13 +160,12 @@ text_gone old state now after events text stands names are is =
 
 -- the scene behind a state that went on
 pub stands_gone : (old new : Scene) (state : State) (now : ℕ) (after : Mesh) → SceneStands old state → IvNetStands new.net state.choice now after
-    → new.names ≡ old.names → new.ends.items ≡ old.ends.items → new.clients ≡ old.clients → names_of after.nodes ≡ names_of state.mesh.nodes → KeepsClients state.mesh after
+    → new.names ≡ old.names → new.ends.items ≡ old.ends.items → names_of after.nodes ≡ names_of state.mesh.nodes → after.links ≡ state.mesh.links
     → SceneStands new (gone_on state now after)
-stands_gone old new state now after stands net names ends clients named keeps = record {
+stands_gone old new state now after stands net names ends named links = record {
   net_is = net;
   names_are = ap (λ (n : _). n.nodes) names ∙ stands.names_are ∙ sym named;
-  ends_are = ends ∙ stands.ends_are ∙ ap (map ends_of) (sym keeps.links);
-  clients_are = clients ∙ stands.clients_are ∙ sym keeps.clients;
+  ends_are = ends ∙ stands.ends_are ∙ ap (map ends_of) (sym links);
 }
 
 -- a step at the clock that the net refuses
@@ -173,28 +174,40 @@ attempt_fails state attempt (Limit limit) tells = ap (after_attempt state) tells
 attempt_fails state attempt Dead tells = absurd tells
 attempt_fails state attempt Memory tells = tt
 
--- ---- a client frame
+-- ---- what a line gives a node
 
-pub frame_other : (state : State) (name : List ℕ) (src dst : Mac) (vid : Vid) (text : List ℕ) → is_broadcast dst ≡ false
+pub given_nowhere : (state : State) (name : List ℕ) (given : Given) → place_of state name ≡ None → given_at name given state ≡ Ends state (Refused UnknownName)
+given_nowhere state name given none = rw none refl
+
+pub given_there : (state : State) (name : List ℕ) (given : Given) (place : ℕ) → place_of state name ≡ Some place
+    → given_at name given state ≡ after_attempt state (given_to iv_setup place state.clock 0 given state.mesh)
+given_there state name given place is = rw is refl
+
+-- the rule of names is the only one left
+one_rule : (state : State) (unknown : Bool) (outcome : Outcome)
+    → unless_refused state (option_or (refusal_if (unknown || false) UnknownName) None) outcome ≡ unless_refused state (refusal_if unknown UnknownName) outcome
+one_rule state true outcome = refl
+one_rule state false outcome = refl
+
+pub gone_given : (state : State) (name : List ℕ) (key : Key) → carried_out iv_setup state (Gone name key) ≡ given_at name (GivenGone key) state
+gone_given state name key = one_rule state (not (is_known state name)) (at_node name (input_step iv_setup (GivenGone key)) state)
+
+pub join_given : (state : State) (name : List ℕ) (key : Key) → carried_out iv_setup state (Join name key) ≡ given_at name (GivenJoin key) state
+join_given state name key = one_rule state (not (is_known state name)) (at_node name (input_step iv_setup (GivenJoin key)) state)
+
+pub leave_given : (state : State) (name : List ℕ) (key : Key) → carried_out iv_setup state (Leave name key) ≡ given_at name (GivenLeave key) state
+leave_given state name key = one_rule state (not (is_known state name)) (at_node name (input_step iv_setup (GivenLeave key)) state)
+
+pub wifi_given : (state : State) (name : List ℕ) (on : Bool) → carried_out iv_setup state (Wifi name on) ≡ given_at name (GivenWifi on) state
+wifi_given state name on = one_rule state (not (is_known state name)) (at_node name (input_step iv_setup (GivenWifi on)) state)
+
+pub frame_other : (state : State) (name : List ℕ) (src dst : Mac) (vid : Vid) (text : List ℕ) → is_group dst ≡ true → is_broadcast dst ≡ false
     → carried_out iv_setup state (Frame name src dst vid text) ≡ Ends state (Refused NotBuilt)
-frame_other state name src dst vid text other = rw other refl
+frame_other state name src dst vid text group other = rw (group, other) refl
 
-pub frame_late : (state : State) (name : List ℕ) (src dst : Mac) (vid : Vid) (text : List ℕ) → is_broadcast dst ≡ true → (state.clock == 0) ≡ false
-    → carried_out iv_setup state (Frame name src dst vid text) ≡ Ends state (Refused NotBuilt)
-frame_late state name src dst vid text all late = rw (all, late) refl
-
-pub frame_unknown : (state : State) (name : List ℕ) (src dst : Mac) (vid : Vid) (text : List ℕ) → is_broadcast dst ≡ true → (state.clock == 0) ≡ true → place_of state name ≡ None
-    → carried_out iv_setup state (Frame name src dst vid text) ≡ Ends state (Refused UnknownName)
-frame_unknown state name src dst vid text all first none = rw (all, first, none) refl
-
-pub frame_linked : (state : State) (name : List ℕ) (src dst : Mac) (vid : Vid) (text : List ℕ) (place : ℕ) → is_broadcast dst ≡ true → (state.clock == 0) ≡ true → place_of state name ≡ Some place
-    → list_any (λ (link : NetLink). link.from == place) state.mesh.links ≡ true → carried_out iv_setup state (Frame name src dst vid text) ≡ Ends state (Refused NotBuilt)
-frame_linked state name src dst vid text place all first is leaves = rw (all, first, is, leaves) refl
-
-pub frame_given : (state : State) (name : List ℕ) (src dst : Mac) (vid : Vid) (text : List ℕ) (place : ℕ) → is_broadcast dst ≡ true → (state.clock == 0) ≡ true → place_of state name ≡ Some place
-    → list_any (λ (link : NetLink). link.from == place) state.mesh.links ≡ false
-    → carried_out iv_setup state (Frame name src dst vid text) ≡ after_attempt state (given_to iv_setup place state.clock 0 (GivenFrame src dst vid text) state.mesh)
-frame_given state name src dst vid text place all first is none = rw (all, first, is, none) refl
+pub frame_given : (state : State) (name : List ℕ) (src dst : Mac) (vid : Vid) (text : List ℕ) → (is_group dst && not (is_broadcast dst)) ≡ false
+    → carried_out iv_setup state (Frame name src dst vid text) ≡ given_at name (GivenFrame src dst vid text) state
+frame_given state name src dst vid text built = rw built (one_rule state (not (is_known state name)) (at_node name (input_step iv_setup (GivenFrame src dst vid text)) state))
 
 -- ---- a frame that is delivered again
 
@@ -218,6 +231,10 @@ pub shows_originators : (state : State) (name : List ℕ) (place : ℕ) (node : 
     → carried_out iv_setup state (Show name Originators) ≡ Goes (after_print state (OriginatorsShown (orig_table state.clock node)))
 shows_originators state name place node is there = rw (is, there) refl
 
+pub shows_globals : (state : State) (name : List ℕ) (place : ℕ) (node : NodeLog) → place_of state name ≡ Some place → slice_get state.mesh.nodes place ≡ Some node
+    → carried_out iv_setup state (Show name Globals) ≡ Goes (after_print state (GlobalsShown (global_table state.clock node)))
+shows_globals state name place node is there = rw (is, there) refl
+
 pub shows_neighbors : (state : State) (name : List ℕ) (place : ℕ) (node : NodeLog) → place_of state name ≡ Some place → slice_get state.mesh.nodes place ≡ Some node
     → carried_out iv_setup state (Show name Neighbors) ≡ Goes (after_print state (NeighborsShown (link_table state.clock node)))
 shows_neighbors state name place node is there = rw (is, there) refl
@@ -228,22 +245,18 @@ pub carries_print : (state : State) (scene : Scene) (outcome : Outcome) (printed
 carries_print state scene outcome printed text stands is prints = record {
   after = after_print state printed;
   carried = is;
-  stands = record { net_is = stands.net_is; names_are = stands.names_are; ends_are = stands.ends_are; clients_are = stands.clients_are };
+  stands = record { net_is = stands.net_is; names_are = stands.names_are; ends_are = stands.ends_are };
   text = flat_map-append (printed_text state.choice) state.printed (printed ∷ [])
       ∙ ap (λ more. text_of state ++ more) (append-nil (printed_text state.choice printed) ∙ sym prints);
 }
 
 -- ---- time
 
-pub time_early : (state : State) (time : ℕ) → list_any had_client state.mesh.nodes ≡ true → carried_out iv_setup state (Run time) ≡ Ends state (Refused NotBuilt)
-time_early state time seen = rw seen refl
+pub time_late : (state : State) (time : ℕ) → nat_lt 1099511627776 (state.clock + time) ≡ true → carried_out iv_setup state (Run time) ≡ Ends state (StopLimit Clock)
+time_late state time late = rw late refl
 
-pub time_late : (state : State) (time : ℕ) → list_any had_client state.mesh.nodes ≡ false → nat_lt 1099511627776 (state.clock + time) ≡ true → carried_out iv_setup state (Run time) ≡ Ends state (StopLimit Clock)
-time_late state time unseen late = rw (unseen, late) refl
-
-pub time_passes : (state : State) (time : ℕ) → list_any had_client state.mesh.nodes ≡ false → nat_lt 1099511627776 (state.clock + time) ≡ false
-    → carried_out iv_setup state (Run time) ≡ run_until iv_setup (state.clock + time) state
-time_passes state time unseen within = rw (unseen, within) refl
+pub time_passes : (state : State) (time : ℕ) → nat_lt 1099511627776 (state.clock + time) ≡ false → carried_out iv_setup state (Run time) ≡ run_until iv_setup (state.clock + time) state
+time_passes state time within = rw within refl
 
 pub deliver_none : (state : State) (number : ℕ) → number ≡ 0 → carried_out iv_setup state (Deliver number) ≡ Ends state (Refused NoSuchFrame)
 deliver_none state number is = no_such_frame state number (grind (arith, nat_tests, is))
@@ -277,23 +290,14 @@ node_at state name place is = either (slice_get_cases state.mesh.nodes place).1
     either (inl some) = (some.0, some.2)
     either (inr past) = absurd (omega (arith, past.0, place_within state name place is))
 
--- a client frame that is given to a node
-pub frame_carries : (state : State) (old new : Scene) (name : List ℕ) (src dst : Mac) (vid : Vid) (said : List ℕ) (place : ℕ) (after : Mesh) (events : List Event) (text : List ℕ) → SceneStands old state
-    → is_broadcast dst ≡ true → (state.clock == 0) ≡ true → place_of state name ≡ Some place → list_any (λ (link : NetLink). link.from == place) state.mesh.links ≡ false
-    → given_to iv_setup place state.clock 0 (GivenFrame src dst vid said) state.mesh ≡ Ok after → IvNetStands new.net state.choice state.clock after
-    → new.names ≡ old.names → new.ends.items ≡ old.ends.items → new.clients ≡ true
-    → events ≡ filter (is_shown state.choice) (events_since state.mesh after) → text ≡ flat_map (event_line old.names.nodes) events
-    → Carries (carried_out iv_setup state (Frame name src dst vid said)) state new text
-frame_carries state old new name src dst vid said place after events text stands all first is none given net names ends clients are says =
-    let input = GivenFrame src dst vid said in
-    let effect = tickless iv_setup state.mesh place state.clock 0 input after refl tt given in
-    let there = node_at state name place is in
-    let attempt = given_to iv_setup place state.clock 0 input state.mesh in
-    let standing : SceneStands new (gone_on state state.clock after) = record {
-      net_is = net;
-      names_are = ap (λ (n : _). n.nodes) names ∙ stands.names_are ∙ sym effect.names;
-      ends_are = ends ∙ stands.ends_are ∙ ap (map ends_of) (sym effect.adds.links);
-      clients_are = clients ∙ sym (frame_is_seen iv_setup state.mesh place state.clock 0 src dst vid said there.0 after there.1 given);
-    } in
-    subst (λ (o : Outcome). Carries o state new text) (sym (frame_given state name src dst vid said place all first is none))
-    (attempt_carries state old new attempt after events text stands given standing effect.names are says)
+-- what a line gives a node is carried out
+pub given_carries : (state : State) (old new : Scene) (name : List ℕ) (given : Given) (place : ℕ) (after : Mesh) (events : List Event) (text : List ℕ) → SceneStands old state
+    → IsOfLine given → place_of state name ≡ Some place → given_to iv_setup place state.clock 0 given state.mesh ≡ Ok after → IvNetStands new.net state.choice state.clock after
+    → new.names ≡ old.names → new.ends.items ≡ old.ends.items → events ≡ filter (is_shown state.choice) (events_since state.mesh after)
+    → text ≡ flat_map (event_line old.names.nodes) events → Carries (given_at name given state) state new text
+given_carries state old new name given place after events text stands line is gave net names ends are says =
+    let l = of_line state.mesh.frames given line in
+    let effect = tickless iv_setup state.mesh place state.clock 0 given after l.0 l.1 gave in
+    let attempt = given_to iv_setup place state.clock 0 given state.mesh in
+    subst (λ (o : Outcome). Carries o state new text) (sym (given_there state name given place is))
+    (attempt_carries state old new attempt after events text stands gave (stands_gone old new state state.clock after stands net names ends effect.names effect.adds.links) effect.names are says)

@@ -2,6 +2,7 @@
 -- this room.
 pub mod Passages
 pub mod Scene
+pub mod Shown
 pub mod Lines
 pub mod Progress
 pub mod Reading

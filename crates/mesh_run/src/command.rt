@@ -9,6 +9,7 @@ use crate::scene::Scene;
 use crate::showing::decode;
 use mesh_model::{Command, Refusal};
 use mesh_net::Link;
+use mesh_node::Input;
 
 impl Scene {
     /// Carries a command out, other than `run`, and appends what it prints.
@@ -45,17 +46,17 @@ impl Scene {
                 vid,
                 text: said,
             } => self.take_frame(place.as_slice(), src, dst, vid, said.as_slice(), text)?,
+            Command::Gone { place, key } => self.give(place.as_slice(), &Input::Gone(key), text)?,
+            Command::Join { node, key } => self.give(node.as_slice(), &Input::Join(key), text)?,
+            Command::Leave { node, key } => self.give(node.as_slice(), &Input::Leave(key), text)?,
+            Command::Wifi { node, on } => self.give(node.as_slice(), &Input::Wifi(on), text)?,
             Command::Deliver { number } => self.deliver(number, text)?,
             Command::Show { node, table } => self.show(node.as_slice(), table, text)?,
             Command::Decode { bytes } => decode(bytes.as_slice(), text)?,
             Command::Algo(_)
             | Command::Lan { .. }
-            | Command::Gone { .. }
-            | Command::Join { .. }
-            | Command::Leave { .. }
             | Command::Arp { .. }
             | Command::Dhcp { .. }
-            | Command::Wifi { .. }
             | Command::GwOff { .. }
             | Command::GwServer { .. }
             | Command::GwClient { .. }

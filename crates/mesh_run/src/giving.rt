@@ -1,8 +1,10 @@
-ghost use Rattle.std.specs.Prelude.{◌≡◌, ◌++◌, false, [], flat_map, Err, OnErr, OnOk};
+ghost use Rattle.std.specs.Prelude.{◌≡◌, ◌++◌, [], flat_map, Err, OnErr, OnOk};
 ghost use Rattle.mesh_model.specs.Text.Events.{event_line};
 ghost use Rattle.mesh_model.specs.declared.line_form.Command.TheVariants as command;
 ghost use Rattle.mesh_model.specs.Run.Rules.{carried_out, iv_setup};
-ghost use Rattle.mesh_run.specs.Inner.Scene.{CarriesFrom, FailsFrom, IsSomewhere};
+ghost use Rattle.mesh_net.specs.Reached.{IsOfLine};
+ghost use Rattle.mesh_node.specs.NodeStands.{given_by};
+ghost use Rattle.mesh_run.specs.Inner.Scene.{CarriesFrom, FailsFrom, IsSomewhere, given_at};
 
 use crate::event_text::put_events;
 use crate::fault::LineFault;
@@ -13,8 +15,7 @@ use mesh_model::Refusal;
 use mesh_node::Input;
 
 impl Scene {
-    /// `frame PLACE SRC DST VID TEXT`: a frame to all stations is built, at a node that no link
-    /// leaves, before time passes.
+    /// `frame PLACE SRC DST VID TEXT`: a frame to a group, other than to all stations, isn't built.
     pub fn take_frame(
         &mut self,
         place: &[u8],
@@ -31,29 +32,40 @@ impl Scene {
         ensures refused { FailsFrom self.old (λ state. carried_out iv_setup state
             (command.Frame place.now src dst vid said.now)) result }
     {
-        if !dst.is_broadcast() {
+        if dst.is_group() && !dst.is_broadcast() {
             return Err(refused(Refusal::NotBuilt));
         }
-        if self.net.now() != 0 {
-            return Err(refused(Refusal::NotBuilt));
-        }
-        let Some(node) = self.place_of(place) else {
-            return Err(refused(Refusal::UnknownName));
-        };
-        if self.has_link_from(node) {
-            return Err(refused(Refusal::NotBuilt));
-        }
-        self.events.cut(0);
         let input = Input::Frame {
             src,
             dst,
             vid,
             text: said,
         };
-        if let Err(error) = self.net.input(node, &input, &mut self.events) {
+        self.give(place, &input, text)?;
+        Ok(())
+    }
+
+    /// Gives the node of a name what a line gives it.
+    pub fn give(
+        &mut self,
+        name: &[u8],
+        input: &Input<'_>,
+        text: &mut Vec<u8>,
+    ) -> Result<(), LineFault>
+        requires somewhere { IsSomewhere self.old }
+        requires line { IsOfLine (given_by 0 input.now) }
+        requires empty { text.old.items ≡ [] }
+        ensures ok { CarriesFrom self.old self.new (given_at name.now (given_by 0 input.now))
+            text.new.items result }
+        ensures refused { FailsFrom self.old (given_at name.now (given_by 0 input.now)) result }
+    {
+        let Some(place) = self.place_of(name) else {
+            return Err(refused(Refusal::UnknownName));
+        };
+        self.events.cut(0);
+        if let Err(error) = self.net.input(place, input, &mut self.events) {
             return Err(net_fault(error));
         }
-        self.clients = true;
         self.tell_events(text)?;
         Ok(())
     }

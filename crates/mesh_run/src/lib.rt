@@ -8,6 +8,7 @@ mod ends;
 mod event_text;
 mod fault;
 mod giving;
+mod global_table;
 mod input;
 mod joining;
 mod line_fault;

@@ -5,6 +5,8 @@ ghost use Rattle.mesh_model.specs.Run.PlainRun.{plain_run};
 ghost use Rattle.mesh_model.specs.Run.Statuses.{IsStatus, finished_status, limited_status, memory_status, plain_status, read_fault_status, refused_status, usage_status, write_fault_status};
 ghost use Rattle.mesh_model.specs.Run.Words.{choice_of, words_of};
 ghost use Rattle.mesh_run.specs.Inner.Reading.{fault_status};
+ghost use Rattle.mesh_tie.specs.LinesByTable.{PrintsRightFrames};
+ghost use Rattle.mesh_tie.specs.ShownTables.{PrintsCommits};
 ghost use Rattle.mesh_run.specs.Outcome.{Finishes, IsLimited, IsRefused, IsStatusOr, PrintsFrontOf, PrintsLessOf, PrintsTaken, TellsStatus, texts};
 
 use crate::fault::Fault;
@@ -48,9 +50,10 @@ fn status_of(fault: Fault) -> u8
 /// Carries out the scenario that the intake gives, and answers the status with which the program
 /// ends.
 ///
-/// `words` are the command words after the program's name: none, or `--frames` and which link frames
-/// are printed, `none`, `all`, `client` or `ogm`. `out` takes what the scenario prints, `err` one
-/// line for each status other than `FINISHED`.
+/// `words` are the command words after the program's name: none, or `--frames` and which link
+/// frames are printed, `none`, `all`, `client` or `ogm`. `out` takes what the scenario prints,
+/// `err` one line for each status other than `FINISHED`.
+#[tactic(auto, using(crate::proofs::Right::tables, crate::proofs::Right::frames))]
 pub fn batmesh<I: Intake, K: Sink, E: Sink>(
     alloc: Global,
     words: &[String],
@@ -94,13 +97,21 @@ pub fn batmesh<I: Intake, K: Sink, E: Sink>(
 
     // Faults and want of memory aside, the status is that of the plain run.
     ensures complete { IsSome (words_of (texts words.now)) → IfSome (I.named intake.old None)
-        (λ input. IsStatusOr result (plain_status (plain_run (choice_of (texts words.now)) input).halt)) }
+        (λ input. IsStatusOr result
+        (plain_status (plain_run (choice_of (texts words.now)) input).halt)) }
 
     // A fault of err changes no status.
     ensures told { (Rose (E.faults err.old) (E.faults err.new) → ⊥) →
         TellsStatus (choice_of (texts words.now)) result (I.named intake.old None)
         (E.taken err.old) (E.taken err.new) }
     ensures silent { result ≡ finished_status → err.new ≡ err.old }
+
+    // What the plain run prints as `ok` of an originator was committed by it for the message
+    // accepted last, and a frame that it prints as sent by table goes to a node whose table, so
+    // committed, names its client: each unless an alias of that node was printed before.
+    ensures ok { IfSome (I.named intake.old None) (PrintsCommits (choice_of (texts words.now))) }
+    ensures by_table { IfSome (I.named intake.old None)
+        (PrintsRightFrames (choice_of (texts words.now))) }
 {
     let Some(choice) = choice_of(words) else {
         return match write_all(err, b"batmesh: usage\n") {

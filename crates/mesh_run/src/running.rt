@@ -12,10 +12,8 @@ use crate::passage::Passage;
 use crate::putting::put_text;
 use crate::scene::Scene;
 use mesh_base::{Failed, Millis, NoMemory, Sink};
-use mesh_model::{LimitName, Refusal, Stop};
-
-/// The last moment, in milliseconds.
-const CLOCK_LIMIT: Millis = 1_099_511_627_776;
+use mesh_model::{LimitName, Stop};
+use mesh_net::CLOCK_LIMIT;
 
 /// Carries out a slice of a run until a moment and writes what it prints, by way of `text`.
 /// Answers whether more is to come.
@@ -109,12 +107,6 @@ pub fn run<K: Sink>(
     ensures faults { CountsWrites (K.faults out.old) (K.faults out.new) result }
     ensures somewhere { OnOk result (IsSomewhere scene.new) }
 {
-    if scene.clients {
-        return Err(Fault::Halted {
-            line: number,
-            stop: Stop::Refused(Refusal::NotBuilt),
-        });
-    }
     let Some(end) = end_of(scene.net.now(), time) else {
         return Err(Fault::Halted {
             line: number,

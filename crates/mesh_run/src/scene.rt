@@ -18,8 +18,6 @@ pub struct Scene {
     pub names: Names,
     /// The ends of the links, in their order.
     pub ends: Vec<LinkEnds>,
-    /// Whether a client was seen.
-    pub clients: bool,
     /// What happens in the step, or the slice of a run, that is carried out.
     pub events: Events,
 }
@@ -36,7 +34,6 @@ impl Scene {
             net,
             names: Names::new(alloc),
             ends: Vec::new(alloc),
-            clients: false,
             events: Events::new(alloc),
         }
     }
@@ -59,12 +56,5 @@ impl Scene {
     {
         let mut others = self.ends.iter();
         others.any(|other| other.from == ends.from && other.to == ends.to)
-    }
-
-    /// Whether a link leaves the node at a place.
-    pub fn has_link_from(&self, place: u32) -> bool
-        ensures { result ≡ list_any (λ ends. ends.from == place) self.now.ends.items }
-    {
-        self.ends.iter().any(|ends| ends.from == place)
     }
 }

@@ -1,24 +1,26 @@
 -- What a scene stands for: a state of the plain run. The main words are `SceneStands`, and for a
 -- call on a scene `CarriesFrom` and `FailsFrom`; for a slice of a run, `PassesFrom`.
-use Rattle.std.specs.Prelude.{◌≡◌, ℕ, Bool, true, false, List, map, ◌++◌, Result, Err, IfOk, OnOk, IfErr}
-use Rattle.std.specs.List.{list_any}
+use Rattle.std.specs.Prelude.{◌≡◌, ℕ, Bool, true, false, not, List, map, ◌++◌, Result, Err, IfOk, OnOk, IfErr}
 use Rattle.mesh_base.specs.declared.address.Mac.{Mac}
 use Rattle.mesh_iv.specs.Tables.{StandsFor, Tables}
 use Rattle.mesh_model.specs.declared.frame_choice.FrameChoice.{FrameChoice}
+use Rattle.mesh_model.specs.Clients.Log.{Given}
 use Rattle.mesh_model.specs.Net.Mesh.{Mesh, NetLink}
 use Rattle.mesh_model.specs.Routes.AlgorithmIv.{iv_queries}
 use Rattle.mesh_model.specs.Routes.RouteLog.{RouteLog}
-use Rattle.mesh_model.specs.Run.Demands.{had_client}
 use Rattle.mesh_net.specs.NetStands.{NetStands}
 use Rattle.mesh_net.specs.declared.net.Net.{Net}
 use Rattle.mesh_run.specs.declared.ends.LinkEnds.{LinkEnds}
+use Rattle.mesh_model.specs.declared.ending.Refusal.TheVariants.{UnknownName}
 use Rattle.mesh_model.specs.declared.ending.Stop.TheVariants.{Limit}
 use Rattle.mesh_model.specs.declared.line_form.Command.{Command}
 use Rattle.mesh_model.specs.declared.line_form.Command.TheVariants.{Nothing, Algo, Node, Link, Lan, Frame, Gone, Join, Leave, Arp, Dhcp, Wifi, GwOff, GwServer, GwClient, Mcast, Dat, Alfred, Put, Get, Ping, Trace, Run, Deliver, Show, Decode}
 use Rattle.mesh_model.specs.Run.Outcome.{Outcome, Goes, Ends}
 use Rattle.mesh_model.specs.Run.Passing.{run_until}
-use Rattle.mesh_model.specs.Run.Rules.{iv_setup}
+use Rattle.mesh_model.specs.Run.Demands.{is_known, refusal_if}
+use Rattle.mesh_model.specs.Run.Rules.{iv_setup, unless_refused}
 use Rattle.mesh_model.specs.Run.State.{State, names_of, text_of}
+use Rattle.mesh_model.specs.Run.Steps.{at_node, input_step}
 use Rattle.mesh_model.specs.Scenario.Readings.{Reading}
 use Rattle.mesh_net.specs.declared.failure.NetErr.{NetErr}
 use Rattle.mesh_net.specs.declared.failure.NetErr.TheVariants as net
@@ -41,17 +43,22 @@ abbrev pub ends_of : NetLink → LinkEnds
 ends_of link = record { from = link.from; to = link.to }
 
 -- the scene stands for a state: its net for the mesh, the clock and the choice of frames; its names
--- for those of the nodes; its ends for those of the links; and it knows whether a client was seen
+-- for those of the nodes; its ends for those of the links
 pub record SceneStands (scene : Scene) (state : State) : Type 0 where
   pub net_is : IvNetStands scene.net state.choice state.clock state.mesh
   pub names_are : scene.names.nodes ≡ names_of state.mesh.nodes
   pub ends_are : scene.ends.items ≡ map ends_of state.mesh.links
-  pub clients_are : scene.clients ≡ list_any had_client state.mesh.nodes
 
 -- the scene stands for some state
 pub record IsSomewhere (scene : Scene) : Type 0 where
   pub state : State
   pub standing : SceneStands scene state
+
+-- the outcome of a line that gives the node of a name something
+abbrev pub given_at : List ℕ → Given → State → Outcome
+given_at name given state = unless_refused state
+    (refusal_if (not (is_known state name)) UnknownName)
+    (at_node name (input_step iv_setup given) state)
 
 -- a line that is carried out: the state after it, for which the scene stands, and what it printed
 pub record Carries (outcome : Outcome) (before : State) (scene : Scene)

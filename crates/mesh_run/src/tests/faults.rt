@@ -93,13 +93,16 @@ fn a_failing_error_output_changes_no_status(rt: HostRuntime) -> Result<(), Fail>
 }
 
 #[test]
-fn any_word_is_one_too_many(rt: HostRuntime) -> Result<(), Fail> {
+fn words_that_are_not_taken_touch_nothing(rt: HostRuntime) -> Result<(), Fail> {
     for (room, told) in [(ROOM, b"batmesh: usage\n".as_slice()), (0, b"".as_slice())] {
         // The first call of the input or the output would be counted as a fault.
         let mut intake = MemIntake::new(rt.alloc(), SHOWN_TWICE, 40, &[1])?;
         let mut out = MemSink::new(rt.alloc(), ROOM, ROOM, &[1])?;
         let mut err = MemSink::new(rt.alloc(), room, ROOM, &[])?;
-        let words = [String::from_str(rt.alloc(), "a.txt")?];
+        let words = [
+            String::from_str(rt.alloc(), "--frames")?,
+            String::from_str(rt.alloc(), "some")?,
+        ];
         let status = batmesh(rt.alloc(), &words, &mut intake, &mut out, &mut err);
         assert_eq!(rt; (status, intake.faults(), out.faults()), (USAGE, 0, 0));
         assert_eq!(rt; err.taken(), told);

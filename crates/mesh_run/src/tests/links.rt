@@ -1,5 +1,5 @@
 use super::*;
-use crate::FINISHED;
+use crate::{FINISHED, REFUSED};
 use std::process::Abort;
 use std::test::Fail;
 
@@ -74,6 +74,43 @@ fn originators_and_neighbours_are_shown(rt: HostRuntime) -> Result<(), Fail> {
             FINISHED,
             "n B algo=iv count=1\nn 02:00:00:00:00:0a rq=1 eq=0\n",
             "",
+        ),
+    ];
+    carry_out(&rt, rt.alloc(), &rows)
+}
+
+#[test]
+fn a_client_frame_goes_where_its_receiver_is(rt: HostRuntime) -> Result<(), Fail> {
+    let rows: [Row<'_>; 3] = [
+        (
+            &[],
+            "frame A 02:00:00:00:01:01 ff:ff:ff:ff:ff:ff - hi\nrun 1\n",
+            FINISHED,
+            "recv 1 B - 02:00:00:00:01:01 ff:ff:ff:ff:ff:ff hi\n",
+            "",
+        ),
+        // The client roams from A to B: a mark leads to it, and later a table.
+        (
+            &["--frames", "client"],
+            "frame A 02:00:00:00:01:01 02:00:00:00:01:09 - x\nrun 5000\n\
+            frame B 02:00:00:00:01:01 02:00:00:00:01:09 - x\nrun 500\n\
+            frame A 02:00:00:00:01:02 02:00:00:00:01:01 - hi\nrun 1000\n\
+            frame A 02:00:00:00:01:02 02:00:00:00:01:01 - hi\nrun 1\n",
+            FINISHED,
+            "lost 0 A - 02:00:00:00:01:01 02:00:00:00:01:09 unknown\n\
+            lost 5000 B - 02:00:00:00:01:01 02:00:00:00:01:09 unknown\n\
+            f24 5500 A>B unicast by=roam 400f320002000000000b02000000010102000000010288b56869\n\
+            recv 5501 B - 02:00:00:00:01:02 02:00:00:00:01:01 hi\n\
+            f29 6500 A>B unicast by=table 400f320102000000000b02000000010102000000010288b56869\n\
+            recv 6501 B - 02:00:00:00:01:02 02:00:00:00:01:01 hi\n",
+            "",
+        ),
+        (
+            &[],
+            "frame A 02:00:00:00:01:01 01:00:5e:00:00:fb - x\n",
+            REFUSED,
+            "",
+            "batmesh: line 5: not built\n",
         ),
     ];
     carry_out(&rt, rt.alloc(), &rows)

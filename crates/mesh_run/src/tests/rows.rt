@@ -120,6 +120,44 @@ fn lines_against_the_rules_are_refused(rt: HostRuntime) -> Result<(), Fail> {
     carry_out(&rt, rt.alloc(), &rows)
 }
 
+/// Lines of links and of time behind two nodes with a link from the first to the second.
+#[test]
+fn lines_of_links_and_time_are_refused(rt: HostRuntime) -> Result<(), Fail> {
+    let rows: [Row<'_>; 5] = [
+        (
+            b"node A 02:00:00:00:00:0a\nnode B 02:00:00:00:00:0b\nlink A B\ndeliver 1\n",
+            REFUSED,
+            b"",
+            b"batmesh: line 4: no such frame\n",
+        ),
+        (
+            b"node A 02:00:00:00:00:0a\nnode B 02:00:00:00:00:0b\nlink A B\nlink A A\n",
+            REFUSED,
+            b"",
+            b"batmesh: line 4: same node\n",
+        ),
+        (
+            b"node A 02:00:00:00:00:0a\nnode B 02:00:00:00:00:0b\nlink A B\nlink A B\n",
+            REFUSED,
+            b"",
+            b"batmesh: line 4: link taken\n",
+        ),
+        (
+            b"node A 02:00:00:00:00:0a\nnode B 02:00:00:00:00:0b\nlink A B\nlink A X\n",
+            REFUSED,
+            b"",
+            b"batmesh: line 4: unknown name\n",
+        ),
+        (
+            b"run 1\nrun 1099511627776\n",
+            LIMITED,
+            b"",
+            b"batmesh: line 2: limit clock\n",
+        ),
+    ];
+    carry_out(&rt, rt.alloc(), &rows)
+}
+
 /// Frames that batman-adv 2022.3 of Linux 6.1 sent between network namespaces, from the byte after
 /// Ethernet on, each with the fields that tshark 4.0.17 and batctl 2023.0 tell of it.
 #[test]

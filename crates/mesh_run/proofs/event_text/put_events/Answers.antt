@@ -1,4 +1,4 @@
-use Rattle.std.proofs.Common.{◌≡◌, slice_get, Some, option_map, sym, ap, ◌∙◌, arith}
+use Rattle.std.proofs.Common.{option_map, sym, ap, ◌∙◌, arith}
 use Rattle.std.proofs.lemmas.Option.{slice_get_within}
 use Rattle.mesh_model.specs.Text.Events.{event_line}
 use Rattle.mesh_run.proofs.RowLemmas.{texts-next}

@@ -1,4 +1,4 @@
-use Rattle.std.proofs.Common.{◌≡◌, true, false, refl, sym, ap, ◌∙◌, arith}
+use Rattle.std.proofs.Common.{refl, sym, ◌∙◌, arith}
 use Rattle.mesh_run.proofs.PlaceLemmas.{linked}
 use Rattle.mesh_run.proofs.StepLemmas.{link_carries, link_fails, link_taken}
 use Rattle.mesh_run.proofs.scene.Scene.add_link.Goals as goal
@@ -34,4 +34,4 @@ returns-in-Ok-clause-ok c = λ state stands.
     let joined = c.in_default-add_link.ensures.joins state.choice state.clock state.mesh stands.net_is in
     link_carries state scene _ c.args.from.now c.args.to.now link.pattern link.delay link.tp c.in-Some.start c.in-Some-place_of.end stands starts ends apart
     (sym (linked scene state c.in-Some.start c.in-Some-place_of.end stands) ∙ sym c.is_linked.ensures ∙ c.if-is_linked.false)
-    (omega (arith, joined.room)) joined.standing refl c.in-Ok.ensures.items refl
+    (omega (arith, joined.room)) joined.standing refl c.in-Ok.ensures.items

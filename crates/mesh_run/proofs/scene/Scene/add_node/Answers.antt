@@ -1,6 +1,4 @@
-use Rattle.std.proofs.Common.{◌≡◌, is_some, true, false, refl, sym, ap, ◌∙◌, arith}
-use Rattle.mesh_model.specs.Run.Demands.{is_known}
-use Rattle.mesh_run.proofs.NetLemmas.{live}
+use Rattle.std.proofs.Common.{is_some, refl, sym, ap, ◌∙◌, arith}
 use Rattle.mesh_run.proofs.PlaceLemmas.{addressed, option_is, placed}
 use Rattle.mesh_run.proofs.StepLemmas.{address_taken, name_taken, node_carries, node_fails}
 use Rattle.mesh_run.proofs.scene.Scene.add_node.Goals as goal
@@ -33,4 +31,4 @@ returns-in-Ok-clause-ok c = λ state stands.
     node_carries state scene _ c.args.name.now c.args.mac stands
     (sym (ap (λ o. is_some o) (c.node_place.ensures ∙ placed scene state c.args.name.now stands)) ∙ sym c.is_some.ensures ∙ c.if-is_some.false)
     (sym (addressed scene state c.args.mac stands) ∙ ap (λ o. is_some o) (sym c.node_name.ensures) ∙ option_is _ c.node_name.result ∙ sym c.is_some-2.ensures ∙ c.if-is_some-2.false)
-    (omega (arith, joined.room)) (joined.standing c.args.name.now) c.in-Ok.ensures.nodes refl refl
+    (omega (arith, joined.room)) (joined.standing c.args.name.now) c.in-Ok.ensures.nodes refl

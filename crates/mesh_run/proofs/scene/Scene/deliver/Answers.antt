@@ -1,4 +1,4 @@
-use Rattle.std.proofs.Common.{◌≡◌, ℕ, ◌-◌, ◌≤◌, ◌<◌, ◌++◌, List, length, refl, sym, ap, ◌∙◌, subst, arith}
+use Rattle.std.proofs.Common.{ℕ, ◌-◌, ◌++◌, List, refl, sym, ap, ◌∙◌, subst, arith}
 use Rattle.std.specs.Prelude.{filter, flat_map}
 use Rattle.mesh_base.specs.declared.event.Event.{Event}
 use Rattle.mesh_model.specs.Net.Runs.{delivered}
@@ -6,7 +6,6 @@ use Rattle.mesh_model.specs.Run.Outcome.{Outcome}
 use Rattle.mesh_model.specs.Run.Passing.{events_since}
 use Rattle.mesh_model.specs.Run.Rules.{iv_setup}
 use Rattle.mesh_model.specs.Text.Events.{event_line, is_shown}
-use Rattle.mesh_laws.proofs.Lines.Seen.{delivered_keeps}
 use Rattle.mesh_laws.proofs.Schedule.Steps.{delivered_effect}
 use Rattle.mesh_run.specs.Inner.Scene.{Carries, HasLineCause, fault_of}
 use Rattle.mesh_run.specs.declared.scene.Scene.{Scene}
@@ -40,11 +39,10 @@ returns-clause-ok c = λ state stands.
     let again = deliver_again state c.args.number c.if-number-eq0.false (omega (arith, sent, within, c.from.ensures)) in
     let done = c.in_default.ensures.carried state.choice state.clock state.mesh stands.net_is in
     let effect = delivered_effect iv_setup state.mesh (c.args.number - 1) state.clock done.after done.is in
-    let keeps = delivered_keeps iv_setup state.mesh (c.args.number - 1) state.clock done.after done.is in
-    let new : Scene = record { alloc = scene.alloc; net = c.deliver.new.self; names = scene.names; ends = scene.ends; clients = scene.clients; events = c.deliver.new.log } in
+    let new : Scene = record { alloc = scene.alloc; net = c.deliver.new.self; names = scene.names; ends = scene.ends; events = c.deliver.new.log } in
     let P : Outcome → Type 0 = λ o. Carries o state new c.tell_events.new.text.items in
     subst P (sym again)
     (attempt_carries state scene new attempt done.after c.deliver.new.log c.tell_events.new.text.items stands done.is
-    (stands_gone scene new state state.clock done.after stands done.standing refl refl refl effect.names keeps) effect.names
+    (stands_gone scene new state state.clock done.after stands done.standing refl refl effect.names effect.adds.links) effect.names
     (done.gains ∙ ap (λ (old : List Event). old ++ filter (is_shown state.choice) (events_since state.mesh done.after)) c.cut.ensures.kept)
     (c.in_ok-tell_events.ensures.ok ∙ ap (λ (old : List ℕ). old ++ flat_map (event_line scene.names.nodes) c.deliver.new.log) c.requires.empty))

@@ -1,4 +1,4 @@
-use Rattle.std.proofs.Common.{◌≡◌, refl, ap, sym}
+use Rattle.std.proofs.Common.{◌≡◌, ap}
 use Rattle.mesh_model.specs.declared.frame_choice.FrameChoice.TheVariants.{All}
 use Rattle.mesh_model.specs.Net.Mesh.{empty_mesh}
 use Rattle.mesh_base.specs.Names.{NamesGiven}
@@ -9,5 +9,4 @@ returns c = record {
   net_is = c.show_frames.ensures.shows All 0 empty_mesh c.new-net.ensures;
   names_are = ap (λ (names : NamesGiven). names.nodes) c.new.ensures;
   ends_are = c.new-2.ensures.items;
-  clients_are = refl;
 }

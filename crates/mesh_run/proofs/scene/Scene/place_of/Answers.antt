@@ -1,4 +1,4 @@
-use Rattle.std.proofs.Common.{◌≡◌, ◌<◌, sym, ap, ◌∙◌, arith, length}
+use Rattle.std.proofs.Common.{sym, ◌∙◌, arith}
 use Rattle.mesh_run.proofs.NetLemmas.{net_sound}
 use Rattle.mesh_run.proofs.PlaceLemmas.{place_within, placed}
 use Rattle.mesh_run.proofs.scene.Scene.place_of.Goals as goal

@@ -1,8 +1,7 @@
-use Rattle.std.proofs.Common.{◌≡◌, ℕ, ◌++◌, List, sym, ap, ap₂, ◌∙◌}
+use Rattle.std.proofs.Common.{ℕ, ◌++◌, List, sym, ap, ap₂, ◌∙◌}
 use Rattle.mesh_model.specs.declared.line_form.Algorithm.TheVariants.{Iv}
-use Rattle.mesh_model.specs.Acts.RouteInputs.{route_log}
 use Rattle.mesh_model.specs.Routes.AlgorithmIv.{iv_queries}
-use Rattle.mesh_model.specs.Run.Shown.{orig_table}
+use Rattle.mesh_model.specs.Run.Shown.{known_to, orig_table}
 use Rattle.mesh_model.specs.Run.State.{OriginatorsShown}
 use Rattle.mesh_model.specs.Text.Tables.{OrigTable, orig_table_text}
 use Rattle.mesh_run.proofs.PlaceLemmas.{named_so}
@@ -16,8 +15,8 @@ returns-in-Ok-clause-ok c = λ state stands.
     let there = node_at state name c.in-Some.place is in
     let node = there.0 in
     let held = c.node-node.ensures state.choice state.clock state.mesh node stands.net_is there.1 in
-    let table : List ℕ → ℕ → OrigTable = λ n now. record { name = n; algorithm = Iv; rows = (iv_queries node.mac).originators (route_log node.log) now } in
-    let prints = c.in-Ok.ensures node.mac (route_log node.log) (c.algo.ensures node.mac node.log held) in
+    let table : List ℕ → ℕ → OrigTable = λ n now. record { name = n; algorithm = Iv; rows = (iv_queries node.mac).originators (known_to node).routes now } in
+    let prints = c.in-Ok.ensures node.mac (known_to node).routes (c.algo.ensures node.mac node.log held) in
     carries_print state c.args.self.now _ (OriginatorsShown (orig_table state.clock node)) c.show_originators.new.out.items stands (shows_originators state name c.in-Some.place node is there.1)
     (prints ∙ ap (λ (old : List ℕ). old ++ orig_table_text (table name c.now.result)) c.requires.empty
     ∙ ap₂ (λ (n : List ℕ) (now : ℕ). orig_table_text (table n now)) (sym (named_so state name c.in-Some.place node is there.1)) (c.now.ensures state.choice state.clock state.mesh stands.net_is))
