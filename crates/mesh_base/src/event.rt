@@ -32,6 +32,34 @@ pub enum LossReason {
     NoRoute,
 }
 
+/// What came of a ping.
+#[derive(Clone, Copy, Debug, PartialEq, Eq)]
+pub enum PingResult {
+    /// `noroute`: no neighbour leads to the target.
+    NoRoute,
+    /// `reply ttl=T rtt=R`: the target answered, by a message that came with this ttl, so many
+    /// milliseconds after the ping.
+    Reply { ttl: u8, rtt: Millis },
+    /// `unreachable from=X`: a node on the way has no route to the target.
+    Unreachable { from: Mac },
+    /// `exceeded from=X`: no hop was left at a node on the way.
+    Exceeded { from: Mac },
+}
+
+/// What came of a probe of a traceroute.
+#[derive(Clone, Copy, Debug, PartialEq, Eq)]
+pub enum TraceResult {
+    /// `noroute`: no neighbour leads to the target.
+    NoRoute,
+    /// `hop=H X rtt=R`: the probe's hops ended at a node on the way, which answered so many
+    /// milliseconds after the probe.
+    Passed { hop: u8, from: Mac, rtt: Millis },
+    /// `hop=H X rtt=R end`: the target answered.
+    Ended { hop: u8, from: Mac, rtt: Millis },
+    /// `hop=H X unreachable`: a node on the way has no route to the target.
+    Unreachable { hop: u8, from: Mac },
+}
+
 /// What happens in a run and has a line of its own. Nodes are named by their addresses.
 #[derive(Debug, Drop)]
 pub enum Event {
@@ -69,5 +97,18 @@ pub enum Event {
         node: Mac,
         commit: u64,
         earlier: u64,
+    },
+    /// `ping A B seq=S RESULT`: what came of a node's ping under a number.
+    Pinged {
+        node: Mac,
+        target: Mac,
+        seq: u16,
+        result: PingResult,
+    },
+    /// `trace A B RESULT`: what came of a probe of a node's traceroute.
+    Traced {
+        node: Mac,
+        target: Mac,
+        result: TraceResult,
     },
 }

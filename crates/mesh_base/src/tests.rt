@@ -50,7 +50,11 @@ fn bytes_are_equal_where_their_lists_are(rt: HostRuntime) -> Result<(), Fail> {
 fn commit_of(event: Option<&Event>) -> Option<u64> {
     match event? {
         Event::Alias { commit, .. } => Some(*commit),
-        Event::FrameSent { .. } | Event::Received { .. } | Event::Lost { .. } => None,
+        Event::FrameSent { .. }
+        | Event::Received { .. }
+        | Event::Lost { .. }
+        | Event::Pinged { .. }
+        | Event::Traced { .. } => None,
     }
 }
 

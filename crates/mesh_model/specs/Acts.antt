@@ -5,5 +5,6 @@ pub mod Packing
 pub mod OwnContainers
 pub mod TableRows
 pub mod FrameRows
+pub mod ProbeRows
 pub mod Rows
 pub mod Choosing

@@ -6,8 +6,8 @@ pub mod Clients
 pub mod Tables
 pub mod Commits
 pub mod Marks
-pub mod Knowledge
 pub mod Probes
+pub mod Knowledge
 pub mod Text
 pub mod Acts
 pub mod Net

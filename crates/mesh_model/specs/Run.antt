@@ -1,7 +1,7 @@
 -- The run of a scenario: the words of the call, the state, the step of each command, the rules that
--- refuse a line, and the run of all lines with the status in which it ends. It stands on all rooms
--- before it. The main word is `plain_run`, in PlainRun.
-pub mod Words
+-- refuse a line, the run of all lines, the lines that are generated, and the status in which a run
+-- ends. It stands on all rooms before it. The main word is `plain_run`, in PlainRun.
+pub mod CommandLine
 pub mod State
 pub mod Outcome
 pub mod Passing
@@ -12,5 +12,6 @@ pub mod Names
 pub mod Demands
 pub mod Rules
 pub mod PlainRun
+pub mod Generated
 pub mod Halting
 pub mod Statuses

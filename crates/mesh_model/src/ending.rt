@@ -29,10 +29,12 @@ pub enum Refusal {
     NameTaken,
     /// `address taken`: an earlier line gave the address.
     AddressTaken,
-    /// `same node`: a link leads from a node to itself.
+    /// `same node`: a link, a ping or a traceroute leads from a node to itself.
     SameNode,
     /// `link taken`: an earlier line gave the link.
     LinkTaken,
+    /// `algo after node`: the algorithm is chosen once a node stands.
+    AlgoAfterNode,
     /// `no such frame`: no link frame of this number was sent.
     NoSuchFrame,
 }

@@ -5,3 +5,5 @@ pub mod DecodeOnLiterals
 pub mod NetOnLiterals
 pub mod TablesOnLiterals
 pub mod LineOnLiterals
+pub mod WordsOnLiterals
+pub mod GeneratedOnLiterals

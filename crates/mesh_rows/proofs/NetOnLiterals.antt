@@ -6,6 +6,7 @@ use lib.Utf8.{encode}
 use Rattle.std.specs.Str.{chars, is_utf8}
 use Rattle.hex.specs.Hex.{encode_with}
 use Rattle.mesh_model.specs.Acts.FrameRows.{broadcast_acts, frame_acts, here_acts, passed_frame}
+use Rattle.mesh_model.specs.Acts.ProbeRows.{icmp_here, passed_icmp, session_acts}
 use Rattle.mesh_model.specs.Acts.Rows.{message_acts, ogm_acts, packet_acts, packets_acts, tick_acts}
 use Rattle.mesh_model.specs.Acts.TableRows.{other_containers, own_answer}
 use Rattle.mesh_model.specs.Net.Runs.{going_on}
@@ -22,7 +23,7 @@ use Rattle.mesh_rows.proofs.TablesOnLiterals.{tables_on_literals}
 
 unfoldable pub net_on_literals : ⊤
 unfolding encode digits chars is_utf8 encode_with message_acts tick_acts ogm_acts packet_acts packets_acts
-    broadcast_acts frame_acts here_acts passed_frame other_containers own_answer entry_line global_header global_line mark_line
+    broadcast_acts frame_acts here_acts passed_frame icmp_here passed_icmp session_acts other_containers own_answer entry_line global_header global_line mark_line
     pieces first_containers containers_of first_packet frame_within link_frame routes_on_literals tables_on_literals going_on command_of_line client_frame_line event_line age_text flags_text
     local_header local_line sum_text vid_text vlan_line
 net_on_literals = tt

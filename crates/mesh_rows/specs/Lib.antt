@@ -13,3 +13,4 @@ pub mod RouteRows
 pub mod CallRows
 pub mod ContainerRows
 pub mod EventRows
+pub mod WordRows

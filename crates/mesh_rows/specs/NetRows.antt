@@ -5,7 +5,7 @@ use Rattle.std.specs.Option.{option_map_or}
 use Rattle.mesh_base.specs.declared.address.Mac.{Mac}
 use Rattle.mesh_model.specs.declared.ending.Stop.{Stop}
 use Rattle.mesh_model.specs.declared.frame_choice.FrameChoice.{FrameChoice}
-use Rattle.mesh_model.specs.Clients.Log.{Given, Tick, LinkFrame, Frame, Gone, Join, Leave, Arp, Dhcp, Wifi, Log}
+use Rattle.mesh_model.specs.Clients.Log.{Given, Tick, LinkFrame, Frame, Gone, Join, Leave, Arp, Dhcp, Wifi, Ping, Trace, Log}
 use Rattle.mesh_model.specs.Net.Mesh.{Setup}
 use Rattle.mesh_model.specs.Run.State.{State, first_state, node_named, text_of}
 use Rattle.mesh_model.specs.Run.Outcome.{Outcome, Goes, Ends, reached}
@@ -87,6 +87,8 @@ taken_by moment (Leave key) = []
 taken_by moment (Arp mac own_ip asked_ip vid) = []
 taken_by moment (Dhcp key text) = []
 taken_by moment (Wifi on) = []
+taken_by moment (Ping target) = []
+taken_by moment (Trace target) = []
 
 -- the link frames in a log, newest first
 abbrev pub taken : Log → List Taken

@@ -1,6 +1,3 @@
-//! Worked rows: small scenarios, and bytes, with what is printed of them, and small tables. The
-//! checker computes them from the definitions of `mesh_model` alone. No other crate stands on this
-//! one, so an edited row proves nothing else anew.
 //! Worked rows: small scenarios, and bytes, with what is printed of them, and single lines with the
 //! command that each gives. The checker computes them from the definitions of `mesh_model` alone.
 //! No other crate stands on this one, so an edited row proves nothing else anew.
@@ -12,10 +9,13 @@ pub mod commit_rows;
 pub mod container_rows;
 pub mod decode_rows;
 pub mod event_rows;
+pub mod generated_rows;
 pub mod line_rows;
 pub mod mark_rows;
 pub mod net_rows;
 pub mod probe_rows;
 pub mod route_rows;
 pub mod rows;
+pub mod session_rows;
 pub mod table_rows;
+pub mod word_rows;

@@ -1,13 +1,14 @@
 -- What a node puts when it is given something: the row of the input, by what the node knows. A
 -- sighting comes first, with its advertisement. A setting, a joining, a leaving and a departure put
 -- nothing. The main word is `acts_of`.
-use Rattle.std.specs.Prelude.{ℕ, List, [], ◌++◌}
+use Rattle.std.specs.Prelude.{ℕ, Bool, true, false, List, [], ◌++◌}
 use Rattle.mesh_base.specs.declared.address.Mac.{Mac}
 use Rattle.mesh_base.specs.declared.client.Key.{Key}
 use Rattle.mesh_model.specs.declared.act.Act.{Act}
-use Rattle.mesh_model.specs.Acts.FrameRows.{Place, advert_acts, frame_acts}
+use Rattle.mesh_model.specs.Acts.FrameRows.{advert_acts, frame_acts}
+use Rattle.mesh_model.specs.Acts.ProbeRows.{session_acts}
 use Rattle.mesh_model.specs.Acts.Rows.{own_by, packets_acts, tick_acts}
-use Rattle.mesh_model.specs.Clients.Log.{Given, Tick, LinkFrame, Frame, Gone, Join, Leave, Arp, Dhcp, Wifi, Log}
+use Rattle.mesh_model.specs.Clients.Log.{Given, Tick, LinkFrame, Frame, Gone, Join, Leave, Arp, Dhcp, Wifi, Ping, Trace, Log}
 use Rattle.mesh_model.specs.Clients.Mentions.{key_of, mentions, next_mentions}
 use Rattle.mesh_model.specs.Commits.History.{history}
 use Rattle.mesh_model.specs.Knowledge.Steps.{advertised, after_sighting, knowledge}
@@ -28,6 +29,11 @@ client_acts q me log now frame = frame_acts q
     (Frame frame.src frame.dst frame.vid frame.text))
     (record { me = me; now = now }) frame
 
+-- a ping or, for `trace`, a traceroute begins
+abbrev pub probing_acts : Queries → Mac → Log → ℕ → Mac → Bool → List Act
+probing_acts q me log now target trace =
+    session_acts q (knowledge q me log) (record { me = me; now = now }) target trace
+
 -- the acts, in order, of a node with this algorithm, address and log that is given something at a
 -- moment
 abbrev pub acts_of : Queries → Mac → Log → ℕ → Given → List Act
@@ -46,3 +52,5 @@ acts_of q me log now (Arp mac own_ip asked_ip vid) =
     sighting_acts q me log now (key_of mac vid)
 acts_of q me log now (Dhcp key text) = sighting_acts q me log now key
 acts_of q me log now (Wifi on) = []
+acts_of q me log now (Ping target) = probing_acts q me log now target false
+acts_of q me log now (Trace target) = probing_acts q me log now target true

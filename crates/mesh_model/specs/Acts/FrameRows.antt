@@ -4,7 +4,7 @@
 -- the client is known to be, or is lost. What is carried may be no client frame: then nothing is
 -- printed of it, and a broadcast of it is sent on all the same. The main words are `frame_acts`,
 -- `broadcast_acts`, `here_acts` and `passed_frame`.
-use Rattle.std.specs.Prelude.{ℕ, suc, ◌-◌, ◌||◌, nat_le, nat_lt, Bool, List, [], ◌∷◌, ◌++◌, Option, Some, None, is_some, if◌then◌else◌}
+use Rattle.std.specs.Prelude.{ℕ, suc, ◌-◌, ◌||◌, nat_le, Bool, List, [], ◌∷◌, ◌++◌, Option, Some, None, is_some, if◌then◌else◌}
 use Rattle.std.specs.Option.{unwrap_or}
 use Rattle.mesh_base.specs.Address.{is_broadcast, is_group}
 use Rattle.mesh_base.specs.declared.address.Mac.{Mac}

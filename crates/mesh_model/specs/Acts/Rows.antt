@@ -1,6 +1,6 @@
 -- The rows of the acts: what a node puts at a moment for a tick, and for each kind of packet. A
 -- kind whose row isn't built yet puts nothing. The main words are `tick_acts` and `packet_acts`.
-use Rattle.std.specs.Prelude.{ℕ, ◌==◌, Bool, List, [], ◌∷◌, ◌++◌, length, Option, Some, None, if◌then◌else◌}
+use Rattle.std.specs.Prelude.{ℕ, ◌==◌, List, [], ◌∷◌, ◌++◌, length, Option, Some, None, if◌then◌else◌}
 use Rattle.mesh_base.specs.declared.address.Mac.{Mac}
 use Rattle.mesh_base.specs.declared.event.Event.TheVariants.{Alias}
 use Rattle.mesh_model.specs.declared.act.Act.{Act}
@@ -11,6 +11,7 @@ use Rattle.mesh_model.specs.declared.table_change.Change.{Change}
 use Rattle.mesh_model.specs.Acts.FrameRows.{Place, broadcast_acts, here_acts, passed_frame}
 use Rattle.mesh_model.specs.Acts.OwnContainers.{own_containers}
 use Rattle.mesh_model.specs.Acts.Packing.{sent_to_all}
+use Rattle.mesh_model.specs.Acts.ProbeRows.{IcmpMessage, icmp_here, passed_icmp}
 use Rattle.mesh_model.specs.Acts.TableRows.{other_containers, own_answer, request_acts}
 use Rattle.mesh_model.specs.Clients.Log.{Log}
 use Rattle.mesh_model.specs.Clients.Mentions.{Mention, mentions}
@@ -100,6 +101,11 @@ taken_acts q me came head (Some message) tail known = ogm_acts q me came head me
 abbrev pub place_at : Mac → Coming → Place
 place_at me came = record { me = me; now = came.now }
 
+-- a message of ping or traceroute
+abbrev pub icmp_acts : Queries → Knowledge → Place → IcmpMessage → List Act
+icmp_acts q known at m =
+    if same_mac m.dst at.me then icmp_here q known at m else passed_icmp q known at m
+
 -- a packet, by its head
 abbrev pub head_acts : Queries → Mac → Own → Coming → Knowledge → Option Message → List ℕ → Head
     → List Act
@@ -115,7 +121,9 @@ head_acts q me own came known message tail (Unicast ttl ttvn dst) = if same_mac 
     else passed_frame q known (place_at me came) ttl ttvn dst tail
 head_acts q me own came known message tail (Frag ttl number priority dst orig seq total) = []
 head_acts q me own came known message tail (Unicast4 ttl ttvn dst src subtype) = []
-head_acts q me own came known message tail (Icmp ttl msg dst orig uid seq) = []
+head_acts q me own came known message tail (Icmp ttl msg dst orig uid seq) =
+    icmp_acts q known (place_at me came)
+    (record { ttl = ttl; kind = msg; dst = dst; orig = orig; uid = uid; seq = seq })
 head_acts q me own came known message tail (Utvlv ttl dst src) = if same_mac dst me
     then own_answer q me known came.now own.last own.told src
     (message_in (first_table (containers_of tail)))

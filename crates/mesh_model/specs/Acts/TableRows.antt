@@ -3,7 +3,7 @@
 -- originator, or on the way by a node that holds the table; else it is passed on, as all containers
 -- for another node are, while hops are left and a route leads there. Without a route to the asker
 -- nothing is sent. The main words are `request_acts`, `own_answer` and `passed_containers`.
-use Rattle.std.specs.Prelude.{ℕ, ◌-◌, ◌&&◌, nat_le, nat_lt, Bool, List, [], ◌∷◌, length, Option, Some, None, option_map, if◌then◌else◌}
+use Rattle.std.specs.Prelude.{ℕ, ◌-◌, ◌&&◌, nat_le, Bool, List, [], length, Option, Some, None, if◌then◌else◌}
 use Rattle.mesh_base.specs.declared.address.Mac.{Mac}
 use Rattle.mesh_model.specs.declared.act.Act.{Act}
 use Rattle.mesh_model.specs.declared.packet.Head.TheVariants.{Utvlv}
@@ -18,7 +18,7 @@ use Rattle.mesh_model.specs.Packets.Contents.{first_table}
 use Rattle.mesh_model.specs.Routes.Queries.{Queries}
 use Rattle.mesh_model.specs.Tables.Answers.{Reply, held_reply, own_reply}
 use Rattle.mesh_model.specs.Tables.Sums.{sums_of}
-use Rattle.mesh_model.specs.Tables.Versions.{Stamp, Version}
+use Rattle.mesh_model.specs.Tables.Versions.{Version}
 
 -- ---- requests
 

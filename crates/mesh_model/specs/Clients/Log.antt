@@ -20,6 +20,8 @@ pub data Given : Type 0 where
   Arp : (mac : Mac) → (own_ip asked_ip : ℕ) → (vid : Vid) → Given
   Dhcp : (key : Key) → (text : List ℕ) → Given
   Wifi : (on : Bool) → Given
+  Ping : (target : Mac) → Given
+  Trace : (target : Mac) → Given
 
 -- what a node was given at a moment, in milliseconds, and the acts that it then put, in order
 pub record LogEntry : Type 0 where

@@ -14,7 +14,7 @@ use Rattle.mesh_model.specs.Packets.FirstPacket.{Packet}
 use Rattle.mesh_model.specs.Packets.LinkFrame.{link_frame}
 use Rattle.mesh_model.specs.Packets.Numbers.{wifi_flag}
 use Rattle.mesh_model.specs.Routes.Addresses.{same_mac}
-use Rattle.mesh_model.specs.Clients.Log.{Given, Tick, LinkFrame, Frame, Gone, Join, Leave, Arp, Dhcp, Wifi, Log}
+use Rattle.mesh_model.specs.Clients.Log.{Given, Tick, LinkFrame, Frame, Gone, Join, Leave, Arp, Dhcp, Wifi, Ping, Trace, Log}
 
 -- what a mention says of its key
 pub data News : Type 0 where
@@ -41,6 +41,8 @@ wifi_after (Leave key) before = before
 wifi_after (Arp mac own_ip asked_ip vid) before = before
 wifi_after (Dhcp key text) before = before
 wifi_after (Wifi on) before = on
+wifi_after (Ping target) before = before
+wifi_after (Trace target) before = before
 
 -- whether the last setting of a log marks sightings as wireless
 abbrev pub is_wifi_on : Log → Bool
@@ -91,6 +93,8 @@ mentions_by me older moment (Arp mac own_ip asked_ip vid) =
 mentions_by me older moment (Dhcp key text) =
     record { moment = moment; key = key; news = sighted_after older } ∷ []
 mentions_by me older moment (Wifi on) = []
+mentions_by me older moment (Ping target) = []
+mentions_by me older moment (Trace target) = []
 
 -- the mentions after an input, from the log and the mentions before it
 abbrev pub next_mentions : Mac → Log → List Mention → ℕ → Given → List Mention

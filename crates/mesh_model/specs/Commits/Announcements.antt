@@ -6,7 +6,7 @@ use Rattle.std.specs.Prelude.{ℕ, ◌==◌, ◌&&◌, nat_lt, nat_le, Bool, fal
 use Rattle.mesh_base.specs.declared.address.Mac.{Mac}
 use Rattle.mesh_model.specs.Packets.Numbers.{ogm_diff_flag}
 use Rattle.mesh_model.specs.Packets.Bodies.{TtData, TtChange, change_of}
-use Rattle.mesh_model.specs.Clients.Log.{Given, Tick, LinkFrame, Frame, Gone, Join, Leave, Arp, Dhcp, Wifi, Log}
+use Rattle.mesh_model.specs.Clients.Log.{Given, Tick, LinkFrame, Frame, Gone, Join, Leave, Arp, Dhcp, Wifi, Ping, Trace, Log}
 use Rattle.mesh_model.specs.Tables.Sums.{sums_of}
 use Rattle.mesh_model.specs.Tables.Versions.{Version}
 use Rattle.mesh_model.specs.Commits.Versions.{last_commit, last_changes}
@@ -62,6 +62,8 @@ is_tick root (Leave key) = false
 is_tick root (Arp mac own_ip asked_ip vid) = false
 is_tick root (Dhcp key text) = false
 is_tick root (Wifi on) = false
+is_tick root (Ping target) = false
+is_tick root (Trace target) = false
 
 -- a log up to an own tick, itself included
 abbrev pub log_until : ℕ → Log → Log

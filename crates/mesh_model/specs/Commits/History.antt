@@ -5,7 +5,7 @@
 use Rattle.std.specs.Prelude.{ℕ, ◌+◌, ◌%◌, ◌==◌, Bool, List, [], ◌∷◌, map, if◌then◌else◌}
 use Rattle.mesh_base.specs.declared.address.Mac.{Mac}
 use Rattle.mesh_base.specs.declared.client.Entry.{Entry}
-use Rattle.mesh_model.specs.Clients.Log.{Given, Tick, LinkFrame, Frame, Gone, Join, Leave, Arp, Dhcp, Wifi, Log}
+use Rattle.mesh_model.specs.Clients.Log.{Given, Tick, LinkFrame, Frame, Gone, Join, Leave, Arp, Dhcp, Wifi, Ping, Trace, Log}
 use Rattle.mesh_model.specs.Clients.Mentions.{Mention, mentions}
 use Rattle.mesh_model.specs.Clients.Present.{present_clients}
 use Rattle.mesh_model.specs.Commits.Versions.{first_commit, last_commit, same_table}
@@ -63,6 +63,8 @@ next_history older before moment (Leave key) = before
 next_history older before moment (Arp mac own_ip asked_ip vid) = before
 next_history older before moment (Dhcp key text) = before
 next_history older before moment (Wifi on) = before
+next_history older before moment (Ping target) = before
+next_history older before moment (Trace target) = before
 
 -- the history in the log of the node of an address
 abbrev pub history : Mac → Log → History

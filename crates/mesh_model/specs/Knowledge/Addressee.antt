@@ -3,13 +3,13 @@
 -- name the client, to the one of greatest metric, in a tie to the smaller address; else nowhere.
 -- The reason is that a mark says so, or that the table agrees with what was announced, or that it
 -- is an old one. The main word is `addressee`.
-use Rattle.std.specs.Prelude.{ℕ, Bool, List, filter, Option, Some, None, is_some, option_and_then, option_map, if◌then◌else◌}
+use Rattle.std.specs.Prelude.{ℕ, filter, Option, option_and_then, option_map, if◌then◌else◌}
 use Rattle.std.specs.Option.{option_or}
 use Rattle.mesh_base.specs.declared.address.Mac.{Mac}
 use Rattle.mesh_base.specs.declared.client.Key.{Key}
 use Rattle.mesh_base.specs.declared.event.Reason.{Reason}
 use Rattle.mesh_base.specs.declared.event.Reason.TheVariants.{Roam, Table, Old}
-use Rattle.mesh_model.specs.Knowledge.Known.{Knowledge, known_at, told_at}
+use Rattle.mesh_model.specs.Knowledge.Known.{Knowledge, known_at}
 use Rattle.mesh_model.specs.Marks.RoamingMarks.{mark_of}
 use Rattle.mesh_model.specs.Routes.BestRoute.{best}
 use Rattle.mesh_model.specs.Routes.Queries.{Queries}

@@ -5,6 +5,7 @@
 use Rattle.std.specs.Prelude.{ℕ, ◌+◌, ◌&&◌, nat_le, Bool, not, List, [], filter, map, Option, None, option_map, if◌then◌else◌}
 use Rattle.mesh_base.specs.declared.address.Mac.{Mac}
 use Rattle.mesh_model.specs.Marks.Calls.{Calls}
+use Rattle.mesh_model.specs.Probes.OpenProbes.{ProbeCall}
 use Rattle.mesh_model.specs.Routes.Addresses.{same_mac}
 use Rattle.mesh_model.specs.Routes.Numbers.{greatest, has, window_length}
 use Rattle.mesh_model.specs.Routes.Queries.{Queries}
@@ -17,17 +18,20 @@ pub record Broadcast : Type 0 where
   pub number : ℕ
 
 -- all that came, each list newest first: for the routing algorithm, for the tables of originators,
--- on marks, and the broadcasts that were taken; and how many broadcasts were sent
+-- on marks, for the node's probes, and the broadcasts that were taken; and how many broadcasts were
+-- sent
 pub record Knowledge : Type 0 where
   pub routes : RouteLog
   pub tables : TableCalls
   pub marks : Calls
+  pub probes : List ProbeCall
   pub taken : List Broadcast
   pub sent : ℕ
 
 -- before anything came
 abbrev pub no_knowledge : Knowledge
-no_knowledge = record { routes = []; tables = []; marks = []; taken = []; sent = 0 }
+no_knowledge =
+    record { routes = []; tables = []; marks = []; probes = []; taken = []; sent = 0 }
 
 -- what is known of an originator's table at a moment: nothing where it isn't live
 abbrev pub known_at : Queries → Knowledge → ℕ → Mac → Known

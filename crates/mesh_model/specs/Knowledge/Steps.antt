@@ -3,33 +3,38 @@
 -- anew where a life begins; it may release marks, and lead to a request. An answer from a live
 -- originator, or for it, is taken and may release marks too. A client that roamed is marked, with
 -- what its new node was told to have. A sighting ends the client's mark, and is advertised where
--- the client wasn't present just before and was elsewhere. The main word is `knowledge`.
-use Rattle.std.specs.Prelude.{ℕ, suc, ◌&&◌, Bool, not, List, [], ◌∷◌, fold, Option, Some, None, is_none, is_some, option_and_then, option_map, if◌then◌else◌}
+-- the client wasn't present just before and was elsewhere. A probe of a ping or a traceroute waits
+-- for its answer where it was sent. The main word is `knowledge`.
+use Rattle.std.specs.Prelude.{ℕ, suc, ◌&&◌, Bool, true, false, not, List, [], ◌∷◌, fold, Option, Some, None, is_none, is_some, if◌then◌else◌}
 use Rattle.mesh_base.specs.Address.{is_broadcast}
 use Rattle.mesh_base.specs.declared.address.Mac.{Mac}
 use Rattle.mesh_base.specs.declared.client.Key.{Key}
-use Rattle.mesh_base.specs.declared.client.Vid.{Vid}
 use Rattle.mesh_model.specs.declared.packet.Head.{Head}
 use Rattle.mesh_model.specs.declared.packet.Head.TheVariants.{IvOgm, Bcast, Elp, Ogm2, Unicast, Frag, Unicast4, Icmp, Utvlv}
+use Rattle.mesh_model.specs.declared.probe.Probe.{Probe}
+use Rattle.mesh_model.specs.declared.probe.Told.{Told}
+use Rattle.mesh_model.specs.declared.probe.Told.TheVariants.{Unknown, Done, Next}
 use Rattle.mesh_model.specs.declared.table_outcome.Request.{Request}
-use Rattle.mesh_model.specs.Clients.Log.{Given, Tick, LinkFrame, Frame, Gone, Join, Leave, Arp, Dhcp, Wifi, Log}
+use Rattle.mesh_model.specs.Clients.Log.{Given, Tick, LinkFrame, Frame, Gone, Join, Leave, Arp, Dhcp, Wifi, Ping, Trace, Log}
 use Rattle.mesh_model.specs.Clients.Mentions.{key_of, mentions}
 use Rattle.mesh_model.specs.Clients.Present.{present_row}
 use Rattle.mesh_model.specs.Knowledge.Addressee.{Way, addressee}
-use Rattle.mesh_model.specs.Knowledge.Known.{Broadcast, Knowledge, agreed_byte, is_new_broadcast, known_at, no_knowledge, told_at}
+use Rattle.mesh_model.specs.Knowledge.Known.{Broadcast, Knowledge, agreed_byte, is_new_broadcast, no_knowledge, told_at}
 use Rattle.mesh_model.specs.Knowledge.Told.{Message, TableMessage, Asks, Answers, Neither, changes_told, message_in, message_of, stamp_told}
 use Rattle.mesh_model.specs.Marks.Advertisements.{too_many}
-use Rattle.mesh_model.specs.Marks.Calls.{Call, Calls, Marked, Released, Unmarked, Advised, Asked, Forgotten}
+use Rattle.mesh_model.specs.Marks.Calls.{Calls, Marked, Released, Unmarked, Advised, Asked, Forgotten}
 use Rattle.mesh_model.specs.Marks.Requests.{too_soon}
 use Rattle.mesh_model.specs.Packets.Containers.{containers_of}
 use Rattle.mesh_model.specs.Packets.Contents.{first_roaming, first_table}
 use Rattle.mesh_model.specs.Packets.FirstPacket.{Packet}
 use Rattle.mesh_model.specs.Packets.LinkFrame.{link_frame}
+use Rattle.mesh_model.specs.Probes.OpenProbes.{ProbeCall, Started, Answered, Closed, first_probe, is_answer, probes_by, told}
 use Rattle.mesh_model.specs.Routes.Addresses.{same_mac}
 use Rattle.mesh_model.specs.Routes.Queries.{Queries}
-use Rattle.mesh_model.specs.Routes.RouteLog.{OwnTick, HeadCame}
+use Rattle.mesh_model.specs.Routes.RouteLog.{RouteLog, OwnTick, HeadCame}
 use Rattle.mesh_model.specs.Tables.Judging.{announcement_row, wanted_request}
-use Rattle.mesh_model.specs.Tables.Known.{Known, TableCall, Announced, Answered, Dropped, known_by}
+use Rattle.mesh_model.specs.Tables.Known.{TableCall, Announced, Dropped, known_by}
+use Rattle.mesh_model.specs.Tables.Known.{Answered as AnsweredTable}
 
 -- ---- where a packet comes from
 
@@ -120,9 +125,9 @@ abbrev pub after_answer : Queries → ℕ → Mac → TableMessage → Knowledge
 after_answer q now src (Asks full stamp) known = known
 after_answer q now src (Answers stamp carried) known =
     if q.live known.routes now src then record known {
-      tables = Answered src stamp carried ∷ known.tables;
+      tables = AnsweredTable src stamp carried ∷ known.tables;
       marks = released_under src
-          (agreed_byte (known_by (Answered src stamp carried ∷ known.tables) src)) known.marks;
+          (agreed_byte (known_by (AnsweredTable src stamp carried ∷ known.tables) src)) known.marks;
     } else known
 after_answer q now src Neither known = known
 
@@ -138,6 +143,35 @@ abbrev pub after_containers : Queries → ℕ → Mac → List ℕ → Knowledge
 after_containers q now src tail known =
     after_roaming q now src (first_roaming (containers_of tail))
     (after_answer q now src (message_in (first_table (containers_of tail))) known)
+
+-- ---- ping and traceroute
+
+-- the calls after a probe is given: it is closed where no neighbour leads to its target
+abbrev pub unless_sent : Option Mac → Probe → List ProbeCall → List ProbeCall
+unless_sent None probe calls = Closed probe.seq ∷ calls
+unless_sent (Some next) probe calls = calls
+
+-- the calls of a probe that follows an answer, where one does
+abbrev pub following : Queries → RouteLog → ℕ → Told → List ProbeCall → List ProbeCall
+following q routes now Unknown calls = calls
+following q routes now (Done target sent hop) calls = calls
+following q routes now (Next hop sent probe) calls =
+    unless_sent (q.route routes now probe.target) probe calls
+
+-- what is known after a message of this type answers the probe of a number
+abbrev pub after_reply : Queries → ℕ → ℕ → ℕ → Knowledge → Knowledge
+after_reply q now msg seq known = record known {
+  probes = following q known.routes now (told seq msg (probes_by known.probes))
+      (Answered now seq msg ∷ known.probes);
+}
+
+-- what is known after a ping or, for `trace`, a traceroute begins
+abbrev pub after_start : Queries → ℕ → Mac → Bool → Knowledge → Knowledge
+after_start q now target trace known = record known {
+  probes = unless_sent (q.route known.routes now target)
+      (first_probe target trace (probes_by known.probes))
+      (Started now target trace ∷ known.probes);
+}
 
 -- ---- packets
 
@@ -165,7 +199,8 @@ after_head q me came message tail (Ogm2 ttl flags seq orig throughput) known =
 after_head q me came message tail (Unicast ttl ttvn dst) known = known
 after_head q me came message tail (Frag ttl number priority dst orig seq total) known = known
 after_head q me came message tail (Unicast4 ttl ttvn dst src subtype) known = known
-after_head q me came message tail (Icmp ttl msg dst orig uid seq) known = known
+after_head q me came message tail (Icmp ttl msg dst orig uid seq) known =
+    if same_mac dst me && is_answer msg then after_reply q came.now msg seq known else known
 after_head q me came message tail (Utvlv ttl dst src) known =
     if same_mac dst me then after_containers q came.now src tail known else known
 
@@ -222,6 +257,8 @@ next_knowledge q me older known now (Arp mac own_ip asked_ip vid) =
     after_sighting q me older now (key_of mac vid) known
 next_knowledge q me older known now (Dhcp key text) = after_sighting q me older now key known
 next_knowledge q me older known now (Wifi on) = known
+next_knowledge q me older known now (Ping target) = after_start q now target false known
+next_knowledge q me older known now (Trace target) = after_start q now target true known
 
 -- what a node of this address knows by its log
 abbrev pub knowledge : Queries → Mac → Log → Knowledge

@@ -1,9 +1,8 @@
 -- What packets tell a node: an originator message with a translation table that can be read; a
 -- request for a table, or an answer to one; a client that roamed; a broadcast. The main words are
 -- `message_of` and `table_message`.
-use Rattle.std.specs.Prelude.{ℕ, Bool, List, [], ◌∷◌, map, fold, Option, Some, None, option_map, is_some, if◌then◌else◌}
+use Rattle.std.specs.Prelude.{Bool, List, [], map, fold, Option, Some, None, option_map, if◌then◌else◌}
 use Rattle.mesh_base.specs.declared.address.Mac.{Mac}
-use Rattle.mesh_base.specs.declared.client.Key.{Key}
 use Rattle.mesh_model.specs.declared.packet.Head.{Head}
 use Rattle.mesh_model.specs.declared.packet.Head.TheVariants.{IvOgm, Bcast, Elp, Ogm2, Unicast, Frag, Unicast4, Icmp, Utvlv}
 use Rattle.mesh_model.specs.declared.table_change.Change.{Change}

@@ -8,7 +8,7 @@ use Rattle.std.specs.Prelude.{ℕ, suc, ◌+◌, ◌*◌, ◌%◌, ◌==◌, nat
 use Rattle.mesh_model.specs.declared.happening.Class.TheVariants.{LinkDelivery, NodeTick}
 use Rattle.mesh_model.specs.declared.happening.Happening.{Happening}
 use Rattle.mesh_model.specs.Scenario.Terms.{once_mark, lost_mark, twice_mark, held_mark}
-use Rattle.mesh_model.specs.Clients.Log.{Given, Tick, LinkFrame, Frame, Gone, Join, Leave, Arp, Dhcp, Wifi, Log}
+use Rattle.mesh_model.specs.Clients.Log.{Given, Tick, LinkFrame, Frame, Gone, Join, Leave, Arp, Dhcp, Wifi, Ping, Trace, Log}
 use Rattle.mesh_model.specs.Net.Happenings.{is_before, earliest}
 use Rattle.mesh_model.specs.Net.Mesh.{NodeLog, NetLink, SentFrame, Mesh}
 
@@ -71,6 +71,8 @@ ticks_by (Leave key) = 0
 ticks_by (Arp mac own_ip asked_ip vid) = 0
 ticks_by (Dhcp key text) = 0
 ticks_by (Wifi on) = 0
+ticks_by (Ping target) = 0
+ticks_by (Trace target) = 0
 
 -- how many ticks a node has had
 abbrev pub ticks_in : Log → ℕ

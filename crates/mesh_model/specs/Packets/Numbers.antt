@@ -1,6 +1,6 @@
 -- The numbers that stand in packets, as batman-adv's packet header has them (compat version 15):
--- type bytes, flag bits, the types and versions of containers, and the types of Ethernet frames.
--- Nothing but this file says them.
+-- type bytes, message types, flag bits, the types and versions of containers, and the types of
+-- Ethernet frames. Nothing but this file says them.
 use Rattle.std.specs.Prelude.{ℕ}
 
 -- the version byte, the second of each packet
@@ -42,6 +42,22 @@ icmp_type = 67
 -- the type byte of containers for one node
 abbrev pub utvlv_type : ℕ
 utvlv_type = 68
+
+-- the message type of ping and traceroute that answers an echo request
+abbrev pub echo_reply : ℕ
+echo_reply = 0
+
+-- the message type that says that no route leads on
+abbrev pub destination_unreachable : ℕ
+destination_unreachable = 3
+
+-- the message type that asks for an answer
+abbrev pub echo_request : ℕ
+echo_request = 8
+
+-- the message type that says that no hop was left
+abbrev pub ttl_exceeded : ℕ
+ttl_exceeded = 11
 
 -- flag of an originator message of algorithm IV: the sender isn't the best next hop
 abbrev pub not_best_next_hop_flag : ℕ

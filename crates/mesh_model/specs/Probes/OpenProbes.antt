@@ -4,12 +4,13 @@
 -- Ping sends one probe with ttl 50. Traceroute begins with ttl 1; where a probe's answer says that
 -- its ttl was exceeded, the next one follows with a ttl of one more, up to 50; any other answer
 -- ends the session. The main words are `probes_by` and `told`.
-use Rattle.std.specs.Prelude.{ℕ, ◌+◌, ◌%◌, ◌==◌, ◌&&◌, nat_lt, Bool, true, false, List, [], ◌∷◌, Option, Some, None, if◌then◌else◌}
+use Rattle.std.specs.Prelude.{ℕ, ◌+◌, ◌%◌, ◌==◌, ◌&&◌, ◌||◌, nat_lt, Bool, true, false, List, [], ◌∷◌, Option, Some, None, if◌then◌else◌}
 use Rattle.mesh_base.specs.declared.address.Mac.{Mac}
 use Rattle.mesh_model.specs.declared.probe.Probe.{Probe}
 use Rattle.mesh_model.specs.declared.probe.OpenProbe.{OpenProbe}
 use Rattle.mesh_model.specs.declared.probe.Told.{Told}
 use Rattle.mesh_model.specs.declared.probe.Told.TheVariants.{Unknown, Done, Next}
+use Rattle.mesh_model.specs.Packets.Numbers.{echo_reply, destination_unreachable, ttl_exceeded}
 
 -- a session is started, which for `trace` is a traceroute; an answer of this message type names a
 -- probe by its number; the probe of a number is closed
@@ -31,9 +32,9 @@ numbers = 65536
 abbrev pub last_hop : ℕ
 last_hop = 50
 
--- the message type that says that a ttl was exceeded
-abbrev pub ttl_exceeded : ℕ
-ttl_exceeded = 11
+-- whether a message of this type answers an echo request
+abbrev pub is_answer : ℕ → Bool
+is_answer msg = msg == echo_reply || msg == destination_unreachable || msg == ttl_exceeded
 
 -- the ttl of a session's first probe
 abbrev pub first_ttl : Bool → ℕ

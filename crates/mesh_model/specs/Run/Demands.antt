@@ -1,30 +1,32 @@
--- What a command asks of the state, apart from the nodes that it names: a name and an address that
--- no node has, two nodes without a link, a link frame that was sent. The main word is
--- `first_unmet`.
+-- What a command asks of the state, apart from the nodes that it names: that no node stands yet, a
+-- name and an address that no node has, two nodes without a link, two nodes, a link frame that was
+-- sent. The main word is `first_unmet`.
 use Rattle.std.specs.Prelude.{ℕ, ◌==◌, ◌||◌, nat_lt, bytes_eq, Bool, false, length, List, Option, Some, None, is_some, if◌then◌else◌}
 use Rattle.std.specs.List.{list_any}
 use Rattle.std.specs.Option.{option_or, option_map_or}
 use Rattle.mesh_base.specs.declared.address.Mac.{Mac}
 use Rattle.mesh_model.specs.declared.ending.Refusal.{Refusal}
-use Rattle.mesh_model.specs.declared.ending.Refusal.TheVariants.{AddressTaken, LinkTaken, NameTaken, NoSuchFrame, SameNode}
+use Rattle.mesh_model.specs.declared.ending.Refusal.TheVariants.{AddressTaken, AlgoAfterNode, LinkTaken, NameTaken, NoSuchFrame, SameNode}
 use Rattle.mesh_model.specs.declared.line_form.Command.{Command}
 use Rattle.mesh_model.specs.declared.line_form.Command.TheVariants.{Nothing, Algo, Node, Link, Lan, Frame, Gone, Join, Leave, Arp, Dhcp, Wifi, GwOff, GwServer, GwClient, Mcast, Dat, Alfred, Put, Get, Ping, Trace, Run, Deliver, Show, Decode}
 use Rattle.mesh_model.specs.Net.Mesh.{has_address}
 use Rattle.mesh_model.specs.Net.Runs.{leads}
 use Rattle.mesh_model.specs.Run.State.{State, place_of}
 
--- a new node's name and address, the names of a new link's ends, the number of a link frame, or
--- nothing
+-- that no node stands, a new node's name and address, the names of a new link's ends, those of two
+-- nodes, the number of a link frame, or nothing
 pub data Demand : Type 0 where
+  NoNodeYet : Demand
   NewNode : List ℕ → Mac → Demand
   NewLink : List ℕ → List ℕ → Demand
+  TwoNodes : List ℕ → List ℕ → Demand
   SentBefore : ℕ → Demand
   NoDemand : Demand
 
 -- what a command asks
 abbrev pub demand_of : Command → Demand
 demand_of Nothing = NoDemand
-demand_of (Algo algorithm) = NoDemand
+demand_of (Algo algorithm) = NoNodeYet
 demand_of (Node name mac) = NewNode name mac
 demand_of (Link from to delay pattern throughput) = NewLink from to
 demand_of (Lan name gateways) = NoDemand
@@ -43,8 +45,8 @@ demand_of (Dat node on) = NoDemand
 demand_of (Alfred node mode) = NoDemand
 demand_of (Put node type_no version text) = NoDemand
 demand_of (Get node type_no) = NoDemand
-demand_of (Ping node target) = NoDemand
-demand_of (Trace node target) = NoDemand
+demand_of (Ping node target) = TwoNodes node target
+demand_of (Trace node target) = TwoNodes node target
 demand_of (Run time) = NoDemand
 demand_of (Deliver number) = SentBefore number
 demand_of (Show node table) = NoDemand
@@ -70,9 +72,11 @@ is_no_frame state number = number == 0 || nat_lt (length state.mesh.frames) numb
 
 -- the first part of a demand that the state doesn't meet
 abbrev pub first_unmet : State → Demand → Option Refusal
+first_unmet state NoNodeYet = refusal_if (nat_lt 0 (length state.mesh.nodes)) AlgoAfterNode
 first_unmet state (NewNode name mac) = option_or (refusal_if (is_known state name) NameTaken)
     (refusal_if (list_any (has_address mac) state.mesh.nodes) AddressTaken)
 first_unmet state (NewLink from to) = option_or (refusal_if (bytes_eq from to) SameNode)
     (refusal_if (are_linked state from to) LinkTaken)
+first_unmet state (TwoNodes node target) = refusal_if (bytes_eq node target) SameNode
 first_unmet state (SentBefore number) = refusal_if (is_no_frame state number) NoSuchFrame
 first_unmet state NoDemand = None

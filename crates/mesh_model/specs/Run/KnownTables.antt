@@ -1,7 +1,6 @@
 -- What a node shows of what it knows of the others' clients: a part for each live originator that
 -- announced something, and the marks that stand. The main word is `parts_at`.
-use Rattle.std.specs.Prelude.{ℕ, List, [], ◌∷◌, filter_map, Option, Some, None, option_map}
-use Rattle.std.specs.Option.{option_map_or}
+use Rattle.std.specs.Prelude.{ℕ, List, [], filter_map, Option, Some, None, option_map}
 use Rattle.mesh_base.specs.declared.address.Mac.{Mac}
 use Rattle.mesh_base.specs.declared.client.Entry.{Entry}
 use Rattle.mesh_model.specs.Knowledge.Known.{Knowledge, known_at}

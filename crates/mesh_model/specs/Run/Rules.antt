@@ -1,9 +1,10 @@
 -- The rules on a command that was read, in the state before it: it is of a form that this version
 -- carries out; each name that it uses is that of a node; what else it asks is met: a new node has a
--- name and an address of its own, a link leads to another node and isn't there yet, and a frame
--- that is delivered again was sent. They are looked at in this order. The
--- first that is broken refuses the command and ends the run in the state before it; a command that
--- breaks none takes its step. The main words are `first_refused_rule` and `carried_out`.
+-- name and an address of its own, a link leads to another node and isn't there yet, a ping goes to
+-- another node, the algorithm is chosen before the first node, and a frame that is delivered again
+-- was sent. They are looked at in this order. The first that is broken refuses the command and ends
+-- the run in the state before it; a command that breaks none takes its step. The main words are
+-- `first_refused_rule` and `carried_out`.
 use Rattle.std.specs.Prelude.{not, Option, Some, None, is_none}
 use Rattle.std.specs.List.{list_any}
 use Rattle.std.specs.Option.{option_or, option_map_or}

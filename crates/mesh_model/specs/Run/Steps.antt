@@ -1,9 +1,9 @@
 -- The step of each command, from a state to an outcome: a new node has an empty log and ticks from
--- now on; a link carries frames from now on; a client frame is given to its node; time passes; a
--- frame is delivered again, now; what is shown or decoded is printed. The limits are looked at
--- here: `nodes` and `links` are passed by one more than 64 and 512, `clock` by the end of a run,
--- before its first happening. A command that has no step isn't built: this version doesn't carry it
--- out. The main word is `step_of`.
+-- now on; a link carries frames from now on; a client frame is given to its node, and so is a ping
+-- or a traceroute; time passes; a frame is delivered again, now; what is shown or decoded is
+-- printed. The limits are looked at here: `nodes` and `links` are passed by one more than 64 and
+-- 512, `clock` by the end of a run, before its first happening. A command that has no step isn't
+-- built: this version doesn't carry it out. The main word is `step_of`.
 use Rattle.std.specs.Prelude.{ℕ, ◌+◌, ◌-◌, ◌&&◌, not, nat_lt, nat_le, List, [], ◌∷◌, ◌++◌, length, Option, Some, None, option_map, if◌then◌else◌}
 use Rattle.std.specs.Option.{option_map_or}
 use Rattle.mesh_base.specs.Address.{is_broadcast, is_group}
@@ -11,11 +11,12 @@ use Rattle.mesh_base.specs.declared.address.Mac.{Mac}
 use Rattle.mesh_model.specs.declared.ending.LimitName.{LimitName}
 use Rattle.mesh_model.specs.declared.ending.LimitName.TheVariants.{Nodes, Links, Clock}
 use Rattle.mesh_model.specs.declared.ending.Stop.TheVariants.{Limit}
+use Rattle.mesh_model.specs.declared.line_form.Algorithm.TheVariants.{Iv, V}
 use Rattle.mesh_model.specs.declared.line_form.Command.{Command}
 use Rattle.mesh_model.specs.declared.line_form.Command.TheVariants.{Nothing, Algo, Node, Link, Lan, Frame, Gone, Join, Leave, Arp, Dhcp, Wifi, GwOff, GwServer, GwClient, Mcast, Dat, Alfred, Put, Get, Ping, Trace, Run, Deliver, Show, Decode}
 use Rattle.mesh_model.specs.Clients.Log.{Given}
-use Rattle.mesh_model.specs.Clients.Log.{Frame as GivenFrame, Gone as GivenGone, Join as GivenJoin, Leave as GivenLeave, Wifi as GivenWifi}
-use Rattle.mesh_model.specs.Net.Mesh.{NodeLog, NetLink, Setup}
+use Rattle.mesh_model.specs.Clients.Log.{Frame as GivenFrame, Gone as GivenGone, Join as GivenJoin, Leave as GivenLeave, Wifi as GivenWifi, Ping as GivenPing, Trace as GivenTrace}
+use Rattle.mesh_model.specs.Net.Mesh.{NodeLog, NetLink, Setup, address_at}
 use Rattle.mesh_model.specs.Net.Inputs.{given_to}
 use Rattle.mesh_model.specs.Net.Runs.{delivered}
 use Rattle.mesh_model.specs.Net.Limits.{nodes_limit, links_limit, clock_limit}
@@ -76,6 +77,11 @@ abbrev pub input_step : Setup → Given → ℕ → Step
 input_step setup given place state =
     after_attempt state (given_to setup place state.clock 0 given state.mesh)
 
+-- the node of one name begins a session with the node of another
+abbrev pub session_step : Setup → (Mac → Given) → List ℕ → List ℕ → Step
+session_step setup given node target = at_node node (λ place. at_node target (λ end state.
+    input_step setup (given (address_at end state.mesh.nodes)) place state))
+
 -- the link frame of a number is delivered, now
 abbrev pub again_step : Setup → ℕ → Step
 again_step setup number state =
@@ -97,7 +103,8 @@ show_step name print state = option_map_or
 -- the step of a command
 abbrev pub step_of : Setup → Command → Option Step
 step_of setup Nothing = Some Goes
-step_of setup (Algo algorithm) = None
+step_of setup (Algo Iv) = Some Goes
+step_of setup (Algo V) = None
 step_of setup (Node name mac) = Some (node_step name mac)
 step_of setup (Link from to delay pattern throughput) = Some (link_between from to (λ start end.
     record { from = start; to = end; delay = delay; pattern = pattern; throughput = throughput }))
@@ -119,8 +126,8 @@ step_of setup (Dat node on) = None
 step_of setup (Alfred node mode) = None
 step_of setup (Put node type_no version text) = None
 step_of setup (Get node type_no) = None
-step_of setup (Ping node target) = None
-step_of setup (Trace node target) = None
+step_of setup (Ping node target) = Some (session_step setup GivenPing node target)
+step_of setup (Trace node target) = Some (session_step setup GivenTrace node target)
 step_of setup (Run time) = Some (time_step setup time)
 step_of setup (Deliver number) = Some (again_step setup number)
 step_of setup (Show node table) = option_map (show_step node) (shown table)

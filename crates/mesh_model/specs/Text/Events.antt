@@ -2,9 +2,10 @@
 -- number, the moment of sending, the sender and the receiver, the kind of its packet, and its
 -- bytes; a reason stands as `by=R` before the bytes. `recv T NODE VID SRC DST TEXT` is a client
 -- frame that reached the clients of a node, `lost T NODE VID SRC DST R` one that was lost, and
--- `alias NODE K J` a commit that announces what an earlier one announced. An address that no node
--- has is printed itself. A choice hides link frames by their kind: `ogm` shows iv_ogm, ogm2 and
--- elp, `client` unicast, unicast4 and bcast. The main word is `event_text`.
+-- `alias NODE K J` a commit that announces what an earlier one announced. `ping A B seq=S` and what
+-- came of it is a ping, `trace A B` and what came of it a probe of a traceroute. An address that no
+-- node has is printed itself. A choice hides link frames by their kind: `ogm` shows iv_ogm, ogm2
+-- and elp, `client` unicast, unicast4 and bcast. The main word is `event_text`.
 use Rattle.std.specs.Prelude.{ℕ, ◌==◌, Bool, true, false, List, [], ◌∷◌, ◌++◌, codes, slice_index_or, Option, Some, None, if◌then◌else◌}
 use Rattle.std.specs.List.{list_any}
 use Rattle.std.specs.Option.{option_map_or, unwrap_or}
@@ -14,11 +15,15 @@ use Rattle.mesh_base.specs.Names.{node_name}
 use Rattle.mesh_base.specs.declared.address.Mac.{Mac}
 use Rattle.mesh_base.specs.declared.client.Vid.{Vid}
 use Rattle.mesh_base.specs.declared.event.Event.{Event}
-use Rattle.mesh_base.specs.declared.event.Event.TheVariants.{FrameSent, Received, Lost, Alias}
+use Rattle.mesh_base.specs.declared.event.Event.TheVariants.{FrameSent, Received, Lost, Alias, Pinged, Traced}
 use Rattle.mesh_base.specs.declared.event.LossReason.{LossReason}
 use Rattle.mesh_base.specs.declared.event.LossReason.TheVariants.{Unknown, Ttl, NoRoute}
+use Rattle.mesh_base.specs.declared.event.PingResult.{PingResult}
+use Rattle.mesh_base.specs.declared.event.PingResult.TheVariants as pings
 use Rattle.mesh_base.specs.declared.event.Reason.{Reason}
 use Rattle.mesh_base.specs.declared.event.Reason.TheVariants.{Roam, Table, Old, Gw, Mc, Alfred, Fwd}
+use Rattle.mesh_base.specs.declared.event.TraceResult.{TraceResult}
+use Rattle.mesh_base.specs.declared.event.TraceResult.TheVariants as traces
 use Rattle.mesh_base.specs.declared.names.NodeName.{NodeName}
 use Rattle.mesh_model.specs.declared.frame_choice.FrameChoice.{FrameChoice}
 use Rattle.mesh_model.specs.declared.frame_choice.FrameChoice.TheVariants.{Hidden, All, Client, Ogm}
@@ -57,6 +62,8 @@ is_shown choice (FrameSent number moment from to reason bytes) = shows choice by
 is_shown choice (Received moment node vid src dst text) = true
 is_shown choice (Lost moment node vid src dst reason) = true
 is_shown choice (Alias node commit earlier) = true
+is_shown choice (Pinged node target seq result) = true
+is_shown choice (Traced node target result) = true
 
 -- the word of a reason
 abbrev pub reason_word : Reason → List ℕ
@@ -88,6 +95,32 @@ client_frame_line word names moment node vid src dst last = line_of
     ∷ codes " " ∷ vid_text vid ∷ named_address (codes " ") src ∷ named_address (codes " ") dst
     ∷ codes " " ∷ last ∷ [])
 
+-- a word, a node and the target of its session
+abbrev pub session_text : List ℕ → List NodeName → Mac → Mac → List ℕ
+session_text word names node target =
+    word ++ codes " " ++ name_text names node ++ codes " " ++ name_text names target
+
+-- what came of a ping
+abbrev pub ping_text : List NodeName → PingResult → List ℕ
+ping_text names pings.NoRoute = codes " noroute"
+ping_text names (pings.Reply ttl rtt) =
+    codes " reply" ++ named_number (codes " ttl=") ttl ++ named_number (codes " rtt=") rtt
+ping_text names (pings.Unreachable from) = codes " unreachable from=" ++ name_text names from
+ping_text names (pings.Exceeded from) = codes " exceeded from=" ++ name_text names from
+
+-- the hop of a probe, and the node that answered it
+abbrev pub hop_text : List NodeName → ℕ → Mac → List ℕ
+hop_text names hop from = named_number (codes " hop=") hop ++ codes " " ++ name_text names from
+
+-- what came of a probe of a traceroute
+abbrev pub trace_text : List NodeName → TraceResult → List ℕ
+trace_text names traces.NoRoute = codes " noroute"
+trace_text names (traces.Passed hop from rtt) =
+    hop_text names hop from ++ named_number (codes " rtt=") rtt
+trace_text names (traces.Ended hop from rtt) =
+    hop_text names hop from ++ named_number (codes " rtt=") rtt ++ codes " end"
+trace_text names (traces.Unreachable hop from) = hop_text names hop from ++ codes " unreachable"
+
 -- the line of an event
 unfoldable pub event_line : List NodeName → Event → List ℕ
 event_line names (FrameSent number moment from to reason bytes) = line_of
@@ -101,6 +134,11 @@ event_line names (Lost moment node vid src dst reason) =
 event_line names (Alias node commit earlier) = line_of
     (codes "alias " ∷ name_text names node ∷ named_number (codes " ") commit
     ∷ named_number (codes " ") earlier ∷ [])
+event_line names (Pinged node target seq result) = line_of
+    (session_text (codes "ping") names node target
+    ∷ named_number (codes " seq=") seq ∷ ping_text names result ∷ [])
+event_line names (Traced node target result) = line_of
+    (session_text (codes "trace") names node target ∷ trace_text names result ∷ [])
 
 -- an event as it is printed, where the choice shows it
 abbrev pub event_text : FrameChoice → List NodeName → Event → List ℕ

@@ -6,7 +6,7 @@ use Rattle.std.specs.Prelude.{ℕ, List, [], ◌∷◌, ◌++◌, codes, decimal
 use Rattle.mesh_model.specs.declared.ending.LimitName.{LimitName}
 use Rattle.mesh_model.specs.declared.ending.LimitName.TheVariants.{Line, Input, Nodes, Links, Clients, Vlans, Frames, FrameBytes, Clock}
 use Rattle.mesh_model.specs.declared.ending.Refusal.{Refusal}
-use Rattle.mesh_model.specs.declared.ending.Refusal.TheVariants.{BadUtf8, UnknownCommand, MissingWord, BadName, BadMac, BadNumber, OutOfRange, ExtraWord, NotBuilt, UnknownName, WrongKind, NameTaken, AddressTaken, SameNode, LinkTaken, NoSuchFrame}
+use Rattle.mesh_model.specs.declared.ending.Refusal.TheVariants.{BadUtf8, UnknownCommand, MissingWord, BadName, BadMac, BadNumber, OutOfRange, ExtraWord, NotBuilt, UnknownName, WrongKind, NameTaken, AddressTaken, SameNode, LinkTaken, AlgoAfterNode, NoSuchFrame}
 use Rattle.mesh_model.specs.declared.ending.Stop.{Stop}
 use Rattle.mesh_model.specs.declared.ending.Stop.TheVariants.{Refused, Limit}
 use Rattle.mesh_model.specs.Scenario.Lines.{newline}
@@ -29,6 +29,7 @@ refusal_words NameTaken = codes "name taken"
 refusal_words AddressTaken = codes "address taken"
 refusal_words SameNode = codes "same node"
 refusal_words LinkTaken = codes "link taken"
+refusal_words AlgoAfterNode = codes "algo after node"
 refusal_words NoSuchFrame = codes "no such frame"
 
 -- the name of a limit
