@@ -321,20 +321,21 @@ added_sums entries after is = fun_ext (λ vid. checksums_xored [] after (map add
 
 -- ---- the right answer is taken
 pub full_answer_is_taken : FullAnswerIsTaken
-full_answer_is_taken known told stamp entries is_told distinct sums =
-    let made = additions_applied entries distinct in
+full_answer_is_taken known stamp records whole =
+    let made = additions_applied whole.entries whole.distinct in
+    let told = whole.wanted in
     let table = made.0 in
-    let carried = InFull (map addition entries) in
-    let whole : checksums table ≡ sum_at told.sums = added_sums entries table made.1 ∙ sums in
-    let none : first_difference (sums_of table) told.sums ≡ None = (finds_each_difference (sums_of table) told.sums).1 (announces_checksums table ∙ whole) in
-    let tried : trial [] (map addition entries) told.sums ≡ Leads table = ap (trial_of told.sums) made.1 ∙ ap (λ d. unless_differs d table) none in
-    let same : first_difference told.sums stamp.sums ≡ None = (finds_each_difference told.sums stamp.sums).1 is_told.sums_are in
-    let row : answer_row (stamp_of known) known.held stamp carried ≡ becomes IsTaken table =
-    ap (λ t. answer_row t known.held stamp carried) is_told.told_is
-    ∙ ap (λ b. cond b (unless_carried_differs (first_difference told.sums stamp.sums) (carried_row known.held told carried)) (stays (NotTold stamp.byte (Some told.byte)))) (eq-eqb told.byte stamp.byte is_told.byte_is)
-    ∙ ap (λ d. unless_carried_differs d (carried_row known.held told carried)) same
+    let applied : apply_strictly [] records ≡ Ok table = ap (apply_strictly []) whole.records_are ∙ made.1 in
+    let sums : checksums table ≡ sum_at told.sums = added_sums whole.entries table made.1 ∙ whole.sums_are in
+    let none : first_difference (sums_of table) told.sums ≡ None = (finds_each_difference (sums_of table) told.sums).1 (announces_checksums table ∙ sums) in
+    let tried : trial [] records told.sums ≡ Leads table = ap (trial_of told.sums) applied ∙ ap (λ d. unless_differs d table) none in
+    let same : first_difference told.sums stamp.sums ≡ None = (finds_each_difference told.sums stamp.sums).1 whole.is_told.sums_are in
+    let row : answer_row (stamp_of known) known.held stamp (InFull records) ≡ becomes IsTaken table =
+    ap (λ t. answer_row t known.held stamp (InFull records)) whole.is_told.told_is
+    ∙ ap (λ b. cond b (unless_carried_differs (first_difference told.sums stamp.sums) (carried_row known.held told (InFull records))) (stays (NotTold stamp.byte (Some told.byte)))) (eq-eqb told.byte stamp.byte whole.is_told.byte_is)
+    ∙ ap (λ d. unless_carried_differs d (carried_row known.held told (InFull records))) same
     ∙ ap taken_trial tried in (
       ap (λ r. r.outcome) row,
-      ap₂ (λ t h. agrees t h) is_told.told_is (ap (λ r. held_after stamp.byte r.table known.held) row)
-          ∙ (agrees_by_checksums told (record { byte = stamp.byte; table = table })).1 (sym is_told.byte_is, whole),
+      ap₂ (λ t h. agrees t h) whole.is_told.told_is (ap (λ r. held_after stamp.byte r.table known.held) row)
+          ∙ (agrees_by_checksums told (record { byte = stamp.byte; table = table })).1 (sym whole.is_told.byte_is, sums),
     )

@@ -12,6 +12,8 @@ pub mod KeyTables
 pub mod AscendingKeys
 pub mod MacLemmas
 pub mod PresentLemmas
+pub mod FewLemmas
+pub mod RoomLemmas
 pub mod MarkLemmas
 pub mod HeaderLemmas
 pub mod ReadingLemmas
@@ -23,6 +25,8 @@ pub mod TableChanges
 pub mod PieceLemmas
 pub mod DifferenceLemmas
 pub mod KnownLemmas
+pub mod CommitLemmas
+pub mod HeldLemmas
 pub mod MachineInvariant
 pub mod MachineLemmas
 pub mod MisledWorld

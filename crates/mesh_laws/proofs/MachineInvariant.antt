@@ -10,7 +10,7 @@ use Rattle.mesh_laws.specs.Machine.Moves.{AreLastChanges}
 use Rattle.mesh_laws.specs.Machine.Agreement.{AreOf, LeadTo, Agrees}
 
 -- ---- commits by their numbers
-number_below : (n : ℕ) (cs : List Version) (c : Version) → commit_numbered n cs ≡ Some c → n < length cs
+pub number_below : (n : ℕ) (cs : List Version) (c : Version) → commit_numbered n cs ≡ Some c → n < length cs
 number_below n [] c h = cc
 number_below n (d ∷ cs) c h = go (n == length cs) refl h (number_below n cs c)
   where

@@ -1,22 +1,22 @@
 -- Every move keeps the invariant while there is no alias, and what follows.
-use Rattle.std.proofs.Common.{◌≡◌, ◌⊎◌, inl, inr, ℕ, zero, suc, ◌+◌, ◌<◌, List, [], ◌∷◌, ◌++◌, length, map, flat_map, Option, Some, Result, Ok, refl, sym, ap, ap₂, ◌∙◌, subst, arith}
+use Rattle.std.proofs.Common.{◌≡◌, ◌⊎◌, inl, inr, ℕ, zero, suc, ◌+◌, ◌<◌, List, [], ◌∷◌, ◌++◌, length, map, flat_map, Option, Some, Ok, refl, sym, ap, ap₂, ◌∙◌, subst, arith}
 use Rattle.std.specs.List.{range_with_len}
 use Rattle.mesh_base.specs.declared.client.Entry.{Entry}
 use Rattle.mesh_base.specs.declared.client.Vid.{Vid}
 use Rattle.mesh_model.specs.Packets.Bodies.{VlanSum}
 use Rattle.mesh_model.specs.declared.table_change.Change.{Change}
-use Rattle.mesh_model.specs.Tables.Changes.{IsInKeyOrder, addition}
+use Rattle.mesh_model.specs.Tables.Changes.{addition}
 use Rattle.mesh_model.specs.Tables.Strict.{apply_strictly}
 use Rattle.mesh_model.specs.Tables.Sums.{checksums, sum_at}
 use Rattle.mesh_model.specs.Tables.Versions.{Version, next_byte}
+use Rattle.mesh_laws.specs.HeldLaws.{AreCommits}
 use Rattle.mesh_laws.specs.Machine.Pieces.{piece, piece_count, put_together}
 use Rattle.mesh_laws.specs.Machine.World.{Announcement, Differences, Piece, Told, World, start, commit_numbered, IsCommit, silent_node}
 use Rattle.mesh_laws.specs.Machine.Moves.{Move, commits, announces, answers_changes, answers_piece, passes, is_told, takes_changes, takes_full, drops, Reaches, no_move, then_move, AreLastChanges, announcement_of, differences_to, piece_of, held_when_told, WereOffered, PieceWasSaid, agreed_node}
 use Rattle.mesh_laws.specs.Machine.Agreement.{HasNoAlias, AreOf, LeadTo, Agrees}
 use Rattle.mesh_laws.specs.Machine.MachineLaws.{SayingsAgree, HeldAreCommits, ToldAreCommits, AgreedHoldTheTold}
 use Rattle.mesh_laws.proofs.AnnouncedSums.{announces_checksums, announces_none_of_empty}
-use Rattle.mesh_laws.proofs.TableSums.{had_equal_checksums}
-use Rattle.mesh_laws.proofs.TableChanges.{changeset_leads, additions_make_table}
+use Rattle.mesh_laws.proofs.CommitLemmas.{led_to_commit, made_of_commit}
 use Rattle.mesh_laws.proofs.PieceLemmas.{pieces_make_table}
 use Rattle.mesh_laws.proofs.MachineInvariant.{Good, IsToldOf, good_start, good_commit, good_saying, good_node, commit_kept, last_numbered, last_lead}
 
@@ -30,9 +30,8 @@ told_held cs c byte [] old is of held h e =
 told_held cs c byte (first ∷ others) old is of held h e = held h e
 
 -- ---- taking changes
--- the byte after tells the byte
-byte_before : (a b : ℕ) → a < 256 → b < 256 → next_byte a ≡ next_byte b → a ≡ b
-byte_before a b p q e = omega arith
+are_commits : (w : World) → Good w → HasNoAlias w.commits → AreCommits w.commits
+are_commits w g none = record { bytes = λ c is. g.bytes is.0 c is.1; ordered = λ c is. g.ordered is.0 c is.1; no_alias = none }
 
 -- an agreement of what changes lead to
 record Offer (cs : List Version) (byte : ℕ) (sums : List VlanSum) (changes : List Change) : Type 0 where
@@ -58,16 +57,8 @@ offer_agrees w byte sums changes g (inr said) =
 taken_by_changes : (w : World) (t : Told) (h : Version) (sums : List VlanSum) (changes : List Change) (table : List Entry) → Good w → HasNoAlias w.commits → IsCommit w.commits h → WereOffered w.said t.byte sums changes → sum_at sums ≡ sum_at t.sums → t.byte ≡ next_byte h.byte → apply_strictly h.table changes ≡ Ok table → checksums table ≡ sum_at t.sums → IsCommit w.commits (record { byte = t.byte; table = table })
 taken_by_changes w t h sums changes table g none held offered carried next strict result =
     let o : Offer w.commits t.byte sums changes = offer_agrees w t.byte sums changes g offered in
-    let l : LeadTo w.commits o.number o.commit changes = o.leads in
-    let leads : apply_strictly l.before.table changes ≡ Ok o.commit.table =
-    ap (apply_strictly l.before.table) l.changes_are
-    ∙ changeset_leads l.before.table o.commit.table (g.ordered l.earlier l.before l.was_commit) (g.ordered o.number o.commit o.is_commit) in
     let after : checksums table ≡ checksums o.commit.table = result ∙ sym carried ∙ ap sum_at o.of.1 ∙ announces_checksums o.commit.table in
-    let earlier : checksums h.table ≡ checksums l.before.table = had_equal_checksums h.table l.before.table table o.commit.table changes strict leads after in
-    let bytes : h.byte ≡ l.before.byte = byte_before h.byte l.before.byte (g.bytes held.0 h held.1) (g.bytes l.earlier l.before l.was_commit) (sym next ∙ o.of.0 ∙ l.byte_is) in
-    let base : h.table ≡ l.before.table = none h l.before held (l.earlier, l.was_commit) bytes earlier in
-    let ok : ◌≡◌ {A = Result (List Entry) Change} (Ok table) (Ok o.commit.table) = sym strict ∙ ap (λ x. apply_strictly x changes) base ∙ leads in
-    let same : o.commit.table ≡ table = cc in
+    let same : o.commit.table ≡ table = led_to_commit w.commits (are_commits w g none) o.number o.commit h changes table o.is_commit o.leads held (sym o.of.0 ∙ next) strict after in
     let version : o.commit ≡ record { byte = t.byte; table = table } = λ i. record { byte = sym o.of.0 i; table = same i } in
     subst (IsCommit w.commits) version (o.number, o.is_commit)
 
@@ -110,9 +101,7 @@ taken_in_full w t count pieces table g none some said strict =
     let together : put_together count pieces ≡ map addition whole =
     same_together pieces (λ place. piece place whole) 0 count (λ place below. each place (omega arith))
     ∙ ap (λ n. put_together n (λ place. piece place whole)) first.count_is ∙ pieces_make_table whole in
-    let ordered : IsInKeyOrder whole = g.ordered first.is_commit.0 first.commit first.is_commit.1 in
-    let ok : ◌≡◌ {A = Result (List Entry) Change} (Ok table) (Ok whole) = sym strict ∙ ap (apply_strictly []) together ∙ additions_make_table whole ordered in
-    let same : whole ≡ table = cc in
+    let same : whole ≡ table = made_of_commit w.commits (are_commits w g none) first.commit table first.is_commit (sym (ap (apply_strictly []) together) ∙ strict) in
     let version : first.commit ≡ record { byte = t.byte; table = table } = λ i. record { byte = first.byte_is i; table = same i } in
     subst (IsCommit w.commits) version first.is_commit
 

@@ -135,12 +135,19 @@ IsTakenWhole = (told : Option Stamp) (held : Option Version) (stamp : Stamp)
 abbrev pub HaveDistinctKeys : List Entry → Type 0
 HaveDistinctKeys entries = IsDistinct same_key (map (λ entry. entry.key) entries)
 
--- a full answer with the told byte and sums, whose records are additions of distinct keys with
--- those checksums, is taken, and what is known agrees then
+-- an answer in full has the byte and the checksums that were told, and its records are additions of
+-- distinct keys that have those checksums
+pub record IsToldWhole (told : Option Stamp) (stamp : Stamp) (records : List Change) : Type 0 where
+  pub wanted : Stamp
+  pub entries : List Entry
+  pub is_told : IsTold told stamp wanted
+  pub records_are : records ≡ map addition entries
+  pub distinct : HaveDistinctKeys entries
+  pub sums_are : checksums entries ≡ sum_at wanted.sums
+
+-- such an answer is taken, whatever is held, and what is known agrees then
 abbrev pub FullAnswerIsTaken : Type 0
-FullAnswerIsTaken = (known : Known) (told stamp : Stamp) (entries : List Entry) →
-    IsTold (stamp_of known) stamp told → HaveDistinctKeys entries →
-    checksums entries ≡ sum_at told.sums →
-    ((answer_row (stamp_of known) known.held stamp (InFull (map addition entries))).outcome
-    ≡ IsTaken)
-    × IsTrue (is_agreed (answered stamp (InFull (map addition entries)) known))
+FullAnswerIsTaken = (known : Known) (stamp : Stamp) (records : List Change) →
+    IsToldWhole (stamp_of known) stamp records →
+    ((answer_row (stamp_of known) known.held stamp (InFull records)).outcome ≡ IsTaken)
+    × IsTrue (is_agreed (answered stamp (InFull records) known))

@@ -11,4 +11,5 @@ pub mod LineLaws
 pub mod TableLaws
 pub mod KnownLaws
 pub mod Machine
+pub mod HeldLaws
 pub mod MarkLaws

@@ -4,7 +4,7 @@
 -- with. The main words are `IsSound` and `KeepsBytes`.
 use Rattle.std.specs.Prelude.{◌≡◌, ℕ, suc, ◌+◌, ◌*◌, ◌-◌, ◌<◌, ◌≤◌, ◌⊎◌, List, length, slice_get, Some, ⊤}
 use Rattle.mesh_model.specs.declared.happening.Happening.{Happening}
-use Rattle.mesh_model.specs.Clients.Log.{Given, Tick, LinkFrame, Frame, Gone, Join, Leave, Arp, Dhcp, Wifi, LogEntry}
+use Rattle.mesh_model.specs.Clients.Log.{Given, Tick, LinkFrame, Frame, Gone, Join, Leave, Arp, Dhcp, Wifi, Ping, Trace, LogEntry}
 use Rattle.mesh_model.specs.Net.Happenings.{Before, class_number}
 use Rattle.mesh_model.specs.Net.Mesh.{NodeLog, NetLink, SentFrame, Mesh, Setup}
 use Rattle.mesh_model.specs.Net.Due.{ticks_in, tick_at}
@@ -47,6 +47,8 @@ GivesItsBytes frames (Leave key) = ⊤
 GivesItsBytes frames (Arp mac own_ip asked_ip vid) = ⊤
 GivesItsBytes frames (Dhcp key text) = ⊤
 GivesItsBytes frames (Wifi on) = ⊤
+GivesItsBytes frames (Ping target) = ⊤
+GivesItsBytes frames (Trace target) = ⊤
 
 -- every frame in every log has the bytes that it was sent with
 abbrev pub KeepsBytes : Mesh → Type 0

@@ -5,6 +5,7 @@
 #![tactic(auto)]
 
 pub mod happening_laws;
+pub mod held_laws;
 pub mod known_laws;
 pub mod line_laws;
 pub mod machine_laws;

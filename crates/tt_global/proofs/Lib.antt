@@ -1,4 +1,5 @@
 -- What the methods of `Globals` rest on.
 pub mod KeyLemmas
 pub mod StandLemmas
+pub mod CommitLemmas
 pub mod PlaceLemmas

@@ -9,6 +9,7 @@ use Rattle.mesh_base.specs.declared.address.Mac.{Mac}
 use Rattle.mesh_base.specs.declared.client.Entry.{Entry}
 use Rattle.mesh_model.specs.declared.table_change.Change.{Change}
 use Rattle.mesh_model.specs.declared.table_outcome.Heard.{Heard}
+use Rattle.mesh_model.specs.declared.table_outcome.Taken.{Taken}
 use Rattle.mesh_model.specs.Routes.Addresses.{insert_mac, mac_order, same_mac}
 use Rattle.mesh_model.specs.Tables.Judging.{Carried, Row, announcement_row, answer_row}
 use Rattle.mesh_model.specs.Tables.Known.{Announced, Answered, Dropped, Known, TableCalls, announced, answered, held_after, known_by, nothing, stamp_of}
@@ -16,7 +17,8 @@ use Rattle.mesh_model.specs.Tables.Versions.{Stamp, Version}
 use Rattle.mesh_laws.proofs.AscendingKeys.{ascend_inserted, ascend_removed}
 use Rattle.mesh_laws.proofs.MacLemmas.{mac_exact, mac_total, same_equiv, same_exact, same_self}
 use Rattle.tt_global.specs.Globals.{GlobalsStand, Kept}
-use Rattle.tt_global.specs.Kept.{IsHeld, IsTold, answer_of, held_in, told_in, version_of}
+use Rattle.tt_global.specs.Kept.{HoldsThen, IsHeld, IsTold, answer_of, held_in, row_in, told_in, version_of}
+use Rattle.tt_global.specs.declared.judging.Judged.{Judged}
 use Rattle.tt_global.specs.declared.known.HeldTable.{HeldTable}
 use Rattle.tt_global.specs.declared.known.KnownTable.{KnownTable}
 use Rattle.tt_global.proofs.KeyLemmas.{key_again, keys_inserted, keys_removed}
@@ -29,6 +31,15 @@ at orig kept = lookup (same_mac orig) kept
 pub nothing_stands : (kept : Kept) → kept ≡ [] → GlobalsStand kept []
 unfolding IsStrictlySortedBy
 nothing_stands kept is = subst (λ k. GlobalsStand k []) (sym is) (record { told = λ orig. refl; held = λ orig. refl; originators = refl; rise = tt })
+
+-- where something was told, something is kept
+told_there : (orig : Mac) (told : Stamp) (old new : Kept) → IsTold orig told old new → IsSome (at orig new)
+told_there orig told old new is_told =
+    some (at orig new) (is_told.told_is orig ∙ ap (λ b. cond b (Some told) (told_in (at orig old))) (same_self orig))
+  where
+    some : (kept : Option KnownTable) → told_in kept ≡ Some told → IsSome kept
+    some None is = absurd (false≢true (ap is_some is))
+    some (Some known) is = refl
 
 -- ---- announcements
 module _ (calls : TableCalls) (orig : Mac) (frame : ℕ) (stamp : Stamp) (changes : List Change) (old mid : Kept) (stands : GlobalsStand old calls) (is_told : IsTold orig stamp old mid) where
@@ -57,7 +68,7 @@ module _ (calls : TableCalls) (orig : Mac) (frame : ℕ) (stamp : Stamp) (change
           ∙ ap (λ h. held_after stamp.byte (row h).table h) (stands.held other)
       go false t = stands.held other
 
-  pub announced_kept : (row (held_in (at orig old))).table ≡ None → GlobalsStand mid (Announced orig frame stamp changes ∷ calls)
+  announced_kept : (row (held_in (at orig old))).table ≡ None → GlobalsStand mid (Announced orig frame stamp changes ∷ calls)
   announced_kept is = record {
     told = told_then;
     held = λ other. is_told.held_stays other ∙ unchanged (same_mac orig other) _ ∙ held_then None is other;
@@ -69,7 +80,7 @@ module _ (calls : TableCalls) (orig : Mac) (frame : ℕ) (stamp : Stamp) (change
       unchanged true h = refl
       unchanged false h = refl
 
-  pub announced_held : (table : List Entry) (new : Kept) → (row (held_in (at orig old))).table ≡ Some table → IsHeld orig (record { byte = stamp.byte; table = table }) mid new → GlobalsStand new (Announced orig frame stamp changes ∷ calls)
+  announced_held : (table : List Entry) (new : Kept) → (row (held_in (at orig old))).table ≡ Some table → IsHeld orig (record { byte = stamp.byte; table = table }) mid new → GlobalsStand new (Announced orig frame stamp changes ∷ calls)
   announced_held table new is held = record {
     told = λ other. held.told_stays other ∙ told_then other;
     held = λ other. held.held_is other ∙ ap (cond (same_mac orig other) (Some (record { byte = stamp.byte; table = table }))) (is_told.held_stays other) ∙ held_then (Some table) is other;
@@ -77,18 +88,22 @@ module _ (calls : TableCalls) (orig : Mac) (frame : ℕ) (stamp : Stamp) (change
     rise = subst (IsStrictlySortedBy mac_order) (sym held.keys_stay) (is_told.rise stands.rise);
   }
 
--- where something was told, something is kept
-pub told_there : (orig : Mac) (told : Stamp) (old new : Kept) → IsTold orig told old new → IsSome (at orig new)
-told_there orig told old new is_told =
-    some (at orig new) (is_told.told_is orig ∙ ap (λ b. cond b (Some told) (told_in (at orig old))) (same_self orig))
-  where
-    some : (kept : Option KnownTable) → told_in kept ≡ Some told → IsSome kept
-    some None is = absurd (false≢true (ap is_some is))
-    some (Some known) is = refl
+  announced_then : (table : Option (List Entry)) (new : Kept) → (row (held_in (at orig old))).table ≡ table → HoldsThen orig stamp.byte table mid new → GlobalsStand new (Announced orig frame stamp changes ∷ calls)
+  announced_then None new is holds = subst (λ k. GlobalsStand k (Announced orig frame stamp changes ∷ calls)) (sym holds) (announced_kept is)
+  announced_then (Some table) new is holds = announced_held table new is (holds (told_there orig stamp old mid is_told))
+
+  -- the announcement is noted, by what was judged of it
+  pub announced_stands : (judged : Judged Heard) (held : Option Version) → held ≡ held_in (at orig old) → row_in judged ≡ row held → (new : Kept) → HoldsThen orig stamp.byte (row_in judged).table mid new
+      → GlobalsStand new (Announced orig frame stamp changes ∷ calls)
+  announced_stands judged held was is new holds = announced_then (row_in judged).table new (ap (λ h. (row h).table) (sym was) ∙ ap (λ r. r.table) (sym is)) holds
+
+  -- its outcome
+  pub heard_is : (judged : Judged Heard) (held : Option Version) → held ≡ held_in (at orig old) → row_in judged ≡ row held → judged.outcome ≡ (row (known_by calls orig).held).outcome
+  heard_is judged held was is = ap (λ r. r.outcome) is ∙ ap (λ h. (row h).outcome) (was ∙ stands.held orig)
 
 -- ---- answers
 -- an answer is taken only where something was told
-pub kept_taken : (kept : Option KnownTable) (stamp : Stamp) (carried : Carried) (table : List Entry) → (answer_of kept stamp carried).table ≡ Some table → IsSome kept
+kept_taken : (kept : Option KnownTable) (stamp : Stamp) (carried : Carried) (table : List Entry) → (answer_of kept stamp carried).table ≡ Some table → IsSome kept
 kept_taken None stamp carried table is = absurd (false≢true (ap is_some is))
 kept_taken (Some known) stamp carried table is = refl
 
@@ -109,11 +124,7 @@ module _ (calls : TableCalls) (orig : Mac) (stamp : Stamp) (carried : Carried) (
           ∙ ap₂ (λ s h. held_after stamp.byte (answer_row s h stamp carried).table h) (stands.told other) (stands.held other)
       go false t = stands.held other
 
-  -- the outcome
-  pub answer_is : (answer_of (at orig old) stamp carried).outcome ≡ (answer_row (stamp_of (known_by calls orig)) (known_by calls orig).held stamp carried).outcome
-  answer_is = ap₂ (λ s h. (answer_row s h stamp carried).outcome) (stands.told orig) (stands.held orig)
-
-  pub answered_kept : (answer_of (at orig old) stamp carried).table ≡ None → GlobalsStand old (Answered orig stamp carried ∷ calls)
+  answered_kept : (answer_of (at orig old) stamp carried).table ≡ None → GlobalsStand old (Answered orig stamp carried ∷ calls)
   answered_kept is = record {
     told = λ other. stands.told other ∙ stays_told other;
     held = λ other. unchanged (same_mac orig other) _ ∙ held_answered None is other;
@@ -125,13 +136,28 @@ module _ (calls : TableCalls) (orig : Mac) (stamp : Stamp) (carried : Carried) (
       unchanged true h = refl
       unchanged false h = refl
 
-  pub answered_held : (table : List Entry) (new : Kept) → (answer_of (at orig old) stamp carried).table ≡ Some table → IsHeld orig (record { byte = stamp.byte; table = table }) old new → GlobalsStand new (Answered orig stamp carried ∷ calls)
+  answered_held : (table : List Entry) (new : Kept) → (answer_of (at orig old) stamp carried).table ≡ Some table → IsHeld orig (record { byte = stamp.byte; table = table }) old new → GlobalsStand new (Answered orig stamp carried ∷ calls)
   answered_held table new is held = record {
     told = λ other. held.told_stays other ∙ stands.told other ∙ stays_told other;
     held = λ other. held.held_is other ∙ held_answered (Some table) is other;
     originators = held.keys_stay ∙ stands.originators;
     rise = subst (IsStrictlySortedBy mac_order) (sym held.keys_stay) stands.rise;
   }
+
+  answered_then : (table : Option (List Entry)) (new : Kept) → (answer_of (at orig old) stamp carried).table ≡ table → HoldsThen orig stamp.byte table old new → GlobalsStand new (Answered orig stamp carried ∷ calls)
+  answered_then None new is holds = subst (λ k. GlobalsStand k (Answered orig stamp carried ∷ calls)) (sym holds) (answered_kept is)
+  answered_then (Some table) new is holds = answered_held table new is (holds (kept_taken (at orig old) stamp carried table is))
+
+  -- the answer is noted, by what was judged of it
+  pub answered_stands : (judged : Judged Taken) (kept : Option KnownTable) → kept ≡ at orig old → row_in judged ≡ answer_of kept stamp carried → (new : Kept) → HoldsThen orig stamp.byte (row_in judged).table old new
+      → GlobalsStand new (Answered orig stamp carried ∷ calls)
+  answered_stands judged kept was is new holds = answered_then (row_in judged).table new (ap (λ k. (answer_of k stamp carried).table) (sym was) ∙ ap (λ r. r.table) (sym is)) holds
+
+  -- its outcome
+  pub taken_is : (judged : Judged Taken) (kept : Option KnownTable) → kept ≡ at orig old → row_in judged ≡ answer_of kept stamp carried
+      → judged.outcome ≡ (answer_row (stamp_of (known_by calls orig)) (known_by calls orig).held stamp carried).outcome
+  taken_is judged kept was is =
+      ap (λ r. r.outcome) is ∙ ap (λ k. (answer_of k stamp carried).outcome) was ∙ ap₂ (λ s h. (answer_row s h stamp carried).outcome) (stands.told orig) (stands.held orig)
 
 -- ---- a life that ended
 pub dropped : (calls : TableCalls) (orig : Mac) (old new : Kept) → GlobalsStand old calls → new ≡ remove_entry (same_mac orig) old

@@ -1,13 +1,14 @@
 -- How what is kept of originators stands for all that came for them. The main word is
 -- `GlobalsStand`.
-use Rattle.std.specs.Prelude.{◌≡◌, ℕ, List}
+use Rattle.std.specs.Prelude.{◌≡◌, ℕ, List, IsTrue}
 use Rattle.std.specs.Borrow.{Bor}
 use Rattle.std.specs.List.Sorted.{IsStrictlySortedBy}
 use Rattle.std.specs.Map.{keys_of, lookup}
 use Rattle.mesh_base.specs.declared.address.Mac.{Mac}
 use Rattle.mesh_model.specs.Routes.Addresses.{mac_order, same_mac}
-use Rattle.mesh_model.specs.Tables.Known.{TableCalls, known_by, originators_by, stamp_of}
+use Rattle.mesh_model.specs.Tables.Known.{TableCalls, agrees, known_by, originators_by, stamp_of}
 use Rattle.mesh_model.specs.Tables.Versions.{Version}
+use Rattle.mesh_laws.specs.HeldLaws.{AreOfCommits}
 use Rattle.tt_global.specs.Kept.{held_in, told_in}
 use Rattle.tt_global.specs.declared.known.KnownTable.{KnownTable}
 use Rattle.tt_table.specs.Table.{TableView}
@@ -24,6 +25,17 @@ pub record GlobalsStand (kept : Kept) (calls : TableCalls) : Type 0 where
   pub held : (orig : Mac) → held_in (lookup (same_mac orig) kept) ≡ (known_by calls orig).held
   pub originators : keys_of kept ≡ originators_by calls
   pub rise : IsStrictlySortedBy mac_order (keys_of kept)
+
+-- what was told of an originator and what is held of it are of these commits, and where they agree,
+-- what is held is the commit that was told
+abbrev pub KeepsCommits : List Version → Mac → Kept → Type 0
+KeepsCommits made orig kept = AreOfCommits made (told_in (lookup (same_mac orig) kept))
+    (held_in (lookup (same_mac orig) kept))
+
+-- what is held of an originator has the byte and the sums that were told
+abbrev pub KeepsAgreed : Mac → Kept → Type 0
+KeepsAgreed orig kept = IsTrue (agrees (told_in (lookup (same_mac orig) kept))
+    (held_in (lookup (same_mac orig) kept)))
 
 -- a table that is lent with its byte, as a version
 abbrev pub asked_version : ℕ × Bor TableView → Version

@@ -1,10 +1,11 @@
 -- What is kept of an originator, as the definitions see it: what was told, and what is held. No
 -- public clause cites this file but for `stamp` and `stamp_in`.
-use Rattle.std.specs.Prelude.{◌≡◌, ℕ, List, Option, Some, None, option_map, if◌then◌else◌}
+use Rattle.std.specs.Prelude.{◌≡◌, ℕ, List, Option, Some, None, IsSome, option_map, if◌then◌else◌}
 use Rattle.std.specs.Borrow.{Bor}
 use Rattle.std.specs.List.Sorted.{IsStrictlySortedBy}
 use Rattle.std.specs.Map.{keys_of, lookup}
 use Rattle.mesh_base.specs.declared.address.Mac.{Mac}
+use Rattle.mesh_base.specs.declared.client.Entry.{Entry}
 use Rattle.mesh_model.specs.Routes.Addresses.{insert_mac, mac_order, same_mac}
 use Rattle.mesh_model.specs.declared.table_row.GlobalRow.{GlobalRow}
 use Rattle.mesh_model.specs.declared.table_outcome.Taken.{Taken}
@@ -90,3 +91,11 @@ pub record IsHeld (orig : Mac) (version : Version) (old new : List (Mac × Known
   pub held_is : (other : Mac) → held_in (lookup (same_mac other) new)
       ≡ (if same_mac orig other then Some version else held_in (lookup (same_mac other) old))
   pub keys_stay : keys_of new ≡ keys_of old
+
+-- of one originator of which something is kept a table, if one came, is held under a byte, and all
+-- else is as before
+abbrev pub HoldsThen : Mac → ℕ → Option (List Entry) → List (Mac × KnownTable)
+    → List (Mac × KnownTable) → Type 0
+HoldsThen orig byte None old new = new ≡ old
+HoldsThen orig byte (Some table) old new = IsSome (lookup (same_mac orig) old) →
+    IsHeld orig (record { byte = byte; table = table }) old new

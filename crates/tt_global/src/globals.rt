@@ -1,11 +1,15 @@
-ghost use Rattle.std.specs.Prelude.{◌≡◌, ◌↔◌, ◌+◌, ◌≤◌, ℕ, [], ◌∷◌, length, slice_get, option_map, option_and_then, IfOk, IfSome, IsNone, IsOk, IsSome, OnErr, OnOk, Some};
+ghost use Rattle.std.specs.Prelude.{◌≡◌, ◌↔◌, ◌+◌, ◌≤◌, ℕ, List, [], ◌∷◌, length, slice_get, option_map, option_and_then, IfOk, IfSome, IsNone, IsOk, IsTrue, OnErr, OnOk, Some};
 ghost use Rattle.std.specs.Map.{lookup};
 ghost use Rattle.mesh_base.specs.declared.address.Mac.{Mac};
 ghost use Rattle.mesh_model.specs.Routes.Addresses.{same_mac};
 ghost use Rattle.mesh_model.specs.Tables.Judging.{InChanges, InFull, announcement_row, answer_row};
 ghost use Rattle.mesh_model.specs.Tables.Known.{Announced, Answered, Dropped, TableCalls, holders_by, is_agreed, known_by, originators_by, row_by, stamp_of};
-ghost use Rattle.tt_global.specs.Globals.{GlobalsStand, asked_version};
-ghost use Rattle.tt_global.specs.Kept.{IsHeld, IsTold, stamp, stamp_in, told_in};
+ghost use Rattle.mesh_model.specs.Tables.Versions.{Version};
+ghost use Rattle.mesh_model.specs.declared.table_outcome.Taken.TheVariants.{Taken as IsTaken};
+ghost use Rattle.mesh_laws.specs.HeldLaws.{CameFrom, HoldsTold};
+ghost use Rattle.mesh_laws.specs.KnownLaws.{IsToldWhole};
+ghost use Rattle.tt_global.specs.Globals.{GlobalsStand, KeepsAgreed, KeepsCommits, asked_version};
+ghost use Rattle.tt_global.specs.Kept.{HoldsThen, IsTold, stamp, stamp_in, told_in};
 
 use crate::judging::{Judged, judge_announcement, judge_changes, judge_full};
 use crate::known::{HeldTable, KnownTable};
@@ -61,6 +65,13 @@ impl Globals {
         ensures err { OnErr result (self.new ≡ self.old) }
         ensures steps { steps.new ≤ steps.old + length announced.now.changes }
 
+        // What is held is a commit, and where it agrees, the one that was told last, while all that
+        // came tells of commits without an alias.
+        ensures commits { (calls : TableCalls) (frame : ℕ) (made : List Version) →
+            GlobalsStand self.old calls → CameFrom made orig
+            (Announced orig frame (stamp_in announced.now) announced.now.changes ∷ calls) →
+            OnOk result (KeepsCommits made orig self.new) }
+
         // No memory is wanted where the byte and the sums were told before, and what is held, if
         // anything, is held under that byte.
         ensures same { (calls : TableCalls) → GlobalsStand self.old calls →
@@ -71,9 +82,7 @@ impl Globals {
         let held = self.known.get(&orig).and_then(|known| known.held.as_ref());
         let Judged { outcome, table } = judge_announcement(self.alloc, held, announced, steps)?;
         self.tell(orig, announced.byte, &announced.sums)?;
-        if let Some(table) = table {
-            self.hold(orig, announced.byte, table);
-        }
+        self.hold(orig, announced.byte, table);
         Ok(outcome)
     }
 
@@ -94,12 +103,24 @@ impl Globals {
             (known_by calls orig).held (stamp byte sums.now) (InFull records.now)).outcome) }
         ensures err { OnErr result (self.new ≡ self.old) }
         ensures steps { steps.new ≤ steps.old + length records.now }
+
+        // As after an announcement.
+        ensures commits { (calls : TableCalls) (made : List Version) →
+            GlobalsStand self.old calls →
+            CameFrom made orig (Answered orig (stamp byte sums.now) (InFull records.now) ∷ calls) →
+            OnOk result (KeepsCommits made orig self.new) }
+
+        // The whole table that was told last is taken, and what is held agrees then, whatever came.
+        ensures whole { (calls : TableCalls) → GlobalsStand self.old calls →
+            IsToldWhole (stamp_of (known_by calls orig)) (stamp byte sums.now) records.now →
+            IfOk result (λ taken. taken ≡ IsTaken) }
+        ensures agreed { (calls : TableCalls) → GlobalsStand self.old calls →
+            IsToldWhole (stamp_of (known_by calls orig)) (stamp byte sums.now) records.now →
+            OnOk result (KeepsAgreed orig self.new) }
     {
         let kept = self.known.get(&orig);
         let Judged { outcome, table } = judge_full(self.alloc, kept, byte, sums, records, steps)?;
-        if let Some(table) = table {
-            self.hold(orig, byte, table);
-        }
+        self.hold(orig, byte, table);
         Ok(outcome)
     }
 
@@ -120,12 +141,16 @@ impl Globals {
             (known_by calls orig).held (stamp byte sums.now) (InChanges records.now)).outcome) }
         ensures err { OnErr result (self.new ≡ self.old) }
         ensures steps { steps.new ≤ steps.old + length records.now }
+
+        // As after an announcement.
+        ensures commits { (calls : TableCalls) (made : List Version) →
+            GlobalsStand self.old calls →
+            CameFrom made orig (Answered orig (stamp byte sums.now) (InChanges records.now) ∷ calls) →
+            OnOk result (KeepsCommits made orig self.new) }
     {
         let kept = self.known.get(&orig);
         let Judged { outcome, table } = judge_changes(kept, byte, sums, records, steps)?;
-        if let Some(table) = table {
-            self.hold(orig, byte, table);
-        }
+        self.hold(orig, byte, table);
         Ok(outcome)
     }
 
@@ -147,8 +172,14 @@ impl Globals {
 
     /// Whether the held table of an originator has the byte and the sums that it announced last.
     pub fn is_ok(&self, orig: Mac) -> bool
-        ensures { (calls : TableCalls) → GlobalsStand self.now calls →
+        ensures agreed { (calls : TableCalls) → GlobalsStand self.now calls →
             result ≡ is_agreed (known_by calls orig) }
+
+        // The held table is the commit that was told last, while all that came tells of commits
+        // without an alias.
+        ensures commit { (calls : TableCalls) (made : List Version) → GlobalsStand self.now calls →
+            CameFrom made orig calls → IsTrue result →
+            HoldsTold made (stamp_of (known_by calls orig)) (known_by calls orig).held }
     {
         match self.known.get(&orig) {
             Some(known) => known.is_agreed(),
@@ -222,11 +253,14 @@ impl Globals {
         }
     }
 
-    // Notes the table that is held of an originator which announced something.
-    fn hold(&mut self, orig: Mac, byte: u8, table: Table)
-        ensures { IsSome (lookup (same_mac orig) self.old) →
-            IsHeld orig (record { byte = byte; table = table.entries }) self.old self.new }
+    // Notes the table that came, if one did, of an originator which announced something.
+    fn hold(&mut self, orig: Mac, byte: u8, table: Option<Table>)
+        ensures { HoldsThen orig byte (option_map (λ table. table.entries) table)
+            self.old self.new }
     {
+        let Some(table) = table else {
+            return;
+        };
         if let Some(known) = self.known.get_mut(&orig) {
             known.held = Some(HeldTable { byte, table });
         }

@@ -11,6 +11,12 @@ use tt_table::{Announcement, Change, Changes, Sums};
 const FIRST_SUM: u32 = 0x81a0_d314;
 /// Another sum.
 const OTHER_SUM: u32 = 0x92f0_20e0;
+/// The checksum of the first client and the second, as another program computed it.
+const TWO_SUM: u32 = 0x1350_f3f4;
+/// The checksum of the first three clients.
+const THREE_SUM: u32 = 0x73cb_5017;
+/// The checksum of the fifth client and the sixth.
+const ALIAS_SUM: u32 = 0x1350_f3f4;
 
 fn node(last: u8) -> Mac {
     Mac([2, 0, 0, 0, 0, last])
@@ -39,6 +45,25 @@ fn one(alloc: Global, entry: Entry, del: bool) -> Result<Changes, NoMemory> {
     Ok(changes)
 }
 
+/// The additions of clients, by the last bytes of their addresses.
+fn added(alloc: Global, clients: &[u8]) -> Result<Changes, NoMemory> {
+    let mut changes = Changes::new(alloc);
+    for last in clients {
+        let entry = client(*last);
+        changes.push(Change { entry, del: false })?;
+    }
+    Ok(changes)
+}
+
+/// An announcement of the empty table under byte 0.
+fn emptied(alloc: Global) -> Announcement {
+    Announcement {
+        byte: 0,
+        sums: Sums::new(alloc),
+        changes: Changes::new(alloc),
+    }
+}
+
 /// An announcement under a byte and a sum, with changes.
 fn told(alloc: Global, byte: u8, sum: u32, changes: Changes) -> Result<Announcement, NoMemory> {
     let sums = untagged(alloc, sum)?;
@@ -58,13 +83,8 @@ fn announce_all<L: Ledger>(
     let orig = node(10);
     let none = || Changes::new(alloc);
     let add = || one(alloc, client(1), false);
-    let empty = Announcement {
-        byte: 0,
-        sums: Sums::new(alloc),
-        changes: none(),
-    };
     Ok([
-        globals.announce(orig, &empty, steps)?,
+        globals.announce(orig, &emptied(alloc), steps)?,
         globals.announce(orig, &told(alloc, 1, FIRST_SUM, add()?)?, steps)?,
         globals.announce(orig, &told(alloc, 1, OTHER_SUM, none())?, steps)?,
         globals.announce(orig, &told(alloc, 2, FIRST_SUM, add()?)?, steps)?,
@@ -195,5 +215,103 @@ fn holders_stand_by_address_until_they_are_dropped(rt: HostRuntime) -> Result<()
         (Some(node(12)), None)
     );
     assert_eq!(rt; globals.holder(client(2).key, 0), None);
+    Ok(())
+}
+
+/// The outcomes of announcements of one, two and three clients, of which the first brings changes.
+fn announce_three<L: Ledger>(
+    alloc: Global,
+    globals: &mut Globals,
+    steps: &mut Steps<L>,
+) -> Result<[Heard; 3], NoMemory> {
+    let orig = node(10);
+    let none = || Changes::new(alloc);
+    let first = added(alloc, &[1])?;
+    globals.announce(orig, &emptied(alloc), steps)?;
+    Ok([
+        globals.announce(orig, &told(alloc, 1, FIRST_SUM, first)?, steps)?,
+        globals.announce(orig, &told(alloc, 2, TWO_SUM, none())?, steps)?,
+        globals.announce(orig, &told(alloc, 3, THREE_SUM, none())?, steps)?,
+    ])
+}
+
+/// The outcome of the changes to two clients, which come late, and the byte that is held then; and
+/// that of the whole table of three.
+fn answer_late<L: Ledger>(
+    alloc: Global,
+    globals: &mut Globals,
+    steps: &mut Steps<L>,
+) -> Result<(Taken, Option<u8>, Taken), NoMemory> {
+    let orig = node(10);
+    let second = added(alloc, &[2])?;
+    let late = globals.take_changes(orig, 2, &untagged(alloc, TWO_SUM)?, &second, steps)?;
+    let kept = globals.held(orig).map(|(byte, _table)| byte);
+    let whole = added(alloc, &[1, 2, 3])?;
+    let full = globals.take_full(orig, 3, &untagged(alloc, THREE_SUM)?, &whole, steps)?;
+    Ok((late, kept, full))
+}
+
+/// All of the row, and what is known then.
+fn late_answer<L: Ledger>(
+    alloc: Global,
+    blank: Blank,
+) -> Result<([Heard; 3], (Taken, Option<u8>, Taken), Globals), NoMemory>
+    requires name { blank.name ≡ L.name }
+    requires parts { blank.parts ≡ L.parts }
+    requires some { 0 < blank.parts }
+{
+    let mut steps = Steps::<L>::new(blank);
+    let mut globals = Globals::new(alloc);
+    let heard = announce_three(alloc, &mut globals, &mut steps)?;
+    let taken = answer_late(alloc, &mut globals, &mut steps)?;
+    Ok((heard, taken, globals))
+}
+
+#[test]
+fn an_answer_that_comes_late_changes_nothing(rt: HostRuntime) -> Result<(), NoMemory> {
+    let (heard, taken, globals) = late_answer::<Brand>(rt.alloc(), Blank::new(1))?;
+    let bare = Heard::Bare { held: 1, told: 2 };
+    let gap = Heard::Gap { held: 1, told: 3 };
+    assert_eq!(rt; heard, [Heard::Applied, bare, gap]);
+    let late = Taken::NotTold {
+        told: 2,
+        wanted: Some(3),
+    };
+    assert_eq!(rt; taken, (late, Some(1), Taken::Taken));
+    assert_eq!(rt; globals.is_ok(node(10)), true);
+    Ok(())
+}
+
+/// The outcomes of announcements, of which the last two have one byte and one checksum and are of
+/// different tables, and what is known then.
+fn alias_announced<L: Ledger>(
+    alloc: Global,
+    blank: Blank,
+) -> Result<([Heard; 3], Globals), NoMemory>
+    requires name { blank.name ≡ L.name }
+    requires parts { blank.parts ≡ L.parts }
+    requires some { 0 < blank.parts }
+{
+    let mut steps = Steps::<L>::new(blank);
+    let mut globals = Globals::new(alloc);
+    let orig = node(10);
+    let two = told(alloc, 1, TWO_SUM, added(alloc, &[1, 2])?)?;
+    let alias = told(alloc, 1, ALIAS_SUM, Changes::new(alloc))?;
+    let heard = [
+        globals.announce(orig, &emptied(alloc), &mut steps)?,
+        globals.announce(orig, &two, &mut steps)?,
+        globals.announce(orig, &alias, &mut steps)?,
+    ];
+    Ok((heard, globals))
+}
+
+#[test]
+fn an_alias_is_taken_for_the_held_table(rt: HostRuntime) -> Result<(), NoMemory> {
+    let (heard, globals) = alias_announced::<Brand>(rt.alloc(), Blank::new(1))?;
+    assert_eq!(rt; heard, [Heard::Emptied, Heard::Applied, Heard::Same]);
+    assert_eq!(rt; globals.is_ok(node(10)), true);
+    let holders = [1, 2, 5, 6].map(|last| globals.holder(client(last).key, 0));
+    let held = Some(node(10));
+    assert_eq!(rt; holders, [held, held, None, None]);
     Ok(())
 }

@@ -14,10 +14,10 @@ use Rattle.mesh_model.specs.Tables.Sums.{sums_of}
 use Rattle.mesh_model.specs.Tables.Versions.{Version}
 use Rattle.mesh_model.specs.Routes.Addresses.{same_mac}
 use Rattle.mesh_laws.proofs.MacLemmas.{same_exact, same_self}
-use Rattle.mesh_laws.proofs.MachineInvariant.{last_numbered, numbered_kept}
+use Rattle.mesh_laws.proofs.MachineInvariant.{last_numbered, number_below, numbered_kept}
 use Rattle.tt_local.specs.Journal.{AreAliasesAt, AreNumbered, HasSums, HasTable}
 use Rattle.tt_local.proofs.CommitLemmas.{from_same_table, same_from_equal}
-use Rattle.tt_local.proofs.NumberedLemmas.{newest_or_not, number_below, older_number}
+use Rattle.tt_local.proofs.NumberedLemmas.{newest_or_not, older_number}
 
 -- ---- bytes
 pub byte_at : (cs : List Version) → AreNumbered cs → (n : ℕ) (v : Version) → commit_numbered n cs ≡ Some v → v.byte ≡ n % 256

@@ -10,10 +10,11 @@ use Rattle.mesh_model.specs.Tables.Sums.{checksums, sums_of}
 use Rattle.mesh_model.specs.Tables.Versions.{Version}
 use Rattle.mesh_laws.proofs.AnnouncedSums.{announces_checksums}
 use Rattle.mesh_laws.proofs.DifferenceLemmas.{finds_each_difference}
+use Rattle.mesh_laws.proofs.MachineInvariant.{number_below}
 use Rattle.tt_local.specs.CommitLaws.{NoAliasWasSeen, TablesStay}
 use Rattle.tt_local.proofs.AliasLemmas.{until}
 use Rattle.tt_local.proofs.CommitLemmas.{from_same_table}
-use Rattle.tt_local.proofs.NumberedLemmas.{newest_or_not, number_below, table_kept}
+use Rattle.tt_local.proofs.NumberedLemmas.{newest_or_not, table_kept}
 
 pub tables_stay : TablesStay
 tables_stay number table version commits has = table_kept version number table commits has

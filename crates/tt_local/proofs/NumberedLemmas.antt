@@ -11,6 +11,7 @@ use Rattle.mesh_model.specs.Tables.Changes.{IsInKeyOrder, changeset}
 use Rattle.mesh_model.specs.Tables.Strict.{apply_strictly}
 use Rattle.mesh_model.specs.Tables.Sums.{sums_of}
 use Rattle.mesh_model.specs.Tables.Versions.{Version}
+use Rattle.mesh_laws.proofs.MachineInvariant.{number_below}
 use Rattle.mesh_laws.proofs.TableChanges.{changeset_leads}
 use Rattle.tt_local.specs.Journal.{AreInKeyOrder, AreSnapshots, HasSums, HasTable, JournalStands, JournalView, PastCommit, past_of, snapshots_of, with_snapshot}
 
@@ -23,18 +24,6 @@ from_end (z ∷ xs) y x zero h = inr h
 from_end (z ∷ xs) y x (suc n) h = ⊎_elim (λ p. inl (ap suc p.0, p.1)) inr (from_end xs y x n h)
 
 -- ---- commits by their numbers
-pub number_below : (n : ℕ) (cs : List Version) (c : Version) → commit_numbered n cs ≡ Some c → n < length cs
-number_below n [] c h = cc
-number_below n (d ∷ cs) c h = go (n == length cs) refl h (number_below n cs c)
-  where
-    go : (b : Bool) → (n == length cs) ≡ b → cond b (Some d) (commit_numbered n cs) ≡ Some c → (commit_numbered n cs ≡ Some c → n < length cs) → n < suc (length cs)
-    go true p h ih =
-        let same : n ≡ length cs = eqb-true n (length cs) p in
-        omega (arith, same)
-    go false p h ih =
-        let below : n < length cs = ih h in
-        omega (arith, below)
-
 -- a commit that isn't the newest
 pub older_number : (c : Version) (n : ℕ) (older : List Version) → n < length older → commit_numbered n (c ∷ older) ≡ commit_numbered n older
 older_number c n older below = ap (λ b. cond b (Some c) (commit_numbered n older)) (ne_eqb n (length older) (λ e. omega (arith, below, e)))

@@ -224,7 +224,8 @@ impl Clients {
     pub(crate) fn row(&self, now: Millis, key: Key) -> Option<LocalRow>
         ensures kept { result ≡ option_and_then (client_row now key) (client_at self.now key) }
         ensures present { (mentions : List Mention) (since : ℕ) →
-            ClientsStand self.now mentions since → since ≤ now → result ≡ present_row mentions now key }
+            ClientsStand self.now mentions since → since ≤ now →
+            result ≡ present_row mentions now key }
     {
         self.get(key)?.row(now, key)
     }

@@ -25,48 +25,76 @@ fn row(vid: Vid, flags: u8, age: Millis) -> LocalRow {
     }
 }
 
-#[test]
-fn a_client_seen_twice_is_new_once(rt: HostRuntime) -> Result<(), NoMemory> {
-    let mut locals = Locals::new(rt.alloc());
-    assert_eq!(rt; locals.see(0, key(TAGGED), 0), Ok(true));
-    assert_eq!(rt; locals.see(5, key(Vid::UNTAGGED), 0), Ok(true));
-    assert_eq!(rt; locals.see(5, key(Vid::UNTAGGED), 16), Ok(false));
-    for (now, untagged_age, tagged_age) in [
-        (5, Some(0), Some(5)),
-        (599_999, Some(599_994), Some(599_999)),
-        (600_000, Some(599_995), None),
-        (600_005, None, None),
-    ] {
-        let untagged = untagged_age.map(|age| row(Vid::UNTAGGED, 16, age));
-        let tagged = tagged_age.map(|age| row(TAGGED, 0, age));
-        let rows = locals.rows(rt.alloc(), now)?;
-        let [first, second] = [0, 1].map(|i| rows.as_slice().get(i).copied());
-        assert_eq!(rt; [first, second], [untagged, tagged], "at {now}");
-        let [first, second] = [0, 1].map(|i| locals.row_at(now, i));
-        assert_eq!(rt; [first, second], [untagged, tagged], "at {now}");
-        assert_eq!(rt;
-            locals.present(now, key(TAGGED)),
-            tagged.map(|row| row.entry.flags),
-            "at {now}"
-        );
-    }
-    assert_eq!(rt; locals.see(600_000, key(TAGGED), 0), Ok(true));
-    Ok(())
+// Notes a sighting. It has no clauses, so that the check of what calls it often stays short.
+fn see(locals: &mut Locals, now: Millis, key: Key, flags: u8) -> Result<bool, LocalErr> {
+    locals.see(now, key, flags)
+}
+
+// A client in two VLANs, sighted twice in the untagged one, and what each sighting answers.
+fn seen_twice(alloc: Global) -> Result<(Locals, [bool; 3]), LocalErr> {
+    let mut locals = Locals::new(alloc);
+    let tagged = see(&mut locals, 0, key(TAGGED), 0)?;
+    let first = see(&mut locals, 5, key(Vid::UNTAGGED), 0)?;
+    let second = see(&mut locals, 5, key(Vid::UNTAGGED), 16)?;
+    Ok((locals, [tagged, first, second]))
+}
+
+// The first two present clients, in the list and by their places.
+fn first_rows(
+    alloc: Global,
+    locals: &Locals,
+    now: Millis,
+) -> Result<[Option<LocalRow>; 4], NoMemory> {
+    let rows = locals.rows(alloc, now)?;
+    let first = rows.as_slice().first().copied();
+    let second = rows.as_slice().get(1).copied();
+    Ok([first, second, locals.row_at(now, 0), locals.row_at(now, 1)])
 }
 
 #[test]
-fn a_seventeenth_vlan_passes_the_limit(rt: HostRuntime) {
-    let mut locals = Locals::new(rt.alloc());
+fn a_client_seen_twice_is_new_once(rt: HostRuntime) -> Result<(), LocalErr> {
+    let (locals, newly) = seen_twice(rt.alloc())?;
+    assert_eq!(rt; newly, [true, true, false]);
+    let untagged = |age| Some(row(Vid::UNTAGGED, 16, age));
+    let tagged = Some(row(TAGGED, 0, 599_999));
+    let rows = first_rows(rt.alloc(), &locals, 599_999)?;
+    assert_eq!(rt;
+        rows,
+        [untagged(599_994), tagged, untagged(599_994), tagged]
+    );
+    let rows = first_rows(rt.alloc(), &locals, 600_000)?;
+    assert_eq!(rt; rows, [untagged(599_995), None, untagged(599_995), None]);
+    Ok(())
+}
+
+// Clients in sixteen VLANs.
+fn sixteen_vlans(alloc: Global) -> Result<Locals, LocalErr> {
+    let mut locals = Locals::new(alloc);
     for number in 0..16 {
-        assert_eq!(rt; locals.see(0, key(Vid(0x8001 + number)), 0), Ok(true));
+        see(&mut locals, 0, key(Vid(0x8001 + number)), 0)?;
     }
-    assert_eq!(rt; locals.see(0, key(Vid::UNTAGGED), 0), Err(LocalErr::Vlans));
-    assert_eq!(rt; locals.join(0, key(Vid::UNTAGGED)), Err(LocalErr::Vlans));
+    Ok(locals)
+}
+
+// A client goes, so that a group can be joined; whether it is present long after, and when it was
+// left.
+fn joined_and_left(locals: &mut Locals) -> Result<[Option<u8>; 2], LocalErr> {
     locals.gone(key(TAGGED));
-    assert_eq!(rt; locals.join(0, key(Vid::UNTAGGED)), Ok(()));
-    assert_eq!(rt; locals.present(900_000, key(Vid::UNTAGGED)), Some(0));
+    locals.join(0, key(Vid::UNTAGGED))?;
+    let joined = locals.present(900_000, key(Vid::UNTAGGED));
     locals.leave(key(Vid::UNTAGGED));
-    assert_eq!(rt; locals.present(0, key(Vid::UNTAGGED)), None);
+    Ok([joined, locals.present(0, key(Vid::UNTAGGED))])
+}
+
+#[test]
+fn a_seventeenth_vlan_passes_the_limit(rt: HostRuntime) -> Result<(), LocalErr> {
+    let mut locals = sixteen_vlans(rt.alloc())?;
+    assert_eq!(rt;
+        see(&mut locals, 0, key(Vid::UNTAGGED), 0),
+        Err(LocalErr::Vlans)
+    );
+    assert_eq!(rt; joined_and_left(&mut locals), Ok([Some(0), None]));
+    Ok(())
 }
 
 // The numbers, bytes, named VLANs and carried changes of four ticks, with what comes between them.
@@ -80,7 +108,7 @@ fn ticks<L: Ledger>(alloc: Global, blank: Blank) -> Result<[(Option<u64>, u8, us
     let mut told = [(None, 0, 0); 5];
     for i in 0..5 {
         if i == 0 {
-            locals.see(0, key(Vid::UNTAGGED), 0)?;
+            see(&mut locals, 0, key(Vid::UNTAGGED), 0)?;
         }
         let now = if i == 4 { 600_000 } else { 1_000 };
         let number = locals.commit(now, &mut steps)?;
@@ -113,6 +141,24 @@ fn client(last: u8) -> Key {
     }
 }
 
+// The second client comes or goes.
+fn come_or_go(locals: &mut Locals, comes: bool) -> Result<(), LocalErr> {
+    if comes {
+        see(locals, 0, client(2), 0)?;
+    } else {
+        locals.gone(client(2));
+    }
+    Ok(())
+}
+
+// Two others come in the place of the first client.
+fn replace_first(locals: &mut Locals) -> Result<(), LocalErr> {
+    locals.gone(client(1));
+    see(locals, 0, client(5), 0)?;
+    see(locals, 0, client(6), 0)?;
+    Ok(())
+}
+
 // Two clients come, one of them goes and comes until commit 256, then two others come in their
 // place.
 fn commit_257<L: Ledger>(alloc: Global, blank: Blank) -> Result<Locals, LocalErr>
@@ -122,18 +168,12 @@ fn commit_257<L: Ledger>(alloc: Global, blank: Blank) -> Result<Locals, LocalErr
 {
     let mut steps = Steps::<L>::new(blank);
     let mut locals = Locals::new(alloc);
-    locals.see(0, client(1), 0)?;
+    see(&mut locals, 0, client(1), 0)?;
     for i in 0..256 {
-        if i % 2 == 0 {
-            locals.see(0, client(2), 0)?;
-        } else {
-            locals.gone(client(2));
-        }
+        come_or_go(&mut locals, i % 2 == 0)?;
         locals.commit(0, &mut steps)?;
     }
-    locals.gone(client(1));
-    locals.see(0, client(5), 0)?;
-    locals.see(0, client(6), 0)?;
+    replace_first(&mut locals)?;
     locals.commit(0, &mut steps)?;
     Ok(locals)
 }
@@ -177,7 +217,7 @@ fn told_of_flags<L: Ledger>(alloc: Global, blank: Blank) -> Result<Option<usize>
     let mut steps = Steps::<L>::new(blank);
     let mut locals = Locals::new(alloc);
     for flags in [0, 16] {
-        locals.see(0, client(1), flags)?;
+        see(&mut locals, 0, client(1), flags)?;
         locals.commit(0, &mut steps)?;
     }
     Ok(locals.told_changes().map(|changes| changes.len()))
@@ -193,9 +233,20 @@ fn a_wireless_client_is_committed_anew(rt: HostRuntime) {
 
 // A group that was sighted, and a client.
 fn note_both(locals: &mut Locals) -> Result<(), LocalErr> {
-    locals.see(0, client(1), 0)?;
+    see(locals, 0, client(1), 0)?;
     locals.join(0, client(1))?;
-    locals.see(1_000, client(2), 0)?;
+    see(locals, 1_000, client(2), 0)?;
+    Ok(())
+}
+
+// The client is sighted again before the third of some commits, and the group is left before the
+// fourth.
+fn note_between(locals: &mut Locals, commit: usize, now: Millis) -> Result<(), LocalErr> {
+    if commit == 2 {
+        see(locals, now, client(2), 0)?;
+    } else if commit == 3 {
+        locals.leave(client(1));
+    }
     Ok(())
 }
 
@@ -212,11 +263,7 @@ fn numbers<L: Ledger>(alloc: Global, blank: Blank) -> Result<[Option<u64>; 5], L
     let mut numbers = [None; 5];
     note_both(&mut locals)?;
     for i in 0..5 {
-        if i == 2 {
-            locals.see(moments[i], client(2), 0)?;
-        } else if i == 3 {
-            locals.leave(client(1));
-        }
+        note_between(&mut locals, i, moments[i])?;
         numbers[i] = locals.commit(moments[i], &mut steps)?;
     }
     Ok(numbers)

@@ -7,11 +7,13 @@ use Rattle.mesh_model.specs.declared.ending.LimitName.TheVariants.{Nodes, Links,
 use Rattle.mesh_model.specs.declared.ending.Refusal.{Refusal}
 use Rattle.mesh_model.specs.declared.ending.Stop.{Stop}
 use Rattle.mesh_model.specs.declared.ending.Stop.TheVariants.{Refused, Limit}
+use Rattle.mesh_base.specs.declared.address.Mac.{Mac}
+use Rattle.mesh_model.specs.declared.line_form.Algorithm.TheVariants.{Iv, V}
 use Rattle.mesh_model.specs.declared.line_form.Command.{Command}
 use Rattle.mesh_model.specs.declared.line_form.Command.TheVariants.{Nothing, Algo, Node, Link, Lan, Frame, Gone, Join, Leave, Arp, Dhcp, Wifi, GwOff, GwServer, GwClient, Mcast, Dat, Alfred, Put, Get, Ping, Trace, Run, Deliver, Show, Decode}
 use Rattle.mesh_model.specs.Clients.Log.{Given}
-use Rattle.mesh_model.specs.Clients.Log.{Frame as FrameGiven, Gone as GoneGiven, Join as JoinGiven, Leave as LeaveGiven, Wifi as WifiGiven}
-use Rattle.mesh_model.specs.Net.Mesh.{NodeLog, NetLink, Mesh, Setup}
+use Rattle.mesh_model.specs.Clients.Log.{Frame as FrameGiven, Gone as GoneGiven, Join as JoinGiven, Leave as LeaveGiven, Wifi as WifiGiven, Ping as PingGiven, Trace as TraceGiven}
+use Rattle.mesh_model.specs.Net.Mesh.{NodeLog, NetLink, Mesh, Setup, address_at}
 use Rattle.mesh_model.specs.Net.Sending.{Attempt}
 use Rattle.mesh_model.specs.Net.Inputs.{given_to}
 use Rattle.mesh_model.specs.Net.Due.{ticks_by}
@@ -21,7 +23,7 @@ use Rattle.mesh_model.specs.Run.State.{Printed, Decoded, State, node_named, plac
 use Rattle.mesh_model.specs.Run.Outcome.{Outcome, Goes, Ends}
 use Rattle.mesh_model.specs.Run.Passing.{gone_on, run_until, after_attempt}
 use Rattle.mesh_model.specs.Run.Shown.{after_print, shown}
-use Rattle.mesh_model.specs.Run.Steps.{Step, at_node, new_node, with_node, with_link, link_step, input_step, show_step, step_of}
+use Rattle.mesh_model.specs.Run.Steps.{Step, at_node, new_node, with_node, with_link, link_step, input_step, session_step, show_step, step_of}
 use Rattle.mesh_model.specs.Run.Rules.{first_refused_rule, unless_refused, after_step, carried_out}
 use Rattle.mesh_laws.specs.LineLaws.{HasDelay}
 use Rattle.mesh_laws.specs.Soundness.{GivesItsBytes}
@@ -82,6 +84,16 @@ line_led : (setup : Setup) (state : State) (command : Command) (place : List ℕ
 line_led setup state command place input none gives = at_led setup state command (input_step setup input) (place_of state place)
     (λ p. input_led setup state command p input none gives (given_to setup p state.clock 0 input state.mesh) refl)
 
+-- a ping or a traceroute at the node of a name to that of another
+session_led : (setup : Setup) (state : State) (command : Command) (input : Mac → Given) → ((mac : Mac) → ticks_by (input mac) ≡ 0) → ((mac : Mac) → GivesItsBytes state.mesh.frames (input mac))
+    → (node target : List ℕ) → Led setup state command (session_step setup input node target state)
+session_led setup state command input none gives node target =
+    let to : ℕ → ℕ → Step = λ place end s. input_step setup (input (address_at end s.mesh.nodes)) place s in
+    at_led setup state command (λ place. at_node target (to place)) (place_of state node) (λ place.
+    at_led setup state command (to place) (place_of state target) (λ end.
+    let mac = address_at end state.mesh.nodes in
+    input_led setup state command place (input mac) (none mac) (gives mac) (given_to setup place state.clock 0 (input mac) state.mesh) refl))
+
 frame_led : (setup : Setup) (state : State) (command : Command) (place : List ℕ) (input : Given) → ticks_by input ≡ 0 → GivesItsBytes state.mesh.frames input → (other_group : Bool)
     → Led setup state command (after_step state (cond other_group None (Some (at_node place (input_step setup input)))))
 frame_led setup state command place input none gives true = stayed refl
@@ -89,7 +101,8 @@ frame_led setup state command place input none gives false = line_led setup stat
 
 pub command_led : (setup : Setup) (state : State) (command : Command) → Led setup state command (after_step state (step_of setup command))
 command_led setup state Nothing = stayed refl
-command_led setup state (Algo algorithm) = stayed refl
+command_led setup state (Algo Iv) = stayed refl
+command_led setup state (Algo V) = stayed refl
 command_led setup state (Node name mac) = node_led setup state (Node name mac) (new_node name mac state.clock) refl refl (nat_le nodes_limit (length state.mesh.nodes)) refl
 command_led setup state (Link from to delay pattern throughput) =
     let link : ℕ → ℕ → NetLink = λ start end. record { from = start; to = end; delay = delay; pattern = pattern; throughput = throughput } in
@@ -112,8 +125,8 @@ command_led setup state (Dat node on) = stayed refl
 command_led setup state (Alfred node mode) = stayed refl
 command_led setup state (Put node type_no version text) = stayed refl
 command_led setup state (Get node type_no) = stayed refl
-command_led setup state (Ping node target) = stayed refl
-command_led setup state (Trace node target) = stayed refl
+command_led setup state (Ping node target) = session_led setup state (Ping node target) PingGiven (λ mac. refl) (λ mac. tt) node target
+command_led setup state (Trace node target) = session_led setup state (Trace node target) TraceGiven (λ mac. refl) (λ mac. tt) node target
 command_led setup state (Run time) = time_led setup state time (nat_lt clock_limit (state.clock + time)) refl
 command_led setup state (Deliver number) = again_led setup state (Deliver number) (number - 1) (delivered setup (number - 1) state.clock state.mesh) refl
 command_led setup state (Show node table) = shown_led setup state (Show node table) node (shown table)

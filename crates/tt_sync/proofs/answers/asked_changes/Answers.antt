@@ -1,4 +1,4 @@
-use Rattle.std.proofs.Common.{sym, ◌∙◌}
+use Rattle.std.proofs.Common.{◌∙◌}
 use Rattle.mesh_model.specs.Commits.Announcements.{told_changes}
 use Rattle.mesh_model.specs.Commits.Versions.{last_commit}
 use Rattle.tt_sync.proofs.AnswerLemmas.{asked, asked_else, asked_whole}

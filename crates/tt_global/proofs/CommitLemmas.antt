@@ -1,0 +1,66 @@
+-- What is kept of an originator while all that came tells of its commits, and once the whole table
+-- that was told comes.
+use Rattle.std.proofs.Common.{◌≡◌, ℕ, cond, Option, Some, List, ◌∷◌, IsTrue, sym, ap, ap₂, ◌∙◌, subst}
+use Rattle.mesh_base.specs.declared.address.Mac.{Mac}
+use Rattle.mesh_model.specs.declared.table_change.Change.{Change}
+use Rattle.mesh_model.specs.declared.table_outcome.Heard.{Heard}
+use Rattle.mesh_model.specs.declared.table_outcome.Taken.{Taken}
+use Rattle.mesh_model.specs.declared.table_outcome.Taken.TheVariants.{Taken as IsTaken}
+use Rattle.mesh_model.specs.Tables.Judging.{Carried, InFull, announcement_row}
+use Rattle.mesh_model.specs.Tables.Known.{Announced, Answered, TableCalls, agrees, answered, is_agreed, known_by, stamp_of}
+use Rattle.mesh_model.specs.Tables.Versions.{Stamp, Version}
+use Rattle.mesh_laws.specs.HeldLaws.{AreOfCommits, CameFrom, HoldsTold}
+use Rattle.mesh_laws.specs.KnownLaws.{IsToldWhole}
+use Rattle.mesh_laws.proofs.HeldLemmas.{known_are_of_commits}
+use Rattle.mesh_laws.proofs.KnownLemmas.{full_answer_is_taken}
+use Rattle.mesh_laws.proofs.MacLemmas.{same_self}
+use Rattle.tt_global.specs.Globals.{GlobalsStand, Kept, KeepsAgreed, KeepsCommits}
+use Rattle.tt_global.specs.Kept.{HoldsThen, IsTold, answer_of, held_in, row_in, told_in}
+use Rattle.tt_global.specs.declared.judging.Judged.{Judged}
+use Rattle.tt_global.specs.declared.known.KnownTable.{KnownTable}
+use Rattle.tt_global.proofs.StandLemmas.{announced_stands, answered_stands, at, taken_is}
+
+-- what is kept is of the commits of which all that came tells
+keeps_commits : (made : List Version) (orig : Mac) (kept : Kept) (calls : TableCalls) → GlobalsStand kept calls → CameFrom made orig calls → KeepsCommits made orig kept
+keeps_commits made orig kept calls stands came =
+    subst (λ t. AreOfCommits made t (held_in (at orig kept))) (sym (stands.told orig))
+    (subst (λ h. AreOfCommits made (stamp_of (known_by calls orig)) h) (sym (stands.held orig)) (known_are_of_commits made orig calls came))
+
+-- and so it is once an announcement came, or an answer, by what was judged of it
+pub announced_commits : (calls : TableCalls) (orig : Mac) (frame : ℕ) (stamp : Stamp) (changes : List Change) (old mid : Kept) (stands : GlobalsStand old calls) (is_told : IsTold orig stamp old mid) (judged : Judged Heard) (held : Option Version)
+    → held ≡ held_in (at orig old) → row_in judged ≡ announcement_row held stamp changes → (new : Kept) → HoldsThen orig stamp.byte (row_in judged).table mid new
+    → (made : List Version) → CameFrom made orig (Announced orig frame stamp changes ∷ calls) → KeepsCommits made orig new
+announced_commits calls orig frame stamp changes old mid stands is_told judged held was is new holds made came =
+    keeps_commits made orig new (Announced orig frame stamp changes ∷ calls) (announced_stands calls orig frame stamp changes old mid stands is_told judged held was is new holds) came
+
+pub answered_commits : (calls : TableCalls) (orig : Mac) (stamp : Stamp) (carried : Carried) (old : Kept) (stands : GlobalsStand old calls) (judged : Judged Taken) (kept : Option KnownTable)
+    → kept ≡ at orig old → row_in judged ≡ answer_of kept stamp carried → (new : Kept) → HoldsThen orig stamp.byte (row_in judged).table old new
+    → (made : List Version) → CameFrom made orig (Answered orig stamp carried ∷ calls) → KeepsCommits made orig new
+answered_commits calls orig stamp carried old stands judged kept was is new holds made came =
+    keeps_commits made orig new (Answered orig stamp carried ∷ calls) (answered_stands calls orig stamp carried old stands judged kept was is new holds) came
+
+-- whether what is held of an originator agrees, by what is kept of it
+pub agreed_by_kept : (kept : Kept) (calls : TableCalls) (stands : GlobalsStand kept calls) (orig : Mac) (known : KnownTable) → at orig kept ≡ Some known
+    → agrees (told_in (Some known)) (held_in (Some known)) ≡ is_agreed (known_by calls orig)
+agreed_by_kept kept calls stands orig known found = ap₂ agrees (ap told_in (sym found) ∙ stands.told orig) (ap held_in (sym found) ∙ stands.held orig)
+
+-- where it agrees, what is held is the commit that was told
+pub agreed_holds_told : (kept : Kept) (calls : TableCalls) (stands : GlobalsStand kept calls) (orig : Mac) (known : KnownTable) → at orig kept ≡ Some known → (made : List Version) → CameFrom made orig calls
+    → IsTrue (agrees (told_in (Some known)) (held_in (Some known))) → HoldsTold made (stamp_of (known_by calls orig)) (known_by calls orig).held
+agreed_holds_told kept calls stands orig known found made came agreed =
+    (known_are_of_commits made orig calls came).agreed_is (sym (agreed_by_kept kept calls stands orig known found) ∙ agreed)
+
+-- the whole table that was told is taken, and what is kept agrees then
+pub whole_taken : (calls : TableCalls) (orig : Mac) (stamp : Stamp) (records : List Change) (old : Kept) (stands : GlobalsStand old calls) (judged : Judged Taken) (kept : Option KnownTable)
+    → kept ≡ at orig old → row_in judged ≡ answer_of kept stamp (InFull records) → IsToldWhole (stamp_of (known_by calls orig)) stamp records → judged.outcome ≡ IsTaken
+whole_taken calls orig stamp records old stands judged kept was is whole =
+    taken_is calls orig stamp (InFull records) old stands judged kept was is ∙ (full_answer_is_taken (known_by calls orig) stamp records whole).0
+
+pub whole_agrees : (calls : TableCalls) (orig : Mac) (stamp : Stamp) (records : List Change) (old : Kept) (stands : GlobalsStand old calls) (judged : Judged Taken) (kept : Option KnownTable)
+    → kept ≡ at orig old → row_in judged ≡ answer_of kept stamp (InFull records) → (new : Kept) → HoldsThen orig stamp.byte (row_in judged).table old new
+    → IsToldWhole (stamp_of (known_by calls orig)) stamp records → KeepsAgreed orig new
+whole_agrees calls orig stamp records old stands judged kept was is new holds whole =
+    let then = answered_stands calls orig stamp (InFull records) old stands judged kept was is new holds in
+    ap₂ agrees (then.told orig) (then.held orig)
+    ∙ ap (λ b. is_agreed (cond b (answered stamp (InFull records) (known_by calls orig)) (known_by calls orig))) (same_self orig)
+    ∙ (full_answer_is_taken (known_by calls orig) stamp records whole).1
