@@ -1,8 +1,7 @@
 -- The rows that say nothing of tables, a line each.
-use Rattle.std.proofs.Common.{◌-◌, ℕ, suc, Bool, true, false, cond, ◌||◌, nat_le, List, [], ◌∷◌, ◌++◌, length, drop, Option, Some, None}
+use Rattle.std.proofs.Common.{◌-◌, ℕ, suc, Bool, true, false, cond, ◌||◌, nat_le, List, [], ◌∷◌, ◌++◌, drop, Option, Some, None}
 use Rattle.std.specs.List.{AllByRecursion}
 use Rattle.std.specs.Option.{unwrap_or}
-use Rattle.std.specs.Prelude.{◌==◌}
 use Rattle.mesh_base.specs.Address.{is_broadcast, is_group}
 use Rattle.mesh_base.specs.declared.address.Mac.{Mac}
 use Rattle.mesh_base.specs.declared.event.Reason.{Reason}
@@ -13,17 +12,17 @@ use Rattle.mesh_model.specs.declared.act.Act.{Act}
 use Rattle.mesh_model.specs.declared.packet.Head.TheVariants.{Bcast, Unicast}
 use Rattle.mesh_model.specs.Acts.FrameRows.{Place, addressed, arrived, broadcast_acts, broadcast_on, frame_acts, handed_out, handed_out_if, here_acts, is_present, lost, lost_if, on_route, on_way, passed_frame, readdressed}
 use Rattle.mesh_model.specs.Acts.Packing.{sent_to, sent_to_all}
-use Rattle.mesh_model.specs.Acts.Rows.{alias_acts, alias_event}
+use Rattle.mesh_model.specs.Acts.ProbeRows.{IcmpMessage, icmp_head, session_acts}
+use Rattle.mesh_model.specs.Acts.Rows.{icmp_acts}
 use Rattle.mesh_model.specs.Clients.Mentions.{Mention, key_of}
-use Rattle.mesh_model.specs.Commits.Aliases.{last_alias}
 use Rattle.mesh_model.specs.Knowledge.Addressee.{Way, addressee}
 use Rattle.mesh_model.specs.Knowledge.Known.{Broadcast, Knowledge, is_new_broadcast, told_at}
 use Rattle.mesh_model.specs.Packets.Layout.{spelling}
 use Rattle.mesh_model.specs.Packets.Payload.{ClientFrame, client_frame_of, payload_spelling}
 use Rattle.mesh_model.specs.Routes.Queries.{Queries}
-use Rattle.mesh_model.specs.Tables.Versions.{Version}
 use Rattle.mesh_tie.proofs.EntryLemmas.{each_appended}
-use Rattle.mesh_tie.proofs.HeadLemmas.{bcast_frame, unicast_frame}
+use Rattle.mesh_tie.proofs.HeadLemmas.{bcast_frame, icmp_frame, unicast_frame}
+use Rattle.mesh_tie.proofs.ProbeActs.{AreProbing, IsProbing, icmp_puts, puts_message, puts_pinged, puts_traced, session_puts}
 use Rattle.mesh_tie.proofs.Sayable.{IsCalm}
 
 -- ---- packets that carry client frames
@@ -40,11 +39,11 @@ calm_if false xs ys a b = b
 -- ---- the rows
 calm_handed : (at : Place) (o : Option ClientFrame) → AllByRecursion IsCalm (handed_out_if at o)
 calm_handed at None = tt
-calm_handed at (Some frame) = (tt, tt)
+calm_handed at (Some frame) = ((λ me n e is. cc), tt)
 
 calm_lost : (at : Place) (reason : LossReason) (o : Option ClientFrame) → AllByRecursion IsCalm (lost_if at reason o)
 calm_lost at reason None = tt
-calm_lost at reason (Some frame) = (tt, tt)
+calm_lost at reason (Some frame) = ((λ me n e is. cc), tt)
 
 pub calm_broadcast : (known : Knowledge) (at : Place) (ttl : ℕ) (broadcast : Broadcast) (tail : List ℕ) → AllByRecursion IsCalm (broadcast_acts known at ttl broadcast tail)
 unfolding broadcast_acts
@@ -65,21 +64,21 @@ calm_addressed : (q : Queries) (known : Knowledge) (now ttl : ℕ) (way : Way) (
 calm_addressed q known now ttl way tail = calm_unicast way.next (Some way.reason) ttl (unwrap_or (told_at q known now way.orig) 0) way.orig tail
 
 calm_readdressed : (q : Queries) (known : Knowledge) (at : Place) (ttl : ℕ) (frame : ClientFrame) (tail : List ℕ) (way : Option Way) → AllByRecursion IsCalm (readdressed q known at ttl frame tail way)
-calm_readdressed q known at ttl frame tail None = (tt, tt)
-calm_readdressed q known at ttl frame tail (Some way) = calm_if (nat_le ttl 1) (lost at Ttl frame ∷ []) (addressed q known at.now (ttl - 1) way tail ∷ []) (tt, tt) (calm_addressed q known at.now (ttl - 1) way tail, tt)
+calm_readdressed q known at ttl frame tail None = ((λ me n e is. cc), tt)
+calm_readdressed q known at ttl frame tail (Some way) = calm_if (nat_le ttl 1) (lost at Ttl frame ∷ []) (addressed q known at.now (ttl - 1) way tail ∷ []) ((λ me n e is. cc), tt) (calm_addressed q known at.now (ttl - 1) way tail, tt)
 
 calm_arrived : (q : Queries) (known : Knowledge) (ms : List Mention) (at : Place) (ttl : ℕ) (tail : List ℕ) (o : Option ClientFrame) → AllByRecursion IsCalm (arrived q known ms at ttl tail o)
 calm_arrived q known ms at ttl tail None = tt
 calm_arrived q known ms at ttl tail (Some frame) =
     let way = addressee q known at.now (key_of frame.dst frame.vid) in
-    calm_if (is_group frame.dst || is_present ms at.now (key_of frame.dst frame.vid)) (handed_out at frame ∷ []) (readdressed q known at ttl frame tail way) (tt, tt) (calm_readdressed q known at ttl frame tail way)
+    calm_if (is_group frame.dst || is_present ms at.now (key_of frame.dst frame.vid)) (handed_out at frame ∷ []) (readdressed q known at ttl frame tail way) ((λ me n e is. cc), tt) (calm_readdressed q known at ttl frame tail way)
 
 pub calm_here : (q : Queries) (known : Knowledge) (ms : List Mention) (at : Place) (ttl : ℕ) (tail : List ℕ) → AllByRecursion IsCalm (here_acts q known ms at ttl tail)
 unfolding here_acts
 calm_here q known ms at ttl tail = calm_arrived q known ms at ttl tail (client_frame_of tail)
 
 calm_on_way : (q : Queries) (known : Knowledge) (at : Place) (frame : ClientFrame) (way : Option Way) → AllByRecursion IsCalm (on_way q known at frame way)
-calm_on_way q known at frame None = (tt, tt)
+calm_on_way q known at frame None = ((λ me n e is. cc), tt)
 calm_on_way q known at frame (Some way) = (calm_addressed q known at.now 50 way (payload_spelling frame), tt)
 
 pub calm_frame : (q : Queries) (known : Knowledge) (ms : List Mention) (at : Place) (frame : ClientFrame) → AllByRecursion IsCalm (frame_acts q known ms at frame)
@@ -90,11 +89,20 @@ calm_frame q known ms at frame =
     calm_if (is_broadcast frame.dst) (sent_to_all (Bcast 50 (suc known.sent) at.me) (payload_spelling frame) ∷ []) (cond (is_group frame.dst) [] handed)
     (calm_bcast 50 (suc known.sent) at.me (payload_spelling frame), tt)
     (calm_if (is_group frame.dst) [] handed tt
-    (calm_if (is_present ms at.now (key_of frame.dst frame.vid)) (handed_out at frame ∷ []) way (tt, tt) (calm_on_way q known at frame (addressee q known at.now (key_of frame.dst frame.vid)))))
+    (calm_if (is_present ms at.now (key_of frame.dst frame.vid)) (handed_out at frame ∷ []) way ((λ me n e is. cc), tt) (calm_on_way q known at frame (addressee q known at.now (key_of frame.dst frame.vid)))))
 
-calm_event : (me : Mac) (number : ℕ) (o : Option ℕ) → AllByRecursion IsCalm (alias_event me number o)
-calm_event me number None = tt
-calm_event me number (Some earlier) = (tt, tt)
+-- ---- ping and traceroute
+calm_probe : (act : Act) → IsProbing act → IsCalm act
+calm_probe _ (puts_message next m) = icmp_frame (drop 2 (spelling (icmp_head m) []))
+calm_probe _ (puts_pinged node target seq result) = λ me n e is. cc
+calm_probe _ (puts_traced node target result) = λ me n e is. cc
 
-pub calm_alias : (me : Mac) (before after : List Version) → AllByRecursion IsCalm (alias_acts me before after)
-calm_alias me before after = calm_if (length after == length before) [] (alias_event me (length before) (last_alias after)) tt (calm_event me (length before) (last_alias after))
+calm_probes : (acts : List Act) → AreProbing acts → AllByRecursion IsCalm acts
+calm_probes [] all = tt
+calm_probes (act ∷ acts) all = (calm_probe act all.0, calm_probes acts all.1)
+
+pub calm_session : (q : Queries) (known : Knowledge) (at : Place) (target : Mac) (trace : Bool) → AllByRecursion IsCalm (session_acts q known at target trace)
+calm_session q known at target trace = calm_probes (session_acts q known at target trace) (session_puts q known at target trace)
+
+pub calm_icmp : (q : Queries) (known : Knowledge) (at : Place) (m : IcmpMessage) → AllByRecursion IsCalm (icmp_acts q known at m)
+calm_icmp q known at m = calm_probes (icmp_acts q known at m) (icmp_puts q known at m)

@@ -8,7 +8,7 @@ use Rattle.mesh_base.specs.declared.client.Entry.{Entry}
 use Rattle.mesh_model.specs.declared.table_change.Change.{Change}
 use Rattle.mesh_model.specs.declared.table_row.LocalRow.{LocalRow}
 use Rattle.mesh_model.specs.Acts.Packing.{table_told}
-use Rattle.mesh_model.specs.Clients.Log.{Given, Tick, LinkFrame, Frame, Gone, Join, Leave, Arp, Dhcp, Wifi, Log, LogEntry}
+use Rattle.mesh_model.specs.Clients.Log.{Given, Tick, LinkFrame, Frame, Gone, Join, Leave, Arp, Dhcp, Wifi, Ping, Trace, Log, LogEntry}
 use Rattle.mesh_model.specs.Clients.Mentions.{Mention, mentions}
 use Rattle.mesh_model.specs.Clients.Present.{present_clients}
 use Rattle.mesh_model.specs.Commits.Announcements.{announced_changes, announcement, commit_at_root, is_tick, log_until, told_changes}
@@ -22,7 +22,7 @@ use Rattle.mesh_laws.specs.Machine.Moves.{AreLastChanges}
 use Rattle.mesh_laws.proofs.MachineInvariant.{last_numbered, numbered_kept}
 use Rattle.mesh_laws.proofs.PresentLemmas.{sorted_present}
 use Rattle.mesh_tie.specs.Originators.{last_number, number_at_root}
-use Rattle.mesh_tie.specs.TieLaws.{stamp_of_commit}
+use Rattle.mesh_laws.specs.HeldLaws.{stamp_of_commit}
 
 -- ---- how commits follow one another
 abbrev pub Chain : List Version → Type 0
@@ -72,6 +72,8 @@ chain_next ms before now (Leave key) c = c
 chain_next ms before now (Arp mac own_ip asked_ip vid) c = c
 chain_next ms before now (Dhcp key text) c = c
 chain_next ms before now (Wifi on) c = c
+chain_next ms before now (Ping target) c = c
+chain_next ms before now (Trace target) c = c
 
 pub chain : (me : Mac) (log : Log) → Chain (history me log).commits
 chain me [] = refl
@@ -132,6 +134,8 @@ Follows log (Leave key) = Unit {0}
 Follows log (Arp mac own_ip asked_ip vid) = Unit {0}
 Follows log (Dhcp key text) = Unit {0}
 Follows log (Wifi on) = Unit {0}
+Follows log (Ping target) = Unit {0}
+Follows log (Trace target) = Unit {0}
 
 no_tick : (root : ℕ) (log : Log) (given : Given) → root ≤ ticks_in log → Follows log given → is_tick root given ≡ false
 no_tick root log (Tick index) past next = ne_eqb index root (λ same. omega (arith, past, next, same))
@@ -143,6 +147,8 @@ no_tick root log (Leave key) past next = refl
 no_tick root log (Arp mac own_ip asked_ip vid) past next = refl
 no_tick root log (Dhcp key text) past next = refl
 no_tick root log (Wifi on) past next = refl
+no_tick root log (Ping target) past next = refl
+no_tick root log (Trace target) past next = refl
 
 -- a root that is past has its commit for good
 pub number_stays : (me : Mac) (log : Log) (entry : LogEntry) (root : ℕ) → root ≤ ticks_in log → Follows log entry.given → number_at_root me (entry ∷ log) root ≡ number_at_root me log root
@@ -178,6 +184,8 @@ numbered_next ms before now (Leave key) n v found = found
 numbered_next ms before now (Arp mac own_ip asked_ip vid) n v found = found
 numbered_next ms before now (Dhcp key text) n v found = found
 numbered_next ms before now (Wifi on) n v found = found
+numbered_next ms before now (Ping target) n v found = found
+numbered_next ms before now (Trace target) n v found = found
 
 -- the commit of a root is the one of its number
 pub at_root : (me : Mac) (log : Log) (root : ℕ) → commit_numbered (number_at_root me log root) (commits me log) ≡ Some (commit_at_root me log root)

@@ -7,30 +7,30 @@ use Rattle.mesh_base.specs.declared.event.Event.TheVariants.{Alias, FrameSent}
 use Rattle.mesh_base.specs.declared.event.Reason.TheVariants.{Table}
 use Rattle.mesh_model.specs.declared.act.Act.{Act}
 use Rattle.mesh_model.specs.declared.act.Act.TheVariants.{Link, Print}
+use Rattle.mesh_model.specs.declared.happening.Happening.{Happening}
 use Rattle.mesh_model.specs.Clients.Log.{Given, Tick, LinkFrame, Log, LogEntry}
 use Rattle.mesh_model.specs.Commits.History.{commits}
-use Rattle.mesh_model.specs.Knowledge.Steps.{next_knowledge}
 use Rattle.mesh_model.specs.Net.Due.{ticks_in}
 use Rattle.mesh_model.specs.Net.Inputs.{entry_of, given_to, noted_at, noting}
 use Rattle.mesh_model.specs.Net.Limits.{scenario_setup}
-use Rattle.mesh_model.specs.Net.Mesh.{NodeLog, Mesh}
+use Rattle.mesh_model.specs.Net.Mesh.{NodeLog, NetLink, Mesh}
 use Rattle.mesh_model.specs.Net.Next.{Has}
 use Rattle.mesh_model.specs.Routes.Queries.{Queries}
 use Rattle.mesh_model.specs.Tables.Known.{TableCalls}
 use Rattle.mesh_laws.specs.Machine.Agreement.{HasNoAlias}
 use Rattle.mesh_laws.proofs.Schedule.Members.{has_left, has_right, one_some}
 use Rattle.mesh_laws.proofs.Schedule.Steps.{get_front}
-use Rattle.mesh_tie.specs.ByTable.{IsSentByTable}
+use Rattle.mesh_tie.specs.ByTable.{IsSentByTable, IsSentInStep, told_in}
 use Rattle.mesh_tie.specs.LinesByTable.{EventsByTableAreRight, SentRightly, ToldNoneOf}
 use Rattle.mesh_tie.specs.Originators.{commits_of, log_of}
 use Rattle.mesh_tie.specs.Steps.{IsReachable, Steps, begins, frame_comes, goes_on, line_gives, link_joins, node_joins, node_ticks, time_passes}
-use Rattle.mesh_tie.specs.Tie.{CommitsFit, known_at_node}
+use Rattle.mesh_tie.specs.Tie.{CommitsFit}
 use Rattle.mesh_tie.specs.TieLaws.{AllKeep}
 use Rattle.mesh_tie.proofs.CommitLemmas.{Follows}
 use Rattle.mesh_tie.proofs.FitLemmas.{commits_always_fit}
 use Rattle.mesh_tie.proofs.LogLemmas.{Grows, grows_same}
 use Rattle.mesh_tie.proofs.MeshSteps.{LogAfter, Reached, follows_line, got_noted, grows_after, log_after, log_joined, reached}
-use Rattle.mesh_tie.proofs.NameSteps.{AllName, More, act_of, frame_acts_name, line_acts, next_calls, sent_grows, tick_names}
+use Rattle.mesh_tie.proofs.NameSteps.{AllName, EntryNames, act_of, frame_acts_name, line_acts, sent_grows, tick_names}
 use Rattle.mesh_tie.proofs.NamesRows.{ActNames}
 use Rattle.mesh_tie.proofs.Sayable.{one_or_two}
 use Rattle.mesh_tie.proofs.SeenLemmas.{aliases_are_seen, calm_commits, line_calm}
@@ -40,13 +40,13 @@ use Rattle.mesh_tie.proofs.SentLemmas.{HasGiven, IsSending, given_is}
 -- an item between two parts of a list of two lists is in the first or in the second
 pub data Split {X : Type 0} (xs ys front : List X) (e : X) : Type 0 where
   in_first : (back : List X) → xs ≡ front ++ e ∷ back → Split xs ys front e
-  in_second : (more : List X) → front ≡ xs ++ more → Has ys e → Split xs ys front e
+  in_second : (more back : List X) → front ≡ xs ++ more → ys ≡ more ++ e ∷ back → Split xs ys front e
 
 head_is : {X : Type 0} (a b : X) (as_tail bs : List X) → a ∷ as_tail ≡ b ∷ bs → (a ≡ b) × (as_tail ≡ bs)
 head_is a b xs ys e = (cc, cc)
 
 pub split : {X : Type 0} (xs ys front : List X) (e : X) (back : List X) → xs ++ ys ≡ front ++ e ∷ back → Split xs ys front e
-split [] ys front e back is = in_second front refl (subst (λ zs. Has zs e) (sym is) (has_right front (e ∷ back) e (inl refl)))
+split [] ys front e back is = in_second front back refl is
 split (x ∷ xs) ys [] e back is = in_first xs (ap (λ y. y ∷ xs) (head_is x e (xs ++ ys) back is).0)
 split (x ∷ xs) ys (f ∷ front) e back is = go (split xs ys front e back (head_is x f (xs ++ ys) (front ++ e ∷ back) is).1)
   where
@@ -55,17 +55,21 @@ split (x ∷ xs) ys (f ∷ front) e back is = go (split xs ys front e back (head
 
     go : Split xs ys front e → Split (x ∷ xs) ys (f ∷ front) e
     go (in_first rest p) = in_first rest (ap (λ y. y ∷ xs) same ∙ ap (λ zs. f ∷ zs) p)
-    go (in_second more p has) = in_second more (ap (λ y. y ∷ front) (sym same) ∙ ap (λ zs. x ∷ zs) p) has
+    go (in_second more rest p q) = in_second more rest (ap (λ y. y ∷ front) (sym same) ∙ ap (λ zs. x ∷ zs) p) q
+
+-- it is in the list
+pub split_has : {X : Type 0} (ys front : List X) (e : X) (back : List X) → ys ≡ front ++ e ∷ back → Has ys e
+split_has ys front e back is = subst (λ zs. Has zs e) (sym is) (has_right front (e ∷ back) e (inl refl))
 
 -- ---- nodes
-got_other : (at : ℕ) (entry : LogEntry) (nodes : List NodeLog) (place : ℕ) → at ≢ place → slice_get (noted_at at entry nodes) place ≡ slice_get nodes place
+pub got_other : (at : ℕ) (entry : LogEntry) (nodes : List NodeLog) (place : ℕ) → at ≢ place → slice_get (noted_at at entry nodes) place ≡ slice_get nodes place
 got_other at entry [] place other = refl
 got_other zero entry (node ∷ rest) zero other = absurd (other refl)
 got_other zero entry (node ∷ rest) (suc place) other = refl
 got_other (suc at) entry (node ∷ rest) zero other = refl
 got_other (suc at) entry (node ∷ rest) (suc place) other = got_other at entry rest place (λ same. other (ap suc same))
 
-same_place : (a b : ℕ) → (a ≡ b) ⊎ (a ≢ b)
+pub same_place : (a b : ℕ) → (a ≡ b) ⊎ (a ≢ b)
 same_place a b = go (nat_eq a b) refl
   where
     go : (t : Bool) → nat_eq a b ≡ t → (a ≡ b) ⊎ (a ≢ b)
@@ -74,10 +78,10 @@ same_place a b = go (nat_eq a b) refl
 
 -- ---- one input
 -- what was sent rightly stays so
-rightly_later : (queries : Mac → Queries) (orig : Mac) (mesh after : Mesh) (place now root : ℕ) (node : NodeLog) (given : Given) (me : Mac) (bytes : List ℕ) → slice_get mesh.nodes place ≡ Some node → Follows node.log given
+rightly_later : (queries : Mac → Queries) (orig : Mac) (mesh after : Mesh) (place now root : ℕ) (node : NodeLog) (given : Given) (moment : ℕ) (me : Mac) (bytes : List ℕ) → slice_get mesh.nodes place ≡ Some node → Follows node.log given
     → LogAfter orig node (entry_of (scenario_setup queries) node now given) (log_of orig mesh.nodes) (log_of orig (noted_at place (entry_of (scenario_setup queries) node now given) mesh.nodes))
-    → given_to (scenario_setup queries) place now root given mesh ≡ Ok after → SentRightly queries orig mesh me bytes → SentRightly queries orig after me bytes
-rightly_later queries orig mesh after place now root node given me bytes found next l is s = go (same_place place s.place)
+    → given_to (scenario_setup queries) place now root given mesh ≡ Ok after → SentRightly queries orig mesh moment me bytes → SentRightly queries orig after moment me bytes
+rightly_later queries orig mesh after place now root node given moment me bytes found next l is s = go (same_place place s.place)
   where
     entry : LogEntry
     entry = entry_of (scenario_setup queries) node now given
@@ -91,39 +95,48 @@ rightly_later queries orig mesh after place now root node given me bytes found n
     grows : Grows orig (log_of orig mesh.nodes) later
     grows = grows_after orig node entry (log_of orig mesh.nodes) later l next
 
-    calls : More (known_at_node queries node).tables (next_knowledge (queries node.mac) node.mac node.log (known_at_node queries node) now given).tables
-    calls = next_calls (queries node.mac) node.mac node.log (known_at_node queries node) now given
+    by_table : IsSentInStep queries orig after me s.entry s.older bytes
+    by_table = subst (λ log. IsSentByTable (told_in queries me s.older) (told_in queries me (s.entry ∷ s.older)) orig log after.frames bytes) (ap (log_of orig) (sym has.nodes))
+        (subst (λ fs. IsSentByTable (told_in queries me s.older) (told_in queries me (s.entry ∷ s.older)) orig later fs bytes) (sym has.frames)
+        (sent_grows (told_in queries me s.older) (told_in queries me (s.entry ∷ s.older)) orig (log_of orig mesh.nodes) later mesh.frames has.more bytes grows s.by_table))
 
-    as_after : (all : TableCalls) → IsSentByTable all orig later (mesh.frames ++ has.more) bytes → IsSentByTable all orig (log_of orig after.nodes) after.frames bytes
-    as_after all b = subst (λ log. IsSentByTable all orig log after.frames bytes) (ap (log_of orig) (sym has.nodes)) (subst (λ fs. IsSentByTable all orig later fs bytes) (sym has.frames) b)
-
-    go : (place ≡ s.place) ⊎ (place ≢ s.place) → SentRightly queries orig after me bytes
+    go : (place ≡ s.place) ⊎ (place ≢ s.place) → SentRightly queries orig after moment me bytes
     go (inr other) = record {
       place = s.place;
       node = s.node;
       found = ap (λ ns. slice_get ns s.place) has.nodes ∙ got_other place entry mesh.nodes s.place other ∙ s.found;
       mac_is = s.mac_is;
-      by_table = as_after (known_at_node queries s.node).tables (sent_grows (known_at_node queries s.node).tables [] orig (log_of orig mesh.nodes) later mesh.frames has.more bytes grows s.by_table);
+      newer = s.newer;
+      older = s.older;
+      entry = s.entry;
+      log_is = s.log_is;
+      moment_is = s.moment_is;
+      to = s.to;
+      sent = s.sent;
+      by_table = by_table;
     }
     go (inl same) =
         let one : node ≡ s.node = one_some node s.node (sym found ∙ ap (slice_get mesh.nodes) same ∙ s.found) in
-        let mine : IsSentByTable (known_at_node queries node).tables orig (log_of orig mesh.nodes) mesh.frames bytes =
-        subst (λ n. IsSentByTable (known_at_node queries n).tables orig (log_of orig mesh.nodes) mesh.frames bytes) (sym one) s.by_table in
         record {
           place = place;
           node = noting entry node;
           found = ap (λ ns. slice_get ns place) has.nodes ∙ got_noted mesh.nodes place node entry found;
           mac_is = ap (λ (n : NodeLog). n.mac) one ∙ s.mac_is;
-          by_table = as_after (next_knowledge (queries node.mac) node.mac node.log (known_at_node queries node) now given).tables
-              (subst (λ all. IsSentByTable all orig later (mesh.frames ++ has.more) bytes) (sym calls.1)
-              (sent_grows (known_at_node queries node).tables calls.0 orig (log_of orig mesh.nodes) later mesh.frames has.more bytes grows mine));
+          newer = entry ∷ s.newer;
+          older = s.older;
+          entry = s.entry;
+          log_is = ap (λ log. entry ∷ log) (ap (λ (n : NodeLog). n.log) one ∙ s.log_is);
+          moment_is = s.moment_is;
+          to = s.to;
+          sent = s.sent;
+          by_table = by_table;
         }
 
 -- what the acts of an input send by table
 rightly_now : (queries : Mac → Queries) (orig : Mac) (mesh after : Mesh) (place now root : ℕ) (node : NodeLog) (given : Given) (number moment : ℕ) (me next : Mac) (bytes : List ℕ) → slice_get mesh.nodes place ≡ Some node
     → (is : given_to (scenario_setup queries) place now root given mesh ≡ Ok after)
-    → AllName (next_knowledge (queries node.mac) node.mac node.log (known_at_node queries node) now given).tables orig (log_of orig (noted_at place (entry_of (scenario_setup queries) node now given) mesh.nodes)) mesh.frames (entry_of (scenario_setup queries) node now given).acts
-    → (found : slice_get mesh.nodes place ≡ Some node) → Has (given_is (scenario_setup queries) place now root node given mesh after found is).more_events (FrameSent number moment me next (Some Table) bytes) → SentRightly queries orig after me bytes
+    → EntryNames queries orig node.mac (log_of orig (noted_at place (entry_of (scenario_setup queries) node now given) mesh.nodes)) mesh.frames node.log (entry_of (scenario_setup queries) node now given)
+    → (found : slice_get mesh.nodes place ≡ Some node) → Has (given_is (scenario_setup queries) place now root node given mesh after found is).more_events (FrameSent number moment me next (Some Table) bytes) → SentRightly queries orig after moment me bytes
 rightly_now queries orig mesh after place now root node given number moment me next bytes there is names found sent = go (has.came (FrameSent number moment me next (Some Table) bytes) sent)
   where
     entry : LogEntry
@@ -135,18 +148,22 @@ rightly_now queries orig mesh after place now root node given number moment me n
     has : HasGiven (scenario_setup queries) place now root node given mesh after
     has = given_is (scenario_setup queries) place now root node given mesh after found is
 
-    all : TableCalls
-    all = (next_knowledge (queries node.mac) node.mac node.log (known_at_node queries node) now given).tables
+    had : TableCalls
+    had = told_in queries node.mac node.log
 
-    no_print : (acts : List Act) → AllName all orig later mesh.frames acts → Has acts (Print (FrameSent number moment me next (Some Table) bytes)) → ⊥
+    all : TableCalls
+    all = told_in queries node.mac (entry_of (scenario_setup queries) node now given ∷ node.log)
+
+    no_print : (acts : List Act) → AllName had all orig later mesh.frames acts → Has acts (Print (FrameSent number moment me next (Some Table) bytes)) → ⊥
     no_print [] each has = has
-    no_print (act ∷ rest) each (inl same) = subst (ActNames all orig later mesh.frames) (sym same) each.0 number moment me next (Some Table) bytes refl
+    no_print (act ∷ rest) each (inl same) = subst (ActNames had all orig later mesh.frames) (sym same) each.0 number moment me next (Some Table) bytes refl
     no_print (act ∷ rest) each (inr has) = no_print rest each.1 has
 
-    go : Has entry.acts (Print (FrameSent number moment me next (Some Table) bytes)) ⊎ IsSending entry.acts node.mac (FrameSent number moment me next (Some Table) bytes) → SentRightly queries orig after me bytes
+    go : Has entry.acts (Print (FrameSent number moment me next (Some Table) bytes)) ⊎ IsSending entry.acts node.mac now (FrameSent number moment me next (Some Table) bytes) → SentRightly queries orig after moment me bytes
     go (inl printed) = absurd (no_print entry.acts names printed)
     go (inr s) =
         let mac : me ≡ node.mac = let e = s.is in cc in
+        let when : moment ≡ now = let e = s.is in cc in
         let why : Some Table ≡ s.reason = let e = s.is in cc in
         let what : bytes ≡ s.bytes = let e = s.is in cc in
         let act : Has entry.acts (Link s.to (Some Table) bytes) = subst (λ b. Has entry.acts (Link s.to (Some Table) b)) (sym what) (subst (λ r. Has entry.acts (Link s.to r s.bytes)) (sym why) s.act) in
@@ -155,20 +172,28 @@ rightly_now queries orig mesh after place now root node given number moment me n
           node = noting entry node;
           found = ap (λ ns. slice_get ns place) has.nodes ∙ got_noted mesh.nodes place node entry found;
           mac_is = sym mac;
-          by_table = subst (λ log. IsSentByTable all orig log after.frames bytes) (ap (log_of orig) (sym has.nodes))
-              (subst (λ fs. IsSentByTable all orig later fs bytes) (sym has.frames)
-              (sent_grows all [] orig later later mesh.frames has.more bytes (grows_same orig later later refl) (act_of all orig later mesh.frames s.to bytes entry.acts names act)));
+          newer = [];
+          older = node.log;
+          entry = entry;
+          log_is = refl;
+          moment_is = sym when;
+          to = s.to;
+          sent = act;
+          by_table = subst (λ m. IsSentInStep queries orig after m entry node.log bytes) (sym mac)
+              (subst (λ log. IsSentByTable had all orig log after.frames bytes) (ap (log_of orig) (sym has.nodes))
+              (subst (λ fs. IsSentByTable had all orig later fs bytes) (sym has.frames)
+              (sent_grows had all orig later later mesh.frames has.more bytes (grows_same orig later later refl) (act_of had all orig later mesh.frames s.to bytes entry.acts names act))));
         }
 
 -- ---- all steps
 -- each event of a frame that was sent by table, before which none told of an alias
 abbrev AllRight : (Mac → Queries) → Mac → Mesh → Type 0
-AllRight queries orig mesh = (before after : List Event) (number moment : ℕ) (me next : Mac) (bytes : List ℕ) → mesh.events ≡ before ++ FrameSent number moment me next (Some Table) bytes ∷ after → ToldNoneOf orig before → SentRightly queries orig mesh me bytes
+AllRight queries orig mesh = (before after : List Event) (number moment : ℕ) (me next : Mac) (bytes : List ℕ) → mesh.events ≡ before ++ FrameSent number moment me next (Some Table) bytes ∷ after → ToldNoneOf orig before → SentRightly queries orig mesh moment me bytes
 
 -- the acts of an input name rightly, where no event before told of an alias
 abbrev NamesNow : (Mac → Queries) → Mac → Mesh → ℕ → ℕ → NodeLog → Given → Type 0
 NamesNow queries orig mesh place now node given = ToldNoneOf orig mesh.events
-    → AllName (next_knowledge (queries node.mac) node.mac node.log (known_at_node queries node) now given).tables orig (log_of orig (noted_at place (entry_of (scenario_setup queries) node now given) mesh.nodes)) mesh.frames (entry_of (scenario_setup queries) node now given).acts
+    → EntryNames queries orig node.mac (log_of orig (noted_at place (entry_of (scenario_setup queries) node now given) mesh.nodes)) mesh.frames node.log (entry_of (scenario_setup queries) node now given)
 
 given_right : (queries : Mac → Queries) (orig : Mac) (mesh after : Mesh) (place now root : ℕ) (node : NodeLog) (given : Given) → slice_get mesh.nodes place ≡ Some node → Follows node.log given
     → LogAfter orig node (entry_of (scenario_setup queries) node now given) (log_of orig mesh.nodes) (log_of orig (noted_at place (entry_of (scenario_setup queries) node now given) mesh.nodes))
@@ -179,10 +204,11 @@ given_right queries orig mesh after place now root node given found next l is na
     has : HasGiven (scenario_setup queries) place now root node given mesh after
     has = given_is (scenario_setup queries) place now root node given mesh after found is
 
-    go : Split mesh.events has.more_events before (FrameSent number moment me to (Some Table) bytes) → SentRightly queries orig after me bytes
-    go (in_first rest p) = rightly_later queries orig mesh after place now root node given me bytes found next l is (right before rest number moment me to bytes p none)
-    go (in_second more p sent) = rightly_now queries orig mesh after place now root node given number moment me to bytes found is
-        (names (λ n e told. none n e (subst (λ es. Has es (Alias orig n e)) (sym p) (has_left mesh.events more (Alias orig n e) told)))) found sent
+    go : Split mesh.events has.more_events before (FrameSent number moment me to (Some Table) bytes) → SentRightly queries orig after moment me bytes
+    go (in_first rest p) = rightly_later queries orig mesh after place now root node given moment me bytes found next l is (right before rest number moment me to bytes p none)
+    go (in_second more rest p q) = rightly_now queries orig mesh after place now root node given number moment me to bytes found is
+        (names (λ n e told. none n e (subst (λ es. Has es (Alias orig n e)) (sym p) (has_left mesh.events more (Alias orig n e) told)))) found
+        (split_has has.more_events more (FrameSent number moment me to (Some Table) bytes) rest q)
 
 -- an input that is no tick leaves the commits without an alias
 calm_clear : (queries : Mac → Queries) (orig : Mac) (mesh : Mesh) (place now : ℕ) (node : NodeLog) (given : Given) → IsReachable queries mesh
@@ -210,13 +236,38 @@ joined_right queries orig mesh new empty right before back number moment me to b
       node = s.node;
       found = get_front mesh.nodes (new ∷ []) s.place s.node s.found;
       mac_is = s.mac_is;
-      by_table = subst (λ log. IsSentByTable (known_at_node queries s.node).tables orig log mesh.frames bytes) (sym (log_joined orig mesh.nodes new empty)) s.by_table;
+      newer = s.newer;
+      older = s.older;
+      entry = s.entry;
+      log_is = s.log_is;
+      moment_is = s.moment_is;
+      to = s.to;
+      sent = s.sent;
+      by_table = subst (λ log. IsSentByTable (told_in queries me s.older) (told_in queries me (s.entry ∷ s.older)) orig log mesh.frames bytes) (sym (log_joined orig mesh.nodes new empty)) s.by_table;
+    }
+
+-- links and the last happening are no matter
+unlinked_right : (queries : Mac → Queries) (orig : Mac) (mesh : Mesh) (links : List NetLink) (last : Happening) → AllRight queries orig mesh → AllRight queries orig (record mesh { links = links; last = last })
+unlinked_right queries orig mesh links last right before back number moment me to bytes events none =
+    let s = right before back number moment me to bytes events none in
+    record {
+      place = s.place;
+      node = s.node;
+      found = s.found;
+      mac_is = s.mac_is;
+      newer = s.newer;
+      older = s.older;
+      entry = s.entry;
+      log_is = s.log_is;
+      moment_is = s.moment_is;
+      to = s.to;
+      sent = s.sent;
+      by_table = s.by_table;
     }
 
 step_right : (queries : Mac → Queries) (mesh after : Mesh) → AllKeep queries → IsReachable queries mesh → Reached queries mesh → CommitsFit after → Steps queries mesh after → (orig : Mac) → AllRight queries orig mesh → AllRight queries orig after
 step_right queries mesh _ keep r h fit (node_joins _ node empty whole fresh) orig right = joined_right queries orig mesh node empty right
-step_right queries mesh _ keep r h fit (link_joins _ link) orig right = λ before back number moment me to bytes events none. let s = right before back number moment me to bytes events none in
-    record { place = s.place; node = s.node; found = s.found; mac_is = s.mac_is; by_table = s.by_table }
+step_right queries mesh _ keep r h fit (link_joins _ link) orig right = unlinked_right queries orig mesh (mesh.links ++ link ∷ []) mesh.last right
 step_right queries mesh after keep r h fit (line_gives _ _ place now node given found may of is) orig right =
     let l = log_after queries orig mesh place node (entry_of (scenario_setup queries) node now given) h.holds.orderly found in
     given_right queries orig mesh after place now 0 node given found (follows_line node.log given of) l is
@@ -234,8 +285,7 @@ step_right queries mesh after keep r h fit (frame_comes _ _ place now number thr
   where
     no_tick : (index : ℕ) → LinkFrame (suc number) from throughput frame.bytes ≡ Tick index → ⊥
     no_tick index e = cc
-step_right queries mesh _ keep r h fit (time_passes _ happening) orig right = λ before back number moment me to bytes events none. let s = right before back number moment me to bytes events none in
-    record { place = s.place; node = s.node; found = s.found; mac_is = s.mac_is; by_table = s.by_table }
+step_right queries mesh _ keep r h fit (time_passes _ happening) orig right = unlinked_right queries orig mesh mesh.links happening right
 
 no_events : (before : List Event) (e : Event) (after : List Event) → [] ≡ before ++ e ∷ after → ⊥
 no_events [] e after is = cc

@@ -12,7 +12,7 @@ use Rattle.mesh_model.specs.declared.packet.Head.{Head}
 use Rattle.mesh_model.specs.declared.packet.Head.TheVariants.{IvOgm, Bcast, Elp, Ogm2, Unicast, Frag, Unicast4, Icmp, Utvlv}
 use Rattle.mesh_model.specs.declared.table_row.LocalRow.{LocalRow}
 use Rattle.mesh_model.specs.Clients.Limits.{clients_limit, limit_of_mention, passed_limit}
-use Rattle.mesh_model.specs.Clients.Log.{Given, Tick, LinkFrame, Frame, Gone, Join, Leave, Arp, Dhcp, Wifi, Log, LogEntry}
+use Rattle.mesh_model.specs.Clients.Log.{Given, Tick, LinkFrame, Frame, Gone, Join, Leave, Arp, Dhcp, Wifi, Ping, Trace, Log, LogEntry}
 use Rattle.mesh_model.specs.Clients.Mentions.{Mention, News, Sighted, Departed, Roamed, Joined, Left, is_wifi_on, key_of, mentions, roamed, roamed_by, roamed_in, sighted_after}
 use Rattle.mesh_model.specs.Clients.Present.{entry_of, is_membership, last_membership, last_mention, mentioned_keys, present_clients, present_row, row_after, row_by, same_key, sighting_age}
 use Rattle.mesh_model.specs.Commits.History.{History, announced, commits, committed, history, is_commit_tick, present_table, with_commit}
@@ -34,11 +34,12 @@ use Rattle.mesh_model.specs.Tables.Sums.{entry_sum}
 use Rattle.mesh_model.specs.Tables.Versions.{Version, next_byte}
 use Rattle.mesh_laws.proofs.MachineInvariant.{newest_or_older}
 use Rattle.mesh_laws.proofs.Schedule.Members.{one_some}
+use Rattle.mesh_tie.specs.NetTables.{NamesClients}
 use Rattle.mesh_tie.specs.Steps.{IsClient, IsOfLine, IsReachable, MayBeGiven, Steps, begins, frame_comes, goes_on, line_gives, link_joins, newest_moment, node_joins, node_ticks, time_passes}
 use Rattle.mesh_tie.specs.Tie.{FitsAnswer, FitsEntry}
 use Rattle.mesh_tie.specs.TieLaws.{CommitsAlwaysFit}
 use Rattle.mesh_tie.proofs.EntryLemmas.{each_appended}
-use Rattle.mesh_tie.proofs.FewLemmas.{HasFew, few_with}
+use Rattle.mesh_laws.proofs.FewLemmas.{HasFew, few_with}
 use Rattle.mesh_tie.proofs.MeshSteps.{Renewed, another, got_front, itself, renewed}
 use Rattle.mesh_tie.proofs.SentLemmas.{given_is}
 
@@ -164,18 +165,6 @@ first_fits = newest_or_older (λ v. FitsAnswer v.table) first_commit [] (record 
 log_begins : (me : Mac) → LogFits me []
 log_begins me = record { few = λ now late. omega arith; mentioned = tt; made = first_fits }
 
--- clients of an input can be told
-abbrev NamesClients : Given → Type 0
-NamesClients (Tick index) = Unit {0}
-NamesClients (LinkFrame number from throughput bytes) = Unit {0}
-NamesClients (Frame src dst vid text) = IsClient (key_of src vid)
-NamesClients (Gone key) = IsClient key
-NamesClients (Join key) = IsClient key
-NamesClients (Leave key) = IsClient key
-NamesClients (Arp mac own_ip asked_ip vid) = IsClient (key_of mac vid)
-NamesClients (Dhcp key text) = IsClient key
-NamesClients (Wifi on) = Unit {0}
-
 line_names : (given : Given) → IsOfLine given → NamesClients given
 line_names (Tick index) of = absurd of
 line_names (LinkFrame number from throughput bytes) of = absurd of
@@ -186,6 +175,8 @@ line_names (Leave key) of = of
 line_names (Arp mac own_ip asked_ip vid) of = of
 line_names (Dhcp key text) of = of
 line_names (Wifi on) of = tt
+line_names (Ping target) of = tt
+line_names (Trace target) of = tt
 
 few_since : (ms : List Mention) (since now : ℕ) → HasFew ms since → since ≤ now → HasFew ms now
 few_since ms since now few late = λ at later. few at (omega (arith, late, later))
@@ -279,6 +270,8 @@ log_next me log now (Arp mac own_ip asked_ip vid) acts fits late names none =
     one_mention me log (record { moment = now; given = Arp mac own_ip asked_ip vid; acts = acts }) (record { moment = now; key = key_of mac vid; news = sighted_after log }) fits late refl (sighted_fits log (key_of mac vid) names) refl refl none
 log_next me log now (Dhcp key text) acts fits late names none = one_mention me log (record { moment = now; given = Dhcp key text; acts = acts }) (record { moment = now; key = key; news = sighted_after log }) fits late refl (sighted_fits log key names) refl refl none
 log_next me log now (Wifi on) acts fits late names none = record { few = few_since (mentions me log) (newest_moment log) now fits.few late; mentioned = fits.mentioned; made = fits.made }
+log_next me log now (Ping target) acts fits late names none = record { few = few_since (mentions me log) (newest_moment log) now fits.few late; mentioned = fits.mentioned; made = fits.made }
+log_next me log now (Trace target) acts fits late names none = record { few = few_since (mentions me log) (newest_moment log) now fits.few late; mentioned = fits.mentioned; made = fits.made }
 
 -- ---- meshes
 abbrev LogsFit : Mesh → Type 0

@@ -7,7 +7,7 @@ use Rattle.mesh_model.specs.declared.link_frame.NoPacket.TheVariants.{Short, Len
 use Rattle.mesh_model.specs.declared.link_frame.Ending.TheVariants.{Rest}
 use Rattle.mesh_model.specs.declared.link_frame.TvlvErr.{TvlvErr}
 use Rattle.mesh_model.specs.Packets.LinkFrame.{LinkFrame, behind, frame_from, is_followed, link_frame, only_ending, packet_flaw}
-use Rattle.mesh_model.specs.Packets.Shapes.{bcast, shape_of, unicast}
+use Rattle.mesh_model.specs.Packets.Shapes.{bcast, icmp, shape_of, unicast}
 use Rattle.mesh_laws.proofs.FrameLemmas.{link_frame-first}
 use Rattle.mesh_model.specs.declared.packet.Head.{Head}
 use Rattle.mesh_model.specs.declared.packet.Head.TheVariants.{IvOgm, Ogm2, Utvlv}
@@ -222,6 +222,9 @@ unicast_fields bytes fields after packet has = nothing_cut (head_in unicast.fiel
 bcast_fields : (bytes fields after : List ℕ) (packet : Packet) → Has (frame_from link_frame (packet_of_fields bcast fields after)).packets packet → word_of packet.head ≡ Nothing
 bcast_fields bytes fields after packet has = nothing_cut (head_in bcast.fields bcast.head fields) (length after) after packet refl (λ rest. refl) has
 
+icmp_fields : (bytes fields after : List ℕ) (packet : Packet) → Has (frame_from link_frame (packet_of_fields icmp fields after)).packets packet → word_of packet.head ≡ Nothing
+icmp_fields bytes fields after packet has = nothing_cut (head_in icmp.fields icmp.head fields) 0 after packet refl (λ rest. refl) has
+
 by_length : (short : NoPacket) (b : Bool) (found : Result Front NoPacket) (packet : Packet) → (Has (frame_from link_frame found).packets packet → word_of packet.head ≡ Nothing)
     → Has (frame_from link_frame (cond b (Err short) found)).packets packet → word_of packet.head ≡ Nothing
 by_length short true found packet more has = absurd has
@@ -239,4 +242,11 @@ unfolding first_packet
 bcast_frame fields packet has =
     let bytes = 1 ∷ 15 ∷ fields in
     by_length (Short (length bytes) 14) (nat_lt (length bytes) 14) (packet_of_fields bcast (drop 2 bytes) (drop 14 bytes)) packet (bcast_fields bytes (drop 2 bytes) (drop 14 bytes) packet)
+    (subst (λ (f : LinkFrame). Has f.packets packet) (link_frame-first bytes) has)
+
+pub icmp_frame : (fields : List ℕ) → TellsNothing (67 ∷ 15 ∷ fields)
+unfolding first_packet
+icmp_frame fields packet has =
+    let bytes = 67 ∷ 15 ∷ fields in
+    by_length (Short (length bytes) 20) (nat_lt (length bytes) 20) (packet_of_fields icmp (drop 2 bytes) (drop 20 bytes)) packet (icmp_fields bytes (drop 2 bytes) (drop 20 bytes) packet)
     (subst (λ (f : LinkFrame). Has f.packets packet) (link_frame-first bytes) has)

@@ -15,7 +15,7 @@ use Rattle.mesh_model.specs.Clients.Log.{Log}
 use Rattle.mesh_model.specs.Clients.Present.{same_key}
 use Rattle.mesh_model.specs.Knowledge.Addressee.{Way, addressee, best_holder, marked_way, table_reason, table_way, way_to}
 use Rattle.mesh_model.specs.Knowledge.Known.{Knowledge, agreed_byte, is_new_broadcast}
-use Rattle.mesh_model.specs.Knowledge.Steps.{Coming, advertised, after_announcement, after_answer, after_containers, after_head, after_packet, after_roaming, after_sighting, after_taken, announcement, asked_by_request, before_announcement, released_under, request_out, sighting_calls, with_announcement, with_head, with_life}
+use Rattle.mesh_model.specs.Knowledge.Steps.{Coming, advertised, after_announcement, after_answer, after_containers, after_head, after_packet, after_reply, after_roaming, after_sighting, after_taken, announcement, asked_by_request, before_announcement, released_under, request_out, sighting_calls, with_announcement, with_head, with_life}
 use Rattle.mesh_model.specs.Knowledge.Told.{Message, TableMessage, Asks, Answers, Neither, message_in, message_of, message_with}
 use Rattle.mesh_model.specs.Marks.Calls.{Call, Calls, Marked, Released, Unmarked, Advised, Asked, Forgotten}
 use Rattle.mesh_model.specs.Marks.RoamingMarks.{is_ended, is_young, mark_by, mark_of, mark_to, next_mark, target_by}
@@ -23,6 +23,7 @@ use Rattle.mesh_model.specs.Packets.Bodies.{TtData}
 use Rattle.mesh_model.specs.Packets.Containers.{containers_of}
 use Rattle.mesh_model.specs.Packets.Contents.{first_roaming, first_table}
 use Rattle.mesh_model.specs.Packets.FirstPacket.{Packet}
+use Rattle.mesh_model.specs.Probes.OpenProbes.{is_answer}
 use Rattle.mesh_model.specs.Routes.Addresses.{insert_mac, is_smaller, mac_order, same_mac}
 use Rattle.mesh_model.specs.Routes.BestRoute.{best, better}
 use Rattle.mesh_model.specs.Routes.Queries.{Queries}
@@ -88,7 +89,7 @@ packet_knows q me came packet known whole k = go packet.head packet.tail whole
     go (Unicast ttl ttvn dst) tail whole = k
     go (Frag ttl number priority dst o seq total) tail whole = k
     go (Unicast4 ttl ttvn dst src subtype) tail whole = k
-    go (Icmp ttl msg dst o uid seq) tail whole = k
+    go (Icmp ttl msg dst o uid seq) tail whole = knows_if (same_mac dst me && is_answer msg) (after_reply q came.now msg seq known) known (record { tables = k.tables; marks = k.marks }) k
     go (Utvlv ttl dst src) tail whole =
         let answer : Knowledge = after_answer q came.now src (message_in (first_table (containers_of tail))) known in
         knows_if (same_mac dst me) (after_containers q came.now src tail known) known

@@ -21,7 +21,8 @@ use Rattle.mesh_laws.proofs.PieceLemmas.{pieces_make_table}
 use Rattle.mesh_tie.specs.Originators.{commits_of, log_of, number_at_root}
 use Rattle.mesh_tie.specs.Sayings.{IsAnnounced, IsAnswered, WordSays, announcement_by, saying_of}
 use Rattle.mesh_tie.specs.Tie.{IsTied, IsToldBy, known_at_node}
-use Rattle.mesh_tie.specs.TieLaws.{AgreedAreTold, AnswersCarry, CarriesCommit, HeldAreCommitted, IsWithoutAlias, MeshesAreTied, MessagesAnnounce, StepsAreMoves, stamp_of_commit}
+use Rattle.mesh_laws.specs.HeldLaws.{CarriesCommit, stamp_of_commit}
+use Rattle.mesh_tie.specs.TieLaws.{AgreedAreTold, AnswersCarry, HeldAreCommitted, IsWithoutAlias, MeshesAreTied, MessagesAnnounce, StepsAreMoves}
 use Rattle.mesh_tie.proofs.CommitLemmas.{at_root}
 use Rattle.mesh_tie.proofs.FitLemmas.{commits_always_fit}
 use Rattle.mesh_tie.proofs.MeshSteps.{reached_tied, step_moves}

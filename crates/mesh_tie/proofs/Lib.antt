@@ -1,12 +1,12 @@
 -- What the laws rest on.
 pub mod HeadLemmas
-pub mod RoomLemmas
 pub mod SumLemmas
 pub mod TableLemmas
 pub mod EntryLemmas
 pub mod NodeMoves
 pub mod CommitLemmas
 pub mod Sayable
+pub mod ProbeActs
 pub mod CalmRows
 pub mod TableRows
 pub mod PacketSteps
@@ -15,7 +15,6 @@ pub mod NodeSteps
 pub mod SentLemmas
 pub mod LogLemmas
 pub mod MeshSteps
-pub mod FewLemmas
 pub mod FitLemmas
 pub mod IvLemmas
 pub mod NamesRows
@@ -23,10 +22,12 @@ pub mod NameSteps
 pub mod RunReach
 pub mod TellReading
 pub mod LineReach
+pub mod AliasRows
 pub mod SeenLemmas
 pub mod ShownLemmas
 pub mod EventLemmas
 pub mod PrintLemmas
 pub mod TablePrints
 pub mod LawLemmas
+pub mod NetLemmas
 pub mod RepairLemmas

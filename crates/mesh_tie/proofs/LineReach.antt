@@ -11,13 +11,14 @@ use Rattle.mesh_model.specs.declared.ending.Refusal.TheVariants.{AddressTaken, N
 use Rattle.mesh_model.specs.declared.ending.Stop.{Stop}
 use Rattle.mesh_model.specs.declared.ending.Stop.TheVariants.{Limit, Refused}
 use Rattle.mesh_model.specs.declared.frame_choice.FrameChoice.{FrameChoice}
+use Rattle.mesh_model.specs.declared.line_form.Algorithm.TheVariants.{Iv, V}
 use Rattle.mesh_model.specs.declared.line_form.Command.{Command}
 use Rattle.mesh_model.specs.declared.line_form.Command.TheVariants.{Nothing, Algo, Node, Link, Lan, Frame, Gone, Join, Leave, Arp, Dhcp, Wifi, GwOff, GwServer, GwClient, Mcast, Dat, Alfred, Put, Get, Ping, Trace, Run as RunFor, Deliver, Show, Decode}
 use Rattle.mesh_model.specs.Clients.Log.{Given}
-use Rattle.mesh_model.specs.Clients.Log.{Frame as FrameGiven, Gone as GoneGiven, Join as JoinGiven, Leave as LeaveGiven, Wifi as WifiGiven}
+use Rattle.mesh_model.specs.Clients.Log.{Frame as FrameGiven, Gone as GoneGiven, Join as JoinGiven, Leave as LeaveGiven, Wifi as WifiGiven, Ping as PingGiven, Trace as TraceGiven}
 use Rattle.mesh_model.specs.Net.Inputs.{given_to}
 use Rattle.mesh_model.specs.Net.Limits.{clock_limit, links_limit, nodes_limit}
-use Rattle.mesh_model.specs.Net.Mesh.{NodeLog, NetLink, Mesh, empty_mesh, has_address}
+use Rattle.mesh_model.specs.Net.Mesh.{NodeLog, NetLink, Mesh, empty_mesh, has_address, address_at}
 use Rattle.mesh_model.specs.Net.Next.{Happens, delivers, ticks}
 use Rattle.mesh_model.specs.Net.Runs.{Course, PassedLimit, begin, delivered, run_to}
 use Rattle.mesh_model.specs.Net.Sending.{Attempt}
@@ -29,7 +30,7 @@ use Rattle.mesh_model.specs.Run.PlainRun.{Run, after_line, after_lines, after_ou
 use Rattle.mesh_model.specs.Run.Rules.{after_step, carried_out, first_refused_rule, iv_setup, not_built, unknown_name, unless_refused}
 use Rattle.mesh_model.specs.Run.Shown.{after_print, shown}
 use Rattle.mesh_model.specs.Run.State.{Decoded, Printed, State, first_state, node_named, place_of}
-use Rattle.mesh_model.specs.Run.Steps.{Step, at_node, input_step, link_step, new_node, show_step, step_of, with_link, with_node}
+use Rattle.mesh_model.specs.Run.Steps.{Step, at_node, input_step, link_step, new_node, session_step, show_step, step_of, with_link, with_node}
 use Rattle.mesh_model.specs.Scenario.Commands.{command_of_line}
 use Rattle.mesh_model.specs.Scenario.Lines.{content, lines_of}
 use Rattle.mesh_model.specs.Scenario.Readings.{Reading}
@@ -105,6 +106,12 @@ input_leads state given place b of = attempt_leads state (given_to iv_setup plac
 line_leads : (state : State) (name : List ℕ) (given : Given) → IsBetweenLines state → IsOfLine given → Leads (at_node name (input_step iv_setup given) state)
 line_leads state name given b of = at_leads state (input_step iv_setup given) (place_of state name) b (λ place. input_leads state given place b of)
 
+session_leads : (state : State) (given : Mac → Given) → ((mac : Mac) → IsOfLine (given mac)) → (node target : List ℕ) → IsBetweenLines state → Leads (session_step iv_setup given node target state)
+session_leads state given of node target b =
+    let to : ℕ → ℕ → Step = λ place end s. input_step iv_setup (given (address_at end s.mesh.nodes)) place s in
+    at_leads state (λ place. at_node target (to place)) (place_of state node) b (λ place.
+    at_leads state (to place) (place_of state target) b (λ end. input_leads state (given (address_at end state.mesh.nodes)) place b (of (address_at end state.mesh.nodes))))
+
 again_leads : (state : State) (place : ℕ) → IsBetweenLines state → Leads (after_attempt state (delivered iv_setup place state.clock state.mesh))
 again_leads state place b = attempt_leads state (delivered iv_setup place state.clock state.mesh) b (λ after is. delivered_comes iv_queries state.mesh after place state.clock iv_keeps b.reachable b.settled is)
 
@@ -161,7 +168,8 @@ fresh_mac state name mac none place other got same =
 -- ---- commands
 step_leads : (state : State) (command : Command) → IsBetweenLines state → IsTellable command → first_refused_rule state command ≡ None → Leads (after_step state (step_of iv_setup command))
 step_leads state Nothing b tell none = stays_leads state b
-step_leads state (Algo algorithm) b tell none = stays_leads state b
+step_leads state (Algo Iv) b tell none = stays_leads state b
+step_leads state (Algo V) b tell none = stays_leads state b
 step_leads state (Node name mac) b tell none = node_leads state name mac b tell (fresh_mac state name mac none) (nat_le nodes_limit (length state.mesh.nodes))
 step_leads state (Link from to delay pattern throughput) b tell none =
     let link : ℕ → ℕ → NetLink = λ start end. record { from = start; to = end; delay = delay; pattern = pattern; throughput = throughput } in
@@ -183,8 +191,8 @@ step_leads state (Dat node on) b tell none = stays_leads state b
 step_leads state (Alfred node mode) b tell none = stays_leads state b
 step_leads state (Put node type_no version text) b tell none = stays_leads state b
 step_leads state (Get node type_no) b tell none = stays_leads state b
-step_leads state (Ping node target) b tell none = stays_leads state b
-step_leads state (Trace node target) b tell none = stays_leads state b
+step_leads state (Ping node target) b tell none = session_leads state PingGiven (λ mac. tt) node target b
+step_leads state (Trace node target) b tell none = session_leads state TraceGiven (λ mac. tt) node target b
 step_leads state (RunFor time) b tell none = time_leads state time (nat_lt clock_limit (state.clock + time)) refl b
 step_leads state (Deliver number) b tell none = again_leads state (number - 1) b
 step_leads state (Show node table) b tell none = shown_leads state node (shown table) b

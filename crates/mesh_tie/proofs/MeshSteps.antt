@@ -8,7 +8,7 @@ use Rattle.mesh_model.specs.declared.act.Act.TheVariants.{Link}
 use Rattle.mesh_model.specs.declared.table_change.Change.{Change}
 use Rattle.mesh_model.specs.Acts.Choosing.{acts_of}
 use Rattle.mesh_model.specs.Acts.Rows.{own_by, tick_acts}
-use Rattle.mesh_model.specs.Clients.Log.{Given, Tick, LinkFrame, Frame, Gone, Join, Leave, Arp, Dhcp, Wifi, Log, LogEntry}
+use Rattle.mesh_model.specs.Clients.Log.{Given, Tick, LinkFrame, Frame, Gone, Join, Leave, Arp, Dhcp, Wifi, Ping, Trace, Log, LogEntry}
 use Rattle.mesh_model.specs.Clients.Mentions.{Mention, mentions}
 use Rattle.mesh_model.specs.Commits.Announcements.{announced_changes, told_changes}
 use Rattle.mesh_model.specs.Commits.History.{History, announced, commits, committed, history, is_commit_tick, next_history, present_table}
@@ -80,6 +80,8 @@ commits_next w ms before now (Leave key) is = commits_stay w before.commits is
 commits_next w ms before now (Arp mac own_ip asked_ip vid) is = commits_stay w before.commits is
 commits_next w ms before now (Dhcp key text) is = commits_stay w before.commits is
 commits_next w ms before now (Wifi on) is = commits_stay w before.commits is
+commits_next w ms before now (Ping target) is = commits_stay w before.commits is
+commits_next w ms before now (Trace target) is = commits_stay w before.commits is
 
 -- ---- nodes
 -- the node at a place after one noted an entry
@@ -501,6 +503,8 @@ follows_line log (Leave key) of = tt
 follows_line log (Arp mac own_ip asked_ip vid) of = tt
 follows_line log (Dhcp key text) of = tt
 follows_line log (Wifi on) of = tt
+follows_line log (Ping target) of = tt
+follows_line log (Trace target) of = tt
 
 pub got_noted : (nodes : List NodeLog) (place : ℕ) (node : NodeLog) (entry : LogEntry) → slice_get nodes place ≡ Some node → slice_get (noted_at place entry nodes) place ≡ Some (noting entry node)
 got_noted [] place node entry found = cc

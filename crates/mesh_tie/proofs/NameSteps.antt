@@ -1,5 +1,5 @@
 -- What every node ever sent by table, by the acts in its log.
-use Rattle.std.proofs.Common.{◌≡◌, ◌≢◌, ◌⊎◌, inl, inr, ◌-◌, ℕ, suc, Bool, true, false, cond, not, List, [], ◌∷◌, ◌++◌, slice_get, Option, Some, None, Ok, refl, sym, ap, subst, ◌∙◌, arith, append_assoc}
+use Rattle.std.proofs.Common.{◌≡◌, ◌≢◌, ◌⊎◌, inl, inr, ◌-◌, ◌&&◌, ℕ, suc, Bool, true, false, cond, not, List, [], ◌∷◌, ◌++◌, slice_get, Option, Some, None, Ok, refl, sym, ap, subst, ◌∙◌, arith, append_assoc}
 use Rattle.std.specs.List.{AllByRecursion}
 use Rattle.mesh_base.specs.declared.address.Mac.{Mac}
 use Rattle.mesh_base.specs.declared.client.Key.{Key}
@@ -8,13 +8,13 @@ use Rattle.mesh_model.specs.declared.act.Act.{Act}
 use Rattle.mesh_model.specs.declared.act.Act.TheVariants.{Link, Lan, Print}
 use Rattle.mesh_model.specs.declared.packet.Head.{Head}
 use Rattle.mesh_model.specs.declared.packet.Head.TheVariants.{IvOgm, Bcast, Elp, Ogm2, Unicast, Frag, Unicast4, Icmp, Utvlv}
-use Rattle.mesh_model.specs.Acts.Choosing.{acts_of, client_acts, sighting_acts}
-use Rattle.mesh_model.specs.Acts.Rows.{Own, own_by, packet_acts, packets_acts, tick_acts}
-use Rattle.mesh_model.specs.Clients.Log.{Given, Tick, LinkFrame, Frame, Gone, Join, Leave, Arp, Dhcp, Wifi, Log, LogEntry}
+use Rattle.mesh_model.specs.Acts.Choosing.{acts_of, client_acts, probing_acts, sighting_acts}
+use Rattle.mesh_model.specs.Acts.Rows.{Own, own_by, packet_acts, packets_acts}
+use Rattle.mesh_model.specs.Clients.Log.{Given, Tick, LinkFrame, Frame, Gone, Join, Leave, Arp, Dhcp, Wifi, Ping, Trace, Log, LogEntry}
 use Rattle.mesh_model.specs.Clients.Mentions.{key_of, mentions, next_mentions}
 use Rattle.mesh_model.specs.Commits.History.{commits, history}
 use Rattle.mesh_model.specs.Knowledge.Known.{Knowledge, agreed_byte, is_new_broadcast}
-use Rattle.mesh_model.specs.Knowledge.Steps.{Coming, advertised, after_announcement, after_answer, after_broadcast, after_containers, after_head, after_message, after_packet, after_packets, after_roaming, after_sighting, after_taken, before_announcement, knowledge, next_knowledge, released_under, with_head, with_life}
+use Rattle.mesh_model.specs.Knowledge.Steps.{Coming, advertised, after_announcement, after_answer, after_broadcast, after_containers, after_head, after_message, after_packet, after_packets, after_reply, after_roaming, after_sighting, after_taken, before_announcement, knowledge, next_knowledge, released_under, with_head, with_life}
 use Rattle.mesh_model.specs.Knowledge.Told.{Message, TableMessage, Asks, Answers, Neither, message_in, message_of, message_with}
 use Rattle.mesh_model.specs.Net.Due.{ticks_in}
 use Rattle.mesh_model.specs.Net.Inputs.{entry_of, given_to, noted_at, noting}
@@ -27,6 +27,7 @@ use Rattle.mesh_model.specs.Packets.Contents.{first_roaming, first_table}
 use Rattle.mesh_model.specs.Packets.FirstPacket.{Packet}
 use Rattle.mesh_model.specs.Packets.LinkFrame.{link_frame}
 use Rattle.mesh_model.specs.Packets.Payload.{ClientFrame}
+use Rattle.mesh_model.specs.Probes.OpenProbes.{is_answer}
 use Rattle.mesh_model.specs.Routes.Addresses.{same_mac}
 use Rattle.mesh_model.specs.Routes.Queries.{Queries}
 use Rattle.mesh_model.specs.Tables.Known.{Answered, Dropped, TableCalls, known_by, names}
@@ -35,7 +36,7 @@ use Rattle.mesh_laws.specs.Machine.Agreement.{HasNoAlias}
 use Rattle.mesh_laws.specs.Machine.World.{World, commit_numbered}
 use Rattle.mesh_laws.proofs.Schedule.Members.{one_some}
 use Rattle.mesh_laws.proofs.Schedule.Steps.{get_front}
-use Rattle.mesh_tie.specs.ByTable.{FramesByTable, HadCome, IsSentByTable}
+use Rattle.mesh_tie.specs.ByTable.{FramesByTable, HadCome, IsSentByTable, told_in}
 use Rattle.mesh_tie.specs.Originators.{commits_of, log_of}
 use Rattle.mesh_tie.specs.Sayings.{PacketSays}
 use Rattle.mesh_tie.specs.Sources.{IsWhole, KeepsOriginators}
@@ -48,7 +49,7 @@ use Rattle.mesh_tie.proofs.FitLemmas.{commits_always_fit}
 use Rattle.mesh_tie.proofs.KnowsLemmas.{packet_knows, sighting_knows}
 use Rattle.mesh_tie.proofs.LogLemmas.{Grows, grows_same}
 use Rattle.mesh_tie.proofs.MeshSteps.{LogAfter, Reached, Renewed, another, came_in, fits_among, follows_line, frame_ready, got_front, grows_after, itself, log_after, log_joined, midway_of, reached, renewed}
-use Rattle.mesh_tie.proofs.NamesRows.{ActNames, CanName, IsClear, found_told, frame_names, packet_names, plain_advert, plain_names, plain_tick}
+use Rattle.mesh_tie.proofs.NamesRows.{ActNames, CanName, IsClear, found_told, frame_names, names_tick, packet_names, plain_advert, plain_names, plain_session}
 use Rattle.mesh_tie.proofs.NodeSteps.{Ready, line_same, packet_goes, ready_later}
 use Rattle.mesh_tie.proofs.PacketSteps.{CameIn}
 use Rattle.mesh_tie.proofs.Sayable.{one_or_two, packet_more}
@@ -111,7 +112,7 @@ packet_calls q me came packet known = go packet.head packet.tail
     go (Unicast ttl ttvn dst) tail = ([], refl)
     go (Frag ttl number priority dst o seq total) tail = ([], refl)
     go (Unicast4 ttl ttvn dst src subtype) tail = ([], refl)
-    go (Icmp ttl msg dst o uid seq) tail = ([], refl)
+    go (Icmp ttl msg dst o uid seq) tail = both (same_mac dst me && is_answer msg) (after_reply q came.now msg seq known) ([], refl)
     go (Utvlv ttl dst src) tail =
         let answer : Knowledge = after_answer q came.now src (message_in (first_table (containers_of tail))) known in
         both (same_mac dst me) (after_containers q came.now src tail known)
@@ -141,37 +142,41 @@ next_calls q me older known now (Leave key) = ([], refl)
 next_calls q me older known now (Arp mac own_ip asked_ip vid) = ([], refl)
 next_calls q me older known now (Dhcp key text) = ([], refl)
 next_calls q me older known now (Wifi on) = ([], refl)
+next_calls q me older known now (Ping target) = ([], refl)
+next_calls q me older known now (Trace target) = ([], refl)
 
 -- ---- packets
-can_name : (all : TableCalls) (orig : Mac) (log : Log) (frames : List SentFrame) (w : World) (m : ℕ) (known : Knowledge) → More known.tables all → KnowsWhole known → IsClear orig log w → NodeIsTied orig log frames (known_by known.tables orig) (w.nodes m) → CanName all orig log frames known
-can_name all orig log frames w m known more whole clear tied = record {
+can_name : (had all : TableCalls) (orig : Mac) (log : Log) (frames : List SentFrame) (w : World) (m : ℕ) (known : Knowledge) → More had known.tables → More known.tables all → KnowsWhole known → IsClear orig log w → NodeIsTied orig log frames (known_by known.tables orig) (w.nodes m) → CanName had all orig log frames known
+can_name had all orig log frames w m known since more whole clear tied = record {
   whole = whole;
-  newer = more.0;
+  since = since.0;
+  came_is = since.1;
+  later = more.0;
   all_is = more.1;
   found = λ key agreed named. found_told orig log frames w m known.tables key clear tied agreed named;
 }
 
-packets_name : (all : TableCalls) (orig : Mac) (log : Log) (frames : List SentFrame) (root : ℕ) (w : World) (m : ℕ) (q : Queries) (me : Mac) (own : Own) (came : Coming) (packets : List Packet) (known : Knowledge)
+packets_name : (had all : TableCalls) (orig : Mac) (log : Log) (frames : List SentFrame) (root : ℕ) (w : World) (m : ℕ) (q : Queries) (me : Mac) (own : Own) (came : Coming) (packets : List Packet) (known : Knowledge)
     → KeepsOriginators me q → IsWhole came.from → CameIn frames root came.number → Ready orig w m me own → NodeIsTied orig log frames (known_by known.tables orig) (w.nodes m)
-    → ((packet : Packet) → Has packets packet → PacketSays orig log w.said root packet) → HasNoAlias w.commits → w.commits ≡ commits orig log → KnowsWhole known → More (after_packets q me came known packets).tables all
-    → AllByRecursion (ActNames all orig log frames) (packets_acts q me own came known packets)
+    → ((packet : Packet) → Has packets packet → PacketSays orig log w.said root packet) → HasNoAlias w.commits → w.commits ≡ commits orig log → KnowsWhole known → More had known.tables → More (after_packets q me came known packets).tables all
+    → AllByRecursion (ActNames had all orig log frames) (packets_acts q me own came known packets)
 unfolding packets_acts
-packets_name all orig log frames root w m q me own came [] known keeps from f r tied says none made whole more = tt
-packets_name all orig log frames root w m q me own came (packet ∷ rest) known keeps from f r tied says none made whole more =
+packets_name had all orig log frames root w m q me own came [] known keeps from f r tied says none made whole since more = tt
+packets_name had all orig log frames root w m q me own came (packet ∷ rest) known keeps from f r tied says none made whole since more =
     let then = after_packet q me came known packet in
     let one = packet_goes orig log frames root w m q me own came packet known keeps from f r tied (says packet (inl refl)) in
     let later : More known.tables all = more_then known.tables (after_packets q me came known (packet ∷ rest)).tables all (packets_calls q me came (packet ∷ rest) known) more in
     let clear : IsClear orig log w = record { base = r.base; none = none; commits = made } in
-    each_appended (ActNames all orig log frames) (packet_acts q me own came known packet) (packets_acts q me own came then rest)
-    (packet_names all orig log frames q me own came packet known (can_name all orig log frames w m known later whole clear tied))
-    (packets_name all orig log frames root one.world m q me own came rest then keeps from f (ready_later orig w one.world m me own r one.path one.commits) one.tied
+    each_appended (ActNames had all orig log frames) (packet_acts q me own came known packet) (packets_acts q me own came then rest)
+    (packet_names had all orig log frames q me own came packet known (can_name had all orig log frames w m known since later whole clear tied))
+    (packets_name had all orig log frames root one.world m q me own came rest then keeps from f (ready_later orig w one.world m me own r one.path one.commits) one.tied
     (λ p has. packet_more orig log w.said one.world.said root p one.more (says p (inr has))) (subst HasNoAlias (sym one.commits) none) (one.commits ∙ made)
-    (packet_knows q me came packet known (says packet (inl refl)).addresses whole) more)
+    (packet_knows q me came packet known (says packet (inl refl)).addresses whole) (more_then had known.tables then.tables since (packet_calls q me came packet known)) more)
 
 -- ---- one input
 -- the acts of an input, from the world midway
 line_names : (orig : Mac) (log : Log) (frames : List SentFrame) (v : World) (m : ℕ) (q : Queries) (me : Mac) (mine : Log) (now : ℕ) (given : Given) → IsOfLine given → KnowsWhole (knowledge q me mine) → IsClear orig log v
-    → NodeIsTied orig log frames (known_by (knowledge q me mine).tables orig) (v.nodes m) → AllByRecursion (ActNames (knowledge q me mine).tables orig log frames) (acts_of q me mine now given)
+    → NodeIsTied orig log frames (known_by (knowledge q me mine).tables orig) (v.nodes m) → AllByRecursion (ActNames (knowledge q me mine).tables (knowledge q me mine).tables orig log frames) (acts_of q me mine now given)
 line_names orig log frames v m q me mine now (Tick index) of k clear tied = absurd of
 line_names orig log frames v m q me mine now (LinkFrame number from throughput bytes) of k clear tied = absurd of
 line_names orig log frames v m q me mine now (Frame src dst vid text) of k clear tied =
@@ -180,27 +185,35 @@ line_names orig log frames v m q me mine now (Frame src dst vid text) of k clear
     let known = knowledge q me mine in
     let seen = after_sighting q me mine now key known in
     let ms = next_mentions me mine (mentions me mine) now (Frame src dst vid text) in
-    each_appended (ActNames known.tables orig log frames) (sighting_acts q me mine now key) (client_acts q me mine now client)
-    (plain_names known.tables orig log frames (sighting_acts q me mine now key) (plain_advert me key (advertised q me mine known now key)))
-    (frame_names known.tables orig log frames q seen ms (record { me = me; now = now }) client
-    (can_name known.tables orig log frames v m seen ([], refl) (sighting_knows q me mine now key known k) clear tied))
+    each_appended (ActNames known.tables known.tables orig log frames) (sighting_acts q me mine now key) (client_acts q me mine now client)
+    (plain_names known.tables known.tables orig log frames (sighting_acts q me mine now key) (plain_advert me key (advertised q me mine known now key)))
+    (frame_names known.tables known.tables orig log frames q seen ms (record { me = me; now = now }) client
+    (can_name known.tables known.tables orig log frames v m seen ([], refl) ([], refl) (sighting_knows q me mine now key known k) clear tied))
 line_names orig log frames v m q me mine now (Gone key) of k clear tied = tt
 line_names orig log frames v m q me mine now (Join key) of k clear tied = tt
 line_names orig log frames v m q me mine now (Leave key) of k clear tied = tt
 line_names orig log frames v m q me mine now (Arp mac own_ip asked_ip vid) of k clear tied =
-    plain_names (knowledge q me mine).tables orig log frames (sighting_acts q me mine now (key_of mac vid)) (plain_advert me (key_of mac vid) (advertised q me mine (knowledge q me mine) now (key_of mac vid)))
+    plain_names (knowledge q me mine).tables (knowledge q me mine).tables orig log frames (sighting_acts q me mine now (key_of mac vid)) (plain_advert me (key_of mac vid) (advertised q me mine (knowledge q me mine) now (key_of mac vid)))
 line_names orig log frames v m q me mine now (Dhcp key text) of k clear tied =
-    plain_names (knowledge q me mine).tables orig log frames (sighting_acts q me mine now key) (plain_advert me key (advertised q me mine (knowledge q me mine) now key))
+    plain_names (knowledge q me mine).tables (knowledge q me mine).tables orig log frames (sighting_acts q me mine now key) (plain_advert me key (advertised q me mine (knowledge q me mine) now key))
 line_names orig log frames v m q me mine now (Wifi on) of k clear tied = tt
+line_names orig log frames v m q me mine now (Ping target) of k clear tied =
+    let known = knowledge q me mine in
+    plain_names known.tables known.tables orig log frames (probing_acts q me mine now target false) (plain_session q known (record { me = me; now = now }) target false)
+line_names orig log frames v m q me mine now (Trace target) of k clear tied =
+    let known = knowledge q me mine in
+    plain_names known.tables known.tables orig log frames (probing_acts q me mine now target true) (plain_session q known (record { me = me; now = now }) target true)
 
 -- ---- it stays so
-name_grows : (all newer : TableCalls) (orig : Mac) (log after : Log) (frames more : List SentFrame) (payload : List ℕ) → Grows orig log after → HadCome all orig log frames payload → HadCome (newer ++ all) orig after (frames ++ more) payload
-name_grows all newer orig log after frames more payload g h =
+name_grows : (had all : TableCalls) (orig : Mac) (log after : Log) (frames more : List SentFrame) (payload : List ℕ) → Grows orig log after → HadCome had all orig log frames payload → HadCome had all orig after (frames ++ more) payload
+name_grows had all orig log after frames more payload g h =
     let n = h.names_client in
     record {
       came = h.came;
-      newer = newer ++ h.newer;
-      all_is = ap (λ x. newer ++ x) h.all_is ∙ sym (append_assoc newer h.newer h.came);
+      since = h.since;
+      came_is = h.came_is;
+      later = h.later;
+      after_is = h.after_is;
       names_client = record {
         client = n.client;
         carried = n.carried;
@@ -213,42 +226,52 @@ name_grows all newer orig log after frames more payload g h =
       };
     }
 
-pub sent_grows : (all newer : TableCalls) (orig : Mac) (log after : Log) (frames more : List SentFrame) (bytes : List ℕ) → Grows orig log after → IsSentByTable all orig log frames bytes → IsSentByTable (newer ++ all) orig after (frames ++ more) bytes
-sent_grows all newer orig log after frames more bytes g s = record {
+pub sent_grows : (had all : TableCalls) (orig : Mac) (log after : Log) (frames more : List SentFrame) (bytes : List ℕ) → Grows orig log after → IsSentByTable had all orig log frames bytes → IsSentByTable had all orig after (frames ++ more) bytes
+sent_grows had all orig log after frames more bytes g s = record {
   ttl = s.ttl;
   ttvn = s.ttvn;
   dst = s.dst;
   payload = s.payload;
   whole = s.whole;
   bytes_are = s.bytes_are;
-  had_come = λ same. name_grows all newer orig log after frames more s.payload g (s.had_come same);
+  had_come = λ same. name_grows had all orig log after frames more s.payload g (s.had_come same);
 }
 
-act_grows : (all newer : TableCalls) (orig : Mac) (log after : Log) (frames more : List SentFrame) (act : Act) → Grows orig log after → ActNames all orig log frames act → ActNames (newer ++ all) orig after (frames ++ more) act
-act_grows all newer orig log after frames more (Link to reason bytes) g a = λ is. sent_grows all newer orig log after frames more bytes g (a is)
-act_grows all newer orig log after frames more (Lan bytes) g a = tt
-act_grows all newer orig log after frames more (Print event) g a = a
+act_grows : (had all : TableCalls) (orig : Mac) (log after : Log) (frames more : List SentFrame) (act : Act) → Grows orig log after → ActNames had all orig log frames act → ActNames had all orig after (frames ++ more) act
+act_grows had all orig log after frames more (Link to reason bytes) g a = λ is. sent_grows had all orig log after frames more bytes g (a is)
+act_grows had all orig log after frames more (Lan bytes) g a = tt
+act_grows had all orig log after frames more (Print event) g a = a
 
-abbrev pub AllName : TableCalls → Mac → Log → List SentFrame → List Act → Type 0
-AllName all orig log frames acts = AllByRecursion (ActNames all orig log frames) acts
+abbrev pub AllName : TableCalls → TableCalls → Mac → Log → List SentFrame → List Act → Type 0
+AllName had all orig log frames acts = AllByRecursion (ActNames had all orig log frames) acts
 
-acts_grow : (all newer : TableCalls) (orig : Mac) (log after : Log) (frames more : List SentFrame) (acts : List Act) → Grows orig log after → AllName all orig log frames acts → AllName (newer ++ all) orig after (frames ++ more) acts
-acts_grow all newer orig log after frames more [] g a = tt
-acts_grow all newer orig log after frames more (act ∷ acts) g a = (act_grows all newer orig log after frames more act g a.0, acts_grow all newer orig log after frames more acts g a.1)
+acts_grow : (had all : TableCalls) (orig : Mac) (log after : Log) (frames more : List SentFrame) (acts : List Act) → Grows orig log after → AllName had all orig log frames acts → AllName had all orig after (frames ++ more) acts
+acts_grow had all orig log after frames more [] g a = tt
+acts_grow had all orig log after frames more (act ∷ acts) g a = (act_grows had all orig log after frames more act g a.0, acts_grow had all orig log after frames more acts g a.1)
+
+-- what an entry of a node behind a log says of what was sent by table
+abbrev pub EntryNames : (Mac → Queries) → Mac → Mac → Log → List SentFrame → Log → LogEntry → Type 0
+EntryNames queries orig me log frames older entry = AllName (told_in queries me older) (told_in queries me (entry ∷ older)) orig log frames entry.acts
+
+entry_grows : (queries : Mac → Queries) (orig me : Mac) (log after : Log) (frames more : List SentFrame) (older : Log) (entry : LogEntry) → Grows orig log after → EntryNames queries orig me log frames older entry → EntryNames queries orig me after (frames ++ more) older entry
+entry_grows queries orig me log after frames more older entry g names = acts_grow (told_in queries me older) (told_in queries me (entry ∷ older)) orig log after frames more entry.acts g names
 
 -- what a mesh's logs say of what was sent by table
 abbrev Named : (Mac → Queries) → Mac → Mesh → Type 0
-Named queries orig mesh = (place : ℕ) (node : NodeLog) (entry : LogEntry) → slice_get mesh.nodes place ≡ Some node → Has node.log entry → AllName (known_at_node queries node).tables orig (log_of orig mesh.nodes) mesh.frames entry.acts
+Named queries orig mesh = (place : ℕ) (node : NodeLog) (newer older : Log) (entry : LogEntry) → slice_get mesh.nodes place ≡ Some node → node.log ≡ newer ++ entry ∷ older → EntryNames queries orig node.mac (log_of orig mesh.nodes) mesh.frames older entry
+
+heads : {X : Type 0} (a b : X) (xs ys : List X) → a ∷ xs ≡ b ∷ ys → (a ≡ b) × (xs ≡ ys)
+heads a b xs ys is = (cc, cc)
 
 -- an input at a node
 given_named : (queries : Mac → Queries) (orig : Mac) (mesh after : Mesh) (place now root : ℕ) (node : NodeLog) (given : Given) → Named queries orig mesh → slice_get mesh.nodes place ≡ Some node → Follows node.log given
     → LogAfter orig node (entry_of (scenario_setup queries) node now given) (log_of orig mesh.nodes) (log_of orig (noted_at place (entry_of (scenario_setup queries) node now given) mesh.nodes))
     → given_to (scenario_setup queries) place now root given mesh ≡ Ok after
-    → AllName (next_knowledge (queries node.mac) node.mac node.log (known_at_node queries node) now given).tables orig (log_of orig (noted_at place (entry_of (scenario_setup queries) node now given) mesh.nodes)) mesh.frames (entry_of (scenario_setup queries) node now given).acts
+    → EntryNames queries orig node.mac (log_of orig (noted_at place (entry_of (scenario_setup queries) node now given) mesh.nodes)) mesh.frames node.log (entry_of (scenario_setup queries) node now given)
     → Named queries orig after
-given_named queries orig mesh after place now root node given named found next l is new at n e got has =
-    subst (λ log. AllName (known_at_node queries n).tables orig log after.frames e.acts) (ap (log_of orig) (sym given_has.nodes))
-    (subst (λ fs. AllName (known_at_node queries n).tables orig later fs e.acts) (sym given_has.frames)
+given_named queries orig mesh after place now root node given named found next l is new at n newer older e got split =
+    subst (λ log. EntryNames queries orig n.mac log after.frames older e) (ap (log_of orig) (sym given_has.nodes))
+    (subst (λ fs. EntryNames queries orig n.mac later fs older e) (sym given_has.frames)
     (go (renewed place entry mesh.nodes at n (subst (λ ns. slice_get ns at ≡ Some n) given_has.nodes got))))
   where
     entry : LogEntry
@@ -263,22 +286,22 @@ given_named queries orig mesh after place now root node given named found next l
     grows : Grows orig (log_of orig mesh.nodes) later
     grows = grows_after orig node entry (log_of orig mesh.nodes) later l next
 
-    calls : More (known_at_node queries node).tables (next_knowledge (queries node.mac) node.mac node.log (known_at_node queries node) now given).tables
-    calls = next_calls (queries node.mac) node.mac node.log (known_at_node queries node) now given
+    here : (newer : Log) → entry ∷ node.log ≡ newer ++ e ∷ older → EntryNames queries orig node.mac later (mesh.frames ++ given_has.more) older e
+    here [] is =
+        let parts = heads entry e node.log older is in
+        subst (λ x. EntryNames queries orig node.mac later (mesh.frames ++ given_has.more) x e) parts.1
+        (subst (EntryNames queries orig node.mac later (mesh.frames ++ given_has.more) node.log) parts.0
+        (entry_grows queries orig node.mac later later mesh.frames given_has.more node.log entry (grows_same orig later later refl) new))
+    here (x ∷ more) is =
+        entry_grows queries orig node.mac (log_of orig mesh.nodes) later mesh.frames given_has.more older e grows (named place node more older e found (heads entry x node.log (more ++ e ∷ older) is).1)
 
-    here : Has (entry ∷ node.log) e → AllName (next_knowledge (queries node.mac) node.mac node.log (known_at_node queries node) now given).tables orig later (mesh.frames ++ given_has.more) e.acts
-    here (inl same) = subst (λ (x : LogEntry). AllName (next_knowledge (queries node.mac) node.mac node.log (known_at_node queries node) now given).tables orig later (mesh.frames ++ given_has.more) x.acts) (sym same)
-        (acts_grow (next_knowledge (queries node.mac) node.mac node.log (known_at_node queries node) now given).tables [] orig later later mesh.frames given_has.more entry.acts (grows_same orig later later refl) new)
-    here (inr older) = subst (λ all. AllName all orig later (mesh.frames ++ given_has.more) e.acts) (sym calls.1)
-        (acts_grow (known_at_node queries node).tables calls.0 orig (log_of orig mesh.nodes) later mesh.frames given_has.more e.acts grows (named place node e found older))
-
-    go : Renewed place entry mesh.nodes at n → AllName (known_at_node queries n).tables orig later (mesh.frames ++ given_has.more) e.acts
-    go (another d old) = acts_grow (known_at_node queries n).tables [] orig (log_of orig mesh.nodes) later mesh.frames given_has.more e.acts grows (named at n e old has)
+    go : Renewed place entry mesh.nodes at n → EntryNames queries orig n.mac later (mesh.frames ++ given_has.more) older e
+    go (another d old) = entry_grows queries orig n.mac (log_of orig mesh.nodes) later mesh.frames given_has.more older e grows (named at n newer older e old split)
     go (itself before same old noted) =
         let one : node ≡ before = one_some node before (sym found ∙ ap (slice_get mesh.nodes) same ∙ old) in
         let after_is : noting entry node ≡ n = ap (noting entry) one ∙ sym noted in
-        subst (λ (x : NodeLog). AllName (known_at_node queries x).tables orig later (mesh.frames ++ given_has.more) e.acts) after_is
-        (here (subst (λ (x : NodeLog). Has x.log e) (sym after_is) has))
+        subst (λ (x : NodeLog). EntryNames queries orig x.mac later (mesh.frames ++ given_has.more) older e) after_is
+        (here newer (ap (λ (x : NodeLog). x.log) after_is ∙ split))
 
 -- ---- commits only grow
 commits_kept : (orig : Mac) (node : NodeLog) (entry : LogEntry) (log after : Log) → LogAfter orig node entry log after → (n : ℕ) (version : Version) → commit_numbered n (commits orig log) ≡ Some version → commit_numbered n (commits orig after) ≡ Some version
@@ -296,11 +319,15 @@ none_before before after kept none one other a b = none one other (a.0, kept a.0
 
 -- ---- all steps
 joined_named : (queries : Mac → Queries) (orig : Mac) (mesh : Mesh) (new : NodeLog) → new.log ≡ [] → Named queries orig mesh → Named queries orig (record mesh { nodes = mesh.nodes ++ new ∷ [] })
-joined_named queries orig mesh new empty named at n e got has = subst (λ log. AllName (known_at_node queries n).tables orig log mesh.frames e.acts) (sym (log_joined orig mesh.nodes new empty)) (go (got_front mesh.nodes new at n got))
+joined_named queries orig mesh new empty named at n newer older e got split = subst (λ log. EntryNames queries orig n.mac log mesh.frames older e) (sym (log_joined orig mesh.nodes new empty)) (go (got_front mesh.nodes new at n got))
   where
-    go : (slice_get mesh.nodes at ≡ Some n) ⊎ ((n ≡ new) × (slice_get mesh.nodes at ≡ None)) → AllName (known_at_node queries n).tables orig (log_of orig mesh.nodes) mesh.frames e.acts
-    go (inl old) = named at n e old has
-    go (inr is) = absurd (subst (λ l. Has l e) (ap (λ (x : NodeLog). x.log) is.0 ∙ empty) has)
+    no_entry : (newer : Log) → [] ≡ newer ++ e ∷ older → ⊥
+    no_entry [] is = cc
+    no_entry (x ∷ newer) is = cc
+
+    go : (slice_get mesh.nodes at ≡ Some n) ⊎ ((n ≡ new) × (slice_get mesh.nodes at ≡ None)) → EntryNames queries orig n.mac (log_of orig mesh.nodes) mesh.frames older e
+    go (inl old) = named at n newer older e old split
+    go (inr is) = absurd (no_entry newer (sym (ap (λ (x : NodeLog). x.log) is.0 ∙ empty) ∙ split))
 
 -- where the mesh before is named, once no two commits are an alias
 abbrev NamedIf : (Mac → Queries) → Mac → Mesh → Type 0
@@ -309,30 +336,28 @@ NamedIf queries orig mesh = HasNoAlias (commits_of orig mesh) → Named queries 
 -- what the acts of a step's input name, where no two commits behind it are an alias
 pub line_acts : (queries : Mac → Queries) (mesh : Mesh) (place now : ℕ) (node : NodeLog) (given : Given) (orig : Mac) → Reached queries mesh → slice_get mesh.nodes place ≡ Some node → IsOfLine given
     → HasNoAlias (commits orig (log_of orig (noted_at place (entry_of (scenario_setup queries) node now given) mesh.nodes)))
-    → AllName (next_knowledge (queries node.mac) node.mac node.log (known_at_node queries node) now given).tables orig (log_of orig (noted_at place (entry_of (scenario_setup queries) node now given) mesh.nodes)) mesh.frames (entry_of (scenario_setup queries) node now given).acts
+    → EntryNames queries orig node.mac (log_of orig (noted_at place (entry_of (scenario_setup queries) node now given) mesh.nodes)) mesh.frames node.log (entry_of (scenario_setup queries) node now given)
 line_acts queries mesh place now node given orig h found of clear =
     let entry = entry_of (scenario_setup queries) node now given in
     let log = log_of orig (noted_at place entry mesh.nodes) in
     let l = log_after queries orig mesh place node entry h.holds.orderly found in
     let tie = h.ties orig in
     let v = midway_of queries orig mesh node entry log tie.0 l (follows_line node.log given of) tie.1 tie.2 in
-    subst (λ all. AllName all orig log mesh.frames entry.acts) (sym (line_same (queries node.mac) node.mac node.log (known_at_node queries node) now given of))
+    subst (λ all. AllName (known_at_node queries node).tables all orig log mesh.frames entry.acts) (sym (line_same (queries node.mac) node.mac node.log (known_at_node queries node) now given of))
     (line_names orig log mesh.frames v.0 place (queries node.mac) node.mac node.log now given of (h.holds.orderly.knows place node found)
     (record { base = v.1.base; none = subst HasNoAlias (sym v.1.commits) clear; commits = v.1.commits }) (v.1.nodes place node found))
 
 pub tick_names : (queries : Mac → Queries) (mesh : Mesh) (place now : ℕ) (node : NodeLog) (orig : Mac) (log : Log)
-    → AllName (known_at_node queries node).tables orig log mesh.frames (entry_of (scenario_setup queries) node now (Tick (suc (ticks_in node.log)))).acts
+    → EntryNames queries orig node.mac log mesh.frames node.log (entry_of (scenario_setup queries) node now (Tick (suc (ticks_in node.log))))
 tick_names queries mesh place now node orig log =
     let known = known_at_node queries node in
-    plain_names known.tables orig log mesh.frames (tick_acts (queries node.mac) node.mac known.routes (mentions node.mac node.log) (history node.mac node.log) now (suc (ticks_in node.log)))
-    (plain_tick (queries node.mac) node.mac known.routes (mentions node.mac node.log) (history node.mac node.log) now (suc (ticks_in node.log)))
+    names_tick known.tables known.tables orig log mesh.frames (queries node.mac) node.mac known.routes (mentions node.mac node.log) (history node.mac node.log) now (suc (ticks_in node.log))
 
 pub frame_acts_name : (queries : Mac → Queries) (mesh after : Mesh) (place now number throughput : ℕ) (from : Mac) (node : NodeLog) (frame : SentFrame) (orig : Mac) → AllKeep queries → Reached queries mesh → CommitsFit after → slice_get mesh.nodes place ≡ Some node
     → slice_get mesh.frames number ≡ Some frame → IsWhole from → given_to (scenario_setup queries) place now frame.root (LinkFrame (suc number) from throughput frame.bytes) mesh ≡ Ok after
     → HasNoAlias (commits orig (log_of orig (noted_at place (entry_of (scenario_setup queries) node now (LinkFrame (suc number) from throughput frame.bytes)) mesh.nodes)))
-    → AllName (next_knowledge (queries node.mac) node.mac node.log (known_at_node queries node) now (LinkFrame (suc number) from throughput frame.bytes)).tables orig
-    (log_of orig (noted_at place (entry_of (scenario_setup queries) node now (LinkFrame (suc number) from throughput frame.bytes)) mesh.nodes)) mesh.frames
-    (entry_of (scenario_setup queries) node now (LinkFrame (suc number) from throughput frame.bytes)).acts
+    → EntryNames queries orig node.mac (log_of orig (noted_at place (entry_of (scenario_setup queries) node now (LinkFrame (suc number) from throughput frame.bytes)) mesh.nodes)) mesh.frames node.log
+    (entry_of (scenario_setup queries) node now (LinkFrame (suc number) from throughput frame.bytes))
 frame_acts_name queries mesh after place now number throughput from node frame orig keep h fit found sent whole is clear =
     let given = LinkFrame (suc number) from throughput frame.bytes in
     let entry = entry_of (scenario_setup queries) node now given in
@@ -344,11 +369,11 @@ frame_acts_name queries mesh after place now number throughput from node frame o
     let known = known_at_node queries node in
     let came : Coming = record { now = now; from = from; throughput = throughput; number = suc number } in
     let packets = (link_frame frame.bytes).packets in
-    packets_name (after_packets (queries node.mac) node.mac came known packets).tables orig log mesh.frames frame.root v.0 place (queries node.mac) node.mac (own_by node.mac node.log) came packets known (keep node.mac) whole
+    packets_name known.tables (after_packets (queries node.mac) node.mac came known packets).tables orig log mesh.frames frame.root v.0 place (queries node.mac) node.mac (own_by node.mac node.log) came packets known (keep node.mac) whole
     (came_in mesh number frame sent)
     (frame_ready queries orig mesh place now (suc number) throughput from node frame.bytes (log_of orig mesh.nodes) log h.holds.orderly found l (h.holds.fits place node found)
     (subst (λ ns. Rattle.mesh_tie.proofs.EntryLemmas.OfCommits Rattle.mesh_tie.specs.Tie.FitsEntry (commits orig (log_of orig ns))) has.nodes (fits_among after.nodes fit orig)) v.0 v.1)
-    (v.1.nodes place node found) (v.1.frames number frame sent) (subst HasNoAlias (sym v.1.commits) clear) v.1.commits (h.holds.orderly.knows place node found) ([], refl)
+    (v.1.nodes place node found) (v.1.frames number frame sent) (subst HasNoAlias (sym v.1.commits) clear) v.1.commits (h.holds.orderly.knows place node found) ([], refl) ([], refl)
 
 step_named : (queries : Mac → Queries) (mesh after : Mesh) → AllKeep queries → Reached queries mesh → CommitsFit after → Steps queries mesh after → (orig : Mac) → NamedIf queries orig mesh → NamedIf queries orig after
 step_named queries mesh _ keep h fit (node_joins _ node empty whole fresh) orig named none = joined_named queries orig mesh node empty (named (subst (λ l. HasNoAlias (commits orig l)) (log_joined orig mesh.nodes node empty) none))
@@ -382,16 +407,17 @@ step_named queries mesh after keep h fit (frame_comes _ _ place now number throu
 step_named queries mesh _ keep h fit (time_passes _ happening) orig named none = named none
 
 all_named : (queries : Mac → Queries) → AllKeep queries → (mesh : Mesh) → IsReachable queries mesh → (orig : Mac) → NamedIf queries orig mesh
-all_named queries keep _ begins orig = λ none place node entry got has. cc
+all_named queries keep _ begins orig = λ none place node newer older entry got split. cc
 all_named queries keep _ (goes_on mesh after r s) orig =
     step_named queries mesh after keep (reached queries keep (commits_always_fit queries) mesh r) (commits_always_fit queries after (goes_on mesh after r s)) s orig (all_named queries keep mesh r orig)
 
 -- an act among others
-pub act_of : (all : TableCalls) (orig : Mac) (log : Log) (frames : List SentFrame) (to : Option Mac) (bytes : List ℕ) (acts : List Act) → AllName all orig log frames acts → Has acts (Link to (Some Table) bytes) → IsSentByTable all orig log frames bytes
-act_of all orig log frames to bytes [] each has = absurd has
-act_of all orig log frames to bytes (act ∷ rest) each (inl is) = subst (ActNames all orig log frames) (sym is) each.0 refl
-act_of all orig log frames to bytes (act ∷ rest) each (inr has) = act_of all orig log frames to bytes rest each.1 has
+pub act_of : (had all : TableCalls) (orig : Mac) (log : Log) (frames : List SentFrame) (to : Option Mac) (bytes : List ℕ) (acts : List Act) → AllName had all orig log frames acts → Has acts (Link to (Some Table) bytes) → IsSentByTable had all orig log frames bytes
+act_of had all orig log frames to bytes [] each has = absurd has
+act_of had all orig log frames to bytes (act ∷ rest) each (inl is) = subst (ActNames had all orig log frames) (sym is) each.0 refl
+act_of had all orig log frames to bytes (act ∷ rest) each (inr has) = act_of had all orig log frames to bytes rest each.1 has
 
 pub frames_by_table : FramesByTable
-frames_by_table queries orig mesh is place node entry found has to bytes sent =
-    act_of (known_at_node queries node).tables orig (log_of orig mesh.nodes) mesh.frames to bytes entry.acts (all_named queries is.keep mesh is.reachable orig is.none place node entry found has) sent
+frames_by_table queries orig mesh is place node newer older entry found split to bytes sent =
+    act_of (told_in queries node.mac older) (told_in queries node.mac (entry ∷ older)) orig (log_of orig mesh.nodes) mesh.frames to bytes entry.acts
+    (all_named queries is.keep mesh is.reachable orig is.none place node newer older entry found split) sent

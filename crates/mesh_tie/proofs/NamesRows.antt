@@ -18,7 +18,8 @@ use Rattle.mesh_model.specs.declared.table_outcome.Request.{Request}
 use Rattle.mesh_model.specs.Acts.FrameRows.{Place, addressed, advert_acts, arrived, broadcast_acts, broadcast_on, frame_acts, handed_out, handed_out_if, here_acts, is_present, lost, lost_if, on_route, on_way, passed_frame, readdressed}
 use Rattle.mesh_model.specs.Acts.OwnContainers.{own_containers}
 use Rattle.mesh_model.specs.Acts.Packing.{reply_containers, request_containers, sent_over, sent_to_all}
-use Rattle.mesh_model.specs.Acts.Rows.{Own, accepted_acts, alias_acts, alias_event, commit_acts, head_acts, message_acts, ogm_acts, packet_acts, place_at, taken_acts, tick_acts}
+use Rattle.mesh_model.specs.Acts.ProbeRows.{IcmpMessage, session_acts}
+use Rattle.mesh_model.specs.Acts.Rows.{Own, accepted_acts, alias_acts, alias_event, commit_acts, head_acts, icmp_acts, message_acts, ogm_acts, packet_acts, place_at, taken_acts, tick_acts}
 use Rattle.mesh_model.specs.Acts.TableRows.{on_the_way, other_containers, own_answer, request_acts, way_reply}
 use Rattle.mesh_model.specs.Clients.Mentions.{Mention, key_of}
 use Rattle.mesh_model.specs.Commits.Aliases.{last_alias}
@@ -57,15 +58,17 @@ use Rattle.mesh_tie.specs.Tie.{IsToldBy, KnowsWhole, NodeIsTied}
 use Rattle.mesh_tie.proofs.CommitLemmas.{at_root}
 use Rattle.mesh_tie.proofs.EntryLemmas.{each_appended}
 use Rattle.mesh_tie.proofs.KnowsLemmas.{addressee_whole}
+use Rattle.mesh_tie.proofs.ProbeActs.{AreProbing, IsProbing, icmp_puts, puts_message, puts_pinged, puts_traced, session_puts}
+use Rattle.mesh_tie.proofs.Sayable.{IsNoAlias}
 
--- ---- acts that send nothing by table
+-- ---- acts that send nothing by table, and tell of no alias
 abbrev pub IsNoFrame : Event → Type 0
 IsNoFrame event = (number moment : ℕ) (from to : Mac) (reason : Option Reason) (bytes : List ℕ) → event ≡ FrameSent number moment from to reason bytes → ⊥
 
 abbrev pub IsPlain : Act → Type 0
 IsPlain (Link to reason bytes) = reason ≡ Some Table → ⊥
 IsPlain (Lan bytes) = Unit {0}
-IsPlain (Print event) = IsNoFrame event
+IsPlain (Print event) = IsNoFrame event × IsNoAlias event
 
 plain_if : (b : Bool) (xs ys : List Act) → AllByRecursion IsPlain xs → AllByRecursion IsPlain ys → AllByRecursion IsPlain (cond b xs ys)
 plain_if true xs ys a b = a
@@ -75,7 +78,7 @@ plain_over : (next : Option Mac) (head : Head) (tail : List ℕ) → AllByRecurs
 plain_over None head tail = tt
 plain_over (Some to) head tail = ((λ is. cc), tt)
 
-plain_message : (o : Option Head) (tail : List ℕ) → AllByRecursion IsPlain (message_acts o tail)
+pub plain_message : (o : Option Head) (tail : List ℕ) → AllByRecursion IsPlain (message_acts o tail)
 unfolding message_acts
 plain_message None tail = tt
 plain_message (Some head) tail = ((λ is. cc), tt)
@@ -84,13 +87,13 @@ plain_request : (me : Mac) (next : Option Mac) (message : Message) (o : Option R
 plain_request me next message None = tt
 plain_request me next message (Some request) = plain_over next (Utvlv 50 message.orig me) (request_containers request (stamp_told message.table))
 
-plain_own : (q : Queries) (me : Mac) (known : Knowledge) (now : ℕ) (own : Own) (asker : Mac) (message : TableMessage) → AllByRecursion IsPlain (own_answer q me known now own.last own.told asker message)
+pub plain_own : (q : Queries) (me : Mac) (known : Knowledge) (now : ℕ) (own : Own) (asker : Mac) (message : TableMessage) → AllByRecursion IsPlain (own_answer q me known now own.last own.told asker message)
 unfolding own_answer
 plain_own q me known now own asker (Asks full stamp) = plain_over (q.route known.routes now asker) (Utvlv 50 asker me) (reply_containers (Rattle.mesh_model.specs.Tables.Answers.own_reply full stamp.byte own.last own.told))
 plain_own q me known now own asker (Answers stamp carried) = tt
 plain_own q me known now own asker Neither = tt
 
-plain_other : (q : Queries) (known : Knowledge) (now ttl : ℕ) (dst src : Mac) (tail : List ℕ) → AllByRecursion IsPlain (other_containers q known now ttl dst src tail)
+pub plain_other : (q : Queries) (known : Knowledge) (now ttl : ℕ) (dst src : Mac) (tail : List ℕ) → AllByRecursion IsPlain (other_containers q known now ttl dst src tail)
 unfolding other_containers
 plain_other q known now ttl dst src tail = go (way_reply q known now dst (message_in (first_table (containers_of tail))))
   where
@@ -98,7 +101,7 @@ plain_other q known now ttl dst src tail = go (way_reply q known now dst (messag
     go None = plain_if (nat_le ttl 1) [] (sent_over (q.route known.routes now dst) (Utvlv (ttl - 1) dst src) tail) tt (plain_over (q.route known.routes now dst) (Utvlv (ttl - 1) dst src) tail)
     go (Some reply) = plain_over (q.route known.routes now src) (Utvlv 50 src dst) (reply_containers reply)
 
-plain_ogm : (q : Queries) (me : Mac) (came : Coming) (head : Head) (message : Message) (tail : List ℕ) (known : Knowledge) → AllByRecursion IsPlain (ogm_acts q me came head message tail known)
+pub plain_ogm : (q : Queries) (me : Mac) (came : Coming) (head : Head) (message : Message) (tail : List ℕ) (known : Knowledge) → AllByRecursion IsPlain (ogm_acts q me came head message tail known)
 unfolding ogm_acts
 plain_ogm q me came head message tail known =
     let heard = q.hear known.routes came.now came.from came.throughput head in
@@ -108,13 +111,13 @@ plain_ogm q me came head message tail known =
 
 plain_handed : (at : Place) (o : Option ClientFrame) → AllByRecursion IsPlain (handed_out_if at o)
 plain_handed at None = tt
-plain_handed at (Some frame) = ((λ number moment from to reason bytes is. cc), tt)
+plain_handed at (Some frame) = (((λ number moment from to reason bytes is. cc), (λ me n e is. cc)), tt)
 
 plain_lost : (at : Place) (reason : Rattle.mesh_base.specs.declared.event.LossReason.LossReason) (o : Option ClientFrame) → AllByRecursion IsPlain (lost_if at reason o)
 plain_lost at why None = tt
-plain_lost at why (Some frame) = ((λ number moment from to reason bytes is. cc), tt)
+plain_lost at why (Some frame) = (((λ number moment from to reason bytes is. cc), (λ me n e is. cc)), tt)
 
-plain_broadcast : (known : Knowledge) (at : Place) (ttl : ℕ) (broadcast : Broadcast) (tail : List ℕ) → AllByRecursion IsPlain (broadcast_acts known at ttl broadcast tail)
+pub plain_broadcast : (known : Knowledge) (at : Place) (ttl : ℕ) (broadcast : Broadcast) (tail : List ℕ) → AllByRecursion IsPlain (broadcast_acts known at ttl broadcast tail)
 unfolding broadcast_acts
 plain_broadcast known at ttl broadcast tail = plain_if (is_new_broadcast at.me broadcast known.taken) (handed_out_if at (client_frame_of tail) ++ broadcast_on ttl broadcast tail) []
     (each_appended IsPlain (handed_out_if at (client_frame_of tail)) (broadcast_on ttl broadcast tail) (plain_handed at (client_frame_of tail))
@@ -124,27 +127,29 @@ plain_on_route : (at : Place) (ttl ttvn : ℕ) (dst : Mac) (tail : List ℕ) (ne
 plain_on_route at ttl ttvn dst tail None = plain_lost at NoRoute (client_frame_of tail)
 plain_on_route at ttl ttvn dst tail (Some next) = ((λ is. cc), tt)
 
-plain_passed : (q : Queries) (known : Knowledge) (at : Place) (ttl ttvn : ℕ) (dst : Mac) (tail : List ℕ) → AllByRecursion IsPlain (passed_frame q known at ttl ttvn dst tail)
+pub plain_passed : (q : Queries) (known : Knowledge) (at : Place) (ttl ttvn : ℕ) (dst : Mac) (tail : List ℕ) → AllByRecursion IsPlain (passed_frame q known at ttl ttvn dst tail)
 unfolding passed_frame
 plain_passed q known at ttl ttvn dst tail = plain_if (nat_le ttl 1) (lost_if at Ttl (client_frame_of tail)) (on_route at ttl ttvn dst tail (q.route known.routes at.now dst))
     (plain_lost at Ttl (client_frame_of tail)) (plain_on_route at ttl ttvn dst tail (q.route known.routes at.now dst))
 
-plain_event : (me : Mac) (number : ℕ) (o : Option ℕ) → AllByRecursion IsPlain (alias_event me number o)
-plain_event me n None = tt
-plain_event me n (Some earlier) = ((λ number moment from to reason bytes is. cc), tt)
-
-pub plain_tick : (q : Queries) (me : Mac) (routes : RouteLog) (ms : List Mention) (before : History) (now index : ℕ) → AllByRecursion IsPlain (tick_acts q me routes ms before now index)
-unfolding tick_acts
-plain_tick q me routes ms before now index =
-    let after = committed (present_table ms now) before in
-    plain_if (is_commit_tick index) (commit_acts q me routes index before after) []
-    (each_appended IsPlain (alias_acts me before.commits after.commits) (message_acts (q.beats routes index).ogm (containers_spelling (own_containers (announcement after))))
-    (plain_if (length after.commits == length before.commits) [] (alias_event me (length before.commits) (last_alias after.commits)) tt (plain_event me (length before.commits) (last_alias after.commits)))
-    (plain_message (q.beats routes index).ogm (containers_spelling (own_containers (announcement after))))) tt
-
 pub plain_advert : (me : Mac) (key : Key) (o : Option Way) → AllByRecursion IsPlain (advert_acts me key o)
 plain_advert me key None = tt
 plain_advert me key (Some way) = ((λ is. cc), tt)
+
+plain_probe : (act : Act) → IsProbing act → IsPlain act
+plain_probe _ (puts_message next m) = λ is. cc
+plain_probe _ (puts_pinged node target seq result) = ((λ number moment from to reason bytes is. cc), (λ me n e is. cc))
+plain_probe _ (puts_traced node target result) = ((λ number moment from to reason bytes is. cc), (λ me n e is. cc))
+
+plain_probes : (acts : List Act) → AreProbing acts → AllByRecursion IsPlain acts
+plain_probes [] all = tt
+plain_probes (act ∷ acts) all = (plain_probe act all.0, plain_probes acts all.1)
+
+pub plain_session : (q : Queries) (known : Knowledge) (at : Place) (target : Mac) (trace : Bool) → AllByRecursion IsPlain (session_acts q known at target trace)
+plain_session q known at target trace = plain_probes (session_acts q known at target trace) (session_puts q known at target trace)
+
+pub plain_icmp : (q : Queries) (known : Knowledge) (at : Place) (m : IcmpMessage) → AllByRecursion IsPlain (icmp_acts q known at m)
+plain_icmp q known at m = plain_probes (icmp_acts q known at m) (icmp_puts q known at m)
 
 -- ---- why something is sent by table
 some_one : {X : Type 0} (x y : X) → Some x ≡ Some y → x ≡ y
@@ -261,30 +266,33 @@ found_told orig log frames w m came key clear tied agreed named = by_told (known
     by_told (Some last) (Some held) is holds agreed named t = with_both last held is holds agreed named t
 
 -- ---- what acts send by table
-abbrev pub ActNames : TableCalls → Mac → Log → List SentFrame → Act → Type 0
-ActNames all orig log frames (Link to reason bytes) = reason ≡ Some Table → IsSentByTable all orig log frames bytes
-ActNames all orig log frames (Lan bytes) = Unit {0}
-ActNames all orig log frames (Print event) = IsNoFrame event
+abbrev pub ActNames : TableCalls → TableCalls → Mac → Log → List SentFrame → Act → Type 0
+ActNames had all orig log frames (Link to reason bytes) = reason ≡ Some Table → IsSentByTable had all orig log frames bytes
+ActNames had all orig log frames (Lan bytes) = Unit {0}
+ActNames had all orig log frames (Print event) = IsNoFrame event
 
-plain_act : (all : TableCalls) (orig : Mac) (log : Log) (frames : List SentFrame) (act : Act) → IsPlain act → ActNames all orig log frames act
-plain_act all orig log frames (Link to reason bytes) plain = λ is. absurd (plain is)
-plain_act all orig log frames (Lan bytes) plain = tt
-plain_act all orig log frames (Print event) plain = plain
+plain_act : (had all : TableCalls) (orig : Mac) (log : Log) (frames : List SentFrame) (act : Act) → IsPlain act → ActNames had all orig log frames act
+plain_act had all orig log frames (Link to reason bytes) plain = λ is. absurd (plain is)
+plain_act had all orig log frames (Lan bytes) plain = tt
+plain_act had all orig log frames (Print event) plain = plain.0
 
-pub plain_names : (all : TableCalls) (orig : Mac) (log : Log) (frames : List SentFrame) (acts : List Act) → AllByRecursion IsPlain acts → AllByRecursion (ActNames all orig log frames) acts
-plain_names all orig log frames [] plain = tt
-plain_names all orig log frames (act ∷ acts) plain = (plain_act all orig log frames act plain.0, plain_names all orig log frames acts plain.1)
+pub plain_names : (had all : TableCalls) (orig : Mac) (log : Log) (frames : List SentFrame) (acts : List Act) → AllByRecursion IsPlain acts → AllByRecursion (ActNames had all orig log frames) acts
+plain_names had all orig log frames [] plain = tt
+plain_names had all orig log frames (act ∷ acts) plain = (plain_act had all orig log frames act plain.0, plain_names had all orig log frames acts plain.1)
 
--- a node that knows this, of all that came for tables until later
-pub record CanName (all : TableCalls) (orig : Mac) (log : Log) (frames : List SentFrame) (known : Knowledge) : Type 0 where
+-- a node that knows this, between what it had been told before a step and all that it was told
+-- behind it
+pub record CanName (had all : TableCalls) (orig : Mac) (log : Log) (frames : List SentFrame) (known : Knowledge) : Type 0 where
   pub whole : KnowsWhole known
-  pub newer : TableCalls
-  pub all_is : all ≡ newer ++ known.tables
+  pub since : TableCalls
+  pub came_is : known.tables ≡ since ++ had
+  pub later : TableCalls
+  pub all_is : all ≡ later ++ known.tables
   pub found : (key : Key) → is_agreed (known_by known.tables orig) ≡ true → names key (known_by known.tables orig).held ≡ true → FoundTold orig log frames known.tables key
 
-addressed_names : (all : TableCalls) (orig : Mac) (log : Log) (frames : List SentFrame) (q : Queries) (known : Knowledge) (now ttl : ℕ) (client : ClientFrame) (way : Way) (payload : List ℕ) → CanName all orig log frames known
-    → addressee q known now (key_of client.dst client.vid) ≡ Some way → (payload ≡ payload_spelling client) ⊎ (client_frame_of payload ≡ Some client) → ActNames all orig log frames (addressed q known now ttl way payload)
-addressed_names all orig log frames q known now ttl client way payload can is carried reason =
+addressed_names : (had all : TableCalls) (orig : Mac) (log : Log) (frames : List SentFrame) (q : Queries) (known : Knowledge) (now ttl : ℕ) (client : ClientFrame) (way : Way) (payload : List ℕ) → CanName had all orig log frames known
+    → addressee q known now (key_of client.dst client.vid) ≡ Some way → (payload ≡ payload_spelling client) ⊎ (client_frame_of payload ≡ Some client) → ActNames had all orig log frames (addressed q known now ttl way payload)
+addressed_names had all orig log frames q known now ttl client way payload can is carried reason =
     let by = table_is q known now (key_of client.dst client.vid) way is (some_one way.reason Table reason) in
     record {
       ttl = ttl;
@@ -297,70 +305,91 @@ addressed_names all orig log frames q known now ttl client way payload can is ca
           let f = can.found (key_of client.dst client.vid) (subst (λ o. is_agreed (known_by known.tables o) ≡ true) same by.agreed) (subst (λ o. names (key_of client.dst client.vid) (known_by known.tables o).held ≡ true) same by.named) in
           record {
             came = known.tables;
-            newer = can.newer;
-            all_is = can.all_is;
+            since = can.since;
+            came_is = can.came_is;
+            later = can.later;
+            after_is = can.all_is;
             names_client = record { client = client; carried = carried; last = f.last; told = f.told; frame = f.frame; sent = f.sent; past = f.past; named = f.named };
           };
     }
 
-names_if : (all : TableCalls) (orig : Mac) (log : Log) (frames : List SentFrame) (b : Bool) (xs ys : List Act) → AllByRecursion (ActNames all orig log frames) xs → AllByRecursion (ActNames all orig log frames) ys → AllByRecursion (ActNames all orig log frames) (cond b xs ys)
-names_if all orig log frames true xs ys a b = a
-names_if all orig log frames false xs ys a b = b
+names_if : (had all : TableCalls) (orig : Mac) (log : Log) (frames : List SentFrame) (b : Bool) (xs ys : List Act) → AllByRecursion (ActNames had all orig log frames) xs → AllByRecursion (ActNames had all orig log frames) ys → AllByRecursion (ActNames had all orig log frames) (cond b xs ys)
+names_if had all orig log frames true xs ys a b = a
+names_if had all orig log frames false xs ys a b = b
+
+-- a tick
+names_event : (had all : TableCalls) (orig : Mac) (log : Log) (frames : List SentFrame) (me : Mac) (number : ℕ) (o : Option ℕ) → AllByRecursion (ActNames had all orig log frames) (alias_event me number o)
+names_event had all orig log frames me n None = tt
+names_event had all orig log frames me n (Some earlier) = ((λ number moment from to reason bytes is. cc), tt)
+
+pub names_tick : (had all : TableCalls) (orig : Mac) (log : Log) (frames : List SentFrame) (q : Queries) (me : Mac) (routes : RouteLog) (ms : List Mention) (before : History) (now index : ℕ)
+    → AllByRecursion (ActNames had all orig log frames) (tick_acts q me routes ms before now index)
+unfolding tick_acts
+names_tick had all orig log frames q me routes ms before now index =
+    let after = committed (present_table ms now) before in
+    let message = message_acts (q.beats routes index).ogm (containers_spelling (own_containers (announcement after))) in
+    names_if had all orig log frames (is_commit_tick index) (commit_acts q me routes index before after) []
+    (each_appended (ActNames had all orig log frames) (alias_acts me before.commits after.commits) message
+    (names_if had all orig log frames (length after.commits == length before.commits) [] (alias_event me (length before.commits) (last_alias after.commits)) tt
+    (names_event had all orig log frames me (length before.commits) (last_alias after.commits)))
+    (plain_names had all orig log frames message (plain_message (q.beats routes index).ogm (containers_spelling (own_containers (announcement after)))))) tt
 
 -- a client frame of a line
-pub frame_names : (all : TableCalls) (orig : Mac) (log : Log) (frames : List SentFrame) (q : Queries) (known : Knowledge) (ms : List Mention) (at : Place) (client : ClientFrame) → CanName all orig log frames known
-    → AllByRecursion (ActNames all orig log frames) (frame_acts q known ms at client)
+pub frame_names : (had all : TableCalls) (orig : Mac) (log : Log) (frames : List SentFrame) (q : Queries) (known : Knowledge) (ms : List Mention) (at : Place) (client : ClientFrame) → CanName had all orig log frames known
+    → AllByRecursion (ActNames had all orig log frames) (frame_acts q known ms at client)
 unfolding frame_acts
-frame_names all orig log frames q known ms at client can =
+frame_names had all orig log frames q known ms at client can =
     let key = key_of client.dst client.vid in
     let sent = on_way q known at client (addressee q known at.now key) in
     let handed = cond (is_present ms at.now key) (handed_out at client ∷ []) sent in
-    names_if all orig log frames (is_broadcast client.dst) (sent_to_all (Bcast 50 (suc known.sent) at.me) (payload_spelling client) ∷ []) (cond (is_group client.dst) [] handed) ((λ is. cc), tt)
-    (names_if all orig log frames (is_group client.dst) [] handed tt
-    (names_if all orig log frames (is_present ms at.now key) (handed_out at client ∷ []) sent ((λ number moment from to reason bytes is. cc), tt) (go (addressee q known at.now key) refl)))
+    names_if had all orig log frames (is_broadcast client.dst) (sent_to_all (Bcast 50 (suc known.sent) at.me) (payload_spelling client) ∷ []) (cond (is_group client.dst) [] handed) ((λ is. cc), tt)
+    (names_if had all orig log frames (is_group client.dst) [] handed tt
+    (names_if had all orig log frames (is_present ms at.now key) (handed_out at client ∷ []) sent ((λ number moment from to reason bytes is. cc), tt) (go (addressee q known at.now key) refl)))
   where
-    go : (o : Option Way) → addressee q known at.now (key_of client.dst client.vid) ≡ o → AllByRecursion (ActNames all orig log frames) (on_way q known at client o)
+    go : (o : Option Way) → addressee q known at.now (key_of client.dst client.vid) ≡ o → AllByRecursion (ActNames had all orig log frames) (on_way q known at client o)
     go None none = ((λ number moment from to reason bytes is. cc), tt)
-    go (Some way) is = (addressed_names all orig log frames q known at.now 50 client way (payload_spelling client) can is (inl refl), tt)
+    go (Some way) is = (addressed_names had all orig log frames q known at.now 50 client way (payload_spelling client) can is (inl refl), tt)
 
-here_names : (all : TableCalls) (orig : Mac) (log : Log) (frames : List SentFrame) (q : Queries) (known : Knowledge) (ms : List Mention) (at : Place) (ttl : ℕ) (tail : List ℕ) → CanName all orig log frames known
-    → AllByRecursion (ActNames all orig log frames) (here_acts q known ms at ttl tail)
+here_names : (had all : TableCalls) (orig : Mac) (log : Log) (frames : List SentFrame) (q : Queries) (known : Knowledge) (ms : List Mention) (at : Place) (ttl : ℕ) (tail : List ℕ) → CanName had all orig log frames known
+    → AllByRecursion (ActNames had all orig log frames) (here_acts q known ms at ttl tail)
 unfolding here_acts
-here_names all orig log frames q known ms at ttl tail can = by_frame (client_frame_of tail) refl
+here_names had all orig log frames q known ms at ttl tail can = by_frame (client_frame_of tail) refl
   where
-    by_way : (client : ClientFrame) → client_frame_of tail ≡ Some client → (o : Option Way) → addressee q known at.now (key_of client.dst client.vid) ≡ o → AllByRecursion (ActNames all orig log frames) (readdressed q known at ttl client tail o)
+    by_way : (client : ClientFrame) → client_frame_of tail ≡ Some client → (o : Option Way) → addressee q known at.now (key_of client.dst client.vid) ≡ o → AllByRecursion (ActNames had all orig log frames) (readdressed q known at ttl client tail o)
     by_way client carried None none = ((λ number moment from to reason bytes is. cc), tt)
-    by_way client carried (Some way) is = names_if all orig log frames (nat_le ttl 1) (lost at Ttl client ∷ []) (addressed q known at.now (ttl - 1) way tail ∷ []) ((λ number moment from to reason bytes is. cc), tt)
-        (addressed_names all orig log frames q known at.now (ttl - 1) client way tail can is (inr carried), tt)
+    by_way client carried (Some way) is = names_if had all orig log frames (nat_le ttl 1) (lost at Ttl client ∷ []) (addressed q known at.now (ttl - 1) way tail ∷ []) ((λ number moment from to reason bytes is. cc), tt)
+        (addressed_names had all orig log frames q known at.now (ttl - 1) client way tail can is (inr carried), tt)
 
-    by_frame : (o : Option ClientFrame) → client_frame_of tail ≡ o → AllByRecursion (ActNames all orig log frames) (arrived q known ms at ttl tail o)
+    by_frame : (o : Option ClientFrame) → client_frame_of tail ≡ o → AllByRecursion (ActNames had all orig log frames) (arrived q known ms at ttl tail o)
     by_frame None carried = tt
-    by_frame (Some client) carried = names_if all orig log frames (is_group client.dst || is_present ms at.now (key_of client.dst client.vid)) (handed_out at client ∷ [])
+    by_frame (Some client) carried = names_if had all orig log frames (is_group client.dst || is_present ms at.now (key_of client.dst client.vid)) (handed_out at client ∷ [])
         (readdressed q known at ttl client tail (addressee q known at.now (key_of client.dst client.vid))) ((λ number moment from to reason bytes is. cc), tt) (by_way client carried (addressee q known at.now (key_of client.dst client.vid)) refl)
 
 -- a packet
-pub packet_names : (all : TableCalls) (orig : Mac) (log : Log) (frames : List SentFrame) (q : Queries) (me : Mac) (own : Own) (came : Coming) (packet : Packet) (known : Knowledge) → CanName all orig log frames known
-    → AllByRecursion (ActNames all orig log frames) (packet_acts q me own came known packet)
+pub packet_names : (had all : TableCalls) (orig : Mac) (log : Log) (frames : List SentFrame) (q : Queries) (me : Mac) (own : Own) (came : Coming) (packet : Packet) (known : Knowledge) → CanName had all orig log frames known
+    → AllByRecursion (ActNames had all orig log frames) (packet_acts q me own came known packet)
 unfolding packet_acts
-packet_names all orig log frames q me own came packet known can = go packet.head packet.tail
+packet_names had all orig log frames q me own came packet known can = go packet.head packet.tail
   where
     taken : (head : Head) (tail : List ℕ) (o : Option Message) → AllByRecursion IsPlain (taken_acts q me came head o tail known)
     taken head tail None = tt
     taken head tail (Some message) = plain_ogm q me came head message tail known
 
-    plain : (acts : List Act) → AllByRecursion IsPlain acts → AllByRecursion (ActNames all orig log frames) acts
-    plain acts p = plain_names all orig log frames acts p
+    plain : (acts : List Act) → AllByRecursion IsPlain acts → AllByRecursion (ActNames had all orig log frames) acts
+    plain acts p = plain_names had all orig log frames acts p
 
-    go : (head : Head) (tail : List ℕ) → AllByRecursion (ActNames all orig log frames) (head_acts q me own came known (message_of (record { head = head; tail = tail })) tail head)
+    go : (head : Head) (tail : List ℕ) → AllByRecursion (ActNames had all orig log frames) (head_acts q me own came known (message_of (record { head = head; tail = tail })) tail head)
     go (IvOgm ttl flags seq o prev tq) tail = plain (taken_acts q me came (IvOgm ttl flags seq o prev tq) (message_with o (first_table (containers_of tail))) tail known) (taken (IvOgm ttl flags seq o prev tq) tail (message_with o (first_table (containers_of tail))))
     go (Bcast ttl seq o) tail = plain (broadcast_acts known (place_at me came) ttl (record { orig = o; number = seq }) tail) (plain_broadcast known (place_at me came) ttl (record { orig = o; number = seq }) tail)
     go (Elp o seq interval) tail = tt
     go (Ogm2 ttl flags seq o throughput) tail = plain (taken_acts q me came (Ogm2 ttl flags seq o throughput) (message_with o (first_table (containers_of tail))) tail known) (taken (Ogm2 ttl flags seq o throughput) tail (message_with o (first_table (containers_of tail))))
-    go (Unicast ttl ttvn dst) tail = names_if all orig log frames (same_mac dst me) (here_acts q known own.mentions (place_at me came) ttl tail) (passed_frame q known (place_at me came) ttl ttvn dst tail)
-        (here_names all orig log frames q known own.mentions (place_at me came) ttl tail can) (plain (passed_frame q known (place_at me came) ttl ttvn dst tail) (plain_passed q known (place_at me came) ttl ttvn dst tail))
+    go (Unicast ttl ttvn dst) tail = names_if had all orig log frames (same_mac dst me) (here_acts q known own.mentions (place_at me came) ttl tail) (passed_frame q known (place_at me came) ttl ttvn dst tail)
+        (here_names had all orig log frames q known own.mentions (place_at me came) ttl tail can) (plain (passed_frame q known (place_at me came) ttl ttvn dst tail) (plain_passed q known (place_at me came) ttl ttvn dst tail))
     go (Frag ttl number priority dst o seq total) tail = tt
     go (Unicast4 ttl ttvn dst src subtype) tail = tt
-    go (Icmp ttl msg dst o uid seq) tail = tt
-    go (Utvlv ttl dst src) tail = names_if all orig log frames (same_mac dst me) (own_answer q me known came.now own.last own.told src (message_in (first_table (containers_of tail)))) (other_containers q known came.now ttl dst src tail)
+    go (Icmp ttl msg dst o uid seq) tail =
+        let m : IcmpMessage = record { ttl = ttl; kind = msg; dst = dst; orig = o; uid = uid; seq = seq } in
+        plain (icmp_acts q known (place_at me came) m) (plain_icmp q known (place_at me came) m)
+    go (Utvlv ttl dst src) tail = names_if had all orig log frames (same_mac dst me) (own_answer q me known came.now own.last own.told src (message_in (first_table (containers_of tail)))) (other_containers q known came.now ttl dst src tail)
         (plain (own_answer q me known came.now own.last own.told src (message_in (first_table (containers_of tail)))) (plain_own q me known came.now own src (message_in (first_table (containers_of tail)))))
         (plain (other_containers q known came.now ttl dst src tail) (plain_other q known came.now ttl dst src tail))

@@ -1,15 +1,13 @@
 -- What a node knows of an originator changes as the machine's moves do.
-use Rattle.std.proofs.Common.{◌≡◌, ◌≢◌, ◌⊎◌, inl, inr, ◌≤◌, ◌-◌, ℕ, true, false, cond, ◌==◌, List, [], ◌∷◌, slice_get, Option, Some, None, is_some, Ok, refl, sym, ap, ap₂, subst, ◌∙◌, arith}
+use Rattle.std.proofs.Common.{◌≡◌, ◌≢◌, ◌⊎◌, inl, inr, ◌≤◌, ◌-◌, ℕ, false, cond, ◌==◌, List, [], ◌∷◌, slice_get, Option, Some, None, is_some, Ok, refl, sym, ap, ap₂, subst, ◌∙◌, arith}
 use Rattle.std.specs.List.{range_with_len}
-use Rattle.std.proofs.lemmas.Bool.{eq-eqb, false≢true}
+use Rattle.std.proofs.lemmas.Bool.{eq-eqb}
 use Rattle.std.proofs.lemmas.List.{append-nil}
 use Rattle.mesh_base.specs.declared.address.Mac.{Mac}
 use Rattle.mesh_base.specs.declared.client.Entry.{Entry}
 use Rattle.mesh_model.specs.declared.table_change.Change.{Change}
-use Rattle.mesh_model.specs.declared.table_outcome.Heard.{Heard}
-use Rattle.mesh_model.specs.declared.table_outcome.Heard.TheVariants.{Emptied, Unheld, Same, SumDiffers, Gap, Bare, Clash, Applied}
-use Rattle.mesh_model.specs.declared.table_outcome.Taken.{Taken}
-use Rattle.mesh_model.specs.declared.table_outcome.Taken.TheVariants.{NotTold, SumDiffers as SumsDiffer, Unheld as NothingHeld, Gap as NotNext, Clash as NotStrict, Taken as IsTaken}
+use Rattle.mesh_model.specs.declared.table_outcome.Heard.TheVariants.{Emptied, Applied}
+use Rattle.mesh_model.specs.declared.table_outcome.Taken.TheVariants.{Taken as IsTaken}
 use Rattle.mesh_model.specs.Clients.Log.{Log}
 use Rattle.mesh_model.specs.Net.Due.{ticks_in}
 use Rattle.mesh_model.specs.Net.Mesh.{SentFrame}
@@ -19,10 +17,11 @@ use Rattle.mesh_model.specs.Tables.Known.{Known, LastTold, announced, answered, 
 use Rattle.mesh_model.specs.Tables.Strict.{apply_strictly}
 use Rattle.mesh_model.specs.Tables.Sums.{checksums, sum_at}
 use Rattle.mesh_model.specs.Tables.Versions.{Stamp, Version, next_byte}
-use Rattle.mesh_laws.specs.KnownLaws.{LeadsOn, heard_another, took_another}
+use Rattle.mesh_laws.specs.KnownLaws.{LeadsOn}
 use Rattle.mesh_laws.specs.Machine.Moves.{Move, is_told, takes_changes, takes_full, drops, Reaches, no_move, then_move, WereOffered, agreed_node, held_when_told}
 use Rattle.mesh_laws.specs.Machine.Pieces.{put_together}
 use Rattle.mesh_laws.specs.Machine.World.{Announcement, Differences, Node, Piece, Saying, Told, World, WasSaid, silent_node, with_node}
+use Rattle.mesh_laws.proofs.HeldLemmas.{another_heard, another_taken}
 use Rattle.mesh_laws.proofs.KnownLemmas.{applied_onward, changes_as_heard, changes_as_taken, emptied_by_none, taken_onward, taken_whole}
 use Rattle.mesh_tie.specs.Originators.{number_at_root}
 use Rattle.mesh_tie.specs.Sayings.{saying_of}
@@ -80,16 +79,6 @@ told_now w m node number byte sums changes a said =
     (at_next w m node (record { told = Some (record { number = number; byte = byte; sums = sums }); held = held_when_told byte sums (a.world.nodes m).held }) a
     (is_told a.world m number byte sums changes (subst (λ s. WasSaid s (Announcement number byte sums changes)) (sym a.said) said)))
 
-another : (outcome : Heard) → heard_another outcome ≡ true → (outcome ≡ Emptied) ⊎ (outcome ≡ Applied)
-another Emptied is = inl refl
-another (Unheld told) is = absurd (false≢true is)
-another Same is = absurd (false≢true is)
-another (SumDiffers vid kept told) is = absurd (false≢true is)
-another (Gap held told) is = absurd (false≢true is)
-another (Bare held told) is = absurd (false≢true is)
-another (Clash entry) is = absurd (false≢true is)
-another Applied is = inr refl
-
 -- the frame that brought an announcement was sent, and it is of the commit of its root
 pub record IsBrought (orig : Mac) (log : Log) (frames : List SentFrame) (said : List Saying) (number : ℕ) (stamp : Stamp) (changes : List Change) : Type 0 where
   pub frame : SentFrame
@@ -116,7 +105,7 @@ tells_named orig log frames w m known number byte first others changes None is c
       tied = record { held = c.tied.held; told = told_tied orig log frames w.said number byte (first ∷ others) changes b };
     }
 tells_named orig log frames w m known number byte first others changes (Some table) is c b =
-    go (another (announcement_row known.held stamp changes).outcome (sym (changes_as_heard known.held stamp changes) ∙ ap is_some is))
+    go (another_heard (announcement_row known.held stamp changes).outcome (sym (changes_as_heard known.held stamp changes) ∙ ap is_some is))
   where
     stamp : Stamp
     stamp = record { byte = byte; sums = first ∷ others }
@@ -160,14 +149,6 @@ pub tells : (orig : Mac) (log : Log) (frames : List SentFrame) (w : World) (m : 
 tells orig log frames w m known number stamp changes c b = tells_by orig log frames w m known number stamp.byte stamp.sums changes c b
 
 -- ---- answers
-another_taken : (outcome : Taken) → took_another outcome ≡ true → outcome ≡ IsTaken
-another_taken (NotTold told wanted) is = absurd (false≢true is)
-another_taken (SumsDiffer vid kept told) is = absurd (false≢true is)
-another_taken NothingHeld is = absurd (false≢true is)
-another_taken (NotNext held told) is = absurd (false≢true is)
-another_taken (NotStrict entry) is = absurd (false≢true is)
-another_taken IsTaken is = refl
-
 -- what the world's node was told, where this is what was told
 record WasTold (node : Node) (stamp : Stamp) : Type 0 where
   told : Told

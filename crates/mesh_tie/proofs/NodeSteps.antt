@@ -7,15 +7,16 @@ use Rattle.mesh_model.specs.declared.act.Act.{Act}
 use Rattle.mesh_model.specs.declared.packet.Head.{Head}
 use Rattle.mesh_model.specs.declared.packet.Head.TheVariants.{Utvlv}
 use Rattle.mesh_model.specs.declared.table_change.Change.{Change}
-use Rattle.mesh_model.specs.Acts.Choosing.{acts_of, client_acts, sighting_acts}
+use Rattle.mesh_model.specs.Acts.Choosing.{acts_of, client_acts, probing_acts, sighting_acts}
 use Rattle.mesh_model.specs.Acts.FrameRows.{advert_acts}
 use Rattle.mesh_model.specs.Acts.OwnContainers.{own_containers}
 use Rattle.mesh_model.specs.Acts.Packing.{roaming_container, sent_to_all}
-use Rattle.mesh_model.specs.Acts.Rows.{Own, alias_acts, commit_acts, message_acts, packet_acts, packets_acts, tick_acts}
-use Rattle.mesh_model.specs.Clients.Log.{Given, Tick, LinkFrame, Frame, Gone, Join, Leave, Arp, Dhcp, Wifi, Log}
+use Rattle.mesh_model.specs.Acts.Rows.{Own, alias_acts, alias_event, commit_acts, message_acts, packet_acts, packets_acts, tick_acts}
+use Rattle.mesh_model.specs.Clients.Log.{Given, Tick, LinkFrame, Frame, Gone, Join, Leave, Arp, Dhcp, Wifi, Ping, Trace, Log}
 use Rattle.mesh_model.specs.Clients.Mentions.{Mention, key_of, mentions, next_mentions}
 use Rattle.mesh_model.specs.Commits.Announcements.{announced_changes, announcement}
 use Rattle.mesh_model.specs.Commits.History.{History, committed, is_commit_tick, present_table}
+use Rattle.mesh_model.specs.Commits.Aliases.{last_alias}
 use Rattle.mesh_model.specs.Commits.Versions.{last_commit}
 use Rattle.mesh_model.specs.Knowledge.Addressee.{Way}
 use Rattle.mesh_model.specs.Knowledge.Known.{Knowledge}
@@ -41,7 +42,7 @@ use Rattle.mesh_tie.specs.Sayings.{FrameSays, IsAnnounced, PacketSays}
 use Rattle.mesh_tie.specs.Sources.{IsWhole, KeepsOriginators}
 use Rattle.mesh_tie.specs.Steps.{IsOfLine}
 use Rattle.mesh_tie.specs.Tie.{FitsAnswer, FitsEntry, KnowsWhole, NodeIsTied}
-use Rattle.mesh_tie.proofs.CalmRows.{calm_alias, calm_frame}
+use Rattle.mesh_tie.proofs.CalmRows.{calm_frame, calm_session}
 use Rattle.mesh_tie.proofs.CommitLemmas.{Chain, announced_are, last_and_older}
 use Rattle.mesh_tie.proofs.EntryLemmas.{OfCommits, each_appended, reached_entries}
 use Rattle.mesh_tie.proofs.KnowsLemmas.{advertised_whole, packet_knows, sighting_knows}
@@ -211,6 +212,18 @@ unfolding message_acts
 own_row orig log w q me routes index after None keeps a is = tt
 own_row orig log w q me routes index after (Some head) keeps a is = (own_message orig log w q me routes index after head keeps a is, tt)
 
+-- an event says nothing
+event_row : (orig : Mac) (log : Log) (root : ℕ) (w : World) (me : Mac) (number : ℕ) (o : Option ℕ) → AllByRecursion (Sayable orig log root w) (alias_event me number o)
+event_row orig log root w me number None = tt
+event_row orig log root w me number (Some earlier) = ((λ y later. silent y (λ said. Unit {0}) tt), tt)
+
+alias_row : (orig : Mac) (log : Log) (root : ℕ) (w : World) (me : Mac) (before after : List Version) → AllByRecursion (Sayable orig log root w) (alias_acts me before after)
+alias_row orig log root w me before after = go (length after == length before)
+  where
+    go : (b : Bool) → AllByRecursion (Sayable orig log root w) (cond b [] (alias_event me (length before) (last_alias after)))
+    go true = tt
+    go false = event_row orig log root w me (length before) (last_alias after)
+
 pub tick_row : (orig : Mac) (log : Log) (w : World) (q : Queries) (me : Mac) (routes : RouteLog) (ms : List Mention) (before : History) (now index : ℕ) → KeepsOriginators me q
     → (is_commit_tick index ≡ true → Announcer orig log w me index (committed (present_table ms now) before))
     → AllByRecursion (Sayable orig log index w) (tick_acts q me routes ms before now index)
@@ -222,7 +235,7 @@ tick_row orig log w q me routes ms before now index keeps a = go (is_commit_tick
 
     go : (b : Bool) → is_commit_tick index ≡ b → AllByRecursion (Sayable orig log index w) (cond b (commit_acts q me routes index before after) [])
     go true is = each_appended (Sayable orig log index w) (alias_acts me before.commits after.commits) (message_acts (q.beats routes index).ogm (containers_spelling (own_containers (announcement after))))
-        (calm_row orig log index w (alias_acts me before.commits after.commits) (calm_alias me before.commits after.commits))
+        (alias_row orig log index w me before.commits after.commits)
         (own_row orig log w q me routes index after (q.beats routes index).ogm keeps (a is) refl)
     go false is = tt
 
@@ -257,6 +270,8 @@ line_row orig log root w q me mine now (Leave key) of whole k = tt
 line_row orig log root w q me mine now (Arp mac own_ip asked_ip vid) of whole k = sighting_row orig log root w q me mine now (key_of mac vid) whole k of.fits
 line_row orig log root w q me mine now (Dhcp key text) of whole k = sighting_row orig log root w q me mine now key whole k of.fits
 line_row orig log root w q me mine now (Wifi on) of whole k = tt
+line_row orig log root w q me mine now (Ping target) of whole k = calm_row orig log root w (probing_acts q me mine now target false) (calm_session q (knowledge q me mine) (record { me = me; now = now }) target false)
+line_row orig log root w q me mine now (Trace target) of whole k = calm_row orig log root w (probing_acts q me mine now target true) (calm_session q (knowledge q me mine) (record { me = me; now = now }) target true)
 
 frame_knows : (dst : Mac) (known : Knowledge) → KnowsWhole known → KnowsWhole (after_frame dst known)
 frame_knows dst known k = go (Rattle.mesh_base.specs.Address.is_broadcast dst)
@@ -283,6 +298,8 @@ line_same q me mine known now (Leave key) of = refl
 line_same q me mine known now (Arp mac own_ip asked_ip vid) of = refl
 line_same q me mine known now (Dhcp key text) of = refl
 line_same q me mine known now (Wifi on) of = refl
+line_same q me mine known now (Ping target) of = refl
+line_same q me mine known now (Trace target) of = refl
 
 pub line_knows : (q : Queries) (me : Mac) (mine : Log) (known : Knowledge) (now : ℕ) (given : Given) → IsOfLine given → KnowsWhole known → KnowsWhole (next_knowledge q me mine known now given)
 line_knows q me mine known now (Tick index) of k = absurd of
@@ -294,3 +311,5 @@ line_knows q me mine known now (Leave key) of k = k
 line_knows q me mine known now (Arp mac own_ip asked_ip vid) of k = sighting_knows q me mine now (key_of mac vid) known k
 line_knows q me mine known now (Dhcp key text) of k = sighting_knows q me mine now key known k
 line_knows q me mine known now (Wifi on) of k = k
+line_knows q me mine known now (Ping target) of k = record { tables = k.tables; marks = k.marks }
+line_knows q me mine known now (Trace target) of k = record { tables = k.tables; marks = k.marks }

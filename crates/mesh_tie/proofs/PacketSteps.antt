@@ -1,5 +1,5 @@
 -- A packet that comes to a node: its acts are said, and what the node knows then is tied again.
-use Rattle.std.proofs.Common.{◌≡◌, ◌≤◌, ◌<◌, ◌-◌, ℕ, Bool, true, false, cond, not, List, ◌∷◌, length, slice_get, Option, Some, None, refl, sym, ap, subst, ◌∙◌}
+use Rattle.std.proofs.Common.{◌≡◌, ◌≤◌, ◌<◌, ◌-◌, ◌&&◌, ℕ, Bool, true, false, cond, not, List, ◌∷◌, length, slice_get, Option, Some, None, refl, sym, ap, subst, ◌∙◌}
 use Rattle.std.specs.List.{AllByRecursion}
 use Rattle.mesh_base.specs.declared.address.Mac.{Mac}
 use Rattle.mesh_base.specs.declared.client.Key.{Key}
@@ -7,17 +7,19 @@ use Rattle.mesh_model.specs.declared.act.Act.{Act}
 use Rattle.mesh_model.specs.declared.packet.Head.{Head}
 use Rattle.mesh_model.specs.declared.packet.Head.TheVariants.{IvOgm, Bcast, Elp, Ogm2, Unicast, Frag, Unicast4, Icmp, Utvlv}
 use Rattle.mesh_model.specs.declared.table_change.Change.{Change}
-use Rattle.mesh_model.specs.Acts.Rows.{Own, head_acts, packet_acts, place_at, taken_acts}
+use Rattle.mesh_model.specs.Acts.ProbeRows.{IcmpMessage}
+use Rattle.mesh_model.specs.Acts.Rows.{Own, head_acts, icmp_acts, packet_acts, place_at, taken_acts}
 use Rattle.mesh_model.specs.Acts.TableRows.{other_containers, own_answer}
 use Rattle.mesh_model.specs.Clients.Log.{Log}
 use Rattle.mesh_model.specs.Knowledge.Known.{Broadcast, Knowledge, is_new_broadcast}
-use Rattle.mesh_model.specs.Knowledge.Steps.{Coming, after_announcement, after_answer, after_broadcast, after_containers, after_head, after_message, after_packet, after_roaming, after_taken, announcement, before_announcement, request_out, with_announcement, with_head, with_life}
+use Rattle.mesh_model.specs.Knowledge.Steps.{Coming, after_announcement, after_answer, after_broadcast, after_containers, after_head, after_message, after_packet, after_reply, after_roaming, after_taken, announcement, before_announcement, request_out, with_announcement, with_head, with_life}
 use Rattle.mesh_model.specs.Knowledge.Told.{Message, TableMessage, Asks, Answers, Neither, changes_told, message_in, message_of, message_with, stamp_told}
 use Rattle.mesh_model.specs.Net.Mesh.{SentFrame}
 use Rattle.mesh_model.specs.Packets.Bodies.{TtData}
 use Rattle.mesh_model.specs.Packets.Containers.{containers_of}
 use Rattle.mesh_model.specs.Packets.Contents.{first_roaming, first_table}
 use Rattle.mesh_model.specs.Packets.FirstPacket.{Packet}
+use Rattle.mesh_model.specs.Probes.OpenProbes.{is_answer}
 use Rattle.mesh_model.specs.Routes.Addresses.{same_mac}
 use Rattle.mesh_model.specs.Routes.Queries.{Queries}
 use Rattle.mesh_model.specs.Tables.Judging.{Carried}
@@ -27,7 +29,7 @@ use Rattle.mesh_laws.specs.Machine.World.{Saying, World, WasSaid}
 use Rattle.mesh_laws.proofs.MacLemmas.{same_exact}
 use Rattle.mesh_tie.specs.Sayings.{IsAnnounced, IsAnswered, PacketSays, saying_of}
 use Rattle.mesh_tie.specs.Sources.{IsMessageOf, IsWhole, KeepsOriginators}
-use Rattle.mesh_tie.proofs.CalmRows.{calm_broadcast, calm_here, calm_passed}
+use Rattle.mesh_tie.proofs.CalmRows.{calm_broadcast, calm_here, calm_icmp, calm_passed}
 use Rattle.mesh_tie.proofs.NodeMoves.{Comes, IsBrought, answers_come, forgets, tells}
 use Rattle.mesh_tie.proofs.Sayable.{Sayable, calm_row}
 use Rattle.mesh_tie.proofs.TableRows.{Holder, IsTaken, Speaker, ogm_row, other_row, own_row}
@@ -136,6 +138,11 @@ broadcast_same me broadcast known = go (is_new_broadcast me broadcast known.take
     go true = refl
     go false = refl
 
+-- an answer to a probe
+reply_same : (q : Queries) (now msg seq : ℕ) (b : Bool) (known : Knowledge) → (cond b (after_reply q now msg seq known) known).tables ≡ known.tables
+reply_same q now msg seq true known = refl
+reply_same q now msg seq false known = refl
+
 -- ---- the message that a packet is
 one_message : (source : Mac) (o : Option TtData) (one : Message) → message_with source o ≡ Some one → (one.orig ≡ source) × (o ≡ Some one.table)
 one_message source None one is = cc
@@ -170,7 +177,7 @@ packet_comes orig log frames w m q me root came packet known f p c = go packet.h
     go (Unicast ttl ttvn dst) tail p = c
     go (Frag ttl number priority dst o seq total) tail p = c
     go (Unicast4 ttl ttvn dst src subtype) tail p = c
-    go (Icmp ttl msg dst o uid seq) tail p = c
+    go (Icmp ttl msg dst o uid seq) tail p = subst (Tied orig log frames w m) (sym (reply_same q came.now msg seq (same_mac dst me && is_answer msg) known)) c
     go (Utvlv ttl dst src) tail p = containers_come orig log frames w m q me came.now dst src tail known p.says c
 
 -- the acts of a packet are said
@@ -201,7 +208,9 @@ packet_row orig log w m q me own root came packet known keeps from s h p = go pa
         (calm_row orig log root w (Rattle.mesh_model.specs.Acts.FrameRows.passed_frame q known (place_at me came) ttl ttvn dst tail) (calm_passed q known (place_at me came) ttl ttvn dst tail))
     go (Frag ttl number priority dst o seq total) tail p = tt
     go (Unicast4 ttl ttvn dst src subtype) tail p = tt
-    go (Icmp ttl msg dst o uid seq) tail p = tt
+    go (Icmp ttl msg dst o uid seq) tail p =
+        let m : IcmpMessage = record { ttl = ttl; kind = msg; dst = dst; orig = o; uid = uid; seq = seq } in
+        calm_row orig log root w (icmp_acts q known (place_at me came) m) (calm_icmp q known (place_at me came) m)
     go (Utvlv ttl dst src) tail p = either (same_mac dst me) (own_answer q me known came.now own.last own.told src (message_in (first_table (containers_of tail)))) (other_containers q known came.now ttl dst src tail)
         (own_row orig log root w q me known came.now own src (message_in (first_table (containers_of tail))) s p.addresses.1)
         (other_row orig log root w m q known came.now ttl dst src tail h p.addresses.0 p.addresses.1 p.says)

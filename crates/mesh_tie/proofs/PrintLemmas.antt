@@ -2,6 +2,7 @@
 use Rattle.std.proofs.Common.{◌≡◌, inl, inr, ◌+◌, ◌-◌, ◌&&◌, ℕ, Bool, true, false, cond, not, nat_le, nat_lt, List, [], ◌∷◌, ◌++◌, length, map, Option, Some, None, option_map, is_some, Ok, Err, refl, sym, ap, subst, ◌∙◌, append-nil}
 use Rattle.std.specs.Option.{option_map_or}
 use Rattle.mesh_base.specs.Address.{is_broadcast, is_group}
+use Rattle.mesh_base.specs.declared.address.Mac.{Mac}
 use Rattle.mesh_base.specs.declared.event.Event.{Event}
 use Rattle.mesh_base.specs.declared.event.Event.TheVariants.{Alias, FrameSent}
 use Rattle.mesh_base.specs.declared.event.Reason.TheVariants.{Table as ByTable}
@@ -10,30 +11,31 @@ use Rattle.mesh_model.specs.declared.ending.LimitName.TheVariants.{Clock, Input,
 use Rattle.mesh_model.specs.declared.ending.Refusal.{Refusal}
 use Rattle.mesh_model.specs.declared.ending.Stop.TheVariants.{Limit}
 use Rattle.mesh_model.specs.declared.frame_choice.FrameChoice.{FrameChoice}
+use Rattle.mesh_model.specs.declared.line_form.Algorithm.TheVariants.{Iv, V}
 use Rattle.mesh_model.specs.declared.line_form.Command.{Command}
 use Rattle.mesh_model.specs.declared.line_form.Command.TheVariants.{Nothing, Algo, Node, Link, Lan, Frame, Gone, Join, Leave, Arp, Dhcp, Wifi, GwOff, GwServer, GwClient, Mcast, Dat, Alfred, Put, Get, Ping, Trace, Run as RunFor, Deliver, Show, Decode}
 use Rattle.mesh_model.specs.declared.line_form.Table.{Table}
 use Rattle.mesh_model.specs.declared.line_form.Table.TheVariants.{Originators, Neighbors, Locals, Globals, Claims, Gateways, Groups, Addresses, Facts}
 use Rattle.mesh_model.specs.Clients.Log.{Given}
-use Rattle.mesh_model.specs.Clients.Log.{Frame as FrameGiven, Gone as GoneGiven, Join as JoinGiven, Leave as LeaveGiven, Wifi as WifiGiven}
+use Rattle.mesh_model.specs.Clients.Log.{Frame as FrameGiven, Gone as GoneGiven, Join as JoinGiven, Leave as LeaveGiven, Wifi as WifiGiven, Ping as PingGiven, Trace as TraceGiven}
 use Rattle.mesh_model.specs.Net.Due.{ticks_by}
 use Rattle.mesh_model.specs.Net.Inputs.{given_to}
 use Rattle.mesh_model.specs.Net.Limits.{clock_limit, links_limit, nodes_limit}
-use Rattle.mesh_model.specs.Net.Mesh.{NodeLog, NetLink, Mesh}
+use Rattle.mesh_model.specs.Net.Mesh.{NodeLog, NetLink, Mesh, address_at}
 use Rattle.mesh_model.specs.Net.Next.{Has}
 use Rattle.mesh_model.specs.Net.Runs.{Course, PassedLimit, begin, delivered, run_to}
 use Rattle.mesh_model.specs.Net.Sending.{Attempt}
 use Rattle.mesh_model.specs.Routes.AlgorithmIv.{iv_queries}
 use Rattle.mesh_model.specs.Run.Outcome.{Outcome, Ends, Goes, reached}
 use Rattle.mesh_model.specs.Run.Passing.{after_attempt, course_outcome, events_since, gone_on, run_until}
-use Rattle.mesh_model.specs.Run.PlainRun.{Run, after_line, after_lines, after_outcome, after_reading, line_outcome, passes_input, passes_line, plain_run, start}
+use Rattle.mesh_model.specs.Run.PlainRun.{Run, after_line, after_lines, after_outcome, after_reading, line_outcome, passes_input, passes_line, start}
 use Rattle.mesh_model.specs.Run.Rules.{after_step, carried_out, first_refused_rule, iv_setup, unless_refused}
 use Rattle.mesh_model.specs.Run.Shown.{after_print, shown}
 use Rattle.mesh_model.specs.Run.State.{Printed, LocalsShown, OriginatorsShown, NeighborsShown, GlobalsShown, Decoded, Happened, State, names_of, node_named, place_of}
-use Rattle.mesh_model.specs.Run.Steps.{Step, at_node, input_step, link_step, new_node, show_step, step_of, with_link, with_node}
+use Rattle.mesh_model.specs.Run.Steps.{Step, at_node, input_step, link_step, new_node, session_step, show_step, step_of, with_link, with_node}
 use Rattle.mesh_model.specs.Scenario.Commands.{command_of_line}
 use Rattle.mesh_model.specs.Scenario.Halt.{Halt}
-use Rattle.mesh_model.specs.Scenario.Lines.{content, lines_of}
+use Rattle.mesh_model.specs.Scenario.Lines.{content}
 use Rattle.mesh_model.specs.Scenario.Readings.{Reading}
 use Rattle.mesh_laws.specs.Soundness.{GivesItsBytes}
 use Rattle.mesh_laws.proofs.Lines.Courses.{Follows, going_follows, since_is}
@@ -41,7 +43,7 @@ use Rattle.mesh_laws.proofs.Schedule.Steps.{Effect, delivered_effect, no_ticks, 
 use Rattle.mesh_tie.specs.LinesByTable.{LinesByTableAreRight}
 use Rattle.mesh_tie.proofs.EventLemmas.{events_by_table_are_right}
 use Rattle.mesh_tie.proofs.IvLemmas.{iv_keeps}
-use Rattle.mesh_tie.proofs.LineReach.{plain_runs_are_reachable}
+use Rattle.mesh_tie.proofs.LineReach.{first_holds, lines_hold}
 
 -- ---- the events among what is printed
 events_in : List Printed → List Event
@@ -104,9 +106,19 @@ at_same : (state : State) (step : ℕ → Step) (o : Option ℕ) → SameEvents 
 at_same state step None same all = same
 at_same state step (Some place) same all = all place
 
+given_same : (state : State) (place : ℕ) (given : Given) → SameEvents state → ticks_by given ≡ 0 → GivesItsBytes state.mesh.frames given → SameOutcome (input_step iv_setup given place state)
+given_same state place given same none gives =
+    attempt_same state (given_to iv_setup place state.clock 0 given state.mesh) same (λ after is. effect_follows state.clock state.mesh after (tickless iv_setup state.mesh place state.clock 0 given after none gives is))
+
+session_same : (state : State) (given : Mac → Given) → ((mac : Mac) → ticks_by (given mac) ≡ 0) → ((mac : Mac) → GivesItsBytes state.mesh.frames (given mac)) → (node target : List ℕ) → SameEvents state → SameOutcome (session_step iv_setup given node target state)
+session_same state given none gives node target same =
+    let to : ℕ → ℕ → Step = λ place end s. input_step iv_setup (given (address_at end s.mesh.nodes)) place s in
+    at_same state (λ place. at_node target (to place)) (place_of state node) same (λ place.
+    at_same state (to place) (place_of state target) same (λ end.
+    let mac = address_at end state.mesh.nodes in given_same state place (given mac) same (none mac) (gives mac)))
+
 line_same : (state : State) (name : List ℕ) (given : Given) → SameEvents state → ticks_by given ≡ 0 → GivesItsBytes state.mesh.frames given → SameOutcome (at_node name (input_step iv_setup given) state)
-line_same state name given same none gives = at_same state (input_step iv_setup given) (place_of state name) same (λ place.
-    attempt_same state (given_to iv_setup place state.clock 0 given state.mesh) same (λ after is. effect_follows state.clock state.mesh after (tickless iv_setup state.mesh place state.clock 0 given after none gives is)))
+line_same state name given same none gives = at_same state (input_step iv_setup given) (place_of state name) same (λ place. given_same state place given same none gives)
 
 frame_same : (state : State) (name : List ℕ) (given : Given) (group : Bool) → SameEvents state → ticks_by given ≡ 0 → GivesItsBytes state.mesh.frames given → SameOutcome (after_step state (cond group None (Some (at_node name (input_step iv_setup given)))))
 frame_same state name given true same none gives = same
@@ -176,7 +188,8 @@ decoded_none bytes = refl
 
 command_same : (state : State) (command : Command) → SameEvents state → SameOutcome (after_step state (step_of iv_setup command))
 command_same state Nothing same = same
-command_same state (Algo algorithm) same = same
+command_same state (Algo Iv) same = same
+command_same state (Algo V) same = same
 command_same state (Node name mac) same = full_same (nat_le nodes_limit (length state.mesh.nodes)) (Ends state (Limit Nodes)) (with_node state (new_node name mac state.clock)) same (with_node_same state (new_node name mac state.clock) same)
 command_same state (Link from to delay pattern throughput) same =
     let link : ℕ → ℕ → NetLink = λ start end. record { from = start; to = end; delay = delay; pattern = pattern; throughput = throughput } in
@@ -199,8 +212,8 @@ command_same state (Dat node on) same = same
 command_same state (Alfred node mode) same = same
 command_same state (Put node type_no version text) same = same
 command_same state (Get node type_no) same = same
-command_same state (Ping node target) same = same
-command_same state (Trace node target) same = same
+command_same state (Ping node target) same = session_same state PingGiven (λ mac. refl) (λ mac. tt) node target same
+command_same state (Trace node target) same = session_same state TraceGiven (λ mac. refl) (λ mac. tt) node target same
 command_same state (RunFor time) same = time_same state (state.clock + time) (nat_lt clock_limit (state.clock + time)) same
 command_same state (Deliver number) same = attempt_same state (delivered iv_setup (number - 1) state.clock state.mesh) same (λ after is. effect_follows state.clock state.mesh after (delivered_effect iv_setup state.mesh (number - 1) state.clock after is))
 command_same state (Show node table) same = shown_same state node (shown table) (λ print is. tables_same table state.clock print is) same
@@ -241,17 +254,17 @@ lines_same : (run : Run) (lines : List (List ℕ)) → SameEvents run.state → 
 lines_same run [] same = same
 lines_same run (line ∷ lines) same = lines_same (after_line run line) lines (after_same run line same)
 
-plain_same : (choice : FrameChoice) (input : List ℕ) → events_in (plain_run choice input).state.printed ≡ (plain_run choice input).state.mesh.events
-unfolding plain_run SameEvents events_in
-plain_same choice input = lines_same (start choice) (lines_of input) refl
+printed_same : (choice : FrameChoice) (lines : List (List ℕ)) → events_in (after_lines (start choice) lines).state.printed ≡ (after_lines (start choice) lines).state.mesh.events
+unfolding SameEvents events_in
+printed_same choice lines = lines_same (start choice) lines refl
 
 -- ---- the law
 pub lines_by_table_are_right : LinesByTableAreRight
 unfolding events_in
-lines_by_table_are_right choice input orig before after names number moment me next bytes printed none =
-    let run = plain_run choice input in
+lines_by_table_are_right choice lines orig before after names number moment me next bytes printed none =
+    let run = after_lines (start choice) lines in
     let event : Event = FrameSent number moment me next (Some ByTable) bytes in
     let events : run.state.mesh.events ≡ events_in before ++ event ∷ events_in after =
-    sym (plain_same choice input) ∙ ap events_in printed ∙ events_both before (Happened names event ∷ after) in
-    events_by_table_are_right iv_queries iv_keeps run.state.mesh (plain_runs_are_reachable choice input) orig (events_in before) (events_in after) number moment me next bytes events
+    sym (printed_same choice lines) ∙ ap events_in printed ∙ events_both before (Happened names event ∷ after) in
+    events_by_table_are_right iv_queries iv_keeps run.state.mesh (lines_hold (start choice) lines (first_holds choice)).reachable orig (events_in before) (events_in after) number moment me next bytes events
     (λ n e told. let p = printed_has before (Alias orig n e) told in none p.0 n e p.1)

@@ -1,17 +1,15 @@
 -- An answer in full from a commit that was told last is taken.
-use Rattle.std.proofs.Common.{◌≡◌, ℕ, List, [], ◌∷◌, map, Some, refl, sym, subst}
+use Rattle.std.proofs.Common.{◌≡◌, ℕ, List, [], ◌∷◌, map, Some, sym, subst}
 use Rattle.std.specs.List.Sorted.{IsStrictlySortedBy}
-use Rattle.std.proofs.lemmas.Map.Keys.{IsDistinct-from_sorted}
-use Rattle.mesh_base.specs.KeyOrder.{key_order}
-use Rattle.mesh_base.specs.declared.client.Entry.{Entry}
 use Rattle.mesh_model.specs.Commits.Versions.{commit_numbered, first_commit}
-use Rattle.mesh_model.specs.Tables.Changes.{IsInKeyOrder}
+use Rattle.mesh_model.specs.Tables.Changes.{IsInKeyOrder, addition}
 use Rattle.mesh_model.specs.Tables.Versions.{Version}
-use Rattle.mesh_laws.proofs.AnnouncedSums.{announces_checksums}
+use Rattle.mesh_laws.proofs.HeldLemmas.{commits_are_told_whole}
 use Rattle.mesh_laws.proofs.KnownLemmas.{full_answer_is_taken}
 use Rattle.mesh_laws.proofs.MachineInvariant.{newest_or_older}
+use Rattle.mesh_laws.specs.KnownLaws.{IsToldWhole}
 use Rattle.mesh_tie.specs.FullAnswers.{FullAnswersRepair}
-use Rattle.mesh_tie.specs.TieLaws.{stamp_of_commit}
+use Rattle.mesh_laws.specs.HeldLaws.{stamp_of_commit}
 use Rattle.mesh_tie.proofs.CommitLemmas.{Chain, chain}
 
 first_ordered : (cs : List Version) → cs ≡ first_commit ∷ [] → (n : ℕ) (c : Version) → commit_numbered n cs ≡ Some c → IsInKeyOrder c.table
@@ -27,5 +25,5 @@ ordered (last ∷ before ∷ older) linked = newest_or_older (λ v. IsInKeyOrder
 pub full_answers_repair : FullAnswersRepair
 full_answers_repair me log commit is known told =
     let order = ordered ((Rattle.mesh_model.specs.Commits.History.history me log).commits) (chain me log) is.0 commit is.1 in
-    full_answer_is_taken known (stamp_of_commit commit) (stamp_of_commit commit) commit.table (record { told_is = told; byte_is = refl; sums_are = refl })
-    (IsDistinct-from_sorted key_order (map (λ (entry : Entry). entry.key) commit.table) order) (sym (announces_checksums commit.table))
+    full_answer_is_taken known (stamp_of_commit commit) (map addition commit.table)
+    (subst (λ t. IsToldWhole t (stamp_of_commit commit) (map addition commit.table)) (sym told) (commits_are_told_whole commit order))

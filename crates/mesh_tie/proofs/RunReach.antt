@@ -34,7 +34,7 @@ pub record Comes (queries : Mac → Queries) (mesh after : Mesh) (now : ℕ) : T
   pub reachable : IsReachable queries after
   pub settled : NoneIsLater after now
 
-later_settled : (mesh : Mesh) (bound now : ℕ) → NoneIsLater mesh bound → bound ≤ now → NoneIsLater mesh now
+pub later_settled : (mesh : Mesh) (bound now : ℕ) → NoneIsLater mesh bound → bound ≤ now → NoneIsLater mesh now
 later_settled mesh bound now settled late place node found = let low = settled place node found in omega (arith, low, late)
 
 stays : (queries : Mac → Queries) (mesh after : Mesh) (now : ℕ) → IsReachable queries mesh → NoneIsLater mesh now → as_ok mesh ≡ as_ok after → Comes queries mesh after now
@@ -104,7 +104,7 @@ effect_comes : (queries : Mac → Queries) (mesh after : Mesh) (class : Class) (
 effect_comes queries mesh after LinkDelivery place now keep r settled is = delivered_comes queries mesh after place now keep r settled is
 effect_comes queries mesh after NodeTick place now keep r settled is = ticked_comes queries mesh after place now r settled is
 
-happening_comes : (queries : Mac → Queries) (mesh after : Mesh) (h : Happening) → AllKeep queries → IsReachable queries mesh → NoneIsLater mesh h.moment → after_happening (scenario_setup queries) h mesh ≡ Ok after → Comes queries mesh after h.moment
+pub happening_comes : (queries : Mac → Queries) (mesh after : Mesh) (h : Happening) → AllKeep queries → IsReachable queries mesh → NoneIsLater mesh h.moment → after_happening (scenario_setup queries) h mesh ≡ Ok after → Comes queries mesh after h.moment
 happening_comes queries mesh after h keep r settled is =
     let p = on_ok_ok (with_last h) (effect (scenario_setup queries) h.class h.place h.moment mesh) after is in
     let c = effect_comes queries mesh p.0 h.class h.place h.moment keep r settled p.1 in

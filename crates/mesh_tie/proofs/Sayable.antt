@@ -2,6 +2,8 @@
 use Rattle.std.proofs.Common.{◌≡◌, ◌≢◌, ◌⊎◌, inl, inr, ◌<◌, ℕ, Bool, true, false, List, [], ◌∷◌, length, Option, Some, None, refl, sym, ap, ap₂, subst, ◌∙◌}
 use Rattle.std.specs.List.{AllByRecursion}
 use Rattle.mesh_base.specs.declared.address.Mac.{Mac}
+use Rattle.mesh_base.specs.declared.event.Event.{Event}
+use Rattle.mesh_base.specs.declared.event.Event.TheVariants.{Alias}
 use Rattle.mesh_model.specs.declared.act.Act.{Act}
 use Rattle.mesh_model.specs.declared.act.Act.TheVariants.{Link, Lan, Print}
 use Rattle.mesh_model.specs.declared.packet.Head.{Head}
@@ -24,7 +26,7 @@ use Rattle.mesh_laws.proofs.MacLemmas.{same_exact, same_self}
 use Rattle.std.proofs.lemmas.Bool.{true≢false}
 use Rattle.mesh_tie.specs.Sayings.{FrameSays, IsAnnounced, IsAnswered, PacketSays, WordSays, saying_of}
 use Rattle.mesh_tie.specs.Sources.{ContainersOf, HasWholeAddresses, IsMessageOf, IsWhole, MessageOf, Nothing, Word, word_of}
-use Rattle.mesh_tie.specs.TieLaws.{stamp_of_commit}
+use Rattle.mesh_laws.specs.HeldLaws.{stamp_of_commit}
 use Rattle.mesh_tie.proofs.HeadLemmas.{IsOnePacket, TellsNothing, iv_frame, ogm2_frame, utvlv_frame}
 use Rattle.mesh_tie.proofs.TableLemmas.{HoldsNoAnswer, IsToldAgain, answers_again}
 
@@ -206,11 +208,15 @@ pub frame_sayable : (orig : Mac) (log : Log) (root : ℕ) (w : World) (to : Opti
     → ((said : List Saying) → Within w.said said → FrameSays orig log said root bytes) → Sayable orig log root w (Link to reason bytes)
 frame_sayable orig log root w to reason bytes says y later = silent y (λ said. FrameSays orig log said root bytes) (says y.said later.more)
 
--- an act that says nothing of tables
+-- an event that tells of no alias
+abbrev pub IsNoAlias : Event → Type 0
+IsNoAlias event = (me : Mac) (number earlier : ℕ) → event ≡ Alias me number earlier → ⊥
+
+-- an act that says nothing of tables, and tells of no alias
 abbrev pub IsCalm : Act → Type 0
 IsCalm (Link to reason bytes) = TellsNothing bytes
 IsCalm (Lan bytes) = Unit {0}
-IsCalm (Print event) = Unit {0}
+IsCalm (Print event) = IsNoAlias event
 
 pub calm_sayable : (orig : Mac) (log : Log) (root : ℕ) (w : World) (act : Act) → IsCalm act → Sayable orig log root w act
 calm_sayable orig log root w (Link to reason bytes) calm y later = silent y (λ said. FrameSays orig log said root bytes) (nothing_says orig log y.said root bytes calm)

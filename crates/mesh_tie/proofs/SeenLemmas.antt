@@ -1,19 +1,15 @@
--- While no event told of an alias, there is none.
-use Rattle.std.proofs.Common.{◌≡◌, ◌≢◌, ◌⊎◌, inl, inr, ◌&&◌, ◌==◌, ℕ, suc, Bool, true, false, cond, not, List, [], ◌∷◌, ◌++◌, length, slice_get, Option, Some, None, is_none, Ok, refl, sym, ap, subst, ◌∙◌, arith}
+-- An event tells of an alias exactly where a commit has it, so while none told of one, there is none.
+use Rattle.std.proofs.Common.{◌≡◌, ◌≢◌, ◌-◌, ◌⊎◌, ◌↔◌, inl, inr, ◌&&◌, ◌==◌, nat_lt, drop, ℕ, suc, Bool, true, false, cond, not, List, [], ◌∷◌, ◌++◌, length, slice_get, Option, Some, None, is_none, Ok, refl, sym, ap, subst, ◌∙◌, arith}
 use Rattle.std.specs.Option.{option_or}
-use Rattle.std.proofs.lemmas.Bool.{and_parts, eq-eqb, ne_eqb, false≢true, true≢false}
+use Rattle.std.proofs.lemmas.Bool.{and_parts, eq-eqb, false≢true, ltb-false, ltb-true, true≢false}
 use Rattle.mesh_base.specs.declared.address.Mac.{Mac}
 use Rattle.mesh_base.specs.declared.client.Entry.{Entry}
-use Rattle.mesh_base.specs.declared.event.Event.{Event}
 use Rattle.mesh_base.specs.declared.event.Event.TheVariants.{Alias}
 use Rattle.mesh_model.specs.declared.act.Act.{Act}
 use Rattle.mesh_model.specs.declared.act.Act.TheVariants.{Print}
-use Rattle.mesh_model.specs.Acts.OwnContainers.{own_containers}
-use Rattle.mesh_model.specs.Acts.Rows.{alias_acts, alias_event, commit_acts, message_acts, tick_acts}
-use Rattle.mesh_model.specs.Clients.Log.{Given, Tick, LinkFrame, Frame, Gone, Join, Leave, Arp, Dhcp, Wifi, Log, LogEntry}
-use Rattle.mesh_model.specs.Clients.Mentions.{Mention, mentions}
-use Rattle.mesh_model.specs.Commits.Aliases.{alias_before, are_aliases}
-use Rattle.mesh_model.specs.Commits.Announcements.{announcement}
+use Rattle.mesh_model.specs.Clients.Log.{Given, Tick, LinkFrame, Frame, Gone, Join, Leave, Arp, Dhcp, Wifi, Ping, Trace, Log, LogEntry}
+use Rattle.mesh_model.specs.Clients.Mentions.{mentions}
+use Rattle.mesh_model.specs.Commits.Aliases.{alias_before, are_aliases, last_alias}
 use Rattle.mesh_model.specs.Commits.History.{History, announced, commits, committed, history, is_commit_tick, present_table}
 use Rattle.mesh_model.specs.Commits.Versions.{commit_numbered, first_commit, same_table}
 use Rattle.mesh_model.specs.Net.Due.{ticks_in}
@@ -21,9 +17,7 @@ use Rattle.mesh_model.specs.Net.Inputs.{entry_of, given_to, noted_at}
 use Rattle.mesh_model.specs.Net.Limits.{scenario_setup}
 use Rattle.mesh_model.specs.Net.Mesh.{NodeLog, Mesh}
 use Rattle.mesh_model.specs.Net.Next.{Has}
-use Rattle.mesh_model.specs.Packets.Containers.{containers_spelling}
 use Rattle.mesh_model.specs.Routes.Queries.{Queries}
-use Rattle.mesh_model.specs.Routes.RouteLog.{RouteLog}
 use Rattle.mesh_model.specs.Tables.Changes.{same_entry}
 use Rattle.mesh_model.specs.Tables.Differences.{first_difference}
 use Rattle.mesh_model.specs.Tables.Sums.{checksums, sum_at, sums_of}
@@ -34,15 +28,15 @@ use Rattle.mesh_laws.proofs.AnnouncedSums.{announces_checksums}
 use Rattle.mesh_laws.proofs.DifferenceLemmas.{finds_each_difference}
 use Rattle.mesh_laws.proofs.KeyTables.{equal_entries}
 use Rattle.mesh_laws.proofs.MachineInvariant.{newest_or_older}
-use Rattle.mesh_laws.proofs.Schedule.Members.{has_left}
-use Rattle.mesh_tie.specs.AliasesSeen.{AliasesAreSeen}
+use Rattle.mesh_laws.proofs.Schedule.Members.{has_either}
+use Rattle.mesh_tie.specs.AliasesSeen.{AliasesAreSeen, AliasesAreTold, HasAlias}
 use Rattle.mesh_tie.specs.Originators.{commits_of, log_of}
 use Rattle.mesh_tie.specs.Steps.{IsOfLine, IsReachable, Steps, begins, frame_comes, goes_on, line_gives, link_joins, node_joins, node_ticks, time_passes}
-use Rattle.mesh_tie.proofs.CommitLemmas.{Committed, as_before, committed_is, one_more}
+use Rattle.mesh_tie.proofs.AliasRows.{AreQuiet, Gains, frame_quiet, gains_none, gains_one, line_quiet, quiet_none, tick_gains}
 use Rattle.mesh_tie.proofs.LogLemmas.{AreDistinct, log_found, log_itself, log_other}
 use Rattle.mesh_tie.proofs.MeshSteps.{Renewed, another, got_front, itself, log_joined, no_length, renewed}
 use Rattle.mesh_tie.proofs.Sayable.{one_or_two}
-use Rattle.mesh_tie.proofs.SentLemmas.{given_is}
+use Rattle.mesh_tie.proofs.SentLemmas.{HasGiven, IsSending, given_is}
 
 -- ---- commits that can be taken for one another
 from_same_table : (a b : List Entry) → same_table a b ≡ true → a ≡ b
@@ -101,60 +95,7 @@ none_more w older none new one other a b bytes sums = go (split_commit w older o
     go (inr p) (inl q) = sym (no_aliases other one (subst (λ v. are_aliases v one ≡ false) q (new p.0 one p.1)) (sym bytes) (sym sums))
     go (inr p) (inr q) = none one other p q bytes sums
 
-first_none : HasNoAlias (first_commit ∷ [])
-first_none one other a b bytes sums = go (split_commit first_commit [] one a) (split_commit first_commit [] other b)
-  where
-    none : (v : Version) → IsCommit [] v → ⊥
-    none v is = let found = is.1 in cc
-
-    go : (first_commit ≡ one) ⊎ IsCommit [] one → (first_commit ≡ other) ⊎ IsCommit [] other → one.table ≡ other.table
-    go (inl p) (inl q) = ap (λ (v : Version). v.table) (sym p ∙ q)
-    go (inl p) (inr q) = absurd (none other q)
-    go (inr p) q = absurd (none one p)
-
--- ---- an alias is told of where it comes to be
--- an alias of an address is told of among acts
-abbrev TellsAlias : Mac → List Act → Type 0
-TellsAlias me acts = (number : ℕ) × (earlier : ℕ) × Has acts (Print (Alias me number earlier))
-
-told_or_none : (me : Mac) (before after : History) → Committed before after → HasNoAlias before.commits → HasNoAlias after.commits ⊎ TellsAlias me (alias_acts me before.commits after.commits)
-told_or_none me before after (as_before same) none = inl (subst (λ (h : History). HasNoAlias h.commits) (sym same) none)
-told_or_none me before after (one_more version byte order same) none = subst (λ (h : History). HasNoAlias h.commits ⊎ TellsAlias me (alias_acts me before.commits h.commits)) (sym same) (go (alias_before version before.commits) refl)
-  where
-    longer : (suc (length before.commits) == length before.commits) ≡ false
-    longer = ne_eqb (suc (length before.commits)) (length before.commits) (λ e. omega (arith, e))
-
-    go : (o : Option ℕ) → alias_before version before.commits ≡ o → HasNoAlias (version ∷ before.commits) ⊎ TellsAlias me (alias_acts me before.commits (version ∷ before.commits))
-    go None is = inl (none_more version before.commits none (none_before version before.commits is))
-    go (Some earlier) is =
-        let acts : alias_acts me before.commits (version ∷ before.commits) ≡ Print (Alias me (length before.commits) earlier) ∷ [] =
-        ap (λ b. cond b [] (alias_event me (length before.commits) (alias_before version before.commits))) longer ∙ ap (alias_event me (length before.commits)) is in
-        inr (length before.commits, earlier, subst (λ list. Has list (Print (Alias me (length before.commits) earlier))) (sym acts) (inl refl))
-
-tick_tells : (q : Queries) (me : Mac) (routes : RouteLog) (ms : List Mention) (before : History) (now index : ℕ) → HasNoAlias before.commits
-    → HasNoAlias (cond (is_commit_tick index) (announced (committed (present_table ms now) before)) before).commits ⊎ TellsAlias me (tick_acts q me routes ms before now index)
-unfolding tick_acts
-tick_tells q me routes ms before now index none = go (is_commit_tick index)
-  where
-    after : History
-    after = committed (present_table ms now) before
-
-    told : HasNoAlias after.commits ⊎ TellsAlias me (alias_acts me before.commits after.commits) → HasNoAlias after.commits ⊎ TellsAlias me (commit_acts q me routes index before after)
-    told (inl p) = inl p
-    told (inr p) = inr (p.0, p.1, has_left (alias_acts me before.commits after.commits) (message_acts (q.beats routes index).ogm (containers_spelling (own_containers (announcement after)))) (Print (Alias me p.0 p.1)) p.2)
-
-    go : (b : Bool) → HasNoAlias (cond b (announced after) before).commits ⊎ TellsAlias me (cond b (commit_acts q me routes index before after) [])
-    go true = told (told_or_none me before after (committed_is ms now before) none)
-    go false = inl none
-
 -- ---- meshes
--- an event told of an alias
-abbrev Told : Mac → Mesh → Type 0
-Told orig mesh = (number : ℕ) × (earlier : ℕ) × Has mesh.events (Alias orig number earlier)
-
-abbrev NoneOrTold : Mac → Mesh → Type 0
-NoneOrTold orig mesh = HasNoAlias (commits_of orig mesh) ⊎ Told orig mesh
-
 -- an input that is no tick commits nothing
 pub calm_commits : (me : Mac) (log : Log) (entry : LogEntry) → ((index : ℕ) → entry.given ≡ Tick index → ⊥) → commits me (entry ∷ log) ≡ commits me log
 calm_commits me log entry calm = go entry.given calm
@@ -169,6 +110,8 @@ calm_commits me log entry calm = go entry.given calm
     go (Arp mac own_ip asked_ip vid) calm = refl
     go (Dhcp key text) calm = refl
     go (Wifi on) calm = refl
+    go (Ping target) calm = refl
+    go (Trace target) calm = refl
 
 pub line_calm : (given : Given) → IsOfLine given → (index : ℕ) → given ≡ Tick index → ⊥
 line_calm (Tick index) of other is = of
@@ -180,55 +123,130 @@ line_calm (Leave key) of other is = cc
 line_calm (Arp mac own_ip asked_ip vid) of other is = cc
 line_calm (Dhcp key text) of other is = cc
 line_calm (Wifi on) of other is = cc
+line_calm (Ping target) of other is = cc
+line_calm (Trace target) of other is = cc
 
--- what an input leaves, by what it does to the commits of its node
-given_seen : (queries : Mac → Queries) (orig : Mac) (mesh after : Mesh) (place now root : ℕ) (node : NodeLog) (given : Given) → AreDistinct mesh.nodes → slice_get mesh.nodes place ≡ Some node
+-- ---- events tell of them
+-- an event tells of an alias exactly where these commits have it
+abbrev AreTold : Mac → Mesh → List Version → Type 0
+AreTold orig mesh made = (number earlier : ℕ) → Has mesh.events (Alias orig number earlier) ↔ HasAlias made number earlier
+
+has_old : (version : Version) (older : List Version) (number earlier : ℕ) → HasAlias older number earlier → HasAlias (version ∷ older) number earlier
+has_old version older number earlier h = (let low = h.0 in omega (arith, low), ap (λ n. last_alias (drop n (version ∷ older))) (let low = h.0 in let same : suc (length older) - suc number ≡ suc (length older - suc number) = omega (arith, low) in same) ∙ h.1)
+
+has_new : (version : Version) (older : List Version) (earlier : ℕ) → alias_before version older ≡ Some earlier → HasAlias (version ∷ older) (length older) earlier
+has_new version older earlier is = (omega arith, ap (λ n. last_alias (drop n (version ∷ older))) (let none : suc (length older) - suc (length older) ≡ 0 = omega arith in none) ∙ is)
+
+-- one that has more commits has the alias of the newest, or had it before
+data OldOrNew (version : Version) (older : List Version) (number earlier : ℕ) : Type 0 where
+  was_old : HasAlias older number earlier → OldOrNew version older number earlier
+  is_new : number ≡ length older → alias_before version older ≡ Some earlier → OldOrNew version older number earlier
+
+old_or_new : (version : Version) (older : List Version) (number earlier : ℕ) → HasAlias (version ∷ older) number earlier → OldOrNew version older number earlier
+old_or_new version older number earlier h = go (nat_lt number (length older)) refl
+  where
+    go : (b : Bool) → nat_lt number (length older) ≡ b → OldOrNew version older number earlier
+    go true is =
+        let low = ltb-true number (length older) is in
+        was_old (low, ap (λ n. last_alias (drop n (version ∷ older))) (let same : suc (length older - suc number) ≡ suc (length older) - suc number = omega (arith, low) in same) ∙ h.1)
+    go false is =
+        let high = ltb-false number (length older) is in
+        let there = h.0 in
+        let last : number ≡ length older = omega (arith, high, there) in
+        is_new last (ap (λ n. last_alias (drop n (version ∷ older))) (let none : 0 ≡ suc (length older) - suc number = omega (arith, last) in none) ∙ h.1)
+
+-- what acts tell of is of their node
+own_alias : (me orig : Mac) (before made : List Version) (acts : List Act) (number earlier : ℕ) → Gains me before made acts → Has acts (Print (Alias orig number earlier)) → orig ≡ me
+own_alias me orig before _ _ number earlier (gains_none acts quiet) printed = absurd (quiet_none acts orig number earlier quiet printed)
+own_alias me orig before _ _ number earlier (gains_one version acts only each) printed = (only orig number earlier printed).0
+
+-- what an input leaves, by what its node commits and its acts tell
+given_told : (queries : Mac → Queries) (orig : Mac) (mesh after : Mesh) (place now root : ℕ) (node : NodeLog) (given : Given) → AreDistinct mesh.nodes → slice_get mesh.nodes place ≡ Some node
     → given_to (scenario_setup queries) place now root given mesh ≡ Ok after
-    → (HasNoAlias (commits node.mac node.log) → HasNoAlias (commits node.mac (entry_of (scenario_setup queries) node now given ∷ node.log)) ⊎ TellsAlias node.mac (entry_of (scenario_setup queries) node now given).acts)
-    → NoneOrTold orig mesh → NoneOrTold orig after
-given_seen queries orig mesh after place now root node given distinct found is step (inr told) =
-    inr (told.0, told.1, (given_is (scenario_setup queries) place now root node given mesh after found is).kept (Alias orig told.0 told.1) told.2)
-given_seen queries orig mesh after place now root node given distinct found is step (inl none) = go (one_or_two node.mac orig)
+    → Gains node.mac (commits node.mac node.log) (commits node.mac (entry_of (scenario_setup queries) node now given ∷ node.log)) (entry_of (scenario_setup queries) node now given).acts
+    → AreTold orig mesh (commits_of orig mesh) → AreTold orig after (commits_of orig after)
+given_told queries orig mesh after place now root node given distinct found is gains told = go (one_or_two node.mac orig)
   where
     entry : LogEntry
     entry = entry_of (scenario_setup queries) node now given
 
-    nodes : after.nodes ≡ noted_at place (entry_of (scenario_setup queries) node now given) mesh.nodes
-    nodes = (given_is (scenario_setup queries) place now root node given mesh after found is).nodes
+    has : HasGiven (scenario_setup queries) place now root node given mesh after
+    has = given_is (scenario_setup queries) place now root node given mesh after found is
 
-    printed : (event : Event) → Has (entry_of (scenario_setup queries) node now given).acts (Print event) → Has after.events event
-    printed event has = (given_is (scenario_setup queries) place now root node given mesh after found is).printed event has
+    -- an alias that was told of was told before, or by these acts
+    came : (number earlier : ℕ) → Has after.events (Alias orig number earlier) → Has mesh.events (Alias orig number earlier) ⊎ Has (entry_of (scenario_setup queries) node now given).acts (Print (Alias orig number earlier))
+    came number earlier is = new (has_either mesh.events has.more_events (Alias orig number earlier) (subst (λ es. Has es (Alias orig number earlier)) has.events is))
+      where
+        new : Has mesh.events (Alias orig number earlier) ⊎ Has has.more_events (Alias orig number earlier) → Has mesh.events (Alias orig number earlier) ⊎ Has (entry_of (scenario_setup queries) node now given).acts (Print (Alias orig number earlier))
+        new (inl old) = inl old
+        new (inr more) = by_act (has.came (Alias orig number earlier) more)
+          where
+            by_act : Has (entry_of (scenario_setup queries) node now given).acts (Print (Alias orig number earlier)) ⊎ IsSending (entry_of (scenario_setup queries) node now given).acts node.mac now (Alias orig number earlier)
+                → Has mesh.events (Alias orig number earlier) ⊎ Has (entry_of (scenario_setup queries) node now given).acts (Print (Alias orig number earlier))
+            by_act (inl printed) = inr printed
+            by_act (inr sent) = absurd (let e = sent.is in cc)
 
-    stepped : node.mac ≡ orig → HasNoAlias (commits node.mac (entry ∷ node.log)) ⊎ TellsAlias node.mac entry.acts → NoneOrTold orig after
-    stepped same (inl clear) = inl (subst (λ ns. HasNoAlias (commits orig (log_of orig ns))) (sym nodes) (subst (λ l. HasNoAlias (commits orig l)) (sym (log_itself orig mesh.nodes place node entry distinct found same))
-        (subst (λ m. HasNoAlias (commits m (entry ∷ node.log))) same clear)))
-    stepped same (inr told) = inr (told.0, told.1, subst (λ m. Has after.events (Alias m told.0 told.1)) same (printed (Alias node.mac told.0 told.1) told.2))
+    -- the commits of another are as before, and nothing of it was told
+    other_told : (made : List Version) → Gains node.mac (commits node.mac node.log) made (entry_of (scenario_setup queries) node now given).acts → node.mac ≢ orig → AreTold orig after (commits_of orig mesh)
+    other_told made g other number earlier = (
+      λ is. old (came number earlier is),
+      λ is. has.kept (Alias orig number earlier) ((told number earlier).1 is),
+    )
+      where
+        old : Has mesh.events (Alias orig number earlier) ⊎ Has (entry_of (scenario_setup queries) node now given).acts (Print (Alias orig number earlier)) → HasAlias (commits_of orig mesh) number earlier
+        old (inl was) = (told number earlier).0 was
+        old (inr printed) = absurd (other (sym (own_alias node.mac orig (commits node.mac node.log) made (entry_of (scenario_setup queries) node now given).acts number earlier g printed)))
 
-    go : (node.mac ≡ orig) ⊎ (node.mac ≢ orig) → NoneOrTold orig after
-    go (inl same) = stepped same (step (subst (λ m. HasNoAlias (commits m node.log)) (sym same) (subst (λ l. HasNoAlias (commits orig l)) (log_found orig mesh.nodes place node distinct found same) none)))
-    go (inr other) = inl (subst (λ ns. HasNoAlias (commits orig (log_of orig ns))) (sym nodes) (subst (λ l. HasNoAlias (commits orig l)) (sym (log_other orig mesh.nodes place node entry found other)) none))
+    -- its own commits gained those that were told
+    own_told : (before made : List Version) (acts : List Act) → acts ≡ (entry_of (scenario_setup queries) node now given).acts → Gains orig before made acts → AreTold orig mesh before → AreTold orig after made
+    own_told before _ acts same (gains_none _ quiet) told number earlier = (λ is. old (came number earlier is), λ is. has.kept (Alias orig number earlier) ((told number earlier).1 is))
+      where
+        old : Has mesh.events (Alias orig number earlier) ⊎ Has (entry_of (scenario_setup queries) node now given).acts (Print (Alias orig number earlier)) → HasAlias before number earlier
+        old (inl was) = (told number earlier).0 was
+        old (inr printed) = absurd (quiet_none acts orig number earlier quiet (subst (λ list. Has list (Print (Alias orig number earlier))) (sym same) printed))
+    own_told before _ acts same (gains_one version _ only each) told number earlier = (λ is. either (came number earlier is), λ is. tells (old_or_new version before number earlier is))
+      where
+        either : Has mesh.events (Alias orig number earlier) ⊎ Has (entry_of (scenario_setup queries) node now given).acts (Print (Alias orig number earlier)) → HasAlias (version ∷ before) number earlier
+        either (inl was) = has_old version before number earlier ((told number earlier).0 was)
+        either (inr printed) =
+            let new = only orig number earlier (subst (λ list. Has list (Print (Alias orig number earlier))) (sym same) printed) in
+            subst (λ n. HasAlias (version ∷ before) n earlier) (sym new.1) (has_new version before earlier new.2)
 
-calm_seen : (queries : Mac → Queries) (node : NodeLog) (now : ℕ) (given : Given) → ((index : ℕ) → given ≡ Tick index → ⊥) → HasNoAlias (commits node.mac node.log)
-    → HasNoAlias (commits node.mac (entry_of (scenario_setup queries) node now given ∷ node.log)) ⊎ TellsAlias node.mac (entry_of (scenario_setup queries) node now given).acts
-calm_seen queries node now given calm none = inl (subst HasNoAlias (sym (calm_commits node.mac node.log (entry_of (scenario_setup queries) node now given) calm)) none)
+        tells : OldOrNew version before number earlier → Has after.events (Alias orig number earlier)
+        tells (was_old old) = has.kept (Alias orig number earlier) ((told number earlier).1 old)
+        tells (is_new last alias) = has.printed (Alias orig number earlier)
+            (subst (λ n. Has (entry_of (scenario_setup queries) node now given).acts (Print (Alias orig n earlier))) (sym last) (subst (λ list. Has list (Print (Alias orig (length before) earlier))) same (each earlier alias)))
 
-step_seen : (queries : Mac → Queries) (mesh after : Mesh) → AreDistinct mesh.nodes → Steps queries mesh after → (orig : Mac) → NoneOrTold orig mesh → NoneOrTold orig after
-step_seen queries mesh _ distinct (node_joins _ node empty whole fresh) orig (inl none) = inl (subst (λ l. HasNoAlias (commits orig l)) (sym (log_joined orig mesh.nodes node empty)) none)
-step_seen queries mesh _ distinct (node_joins _ node empty whole fresh) orig (inr told) = inr told
-step_seen queries mesh _ distinct (link_joins _ link) orig seen = seen
-step_seen queries mesh after distinct (line_gives _ _ place now node given found may of is) orig seen =
-    given_seen queries orig mesh after place now 0 node given distinct found is (calm_seen queries node now given (line_calm given of)) seen
-step_seen queries mesh after distinct (node_ticks _ _ place now node found may is) orig seen =
+    go : (node.mac ≡ orig) ⊎ (node.mac ≢ orig) → AreTold orig after (commits_of orig after)
+    go (inl same) = subst (λ ns. AreTold orig after (commits orig (log_of orig ns))) (sym has.nodes) (subst (λ l. AreTold orig after (commits orig l)) (sym (log_itself orig mesh.nodes place node entry distinct found same))
+        (own_told (commits orig node.log) (commits orig (entry ∷ node.log)) entry.acts refl (subst (λ m. Gains m (commits m node.log) (commits m (entry ∷ node.log)) entry.acts) same gains)
+        (subst (λ l. AreTold orig mesh (commits orig l)) (log_found orig mesh.nodes place node distinct found same) told)))
+    go (inr other) = subst (λ ns. AreTold orig after (commits orig (log_of orig ns))) (sym has.nodes) (subst (λ l. AreTold orig after (commits orig l)) (sym (log_other orig mesh.nodes place node entry found other))
+        (other_told (commits node.mac (entry ∷ node.log)) gains other))
+
+calm_gains : (queries : Mac → Queries) (node : NodeLog) (now : ℕ) (given : Given) → ((index : ℕ) → given ≡ Tick index → ⊥) → AreQuiet (entry_of (scenario_setup queries) node now given).acts
+    → Gains node.mac (commits node.mac node.log) (commits node.mac (entry_of (scenario_setup queries) node now given ∷ node.log)) (entry_of (scenario_setup queries) node now given).acts
+calm_gains queries node now given calm quiet =
+    let entry = entry_of (scenario_setup queries) node now given in
+    subst (λ made. Gains node.mac (commits node.mac node.log) made entry.acts) (sym (calm_commits node.mac node.log entry calm)) (gains_none entry.acts quiet)
+
+step_told : (queries : Mac → Queries) (mesh after : Mesh) → AreDistinct mesh.nodes → Steps queries mesh after → (orig : Mac) → AreTold orig mesh (commits_of orig mesh) → AreTold orig after (commits_of orig after)
+step_told queries mesh _ distinct (node_joins _ node empty whole fresh) orig told = subst (λ l. AreTold orig mesh (commits orig l)) (sym (log_joined orig mesh.nodes node empty)) told
+step_told queries mesh _ distinct (link_joins _ link) orig told = told
+step_told queries mesh after distinct (line_gives _ _ place now node given found may of is) orig told =
+    given_told queries orig mesh after place now 0 node given distinct found is (calm_gains queries node now given (line_calm given of) (line_quiet (queries node.mac) node.mac node.log now given of)) told
+step_told queries mesh after distinct (node_ticks _ _ place now node found may is) orig told =
     let index = suc (ticks_in node.log) in
-    given_seen queries orig mesh after place now index node (Tick index) distinct found is
-    (tick_tells (queries node.mac) node.mac (Rattle.mesh_model.specs.Knowledge.Steps.knowledge (queries node.mac) node.mac node.log).routes (mentions node.mac node.log) (history node.mac node.log) now index) seen
-step_seen queries mesh after distinct (frame_comes _ _ place now number throughput from node frame found may sent whole is) orig seen =
+    given_told queries orig mesh after place now index node (Tick index) distinct found is
+    (tick_gains (queries node.mac) node.mac (Rattle.mesh_model.specs.Knowledge.Steps.knowledge (queries node.mac) node.mac node.log).routes (mentions node.mac node.log) (history node.mac node.log) now index) told
+step_told queries mesh after distinct (frame_comes _ _ place now number throughput from node frame found may sent whole is) orig told =
     let given = LinkFrame (suc number) from throughput frame.bytes in
-    given_seen queries orig mesh after place now frame.root node given distinct found is (calm_seen queries node now given (λ index e. no_tick index e)) seen
+    given_told queries orig mesh after place now frame.root node given distinct found is
+    (calm_gains queries node now given (λ index e. no_tick index e) (frame_quiet (queries node.mac) node.mac node.log now (suc number) from throughput frame.bytes)) told
   where
     no_tick : (index : ℕ) → LinkFrame (suc number) from throughput frame.bytes ≡ Tick index → ⊥
     no_tick index e = cc
-step_seen queries mesh _ distinct (time_passes _ happening) orig seen = seen
+step_told queries mesh _ distinct (time_passes _ happening) orig told = told
 
 -- ---- nodes have distinct addresses
 given_distinct : (queries : Mac → Queries) (mesh after : Mesh) (place now root : ℕ) (node : NodeLog) (given : Given) → AreDistinct mesh.nodes → slice_get mesh.nodes place ≡ Some node → given_to (scenario_setup queries) place now root given mesh ≡ Ok after → AreDistinct after.nodes
@@ -261,19 +279,37 @@ step_distinct queries mesh after d (frame_comes _ _ place now number throughput 
 step_distinct queries mesh _ d (time_passes _ happening) = d
 
 -- what holds of every mesh that is reached
-record Sees (mesh : Mesh) : Type 0 where
+record Tells (mesh : Mesh) : Type 0 where
   distinct : AreDistinct mesh.nodes
-  seen : (orig : Mac) → NoneOrTold orig mesh
+  told : (orig : Mac) → AreTold orig mesh (commits_of orig mesh)
 
-all_see : (queries : Mac → Queries) (mesh : Mesh) → IsReachable queries mesh → Sees mesh
-all_see queries _ begins = record { distinct = λ place other n second got more same. cc; seen = λ orig. inl first_none }
-all_see queries _ (goes_on mesh after r s) =
-    let before = all_see queries mesh r in
-    record { distinct = step_distinct queries mesh after before.distinct s; seen = λ orig. step_seen queries mesh after before.distinct s orig (before.seen orig) }
+first_told : (orig : Mac) → AreTold orig Rattle.mesh_model.specs.Net.Mesh.empty_mesh (first_commit ∷ [])
+first_told orig number earlier = (λ has. absurd has, λ is. absurd (none is))
+  where
+    none : HasAlias (first_commit ∷ []) number earlier → ⊥
+    none h =
+        let low = h.0 in
+        let first : number ≡ 0 = omega (arith, low) in
+        let alias : last_alias (first_commit ∷ []) ≡ Some earlier = ap (λ n. last_alias (drop n (first_commit ∷ []))) (let same : 0 ≡ 1 - suc number = omega (arith, first) in same) ∙ h.1 in
+        cc
+
+all_tell : (queries : Mac → Queries) (mesh : Mesh) → IsReachable queries mesh → Tells mesh
+all_tell queries _ begins = record { distinct = λ place other n second got more same. cc; told = first_told }
+all_tell queries _ (goes_on mesh after r s) =
+    let before = all_tell queries mesh r in
+    record { distinct = step_distinct queries mesh after before.distinct s; told = λ orig. step_told queries mesh after before.distinct s orig (before.told orig) }
+
+pub aliases_are_told : AliasesAreTold
+aliases_are_told queries mesh r orig = (all_tell queries mesh r).told orig
+
+-- commits of which none has an alias have none
+none_have : (made : List Version) → ((number earlier : ℕ) → HasAlias made number earlier → ⊥) → HasNoAlias made
+none_have [] none = λ one other a b. absurd (let found = a.1 in cc)
+none_have (version ∷ older) none = none_more version older (none_have older (λ number earlier h. none number earlier (has_old version older number earlier h))) (none_before version older (is_none_of (alias_before version older) (λ earlier is. none (length older) earlier (has_new version older earlier is))))
+  where
+    is_none_of : (o : Option ℕ) → ((n : ℕ) → o ≡ Some n → ⊥) → o ≡ None
+    is_none_of None never = refl
+    is_none_of (Some n) never = absurd (never n refl)
 
 pub aliases_are_seen : AliasesAreSeen
-aliases_are_seen queries mesh r orig none = go ((all_see queries mesh r).seen orig)
-  where
-    go : NoneOrTold orig mesh → HasNoAlias (commits_of orig mesh)
-    go (inl clear) = clear
-    go (inr told) = absurd (none told.0 told.1 told.2)
+aliases_are_seen queries mesh r orig none = none_have (commits_of orig mesh) (λ number earlier h. none number earlier ((aliases_are_told queries mesh r orig number earlier).1 h))

@@ -23,19 +23,18 @@ pub record IsFromActs (acts : List Act) (root : ℕ) (frame : SentFrame) : Type 
   pub act : Has acts (Link to reason frame.bytes)
   pub root_is : frame.root ≡ root
 
--- the event of a frame that an act made
-pub record IsSending (acts : List Act) (mac : Mac) (event : Event) : Type 0 where
+-- the event of a frame that an act made at a moment
+pub record IsSending (acts : List Act) (mac : Mac) (now : ℕ) (event : Event) : Type 0 where
   pub number : ℕ
-  pub moment : ℕ
   pub next : Mac
   pub to : Option Mac
   pub reason : Option Reason
   pub bytes : List ℕ
-  pub is : event ≡ FrameSent number moment mac next reason bytes
+  pub is : event ≡ FrameSent number now mac next reason bytes
   pub act : Has acts (Link to reason bytes)
 
 -- what acts leave
-pub record HasSent (acts : List Act) (mac : Mac) (root : ℕ) (mesh after : Mesh) : Type 0 where
+pub record HasSent (acts : List Act) (mac : Mac) (now root : ℕ) (mesh after : Mesh) : Type 0 where
   pub nodes : after.nodes ≡ mesh.nodes
   pub more : List SentFrame
   pub frames : after.frames ≡ mesh.frames ++ more
@@ -44,11 +43,11 @@ pub record HasSent (acts : List Act) (mac : Mac) (root : ℕ) (mesh after : Mesh
   pub printed : (event : Event) → Has acts (Print event) → Has after.events event
   pub more_events : List Event
   pub events : after.events ≡ mesh.events ++ more_events
-  pub came : (event : Event) → Has more_events event → Has acts (Print event) ⊎ IsSending acts mac event
+  pub came : (event : Event) → Has more_events event → Has acts (Print event) ⊎ IsSending acts mac now event
 
-over_links : (links : List ℕ) (before : List SentFrame) (now root : ℕ) (bytes : List ℕ) (frame : SentFrame) → Has (frames_over links before now root bytes) frame → (frame.bytes ≡ bytes) × (frame.root ≡ root)
+over_links : (links : List ℕ) (before : List SentFrame) (now root : ℕ) (bytes : List ℕ) (frame : SentFrame) → Has (frames_over links before now root bytes) frame → (frame.bytes ≡ bytes) × (frame.root ≡ root) × (frame.moment ≡ now)
 over_links [] before now root bytes frame has = absurd has
-over_links (link ∷ links) before now root bytes frame (inl is) = (ap (λ (f : SentFrame). f.bytes) is, ap (λ (f : SentFrame). f.root) is)
+over_links (link ∷ links) before now root bytes frame (inl is) = (ap (λ (f : SentFrame). f.bytes) is, ap (λ (f : SentFrame). f.root) is, ap (λ (f : SentFrame). f.moment) is)
 over_links (link ∷ links) before now root bytes frame (inr has) = over_links links before now root bytes frame has
 
 chosen : (test : Bool) (limit : LimitName) (r : Attempt) (m : Mesh) → cond test (Err limit) r ≡ Ok m → r ≡ Ok m
@@ -70,7 +69,7 @@ sending mac reason mesh place (frame ∷ rest) event (inr has) =
     let s = sending mac reason mesh (suc place) rest event has in
     record { number = s.number; next = s.next; frame = s.frame; among = inr s.among; is = s.is }
 
-one_sent : (setup : Setup) (actor : Actor) (act : Act) (mesh after : Mesh) → after_act setup actor act mesh ≡ Ok after → HasSent (act ∷ []) actor.mac actor.root mesh after
+one_sent : (setup : Setup) (actor : Actor) (act : Act) (mesh after : Mesh) → after_act setup actor act mesh ≡ Ok after → HasSent (act ∷ []) actor.mac actor.now actor.root mesh after
 one_sent setup actor (Link to reason bytes) mesh after e =
     let new = frames_of actor to bytes mesh in
     let made : Mesh = record mesh { frames = mesh.frames ++ new; events = mesh.events ++ sent_events actor.mac reason mesh (length mesh.frames) new } in
@@ -91,7 +90,7 @@ one_sent setup actor (Link to reason bytes) mesh after e =
       came = λ event has.
           let s = sending actor.mac reason mesh (length mesh.frames) new event has in
           let parts = over_links (ways mesh.nodes actor.place to 0 mesh.links) mesh.frames actor.now actor.root bytes s.frame s.among in
-          inr (record { number = s.number; moment = s.frame.moment; next = s.next; to = to; reason = reason; bytes = s.frame.bytes; is = s.is; act = inl (ap (λ b. Link to reason b) parts.0) });
+          inr (record { number = s.number; next = s.next; to = to; reason = reason; bytes = s.frame.bytes; is = subst (λ t. event ≡ FrameSent s.number t actor.mac s.next reason s.frame.bytes) parts.2 s.is; act = inl (ap (λ b. Link to reason b) parts.0) });
     }
   where
     no_print : {event : Event} → Has (Link to reason bytes ∷ []) (Print event) → ⊥
@@ -137,7 +136,7 @@ one_sent setup actor (Print event) mesh after e =
     the_act other (inl is) = inl (ap (λ e. Print e) is)
     the_act other (inr none) = absurd none
 
-pub acts_sent : (setup : Setup) (actor : Actor) (acts : List Act) (mesh after : Mesh) → after_acts setup actor acts mesh ≡ Ok after → HasSent acts actor.mac actor.root mesh after
+pub acts_sent : (setup : Setup) (actor : Actor) (acts : List Act) (mesh after : Mesh) → after_acts setup actor acts mesh ≡ Ok after → HasSent acts actor.mac actor.now actor.root mesh after
 acts_sent setup actor [] mesh after e =
     let same : mesh ≡ after = ok_one mesh after e in
     record {
@@ -174,31 +173,31 @@ acts_sent setup actor (act ∷ acts) mesh after e =
         front (inl is) = inl is
         front (inr none) = absurd none
 
-    either : (a : HasSent (act ∷ []) actor.mac actor.root mesh (on_ok_ok (after_acts setup actor acts) (after_act setup actor act mesh) after e).0) (b : HasSent acts actor.mac actor.root (on_ok_ok (after_acts setup actor acts) (after_act setup actor act mesh) after e).0 after)
+    either : (a : HasSent (act ∷ []) actor.mac actor.now actor.root mesh (on_ok_ok (after_acts setup actor acts) (after_act setup actor act mesh) after e).0) (b : HasSent acts actor.mac actor.now actor.root (on_ok_ok (after_acts setup actor acts) (after_act setup actor act mesh) after e).0 after)
         (frame : SentFrame) → Has a.more frame ⊎ Has b.more frame → IsFromActs (act ∷ acts) actor.root frame
     either a b frame (inl has) = first frame (a.made frame has)
     either a b frame (inr has) = let f = b.made frame has in record { to = f.to; reason = f.reason; act = inr f.act; root_is = f.root_is }
 
-    by_act : (a : HasSent (act ∷ []) actor.mac actor.root mesh (on_ok_ok (after_acts setup actor acts) (after_act setup actor act mesh) after e).0) (b : HasSent acts actor.mac actor.root (on_ok_ok (after_acts setup actor acts) (after_act setup actor act mesh) after e).0 after)
+    by_act : (a : HasSent (act ∷ []) actor.mac actor.now actor.root mesh (on_ok_ok (after_acts setup actor acts) (after_act setup actor act mesh) after e).0) (b : HasSent acts actor.mac actor.now actor.root (on_ok_ok (after_acts setup actor acts) (after_act setup actor act mesh) after e).0 after)
         (event : Event) → Has (act ∷ acts) (Print event) → Has after.events event
     by_act a b event (inl is) = b.kept event (a.printed event (inl is))
     by_act a b event (inr has) = b.printed event has
 
-    first_one : (event : Event) → Has (act ∷ []) (Print event) ⊎ IsSending (act ∷ []) actor.mac event → Has (act ∷ acts) (Print event) ⊎ IsSending (act ∷ acts) actor.mac event
+    first_one : (event : Event) → Has (act ∷ []) (Print event) ⊎ IsSending (act ∷ []) actor.mac actor.now event → Has (act ∷ acts) (Print event) ⊎ IsSending (act ∷ acts) actor.mac actor.now event
     first_one event (inl (inl is)) = inl (inl is)
     first_one event (inl (inr none)) = absurd none
-    first_one event (inr s) = inr (record { number = s.number; moment = s.moment; next = s.next; to = s.to; reason = s.reason; bytes = s.bytes; is = s.is; act = front s.act })
+    first_one event (inr s) = inr (record { number = s.number; next = s.next; to = s.to; reason = s.reason; bytes = s.bytes; is = s.is; act = front s.act })
       where
         front : Has (act ∷ []) (Link s.to s.reason s.bytes) → Has (act ∷ acts) (Link s.to s.reason s.bytes)
         front (inl is) = inl is
         front (inr none) = absurd none
 
-    later_one : (event : Event) → Has acts (Print event) ⊎ IsSending acts actor.mac event → Has (act ∷ acts) (Print event) ⊎ IsSending (act ∷ acts) actor.mac event
+    later_one : (event : Event) → Has acts (Print event) ⊎ IsSending acts actor.mac actor.now event → Has (act ∷ acts) (Print event) ⊎ IsSending (act ∷ acts) actor.mac actor.now event
     later_one event (inl has) = inl (inr has)
-    later_one event (inr s) = inr (record { number = s.number; moment = s.moment; next = s.next; to = s.to; reason = s.reason; bytes = s.bytes; is = s.is; act = inr s.act })
+    later_one event (inr s) = inr (record { number = s.number; next = s.next; to = s.to; reason = s.reason; bytes = s.bytes; is = s.is; act = inr s.act })
 
-    from_either : (a : HasSent (act ∷ []) actor.mac actor.root mesh (on_ok_ok (after_acts setup actor acts) (after_act setup actor act mesh) after e).0) (b : HasSent acts actor.mac actor.root (on_ok_ok (after_acts setup actor acts) (after_act setup actor act mesh) after e).0 after)
-        (event : Event) → Has a.more_events event ⊎ Has b.more_events event → Has (act ∷ acts) (Print event) ⊎ IsSending (act ∷ acts) actor.mac event
+    from_either : (a : HasSent (act ∷ []) actor.mac actor.now actor.root mesh (on_ok_ok (after_acts setup actor acts) (after_act setup actor act mesh) after e).0) (b : HasSent acts actor.mac actor.now actor.root (on_ok_ok (after_acts setup actor acts) (after_act setup actor act mesh) after e).0 after)
+        (event : Event) → Has a.more_events event ⊎ Has b.more_events event → Has (act ∷ acts) (Print event) ⊎ IsSending (act ∷ acts) actor.mac actor.now event
     from_either a b event (inl has) = first_one event (a.came event has)
     from_either a b event (inr has) = later_one event (b.came event has)
 
@@ -212,13 +211,13 @@ pub record HasGiven (setup : Setup) (place now root : ℕ) (node : NodeLog) (giv
   pub printed : (event : Event) → Has (entry_of setup node now given).acts (Print event) → Has after.events event
   pub more_events : List Event
   pub events : after.events ≡ mesh.events ++ more_events
-  pub came : (event : Event) → Has more_events event → Has (entry_of setup node now given).acts (Print event) ⊎ IsSending (entry_of setup node now given).acts node.mac event
+  pub came : (event : Event) → Has more_events event → Has (entry_of setup node now given).acts (Print event) ⊎ IsSending (entry_of setup node now given).acts node.mac now event
 
 unless_ok : (o : Option LimitName) (step : Attempt) (after : Mesh) → unless_passed o step ≡ Ok after → step ≡ Ok after
 unless_ok None step after e = e
 unless_ok (Some limit) step after e = cc
 
-noted_given : (setup : Setup) (place now root : ℕ) (node : NodeLog) (given : Given) (mesh mid after : Mesh) → HasSent (entry_of setup node now given).acts node.mac root mesh mid → after.nodes ≡ noted_at place (entry_of setup node now given) mid.nodes → after.frames ≡ mid.frames → after.events ≡ mid.events
+noted_given : (setup : Setup) (place now root : ℕ) (node : NodeLog) (given : Given) (mesh mid after : Mesh) → HasSent (entry_of setup node now given).acts node.mac now root mesh mid → after.nodes ≡ noted_at place (entry_of setup node now given) mid.nodes → after.frames ≡ mid.frames → after.events ≡ mid.events
     → HasGiven setup place now root node given mesh after
 noted_given setup place now root node given mesh mid after s nodes frames events = record {
   nodes = nodes ∙ ap (noted_at place (entry_of setup node now given)) s.nodes;

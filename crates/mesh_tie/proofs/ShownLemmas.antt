@@ -1,5 +1,5 @@
 -- What is shown `ok` is of a commit, unless an alias was printed.
-use Rattle.std.proofs.Common.{◌≡◌, ◌⊎◌, inl, inr, ◌-◌, ◌+◌, ℕ, zero, suc, Bool, true, false, cond, List, [], ◌∷◌, ◌++◌, map, filter_map, slice_get, Option, Some, None, option_map, is_some, Ok, Err, refl, sym, ap, subst, ◌∙◌}
+use Rattle.std.proofs.Common.{◌≡◌, ◌⊎◌, inl, inr, ◌+◌, ℕ, Bool, true, false, cond, List, [], ◌∷◌, ◌++◌, map, filter_map, Option, Some, None, option_map, is_some, Ok, Err, refl, sym, ap, subst, ◌∙◌}
 use Rattle.std.specs.List.{cons_option}
 use Rattle.std.proofs.lemmas.Bool.{false≢true}
 use Rattle.mesh_base.specs.declared.address.Mac.{Mac}
@@ -161,11 +161,6 @@ has_mapped : {X Y : Type 0} (f : X → Option Y) (xs : List X) (y : Y) → Has (
 has_mapped f [] y has = absurd has
 has_mapped f (x ∷ xs) y has = mapped_step f x (filter_map f xs) y (f x) refl has (has_mapped f xs y)
 
-got : {X : Type 0} (xs : List X) (i : ℕ) (x : X) → slice_get xs i ≡ Some x → Has xs x
-got [] i x e = cc
-got (y ∷ ys) zero x e = inl (sym (some_one y x e))
-got (y ∷ ys) (suc i) x e = inr (got ys i x e)
-
 -- ---- the law
 run_shows : (run : Run) → RunHolds run → EventsPrinted run.state → ShowsCommits run
 run_shows run h events place node part found has ok none =
@@ -175,7 +170,7 @@ run_shows run h events place node part found has ok none =
     let p = part_live (q.live known.routes run.state.clock from.0) from.0 (known_by known.tables from.0) part from.1 ok in
     of_part from.0 p
   where
-    of_part : (orig : Mac) → PartSays orig (known_by (known_at_node iv_queries node).tables orig) part → IsOfCommit run.state.mesh part
+    of_part : (orig : Mac) → PartSays orig (known_by (known_at_node iv_queries node).tables orig) part → IsOfCommit run.state.mesh node part
     of_part orig p =
         let clear : IsWithoutAlias iv_queries orig run.state.mesh = record {
           keep = iv_keeps;
@@ -189,7 +184,7 @@ run_shows run h events place node part found has ok none =
         subst_orig orig p told bytes (held_are_committed iv_queries orig run.state.mesh clear place node p.held found p.held_is)
       where
         subst_orig : (orig : Mac) (p : PartSays orig (known_by (known_at_node iv_queries node).tables orig) part) → HoldsTheTold orig run.state.mesh p.last p.held → p.held.byte ≡ p.last.stamp.byte
-            → Rattle.mesh_laws.specs.Machine.World.IsCommit (commits_of orig run.state.mesh) p.held → IsOfCommit run.state.mesh part
+            → Rattle.mesh_laws.specs.Machine.World.IsCommit (commits_of orig run.state.mesh) p.held → IsOfCommit run.state.mesh node part
         subst_orig orig p told bytes commit = record {
           commit = p.held;
           is_commit = subst (λ o. Rattle.mesh_laws.specs.Machine.World.IsCommit (commits_of o run.state.mesh) p.held) (sym p.orig_is) commit;
@@ -197,7 +192,9 @@ run_shows run h events place node part found has ok none =
           told = p.row_told ∙ sym bytes;
           entries = p.entries;
           frame = told.frame;
-          sent = got run.state.mesh.frames (p.last.frame - 1) told.frame told.sent;
+          last = p.last;
+          accepted = subst (λ o. (known_by (known_at_node iv_queries node).tables o).told ≡ Some p.last) (sym p.orig_is) p.told_is;
+          sent = told.sent;
           at_root = told.table ∙ ap (λ o. (Rattle.mesh_model.specs.Commits.Announcements.commit_at_root o (log_of o run.state.mesh.nodes) told.frame.root).table) (sym p.orig_is);
         }
 

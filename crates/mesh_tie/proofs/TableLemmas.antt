@@ -24,8 +24,8 @@ use Rattle.mesh_tvlv.specs.Laws.{FitsKey, FitsTable, FitsVlan}
 use Rattle.mesh_tvlv.proofs.SpellingLemmas.{read_back}
 use Rattle.mesh_tvlv.proofs.TableLemmas.{record_back, table_back}
 use Rattle.mesh_tie.specs.Tie.{FitsAnswer, FitsEntry}
-use Rattle.mesh_tie.specs.TieLaws.{stamp_of_commit}
-use Rattle.mesh_tie.proofs.RoomLemmas.{sums_few, table_fits}
+use Rattle.mesh_laws.specs.HeldLaws.{stamp_of_commit}
+use Rattle.mesh_laws.proofs.RoomLemmas.{sums_few, table_fits}
 use Rattle.mesh_tie.proofs.SumLemmas.{sums_few_of, sums_fit, sums_told_same}
 
 -- ---- records

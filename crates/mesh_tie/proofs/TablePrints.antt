@@ -2,39 +2,40 @@
 use Rattle.std.proofs.Common.{◌≡◌, inl, inr, ◌+◌, ◌-◌, ◌&&◌, ℕ, Bool, true, false, cond, not, nat_le, nat_lt, List, [], ◌∷◌, ◌++◌, length, map, Option, Some, None, option_map, option_and_then, slice_get, append_assoc, is_some, Ok, Err, refl, sym, ap, subst, ◌∙◌, append-nil}
 use Rattle.std.specs.Option.{option_map_or}
 use Rattle.mesh_base.specs.Address.{is_broadcast, is_group}
+use Rattle.mesh_base.specs.declared.address.Mac.{Mac}
 use Rattle.mesh_base.specs.declared.event.Event.{Event}
-use Rattle.mesh_base.specs.declared.event.Event.TheVariants.{Alias}
 use Rattle.mesh_model.specs.declared.ending.LimitName.TheVariants.{Clock, Input, Line, Links, Nodes}
 use Rattle.mesh_model.specs.declared.ending.Refusal.{Refusal}
 use Rattle.mesh_model.specs.declared.ending.Stop.TheVariants.{Limit}
 use Rattle.mesh_model.specs.declared.frame_choice.FrameChoice.{FrameChoice}
+use Rattle.mesh_model.specs.declared.line_form.Algorithm.TheVariants.{Iv, V}
 use Rattle.mesh_model.specs.declared.line_form.Command.{Command}
 use Rattle.mesh_model.specs.declared.line_form.Command.TheVariants.{Nothing, Algo, Node, Link, Lan, Frame, Gone, Join, Leave, Arp, Dhcp, Wifi, GwOff, GwServer, GwClient, Mcast, Dat, Alfred, Put, Get, Ping, Trace, Run as RunFor, Deliver, Show, Decode}
 use Rattle.mesh_model.specs.declared.line_form.Table.{Table}
 use Rattle.mesh_model.specs.declared.line_form.Table.TheVariants.{Originators, Neighbors, Locals, Globals, Claims, Gateways, Groups, Addresses, Facts}
 use Rattle.mesh_model.specs.Clients.Log.{Given}
-use Rattle.mesh_model.specs.Clients.Log.{Frame as FrameGiven, Gone as GoneGiven, Join as JoinGiven, Leave as LeaveGiven, Wifi as WifiGiven}
+use Rattle.mesh_model.specs.Clients.Log.{Frame as FrameGiven, Gone as GoneGiven, Join as JoinGiven, Leave as LeaveGiven, Wifi as WifiGiven, Ping as PingGiven, Trace as TraceGiven}
 use Rattle.mesh_model.specs.Net.Inputs.{given_to}
 use Rattle.mesh_model.specs.Net.Limits.{clock_limit, links_limit, nodes_limit}
-use Rattle.mesh_model.specs.Net.Mesh.{NodeLog, NetLink, Mesh}
+use Rattle.mesh_model.specs.Net.Mesh.{NodeLog, NetLink, Mesh, address_at}
 use Rattle.mesh_model.specs.Net.Next.{Has}
 use Rattle.mesh_model.specs.Net.Runs.{PassedLimit, delivered, run_to}
 use Rattle.mesh_model.specs.Net.Sending.{Attempt}
 use Rattle.mesh_model.specs.Run.Outcome.{Outcome, Ends, Goes, reached}
 use Rattle.mesh_model.specs.Run.Passing.{after_attempt, course_outcome, events_since, gone_on, run_until}
-use Rattle.mesh_model.specs.Run.PlainRun.{Run, after_line, after_lines, after_outcome, after_reading, line_outcome, passes_input, passes_line, plain_run, start}
+use Rattle.mesh_model.specs.Run.PlainRun.{Run, after_line, after_lines, after_outcome, after_reading, line_outcome, passes_input, passes_line, start}
 use Rattle.mesh_model.specs.Run.Rules.{after_step, carried_out, first_refused_rule, iv_setup, unless_refused}
 use Rattle.mesh_model.specs.Run.Shown.{after_print, global_table, shown}
 use Rattle.mesh_model.specs.Run.State.{Printed, GlobalsShown, Decoded, Happened, State, names_of, node_named, place_of}
-use Rattle.mesh_model.specs.Run.Steps.{Step, at_node, input_step, link_step, new_node, show_step, step_of, with_link, with_node}
+use Rattle.mesh_model.specs.Run.Steps.{Step, at_node, input_step, link_step, new_node, session_step, show_step, step_of, with_link, with_node}
 use Rattle.mesh_model.specs.Scenario.Commands.{command_of_line}
 use Rattle.mesh_model.specs.Scenario.Halt.{Halt}
-use Rattle.mesh_model.specs.Scenario.Lines.{content, lines_of}
+use Rattle.mesh_model.specs.Scenario.Lines.{content}
 use Rattle.mesh_model.specs.Scenario.Readings.{Reading}
-use Rattle.mesh_model.specs.Text.GlobalTables.{GlobalPart, GlobalTable}
-use Rattle.mesh_laws.proofs.Schedule.Members.{has_left, map_has}
-use Rattle.mesh_tie.specs.ShownTables.{IsOfCommit, PrintedNone, PrintedTablesAreCommitted}
-use Rattle.mesh_tie.proofs.EventLemmas.{Split, in_first, in_second, split}
+use Rattle.mesh_model.specs.Text.GlobalTables.{GlobalTable}
+use Rattle.mesh_laws.proofs.Schedule.Members.{map_has}
+use Rattle.mesh_tie.specs.ShownTables.{PrintedNone, PrintedTablesAreCommitted, PrintsCommits, WasCommitted}
+use Rattle.mesh_tie.proofs.EventLemmas.{Split, in_first, in_second, split, split_has}
 use Rattle.mesh_tie.proofs.ShownLemmas.{shown_tables_are_committed}
 
 -- ---- what a line adds
@@ -45,11 +46,17 @@ record OfNode (state : State) (table : GlobalTable) : Type 0 where
   found : slice_get state.mesh.nodes place ≡ Some node
   is : table ≡ global_table state.clock node
 
--- what is printed after a state, where each table is that of a node of it
+-- a table is that of a node of a state, and is all that is new
+record IsAlone (state : State) (new : List Printed) (table : GlobalTable) : Type 0 where
+  one : Printed
+  all_is : new ≡ one ∷ []
+  of_node : OfNode state table
+
+-- what is printed after a state, where each table is that of a node of it, and comes alone
 record Added (state after : State) : Type 0 where
   new : List Printed
   printed : after.printed ≡ state.printed ++ new
-  tables : (table : GlobalTable) → Has new (GlobalsShown table) → OfNode state table
+  tables : (table : GlobalTable) → Has new (GlobalsShown table) → IsAlone state new table
 
 abbrev AddsTo : State → Outcome → Type 0
 AddsTo state outcome = Added state (reached outcome)
@@ -78,6 +85,12 @@ adds_at state step (Some place) all = all place
 adds_line : (state : State) (name : List ℕ) (given : Given) → AddsTo state (at_node name (input_step iv_setup given) state)
 adds_line state name given = adds_at state (input_step iv_setup given) (place_of state name) (λ place. adds_attempt state (given_to iv_setup place state.clock 0 given state.mesh))
 
+adds_session : (state : State) (given : Mac → Given) (node target : List ℕ) → AddsTo state (session_step iv_setup given node target state)
+adds_session state given node target =
+    let to : ℕ → ℕ → Step = λ place end s. input_step iv_setup (given (address_at end s.mesh.nodes)) place s in
+    adds_at state (λ place. at_node target (to place)) (place_of state node) (λ place.
+    adds_at state (to place) (place_of state target) (λ end. adds_attempt state (given_to iv_setup place state.clock 0 (given (address_at end state.mesh.nodes)) state.mesh)))
+
 adds_frame : (state : State) (name : List ℕ) (given : Given) (group : Bool) → AddsTo state (after_step state (cond group None (Some (at_node name (input_step iv_setup given)))))
 adds_frame state name given true = adds_none state state refl
 adds_frame state name given false = adds_line state name given
@@ -98,8 +111,8 @@ adds_time state t false = adds_course state t (run_to iv_setup t state.mesh).mes
 adds_print : (state : State) (one : Printed) → ((table : GlobalTable) → GlobalsShown table ≡ one → OfNode state table) → Added state (after_print state one)
 adds_print state one of = record { new = one ∷ []; printed = refl; tables = λ table has. only table has }
   where
-    only : (table : GlobalTable) → Has (one ∷ []) (GlobalsShown table) → OfNode state table
-    only table (inl is) = of table is
+    only : (table : GlobalTable) → Has (one ∷ []) (GlobalsShown table) → IsAlone state (one ∷ []) table
+    only table (inl is) = record { one = one; all_is = refl; of_node = of table is }
     only table (inr none) = absurd none
 
 -- a table that is printed of a node is its own
@@ -132,7 +145,8 @@ adds_show state name (Some print) own = go (node_named state name) (λ node is. 
 
 adds_command : (state : State) (command : Command) → AddsTo state (after_step state (step_of iv_setup command))
 adds_command state Nothing = adds_none state state refl
-adds_command state (Algo algorithm) = adds_none state state refl
+adds_command state (Algo Iv) = adds_none state state refl
+adds_command state (Algo V) = adds_none state state refl
 adds_command state (Node name mac) = adds_full (nat_le nodes_limit (length state.mesh.nodes)) state (Ends state (Limit Nodes)) (with_node state (new_node name mac state.clock)) (adds_none state state refl) (adds_none state (with_node state (new_node name mac state.clock)) refl)
 adds_command state (Link from to delay pattern throughput) =
     let link : ℕ → ℕ → NetLink = λ start end. record { from = start; to = end; delay = delay; pattern = pattern; throughput = throughput } in
@@ -155,8 +169,8 @@ adds_command state (Dat node on) = adds_none state state refl
 adds_command state (Alfred node mode) = adds_none state state refl
 adds_command state (Put node type_no version text) = adds_none state state refl
 adds_command state (Get node type_no) = adds_none state state refl
-adds_command state (Ping node target) = adds_none state state refl
-adds_command state (Trace node target) = adds_none state state refl
+adds_command state (Ping node target) = adds_session state PingGiven node target
+adds_command state (Trace node target) = adds_session state TraceGiven node target
 adds_command state (RunFor time) = adds_time state (state.clock + time) (nat_lt clock_limit (state.clock + time))
 adds_command state (Deliver number) = adds_attempt state (delivered iv_setup (number - 1) state.clock state.mesh)
 adds_command state (Show node table) = adds_show state node (shown table) (prints_own state table)
@@ -197,23 +211,20 @@ adds_after run line = go run.halt
     go (Some halt) = adds_none run.state run.state refl
 
 -- ---- a whole run
--- a part that was printed is of a commit, behind some of the lines
-record OfLines (choice : FrameChoice) (all : List (List ℕ)) (part : GlobalPart) : Type 0 where
-  done : List (List ℕ)
-  rest : List (List ℕ)
-  all_is : all ≡ done ++ rest
-  of_commit : IsOfCommit (after_lines (start choice) done).state.mesh part
-
--- each part that these lines printed is so
-abbrev PartsAre : FrameChoice → List (List ℕ) → Type 0
-PartsAre choice lines = (before after : List Printed) (table : GlobalTable) (part : GlobalPart) → (after_lines (start choice) lines).state.printed ≡ before ++ GlobalsShown table ∷ after
-    → Has table.parts part → part.row.ok ≡ true → PrintedNone part.row.orig before → OfLines choice lines part
-
 lines_more : (run : Run) (xs : List (List ℕ)) (y : List ℕ) → after_lines run (xs ++ y ∷ []) ≡ after_line (after_lines run xs) y
 lines_more run [] y = refl
 lines_more run (x ∷ xs) y = lines_more (after_line run x) xs y
 
-parts_next : (choice : FrameChoice) (lines : List (List ℕ)) (line : List ℕ) → PartsAre choice lines → PartsAre choice (lines ++ line ∷ [])
+-- nothing stands before an item that stands alone
+alone : {X : Type 0} (one : X) (more : List X) (e : X) (back : List X) → one ∷ [] ≡ more ++ e ∷ back → more ≡ []
+alone one [] e back is = refl
+alone one (first ∷ more) e back is = absurd (none more e back (let rest : [] ≡ more ++ e ∷ back = cc in rest))
+  where
+    none : {X : Type 0} (more : List X) (e : X) (back : List X) → [] ≡ more ++ e ∷ back → ⊥
+    none [] e back is = cc
+    none (first ∷ more) e back is = cc
+
+parts_next : (choice : FrameChoice) (lines : List (List ℕ)) (line : List ℕ) → PrintsCommits choice lines → PrintsCommits choice (lines ++ line ∷ [])
 parts_next choice lines line all before after table part printed has ok none =
     go (split run.state.printed a.new before (GlobalsShown table) after (sym a.printed ∙ sym (ap (λ (r : Run). r.state.printed) (lines_more (start choice) lines line)) ∙ printed))
   where
@@ -223,31 +234,41 @@ parts_next choice lines line all before after table part printed has ok none =
     a : Added run.state (after_line run line).state
     a = adds_after run line
 
-    go : Split run.state.printed a.new before (GlobalsShown table) → OfLines choice (lines ++ line ∷ []) part
+    go : Split run.state.printed a.new before (GlobalsShown table) → WasCommitted choice (lines ++ line ∷ []) before table part
     go (in_first back p) =
-        let o = all before back table part p has ok none in
-        record { done = o.done; rest = o.rest ++ line ∷ []; all_is = ap (λ ls. ls ++ line ∷ []) o.all_is ∙ append_assoc o.done o.rest (line ∷ []); of_commit = o.of_commit }
-    go (in_second more p new) =
-        let n = a.tables table new in
+        let w = all before back table part p has ok none in
+        record {
+          done = w.done;
+          rest = w.rest ++ line ∷ [];
+          lines_are = ap (λ ls. ls ++ line ∷ []) w.lines_are ∙ append_assoc w.done w.rest (line ∷ []);
+          printed_before = w.printed_before;
+          node = w.node;
+          shown = w.shown;
+          of_commit = w.of_commit;
+        }
+    go (in_second more back p q) =
+        let n = a.tables table (split_has a.new more (GlobalsShown table) back q) in
+        let first = alone n.one more (GlobalsShown table) back (sym n.all_is ∙ q) in
+        let before_is : before ≡ run.state.printed = p ∙ ap (λ ms. run.state.printed ++ ms) first ∙ append-nil run.state.printed in
         record {
           done = lines;
           rest = line ∷ [];
-          all_is = refl;
-          of_commit = shown_tables_are_committed choice lines n.place n.node part n.found (subst (λ (t : GlobalTable). Has t.parts part) n.is has) ok
-              (λ names number earlier told. none names number earlier (subst (λ xs. Has xs (Happened names (Alias part.row.orig number earlier))) (sym p) (has_left run.state.printed more (Happened names (Alias part.row.orig number earlier)) told)));
+          lines_are = refl;
+          printed_before = before_is;
+          node = n.of_node.node;
+          shown = record { place = n.of_node.place; found = n.of_node.found; table_is = n.of_node.is };
+          of_commit = shown_tables_are_committed choice lines n.of_node.place n.of_node.node part n.of_node.found (subst (λ (t : GlobalTable). Has t.parts part) n.of_node.is has) ok
+              (subst (PrintedNone part.row.orig) before_is none);
         }
 
 -- the lines that are left, behind those that were done
-parts_all : (choice : FrameChoice) (done left : List (List ℕ)) → PartsAre choice done → PartsAre choice (done ++ left)
-parts_all choice done [] all = subst (PartsAre choice) (sym (append-nil done)) all
-parts_all choice done (line ∷ left) all = subst (PartsAre choice) (append_assoc done (line ∷ []) left) (parts_all choice (done ++ line ∷ []) left (parts_next choice done line all))
+parts_all : (choice : FrameChoice) (done left : List (List ℕ)) → PrintsCommits choice done → PrintsCommits choice (done ++ left)
+parts_all choice done [] all = subst (PrintsCommits choice) (sym (append-nil done)) all
+parts_all choice done (line ∷ left) all = subst (PrintsCommits choice) (append_assoc done (line ∷ []) left) (parts_all choice (done ++ line ∷ []) left (parts_next choice done line all))
 
 none_printed : (before : List Printed) (one : Printed) (after : List Printed) → [] ≡ before ++ one ∷ after → ⊥
 none_printed [] one after is = cc
 none_printed (first ∷ before) one after is = cc
 
 pub printed_tables_are_committed : PrintedTablesAreCommitted
-unfolding plain_run
-printed_tables_are_committed choice input before after table part printed has ok none =
-    let o = parts_all choice [] (lines_of input) (λ before after table part is has ok none. absurd (none_printed before (GlobalsShown table) after is)) before after table part printed has ok none in
-    (o.done, o.rest, o.all_is, o.of_commit)
+printed_tables_are_committed choice lines = parts_all choice [] lines (λ before after table part is has ok none. absurd (none_printed before (GlobalsShown table) after is))

@@ -34,7 +34,7 @@ use Rattle.mesh_laws.proofs.PieceLemmas.{small_tables_are_one_piece}
 use Rattle.mesh_tie.specs.Sayings.{FrameSays, IsAnnounced, IsAnswered, saying_of}
 use Rattle.mesh_tie.specs.Sources.{IsMessageOf, IsWhole, KeepsOriginators, MessageOf}
 use Rattle.mesh_tie.specs.Tie.{FitsAnswer, FitsEntry}
-use Rattle.mesh_tie.specs.TieLaws.{stamp_of_commit}
+use Rattle.mesh_laws.specs.HeldLaws.{stamp_of_commit}
 use Rattle.mesh_tie.proofs.EntryLemmas.{each_addition, each_appended}
 use Rattle.mesh_tie.proofs.Sayable.{Sayable, Speaks, an_answer, answered_more, containers_say, frame_sayable, message_says, no_answer, one_or_two, over_row, says_one, silent}
 use Rattle.mesh_tie.proofs.TableLemmas.{FitsChange, reply_again, request_answers_none, request_small, told_room}

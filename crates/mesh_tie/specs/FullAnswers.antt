@@ -11,7 +11,7 @@ use Rattle.mesh_model.specs.Tables.Judging.{InFull, answer_row}
 use Rattle.mesh_model.specs.Tables.Known.{Known, answered, is_agreed, stamp_of}
 use Rattle.mesh_model.specs.Tables.Versions.{Version}
 use Rattle.mesh_laws.specs.Machine.World.{IsCommit}
-use Rattle.mesh_tie.specs.TieLaws.{stamp_of_commit}
+use Rattle.mesh_laws.specs.HeldLaws.{stamp_of_commit}
 
 -- an answer in full from a commit that was told last is taken, and what is known agrees then
 abbrev pub FullAnswersRepair : Type 0

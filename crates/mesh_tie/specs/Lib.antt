@@ -13,3 +13,4 @@ pub mod AliasesSeen
 pub mod FullAnswers
 pub mod ShownTables
 pub mod LinesByTable
+pub mod NetTables

@@ -7,7 +7,7 @@ use Rattle.std.specs.List.{AllByRecursion}
 use Rattle.mesh_base.specs.declared.address.Mac.{Mac}
 use Rattle.mesh_base.specs.declared.client.Key.{Key}
 use Rattle.mesh_model.specs.declared.happening.Happening.{Happening}
-use Rattle.mesh_model.specs.Clients.Log.{Given, Tick, LinkFrame, Frame, Gone, Join, Leave, Arp, Dhcp, Wifi, Log}
+use Rattle.mesh_model.specs.Clients.Log.{Given, Tick, LinkFrame, Frame, Gone, Join, Leave, Arp, Dhcp, Wifi, Ping, Trace, Log}
 use Rattle.mesh_model.specs.Clients.Mentions.{key_of}
 use Rattle.mesh_model.specs.Net.Due.{ticks_in}
 use Rattle.mesh_model.specs.Net.Inputs.{given_to}
@@ -33,6 +33,8 @@ IsOfLine (Leave key) = IsClient key
 IsOfLine (Arp mac own_ip asked_ip vid) = IsClient (key_of mac vid)
 IsOfLine (Dhcp key text) = IsClient key
 IsOfLine (Wifi on) = ⊤
+IsOfLine (Ping target) = ⊤
+IsOfLine (Trace target) = ⊤
 
 -- the moment of the newest entry of a log, 0 where there is none
 abbrev pub newest_moment : Log → ℕ

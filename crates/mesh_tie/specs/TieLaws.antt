@@ -3,7 +3,7 @@
 -- every message of it announces its commit, every answer in its name carries one, every table that
 -- a node holds of it is one, and a table in agreement is the one that was told last. The main words
 -- are `StepsAreMoves`, `HeldAreCommitted` and `AgreedAreTold`.
-use Rattle.std.specs.Prelude.{◌≡◌, ◌⊎◌, ◌-◌, ℕ, List, [], map, slice_get, Some, IsTrue}
+use Rattle.std.specs.Prelude.{◌≡◌, ◌⊎◌, ◌-◌, ℕ, [], slice_get, Some, IsTrue}
 use Rattle.mesh_base.specs.declared.address.Mac.{Mac}
 use Rattle.mesh_model.specs.Clients.Log.{Log}
 use Rattle.mesh_model.specs.Commits.Announcements.{commit_at_root}
@@ -18,14 +18,13 @@ use Rattle.mesh_model.specs.Packets.FirstPacket.{Packet}
 use Rattle.mesh_model.specs.Packets.LinkFrame.{link_frame}
 use Rattle.mesh_model.specs.Routes.AlgorithmIv.{iv_queries}
 use Rattle.mesh_model.specs.Routes.Queries.{Queries}
-use Rattle.mesh_model.specs.Tables.Changes.{addition}
-use Rattle.mesh_model.specs.Tables.Judging.{Carried, InFull, InChanges}
+use Rattle.mesh_model.specs.Tables.Judging.{Carried}
 use Rattle.mesh_model.specs.Tables.Known.{LastTold, is_agreed, known_by}
-use Rattle.mesh_model.specs.Tables.Sums.{sums_of}
 use Rattle.mesh_model.specs.Tables.Versions.{Stamp, Version}
+use Rattle.mesh_laws.specs.HeldLaws.{CarriesCommit, stamp_of_commit}
 use Rattle.mesh_laws.specs.Machine.Agreement.{HasNoAlias, LeadTo}
 use Rattle.mesh_laws.specs.Machine.Moves.{Reaches}
-use Rattle.mesh_laws.specs.Machine.World.{World, IsCommit, commit_numbered, start}
+use Rattle.mesh_laws.specs.Machine.World.{World, IsCommit, start}
 use Rattle.mesh_tie.specs.Originators.{commits_of, log_of, number_at_root}
 use Rattle.mesh_tie.specs.Sources.{ContainersOf, KeepsOriginators, MessageOf, word_of}
 use Rattle.mesh_tie.specs.Steps.{IsReachable, Steps}
@@ -63,10 +62,6 @@ pub record IsWithoutAlias (queries : Mac → Queries) (orig : Mac) (mesh : Mesh)
   pub reachable : IsReachable queries mesh
   pub none : HasNoAlias (commits_of orig mesh)
 
--- the byte and the sums of a version
-abbrev pub stamp_of_commit : Version → Stamp
-stamp_of_commit version = record { byte = version.byte; sums = sums_of version.table }
-
 -- ---- what was sent
 
 -- a translation table announces the commit of a root: its byte, its sums, and its changes or none
@@ -83,14 +78,6 @@ MessagesAnnounce = (queries : Mac → Queries) (orig : Mac) (mesh : Mesh) →
     word_of packet.head ≡ MessageOf orig →
     (table : TtData) × (first_table (containers_of packet.tail) ≡ Some table)
     × AnnouncesCommit orig (log_of orig mesh.nodes) frame.root table
-
--- an answer carries a commit in full, or the changes that lead to a commit, under its byte and sums
-abbrev pub CarriesCommit : List Version → Stamp → Carried → Type 0
-CarriesCommit made stamp (InFull records) = (commit : Version) × IsCommit made commit
-    × (stamp ≡ stamp_of_commit commit) × (records ≡ map addition commit.table)
-CarriesCommit made stamp (InChanges records) = (number : ℕ) × (commit : Version)
-    × (commit_numbered number made ≡ Some commit) × (stamp ≡ stamp_of_commit commit)
-    × LeadTo made number commit records
 
 -- every answer with an originator as its source that was ever sent carries a commit of it
 abbrev pub AnswersCarry : Type 0

@@ -19,15 +19,16 @@ pub fn plain_runs_are_reachable()
     ensures { PlainRunsAreReachable }
 {}
 
-/// What a plain run shows as `ok` of an originator was committed by it for the message accepted
-/// last, unless an event that was printed before told of an alias of it.
+/// What a run of any lines shows as `ok` of an originator was committed by it for the message that
+/// the shown node accepted last, unless an event that was printed before told of an alias of it.
 pub fn shown_tables_are_committed()
     ensures shown { ShownTablesAreCommitted }
     ensures printed { PrintedTablesAreCommitted }
 {}
 
-/// What a plain run prints of a frame that is sent by table goes to a node whose commit names its
-/// client, unless an event that was printed before told of an alias of that node.
+/// A frame that a run of any lines prints as sent by table goes to a node whose table names its
+/// client, as committed for the message that the sender had accepted last when it sent the frame,
+/// unless an event that was printed before told of an alias of that node.
 pub fn lines_by_table_are_right()
     ensures events { EventsByTableAreRight }
     ensures lines { LinesByTableAreRight }

@@ -16,7 +16,7 @@ pub fn answers_carry_commits()
 {}
 
 /// Every client frame that a node sent by table is for a client that is named by the commit which
-/// the last message announced that the node had accepted.
+/// the last message announced that the node had accepted when it sent the frame.
 pub fn frames_by_table_are_for_named_clients()
     ensures { FramesByTable }
 {}

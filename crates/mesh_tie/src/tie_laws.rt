@@ -1,6 +1,6 @@
 //! How each mesh that is reached is tied to a world of the table machine.
 
-ghost use Rattle.mesh_tie.specs.AliasesSeen.{AliasesAreSeen};
+ghost use Rattle.mesh_tie.specs.AliasesSeen.{AliasesAreSeen, AliasesAreTold};
 ghost use Rattle.mesh_tie.specs.TieLaws.{CommitsAlwaysFit, IvKeeps, MeshesAreTied, StepsAreMoves};
 
 /// Each step of a mesh is, for each originator, a list of the machine's moves: a node or a link
@@ -24,7 +24,9 @@ pub fn algorithm_iv_keeps_originators()
     ensures { IvKeeps }
 {}
 
-/// Where two commits of an originator are an alias, an event told of one.
+/// An event tells of an alias exactly where a commit of an originator has it; so where two of its
+/// commits are one, an event told of one.
 pub fn aliases_are_seen()
-    ensures { AliasesAreSeen }
+    ensures told { AliasesAreTold }
+    ensures seen { AliasesAreSeen }
 {}

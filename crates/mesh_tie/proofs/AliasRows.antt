@@ -1,0 +1,201 @@
+-- Which acts tell of an alias: those of a tick that commits one, and no others.
+use Rattle.std.proofs.Common.{◌≡◌, ◌⊎◌, inl, inr, ◌==◌, ℕ, suc, Bool, true, false, cond, List, [], ◌∷◌, ◌++◌, length, Option, Some, None, refl, sym, ap, subst, arith}
+use Rattle.std.specs.List.{AllByRecursion}
+use Rattle.std.proofs.lemmas.Bool.{ne_eqb}
+use Rattle.mesh_base.specs.declared.address.Mac.{Mac}
+use Rattle.mesh_base.specs.declared.event.Event.TheVariants.{Alias}
+use Rattle.mesh_model.specs.declared.act.Act.{Act}
+use Rattle.mesh_model.specs.declared.act.Act.TheVariants.{Link, Lan, Print}
+use Rattle.mesh_model.specs.declared.packet.Head.{Head}
+use Rattle.mesh_model.specs.declared.packet.Head.TheVariants.{IvOgm, Bcast, Elp, Ogm2, Unicast, Frag, Unicast4, Icmp, Utvlv}
+use Rattle.mesh_model.specs.Acts.Choosing.{acts_of, client_acts, probing_acts, sighting_acts}
+use Rattle.mesh_model.specs.Acts.FrameRows.{broadcast_acts, here_acts, passed_frame}
+use Rattle.mesh_model.specs.Acts.OwnContainers.{own_containers}
+use Rattle.mesh_model.specs.Acts.ProbeRows.{IcmpMessage}
+use Rattle.mesh_model.specs.Acts.Rows.{Own, alias_acts, alias_event, commit_acts, head_acts, icmp_acts, message_acts, own_by, packet_acts, packets_acts, place_at, taken_acts, tick_acts}
+use Rattle.mesh_model.specs.Acts.TableRows.{other_containers, own_answer}
+use Rattle.mesh_model.specs.Clients.Log.{Given, Tick, LinkFrame, Frame, Gone, Join, Leave, Arp, Dhcp, Wifi, Ping, Trace, Log}
+use Rattle.mesh_model.specs.Clients.Mentions.{Mention, key_of, mentions, next_mentions}
+use Rattle.mesh_model.specs.Commits.Aliases.{alias_before, last_alias}
+use Rattle.mesh_model.specs.Commits.Announcements.{announcement}
+use Rattle.mesh_model.specs.Commits.History.{History, announced, committed, is_commit_tick, present_table}
+use Rattle.mesh_model.specs.Knowledge.Known.{Knowledge}
+use Rattle.mesh_model.specs.Knowledge.Steps.{Coming, advertised, after_packet, after_sighting, knowledge}
+use Rattle.mesh_model.specs.Knowledge.Told.{Message, message_in, message_of, message_with}
+use Rattle.mesh_model.specs.Net.Next.{Has}
+use Rattle.mesh_model.specs.Packets.Containers.{containers_of, containers_spelling}
+use Rattle.mesh_model.specs.Packets.Contents.{first_table}
+use Rattle.mesh_model.specs.Packets.FirstPacket.{Packet}
+use Rattle.mesh_model.specs.Packets.LinkFrame.{link_frame}
+use Rattle.mesh_model.specs.Packets.Payload.{ClientFrame}
+use Rattle.mesh_model.specs.Routes.Addresses.{same_mac}
+use Rattle.mesh_model.specs.Routes.Queries.{Queries}
+use Rattle.mesh_model.specs.Routes.RouteLog.{RouteLog}
+use Rattle.mesh_model.specs.Tables.Versions.{Version}
+use Rattle.mesh_laws.proofs.Schedule.Members.{has_either, has_left}
+use Rattle.mesh_tie.specs.Steps.{IsOfLine}
+use Rattle.mesh_tie.proofs.CalmRows.{calm_frame, calm_here, calm_session}
+use Rattle.mesh_tie.proofs.CommitLemmas.{Committed, as_before, committed_is, one_more}
+use Rattle.mesh_tie.proofs.EntryLemmas.{each_appended}
+use Rattle.mesh_tie.proofs.NamesRows.{IsPlain, plain_advert, plain_broadcast, plain_icmp, plain_message, plain_ogm, plain_other, plain_own, plain_passed}
+use Rattle.mesh_tie.proofs.Sayable.{IsCalm, IsNoAlias}
+
+-- ---- acts that tell of none
+-- an act that tells of no alias
+abbrev pub IsQuiet : Act → Type 0
+IsQuiet (Link to reason bytes) = Unit {0}
+IsQuiet (Lan bytes) = Unit {0}
+IsQuiet (Print event) = IsNoAlias event
+
+abbrev pub AreQuiet : List Act → Type 0
+AreQuiet acts = AllByRecursion IsQuiet acts
+
+plain_quiet : (acts : List Act) → AllByRecursion IsPlain acts → AreQuiet acts
+plain_quiet [] plain = tt
+plain_quiet (Link to reason bytes ∷ acts) plain = (tt, plain_quiet acts plain.1)
+plain_quiet (Lan bytes ∷ acts) plain = (tt, plain_quiet acts plain.1)
+plain_quiet (Print event ∷ acts) plain = (plain.0.1, plain_quiet acts plain.1)
+
+calm_quiet : (acts : List Act) → AllByRecursion IsCalm acts → AreQuiet acts
+calm_quiet [] calm = tt
+calm_quiet (Link to reason bytes ∷ acts) calm = (tt, calm_quiet acts calm.1)
+calm_quiet (Lan bytes ∷ acts) calm = (tt, calm_quiet acts calm.1)
+calm_quiet (Print event ∷ acts) calm = (calm.0, calm_quiet acts calm.1)
+
+-- none among these acts tells of an alias
+pub quiet_none : (acts : List Act) (me : Mac) (number earlier : ℕ) → AreQuiet acts → Has acts (Print (Alias me number earlier)) → ⊥
+quiet_none [] me number earlier quiet has = has
+quiet_none (act ∷ acts) me number earlier quiet (inl is) = subst IsQuiet (sym is) quiet.0 me number earlier refl
+quiet_none (act ∷ acts) me number earlier quiet (inr has) = quiet_none acts me number earlier quiet.1 has
+
+quiet_if : (b : Bool) (xs ys : List Act) → AreQuiet xs → AreQuiet ys → AreQuiet (cond b xs ys)
+quiet_if true xs ys a b = a
+quiet_if false xs ys a b = b
+
+-- ---- packets
+packet_quiet : (q : Queries) (me : Mac) (own : Own) (came : Coming) (known : Knowledge) (packet : Packet) → AreQuiet (packet_acts q me own came known packet)
+unfolding packet_acts
+packet_quiet q me own came known packet = go packet.head packet.tail
+  where
+    taken : (head : Head) (tail : List ℕ) (o : Option Message) → AreQuiet (taken_acts q me came head o tail known)
+    taken head tail None = tt
+    taken head tail (Some message) = plain_quiet (taken_acts q me came head (Some message) tail known) (plain_ogm q me came head message tail known)
+
+    go : (head : Head) (tail : List ℕ) → AreQuiet (head_acts q me own came known (message_of (record { head = head; tail = tail })) tail head)
+    go (IvOgm ttl flags seq o prev tq) tail = taken (IvOgm ttl flags seq o prev tq) tail (message_with o (first_table (containers_of tail)))
+    go (Bcast ttl seq o) tail = plain_quiet (broadcast_acts known (place_at me came) ttl (record { orig = o; number = seq }) tail) (plain_broadcast known (place_at me came) ttl (record { orig = o; number = seq }) tail)
+    go (Elp o seq interval) tail = tt
+    go (Ogm2 ttl flags seq o throughput) tail = taken (Ogm2 ttl flags seq o throughput) tail (message_with o (first_table (containers_of tail)))
+    go (Unicast ttl ttvn dst) tail =
+        let here = here_acts q known own.mentions (place_at me came) ttl tail in
+        let passed = passed_frame q known (place_at me came) ttl ttvn dst tail in
+        quiet_if (same_mac dst me) here passed (calm_quiet here (calm_here q known own.mentions (place_at me came) ttl tail)) (plain_quiet passed (plain_passed q known (place_at me came) ttl ttvn dst tail))
+    go (Frag ttl number priority dst o seq total) tail = tt
+    go (Unicast4 ttl ttvn dst src subtype) tail = tt
+    go (Icmp ttl msg dst o uid seq) tail =
+        let m : IcmpMessage = record { ttl = ttl; kind = msg; dst = dst; orig = o; uid = uid; seq = seq } in
+        plain_quiet (icmp_acts q known (place_at me came) m) (plain_icmp q known (place_at me came) m)
+    go (Utvlv ttl dst src) tail =
+        let message = message_in (first_table (containers_of tail)) in
+        let mine = own_answer q me known came.now own.last own.told src message in
+        let others = other_containers q known came.now ttl dst src tail in
+        quiet_if (same_mac dst me) mine others (plain_quiet mine (plain_own q me known came.now own src message)) (plain_quiet others (plain_other q known came.now ttl dst src tail))
+
+packets_quiet : (q : Queries) (me : Mac) (own : Own) (came : Coming) (known : Knowledge) (packets : List Packet) → AreQuiet (packets_acts q me own came known packets)
+unfolding packets_acts
+packets_quiet q me own came known [] = tt
+packets_quiet q me own came known (packet ∷ rest) = each_appended IsQuiet (packet_acts q me own came known packet) (packets_acts q me own came (after_packet q me came known packet) rest)
+    (packet_quiet q me own came known packet) (packets_quiet q me own came (after_packet q me came known packet) rest)
+
+-- ---- inputs
+pub frame_quiet : (q : Queries) (me : Mac) (mine : Log) (now number : ℕ) (from : Mac) (throughput : ℕ) (bytes : List ℕ) → AreQuiet (acts_of q me mine now (LinkFrame number from throughput bytes))
+frame_quiet q me mine now number from throughput bytes = packets_quiet q me (own_by me mine) (record { now = now; from = from; throughput = throughput; number = number }) (knowledge q me mine) (link_frame bytes).packets
+
+pub line_quiet : (q : Queries) (me : Mac) (mine : Log) (now : ℕ) (given : Given) → IsOfLine given → AreQuiet (acts_of q me mine now given)
+line_quiet q me mine now (Tick index) of = absurd of
+line_quiet q me mine now (LinkFrame number from throughput bytes) of = absurd of
+line_quiet q me mine now (Frame src dst vid text) of =
+    let client : ClientFrame = record { dst = dst; src = src; vid = vid; text = text } in
+    let key = key_of src vid in
+    let known = knowledge q me mine in
+    let ms = next_mentions me mine (mentions me mine) now (Frame src dst vid text) in
+    each_appended IsQuiet (sighting_acts q me mine now key) (client_acts q me mine now client)
+    (plain_quiet (sighting_acts q me mine now key) (plain_advert me key (advertised q me mine known now key)))
+    (calm_quiet (client_acts q me mine now client) (calm_frame q (after_sighting q me mine now key known) ms (record { me = me; now = now }) client))
+line_quiet q me mine now (Gone key) of = tt
+line_quiet q me mine now (Join key) of = tt
+line_quiet q me mine now (Leave key) of = tt
+line_quiet q me mine now (Arp mac own_ip asked_ip vid) of = plain_quiet (sighting_acts q me mine now (key_of mac vid)) (plain_advert me (key_of mac vid) (advertised q me mine (knowledge q me mine) now (key_of mac vid)))
+line_quiet q me mine now (Dhcp key text) of = plain_quiet (sighting_acts q me mine now key) (plain_advert me key (advertised q me mine (knowledge q me mine) now key))
+line_quiet q me mine now (Wifi on) of = tt
+line_quiet q me mine now (Ping target) of = calm_quiet (probing_acts q me mine now target false) (calm_session q (knowledge q me mine) (record { me = me; now = now }) target false)
+line_quiet q me mine now (Trace target) of = calm_quiet (probing_acts q me mine now target true) (calm_session q (knowledge q me mine) (record { me = me; now = now }) target true)
+
+-- ---- ticks
+-- acts tell of the aliases that commits gain, and of no others
+pub data Gains (me : Mac) (before : List Version) : List Version → List Act → Type 0 where
+  gains_none : (acts : List Act) → AreQuiet acts → Gains me before before acts
+  gains_one : (version : Version) (acts : List Act)
+      → ((mac : Mac) (number earlier : ℕ) → Has acts (Print (Alias mac number earlier)) → (mac ≡ me) × (number ≡ length before) × (alias_before version before ≡ Some earlier))
+      → ((earlier : ℕ) → alias_before version before ≡ Some earlier → Has acts (Print (Alias me (length before) earlier)))
+      → Gains me before (version ∷ before) acts
+
+same_event : (m k : Mac) (a b c d : ℕ) → Print (Alias m a c) ≡ Print (Alias k b d) → (m ≡ k) × (a ≡ b) × (c ≡ d)
+same_event m k a b c d is = (cc, cc, cc)
+
+event_told : (me : Mac) (n : ℕ) (o : Option ℕ) (mac : Mac) (number earlier : ℕ) → Has (alias_event me n o) (Print (Alias mac number earlier)) → (mac ≡ me) × (number ≡ n) × (o ≡ Some earlier)
+event_told me n None mac number earlier has = absurd has
+event_told me n (Some e) mac number earlier (inl is) = let s = same_event mac me number n earlier e is in (s.0, s.1, ap Some (sym s.2))
+event_told me n (Some e) mac number earlier (inr none) = absurd none
+
+event_tells : (me : Mac) (n : ℕ) (o : Option ℕ) (earlier : ℕ) → o ≡ Some earlier → Has (alias_event me n o) (Print (Alias me n earlier))
+event_tells me n None earlier is = cc
+event_tells me n (Some e) earlier is = inl (let same : e ≡ earlier = cc in ap (λ x. Print (Alias me n x)) (sym same))
+
+same_length : (me : Mac) (before : List Version) → alias_acts me before before ≡ []
+same_length me before = go (length before == length before) (Rattle.std.proofs.lemmas.Bool.eq-eqb (length before) (length before) refl)
+  where
+    go : (b : Bool) → b ≡ true → cond b [] (alias_event me (length before) (last_alias before)) ≡ []
+    go true is = refl
+    go false is = cc
+
+commit_gains : (q : Queries) (me : Mac) (routes : RouteLog) (index : ℕ) (before after : History) → Committed before after → Gains me before.commits after.commits (commit_acts q me routes index before after)
+commit_gains q me routes index before after (as_before same) = subst (λ (h : History). Gains me before.commits h.commits (commit_acts q me routes index before h)) (sym same)
+    (gains_none (commit_acts q me routes index before before) (subst (λ acts. AreQuiet (acts ++ message)) (sym (same_length me before.commits)) (plain_quiet message (plain_message (q.beats routes index).ogm (containers_spelling (own_containers (announcement before)))))))
+  where
+    message : List Act
+    message = message_acts (q.beats routes index).ogm (containers_spelling (own_containers (announcement before)))
+commit_gains q me routes index before after (one_more version byte order same) = subst (λ (h : History). Gains me before.commits h.commits (commit_acts q me routes index before h)) (sym same)
+    (gains_one version (events ++ message) only each)
+  where
+    more : History
+    more = record { commits = version ∷ before.commits; sent = 0 }
+
+    events : List Act
+    events = alias_acts me before.commits (version ∷ before.commits)
+
+    message : List Act
+    message = message_acts (q.beats routes index).ogm (containers_spelling (own_containers (announcement more)))
+
+    events_are : alias_acts me before.commits (version ∷ before.commits) ≡ alias_event me (length before.commits) (alias_before version before.commits)
+    events_are = ap (λ b. cond b [] (alias_event me (length before.commits) (alias_before version before.commits))) (ne_eqb (suc (length before.commits)) (length before.commits) (λ e. omega (arith, e)))
+
+    only : (mac : Mac) (number earlier : ℕ) → Has (events ++ message) (Print (Alias mac number earlier)) → (mac ≡ me) × (number ≡ length before.commits) × (alias_before version before.commits ≡ Some earlier)
+    only mac number earlier has = go (has_either events message (Print (Alias mac number earlier)) has)
+      where
+        go : Has events (Print (Alias mac number earlier)) ⊎ Has message (Print (Alias mac number earlier)) → (mac ≡ me) × (number ≡ length before.commits) × (alias_before version before.commits ≡ Some earlier)
+        go (inl told) = event_told me (length before.commits) (alias_before version before.commits) mac number earlier (subst (λ acts. Has acts (Print (Alias mac number earlier))) events_are told)
+        go (inr sent) = absurd (quiet_none message mac number earlier (plain_quiet message (plain_message (q.beats routes index).ogm (containers_spelling (own_containers (announcement more))))) sent)
+
+    each : (earlier : ℕ) → alias_before version before.commits ≡ Some earlier → Has (events ++ message) (Print (Alias me (length before.commits) earlier))
+    each earlier is = has_left events message (Print (Alias me (length before.commits) earlier))
+        (subst (λ acts. Has acts (Print (Alias me (length before.commits) earlier))) (sym events_are) (event_tells me (length before.commits) (alias_before version before.commits) earlier is))
+
+pub tick_gains : (q : Queries) (me : Mac) (routes : RouteLog) (ms : List Mention) (before : History) (now index : ℕ)
+    → Gains me before.commits (cond (is_commit_tick index) (announced (committed (present_table ms now) before)) before).commits (tick_acts q me routes ms before now index)
+unfolding tick_acts
+tick_gains q me routes ms before now index = go (is_commit_tick index)
+  where
+    go : (b : Bool) → Gains me before.commits (cond b (announced (committed (present_table ms now) before)) before).commits (cond b (commit_acts q me routes index before (committed (present_table ms now) before)) [])
+    go true = commit_gains q me routes index before (committed (present_table ms now) before) (committed_is ms now before)
+    go false = gains_none [] tt

@@ -1,0 +1,74 @@
+-- What a net tells of tables: those that its nodes hold, and the events that its log gains. Both are
+-- right where nodes have addresses of their own and lines name clients that records can tell, unless
+-- an event told of an alias. The main words are `TablesAreRight` and `GainsAreRight`.
+use Rattle.std.specs.Prelude.{◌≡◌, ◌++◌, ◌∷◌, ℕ, List, slice_get, Some, IsTrue, ⊤}
+use Rattle.mesh_base.specs.declared.address.Mac.{Mac}
+use Rattle.mesh_base.specs.declared.event.Event.{Event}
+use Rattle.mesh_base.specs.declared.event.Event.TheVariants.{FrameSent}
+use Rattle.mesh_base.specs.declared.event.Reason.TheVariants.{Table}
+use Rattle.mesh_model.specs.Clients.Log.{Given, Tick, LinkFrame, Frame, Gone, Join, Leave, Arp, Dhcp, Wifi, Ping, Trace, LogEntry}
+use Rattle.mesh_model.specs.Clients.Mentions.{key_of}
+use Rattle.mesh_model.specs.Net.Mesh.{NodeLog, Mesh}
+use Rattle.mesh_model.specs.Net.Next.{Has}
+use Rattle.mesh_model.specs.Routes.Queries.{Queries}
+use Rattle.mesh_model.specs.Tables.Known.{LastTold, is_agreed, known_by}
+use Rattle.mesh_model.specs.Tables.Versions.{Version}
+use Rattle.mesh_laws.specs.Machine.World.{IsCommit}
+use Rattle.mesh_tie.specs.AliasesSeen.{ToldNone}
+use Rattle.mesh_tie.specs.LinesByTable.{SentRightly, ToldNoneOf}
+use Rattle.mesh_tie.specs.Originators.{commits_of}
+use Rattle.mesh_tie.specs.Sources.{IsWhole}
+use Rattle.mesh_tie.specs.Steps.{IsClient}
+use Rattle.mesh_tie.specs.Tie.{known_at_node}
+use Rattle.mesh_tie.specs.TieLaws.{HoldsTheTold}
+
+-- the clients that an input names are such as records can tell
+abbrev pub NamesClients : Given → Type 0
+NamesClients (Tick index) = ⊤
+NamesClients (LinkFrame number from throughput bytes) = ⊤
+NamesClients (Frame src dst vid text) = IsClient (key_of src vid)
+NamesClients (Gone key) = IsClient key
+NamesClients (Join key) = IsClient key
+NamesClients (Leave key) = IsClient key
+NamesClients (Arp mac own_ip asked_ip vid) = IsClient (key_of mac vid)
+NamesClients (Dhcp key text) = IsClient key
+NamesClients (Wifi on) = ⊤
+NamesClients (Ping target) = ⊤
+NamesClients (Trace target) = ⊤
+
+-- nodes have whole addresses, each its own, and were given clients that records can tell
+pub record IsTellable (mesh : Mesh) : Type 0 where
+  pub whole : (place : ℕ) (node : NodeLog) → slice_get mesh.nodes place ≡ Some node →
+      IsWhole node.mac
+  pub distinct : (place other : ℕ) (node second : NodeLog) →
+      slice_get mesh.nodes place ≡ Some node → slice_get mesh.nodes other ≡ Some second →
+      node.mac ≡ second.mac → place ≡ other
+  pub clients : (place : ℕ) (node : NodeLog) (entry : LogEntry) →
+      slice_get mesh.nodes place ≡ Some node → Has node.log entry → NamesClients entry.given
+
+-- every table that a node holds of an originator was committed under the held byte, and one in
+-- agreement is that of the commit that the node was told last
+pub record HoldsRightly (queries : Mac → Queries) (orig : Mac) (mesh : Mesh) (node : NodeLog)
+    : Type 0 where
+  pub committed : (held : Version) →
+      (known_by (known_at_node queries node).tables orig).held ≡ Some held →
+      IsCommit (commits_of orig mesh) held
+  pub told_last : (last : LastTold) (held : Version) →
+      (known_by (known_at_node queries node).tables orig).told ≡ Some last →
+      (known_by (known_at_node queries node).tables orig).held ≡ Some held →
+      IsTrue (is_agreed (known_by (known_at_node queries node).tables orig)) →
+      HoldsTheTold orig mesh last held
+
+-- so does each node, of each originator of which no event told of an alias
+abbrev pub TablesAreRight : (Mac → Queries) → Mesh → Type 0
+TablesAreRight queries mesh = (orig : Mac) → ToldNone orig mesh → (place : ℕ) (node : NodeLog) →
+    slice_get mesh.nodes place ≡ Some node → HoldsRightly queries orig mesh node
+
+-- each event that a log gained of a frame that was sent by table: its addressee's commit names its
+-- client, as its sender was told last when it sent the frame, unless an event before told of an
+-- alias of the addressee
+abbrev pub GainsAreRight : (Mac → Queries) → Mesh → Mesh → List Event → List Event → Type 0
+GainsAreRight queries before after old new = (orig : Mac) → ToldNone orig before →
+    (front back : List Event) (number moment : ℕ) (me next : Mac) (bytes : List ℕ) →
+    new ≡ old ++ front ++ FrameSent number moment me next (Some Table) bytes ∷ back →
+    ToldNoneOf orig front → SentRightly queries orig after moment me bytes
