@@ -1,8 +1,12 @@
 //! Laws of packets and of client frames, each proved as the contract of a function that does
 //! nothing.
 
+ghost use Rattle.std.specs.Prelude.{◌≡◌};
+ghost use Rattle.mesh_model.specs.Packets.Numbers.{destination_unreachable, echo_reply, echo_request, ttl_exceeded};
 ghost use Rattle.mesh_codec.specs.Laws.{HasOneReading, HasOneSpelling, IsReadBeforeMore, IsReadAlone, CanBeWritten, HasShapeSize};
 ghost use Rattle.mesh_codec.specs.Payloads.{IsFrameReadAgain};
+
+use crate::numbers::{DESTINATION_UNREACHABLE, ECHO_REPLY, ECHO_REQUEST, TTL_EXCEEDED};
 
 /// Bytes begin with one packet at most.
 pub fn bytes_begin_with_one_packet()
@@ -37,4 +41,12 @@ pub fn a_header_has_its_size()
 /// A client frame that was written is read again.
 pub fn a_written_client_frame_is_read_again()
     ensures { IsFrameReadAgain }
+{}
+
+/// The message types of ping and traceroute are those of the definitions.
+pub fn message_types_are_those_of_the_definitions()
+    ensures reply { ECHO_REPLY ≡ echo_reply }
+    ensures unreachable { DESTINATION_UNREACHABLE ≡ destination_unreachable }
+    ensures request { ECHO_REQUEST ≡ echo_request }
+    ensures exceeded { TTL_EXCEEDED ≡ ttl_exceeded }
 {}

@@ -21,7 +21,8 @@ fn a_link_frame_gives_its_packets_and_then_its_ending(rt: HostRuntime) -> Result
             Ending::Rest { len: 2 },
         ),
         (
-            "040f32000000000102000000000a000000000064040f32000000000102000000000b000400000064020100",
+            "040f32000000000102000000000a000000000064\
+            040f32000000000102000000000b000400000064020100",
             &[0],
             Ending::BadPacket(NoPacket::Length { told: 4, left: 3 }),
         ),

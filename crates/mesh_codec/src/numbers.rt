@@ -1,5 +1,6 @@
 //! The type bytes, the version byte, and the sizes of headers with both of them
-//! (`batadv_packet.h`, compat version 15); and those of client frames.
+//! (`batadv_packet.h`, compat version 15); the message types of ping and traceroute; and the
+//! numbers of client frames.
 
 /// The version byte, the second of each packet.
 pub const VERSION: u8 = 15;
@@ -25,6 +26,14 @@ pub const UNICAST4: u8 = 0x42;
 pub const ICMP: u8 = 0x43;
 /// The type byte of containers for one node (`BATADV_UNICAST_TVLV`).
 pub const UTVLV: u8 = 0x44;
+/// The message type that answers an echo request (`BATADV_ECHO_REPLY`).
+pub const ECHO_REPLY: u8 = 0;
+/// The message type that says that no route leads on (`BATADV_DESTINATION_UNREACHABLE`).
+pub const DESTINATION_UNREACHABLE: u8 = 3;
+/// The message type that asks for an answer (`BATADV_ECHO_REQUEST`).
+pub const ECHO_REQUEST: u8 = 8;
+/// The message type that says that no hop was left (`BATADV_TTL_EXCEEDED`).
+pub const TTL_EXCEEDED: u8 = 11;
 
 pub(crate) const IV_OGM_SIZE: usize = 24;
 

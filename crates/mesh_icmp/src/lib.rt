@@ -6,7 +6,7 @@
 mod sessions;
 mod waiting;
 
-pub use mesh_model::{Probe, Told};
+pub use mesh_model::{OpenProbe, Probe, Told};
 pub use sessions::Sessions;
 
 #[cfg(test)]

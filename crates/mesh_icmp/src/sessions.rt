@@ -49,6 +49,14 @@ impl Sessions {
         Ok(self.waiting.give(now, target, trace, first_ttl(trace)))
     }
 
+    /// The open probe of this number, if there is one.
+    pub fn open_probe(&self, seq: u16) -> Option<OpenProbe>
+        ensures { (made : List ProbeCall) → StandsFor self.now made →
+            result ≡ (probes_by made).waiting seq }
+    {
+        self.waiting.find(seq)
+    }
+
     /// Takes an answer of this message type to the probe of this number, and tells what it means.
     /// Whoever sent it, the number alone names the probe.
     pub fn answer(&mut self, now: Millis, _from: Mac, seq: u16, msg: u8) -> Told

@@ -1,4 +1,4 @@
-use super::{Probe, Sessions, Told};
+use super::{OpenProbe, Probe, Sessions, Told};
 use mesh_base::{Mac, NoMemory};
 
 const TARGET: Mac = Mac([2, 0, 0, 0, 0, 14]);
@@ -46,6 +46,17 @@ fn pings_are_open_until_answered_or_closed(rt: HostRuntime) -> Result<(), NoMemo
         sessions.start(now, TARGET, false)?;
     }
     sessions.close(2);
+    let third = OpenProbe {
+        probe: Probe {
+            target: TARGET,
+            seq: 3,
+            ttl: 50,
+        },
+        trace: false,
+        sent: 2,
+    };
+    assert_eq!(rt; sessions.open_probe(2), None);
+    assert_eq!(rt; sessions.open_probe(3), Some(third));
     for (seq, sent) in [(2, None), (3, Some(2)), (1, Some(0)), (1, None)] {
         let told = sent.map_or(
             Told::Unknown,

@@ -75,6 +75,14 @@ impl Waiting {
         probe
     }
 
+    /// The open probe of a number.
+    pub(crate) fn find(&self, seq: u16) -> Option<OpenProbe>
+        ensures { result ≡ find (has_number seq) self.now.probes }
+    {
+        let place = self.place(seq)?;
+        self.probes.get(place).copied()
+    }
+
     /// Ends the open probe of a number and answers it.
     pub(crate) fn take(&mut self, seq: u16) -> Option<OpenProbe>
         ensures found { result ≡ find (has_number seq) self.old.probes }

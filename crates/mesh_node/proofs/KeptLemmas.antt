@@ -68,6 +68,7 @@ head_came stands kept algo me came head known is noted = record {
   routes = noted;
   tables = is.tables;
   marks = is.marks;
+  probes = is.probes;
   taken = is.taken;
   sent = is.sent;
 }

@@ -1,10 +1,8 @@
 -- What the functions of a node rest on.
 pub mod PutsLemmas
-pub mod FewLemmas
 pub mod SightLemmas
 pub mod BroadcastLemmas
 pub mod ReadingLemmas
-pub mod LengthLemmas
 pub mod HolderLemmas
 pub mod KeptLemmas
 pub mod OgmLemmas
@@ -13,3 +11,4 @@ pub mod WayLemmas
 pub mod RoamingLemmas
 pub mod TickLemmas
 pub mod OwnLemmas
+pub mod ProbeLemmas

@@ -13,9 +13,9 @@ use Rattle.mesh_model.specs.Commits.Versions.{last_commit}
 use Rattle.mesh_model.specs.Packets.FirstPacket.{Packet}
 use Rattle.mesh_model.specs.Packets.LinkFrame.{link_frame}
 use Rattle.mesh_model.specs.Routes.Queries.{Queries}
-use Rattle.mesh_node.specs.NodeStands.{with_input}
+use Rattle.mesh_node.specs.NodeStands.{given_session, with_input}
 use Rattle.mesh_node.specs.OwnStands.{AreFew, HasClients, OwnStands, newest_moment}
-use Rattle.mesh_node.proofs.FewLemmas.{few_with}
+use Rattle.mesh_laws.proofs.FewLemmas.{few_with}
 use Rattle.mesh_node.proofs.RoamingLemmas.{named}
 use Rattle.mesh_node.proofs.TickLemmas.{committed_few}
 use Rattle.tt_local.specs.Locals.{LocalsStand, LocalsView}
@@ -184,6 +184,22 @@ has_left q old new me log now key has late stand = record {
 pub has_set : (q : Queries) (locals : LocalsView) (me : Mac) (log : Log) (now : ℕ) (on : Bool) → HasClients locals me log → newest_moment log ≤ now
     → HasClients locals me (with_input q me log now (Wifi on))
 has_set q locals me log now on has late = record {
+  since = has.since;
+  stand = has.stand;
+  settled = (let settled = has.settled in omega (arith, settled, late));
+  few = few_later (mentions me log) (history me log) (newest_moment log) now has.few late;
+}
+
+-- after a ping or a traceroute began
+pub has_session : (q : Queries) (locals : LocalsView) (me : Mac) (log : Log) (now : ℕ) (target : Mac) (trace : Bool) → HasClients locals me log → newest_moment log ≤ now
+    → HasClients locals me (with_input q me log now (given_session target trace))
+has_session q locals me log now target true has late = record {
+  since = has.since;
+  stand = has.stand;
+  settled = (let settled = has.settled in omega (arith, settled, late));
+  few = few_later (mentions me log) (history me log) (newest_moment log) now has.few late;
+}
+has_session q locals me log now target false has late = record {
   since = has.since;
   stand = has.stand;
   settled = (let settled = has.settled in omega (arith, settled, late));

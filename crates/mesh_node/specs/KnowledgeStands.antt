@@ -1,13 +1,14 @@
 -- How what a node keeps of the others stands for what it knows of them: the algorithm for what it
--- was given, the tables for what came for each, the marks for the calls on them, the windows for
--- the broadcasts that were taken, and the count of those that were sent, modulo 2^32. `stands` is
--- the algorithm's own word. The main word is `KnowledgeStands`.
+-- was given, the tables for what came for each, the marks for the calls on them, the sessions
+-- for the calls of probes, the windows for the broadcasts that were taken, and the count of those
+-- that were sent, modulo 2^32. `stands` is the algorithm's own word. The main word is `KnowledgeStands`.
 use Rattle.std.specs.Prelude.{◌≡◌, ◌%◌, ◌^◌, ℕ}
 use Rattle.mesh_base.specs.declared.address.Mac.{Mac}
 use Rattle.mesh_model.specs.Acts.FrameRows.{Place}
 use Rattle.mesh_model.specs.Knowledge.Known.{Knowledge}
 use Rattle.mesh_model.specs.Knowledge.Steps.{Coming}
 use Rattle.mesh_model.specs.Routes.RouteLog.{RouteLog}
+use Rattle.mesh_icmp.specs.Sessions.{StandsFor as SessionsStand}
 use Rattle.mesh_node.specs.BroadcastsStand.{BroadcastsStand}
 use Rattle.mesh_node.specs.declared.arrival.Arrival.{Arrival}
 use Rattle.mesh_node.specs.declared.arrival.Place as here
@@ -21,6 +22,7 @@ pub record KnowledgeStands {A : Type 0} (stands : A → Mac → RouteLog → Typ
   pub routes : stands kept.algo me known.routes
   pub tables : GlobalsStand kept.globals known.tables
   pub marks : StandsFor kept.sync known.marks
+  pub probes : SessionsStand kept.sessions known.probes
   pub taken : BroadcastsStand kept.broadcasts known.taken
   pub sent : kept.sent ≡ known.sent % 2 ^ 32
 

@@ -5,6 +5,7 @@ pub mod BroadcastsStand
 pub mod KnowledgeStands
 pub mod OwnStands
 pub mod Ways
+pub mod Icmp
 pub mod FrameRows
 pub mod NodeStands
 pub mod Sending

@@ -1,7 +1,7 @@
 -- What a node stands for: the log of the node of an address. What it keeps of the others stands for
 -- what it knows by that log, its local clients for the mentions and the commits there, and it has
 -- refused nothing. `stands` is the algorithm's own word. The main word is `NodeStands`.
-use Rattle.std.specs.Prelude.{◌≡◌, ◌≤◌, ℕ, Bool, false, ◌∷◌, ⊤}
+use Rattle.std.specs.Prelude.{◌≡◌, ◌≤◌, ℕ, Bool, true, false, ◌∷◌, ⊤}
 use Rattle.mesh_base.specs.declared.address.Mac.{Mac}
 use Rattle.mesh_model.specs.Acts.Choosing.{acts_of}
 use Rattle.mesh_model.specs.Clients.Log.{Given, Log}
@@ -14,7 +14,7 @@ use Rattle.mesh_model.specs.Routes.RouteLog.{RouteLog, MayTick}
 use Rattle.mesh_node.specs.KnowledgeStands.{KnowledgeStands}
 use Rattle.mesh_node.specs.OwnStands.{HasClients, newest_moment}
 use Rattle.mesh_node.specs.declared.input.Input.{Input}
-use Rattle.mesh_node.specs.declared.input.Input.TheVariants.{Tick, Link, Frame, Gone, Join, Leave, Wifi}
+use Rattle.mesh_node.specs.declared.input.Input.TheVariants.{Tick, Link, Frame, Gone, Join, Leave, Wifi, Ping, Trace}
 use Rattle.mesh_node.specs.declared.node.Node.{Node}
 
 -- the node stands for this log of the node of an address
@@ -35,6 +35,13 @@ given_by number (Gone key) = log.Gone key
 given_by number (Join key) = log.Join key
 given_by number (Leave key) = log.Leave key
 given_by number (Wifi on) = log.Wifi on
+given_by number (Ping target) = log.Ping target
+given_by number (Trace target) = log.Trace target
+
+-- a ping or, for `trace`, a traceroute begins
+abbrev pub given_session : Mac → Bool → Given
+given_session target true = log.Trace target
+given_session target false = log.Ping target
 
 -- a log with one more input, and the acts that the node then puts
 abbrev pub with_input : Queries → Mac → Log → ℕ → Given → Log
@@ -54,6 +61,8 @@ MayFollow known (Gone key) = ⊤
 MayFollow known (Join key) = ⊤
 MayFollow known (Leave key) = ⊤
 MayFollow known (Wifi on) = ⊤
+MayFollow known (Ping target) = ⊤
+MayFollow known (Trace target) = ⊤
 
 -- an input may come to a node at a moment: the node stands for some log, and no input of it is
 -- later

@@ -28,4 +28,12 @@ pub enum Input<'a> {
     Leave(Key),
     /// Whether the clients that are sighted from now on are on a wireless device.
     Wifi(bool),
+    /// A ping of this node to another one begins.
+    Ping {
+        target: Mac,
+    },
+    /// A traceroute of this node to another one begins.
+    Trace {
+        target: Mac,
+    },
 }

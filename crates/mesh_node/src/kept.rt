@@ -13,6 +13,7 @@ use crate::arrival::Arrival;
 use crate::broadcasts::Broadcasts;
 use mesh_algo::Algo;
 use mesh_base::{Mac, Millis, NoMemory, Steps};
+use mesh_icmp::Sessions;
 use mesh_model::Request;
 use std::alloc::Global;
 use std::marker::Brand;
@@ -28,6 +29,7 @@ pub(crate) struct Kept<A: Algo> {
     pub(crate) algo: A,
     pub(crate) globals: Globals,
     pub(crate) sync: Sync,
+    pub(crate) sessions: Sessions,
     pub(crate) broadcasts: Broadcasts,
     /// How many broadcasts were sent, modulo 2^32.
     pub(crate) sent: u32,
@@ -44,6 +46,7 @@ impl<A: Algo> Kept<A> {
             algo,
             globals: Globals::new(alloc),
             sync: Sync::new(alloc),
+            sessions: Sessions::new(alloc),
             broadcasts: Broadcasts::new(alloc),
             sent: 0,
         }

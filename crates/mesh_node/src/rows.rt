@@ -14,7 +14,9 @@ ghost use Rattle.mesh_node.specs.Puts.{Puts};
 use crate::arrival::{Arrival, Place};
 use crate::carried::{broadcast, here, passed};
 use crate::containers::containers_here;
+use crate::echoes::icmp;
 use crate::failure::NodeErr;
+use crate::icmp_message::IcmpMessage;
 use crate::kept::Kept;
 use crate::ogms::ogm;
 use crate::on_the_way::containers_past;
@@ -54,21 +56,31 @@ fn packet<A: Algo, P: Port>(
             ogm(kept, port, me, came, orig, packet)?;
         }
         Head::Bcast { ttl, seq, orig } => broadcast(kept, port, at, ttl, seq, orig, tail)?,
-        Head::Unicast { ttl, ttvn, dst } => {
-            if dst == me {
-                here(kept, port, locals, at, ttl, tail)?;
-            } else {
-                passed(kept, port, at, ttl, ttvn, dst, tail)?;
-            }
+        Head::Unicast { ttl, dst, .. } if dst == me => here(kept, port, locals, at, ttl, tail)?,
+        Head::Unicast { ttl, ttvn, dst } => passed(kept, port, at, ttl, ttvn, dst, tail)?,
+        Head::Icmp {
+            ttl,
+            msg: kind,
+            dst,
+            orig,
+            uid,
+            seq,
+        } => {
+            let message = IcmpMessage {
+                ttl,
+                kind,
+                dst,
+                orig,
+                uid,
+                seq,
+            };
+            icmp(kept, port, at, message)?;
         }
-        Head::Utvlv { ttl, dst, src } => {
-            if dst == me {
-                containers_here(kept, port, locals, at, src, tail)?;
-            } else {
-                containers_past(kept, port, at, ttl, dst, src, tail)?;
-            }
+        Head::Utvlv { dst, src, .. } if dst == me => {
+            containers_here(kept, port, locals, at, src, tail)?;
         }
-        Head::Elp { .. } | Head::Frag { .. } | Head::Unicast4 { .. } | Head::Icmp { .. } => {}
+        Head::Utvlv { ttl, dst, src } => containers_past(kept, port, at, ttl, dst, src, tail)?,
+        Head::Elp { .. } | Head::Frag { .. } | Head::Unicast4 { .. } => {}
     }
     Ok(())
 }

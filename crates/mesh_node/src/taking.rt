@@ -3,7 +3,7 @@
 ghost use Rattle.std.specs.Prelude.{◌≡◌, ◌≤◌, ℕ, if◌then◌else◌, OnOk};
 ghost use Rattle.mesh_base.specs.declared.address.Mac.{Mac};
 ghost use Rattle.mesh_codec.specs.Payloads.{seen_frame};
-ghost use Rattle.mesh_model.specs.Acts.Choosing.{acts_of};
+ghost use Rattle.mesh_model.specs.Acts.Choosing.{acts_of, probing_acts};
 ghost use Rattle.mesh_model.specs.Clients.Limits.{passed_limit};
 ghost use Rattle.mesh_model.specs.Clients.Log.{Given, Log};
 ghost use Rattle.mesh_model.specs.Clients.Log as given;
@@ -11,9 +11,9 @@ ghost use Rattle.mesh_model.specs.Knowledge.Steps.{knowledge};
 ghost use Rattle.mesh_model.specs.Packets.Numbers.{wifi_flag};
 ghost use Rattle.mesh_model.specs.Routes.RouteLog.{MayTick};
 ghost use Rattle.mesh_node.specs.FrameRows.{given_frame};
-ghost use Rattle.mesh_node.specs.NodeStands.{NodeStands, MayTake, given_by, is_dead, with_input};
+ghost use Rattle.mesh_node.specs.NodeStands.{NodeStands, MayTake, given_by, given_session, is_dead, with_input};
 ghost use Rattle.mesh_node.specs.OwnStands.{newest_moment};
-ghost use Rattle.mesh_node.specs.Puts.{Answers, Leaves};
+ghost use Rattle.mesh_node.specs.Puts.{Answers, Leaves, Puts};
 
 use crate::arrival::{Arrival, Place};
 use crate::client_frames::frame;
@@ -21,11 +21,12 @@ use crate::failure::NodeErr;
 use crate::input::Input;
 use crate::node::Node;
 use crate::port::Port;
+use crate::probes::session;
 use crate::roaming::note_roamed;
 use crate::rows::link;
 use crate::ticks::tick;
 use mesh_algo::Algo;
-use mesh_base::{Key, Millis};
+use mesh_base::{Key, Mac, Millis};
 use mesh_codec::ClientFrame;
 use mesh_tvlv::layout::WIFI;
 
@@ -72,6 +73,8 @@ impl<A: Algo> Node<A> {
             Input::Join(key) => self.join_group(now, key)?,
             Input::Leave(key) => self.leave_group(now, key),
             Input::Wifi(on) => self.set_wifi(now, on),
+            Input::Ping { target } => self.take_session(port, now, target, false)?,
+            Input::Trace { target } => self.take_session(port, now, target, true)?,
         }
         Ok(())
     }
@@ -145,6 +148,28 @@ impl<A: Algo> Node<A> {
         let at = Place { me: self.me, now };
         let flags = client_flags(self.wifi);
         frame(&mut self.kept, port, &mut self.locals, at, flags, sent)?;
+        Ok(())
+    }
+
+    // Begins a ping or, for `trace`, a traceroute.
+    fn take_session<P: Port>(
+        &mut self,
+        port: &mut P,
+        now: Millis,
+        target: Mac,
+        trace: bool,
+    ) -> Result<(), NodeErr>
+        ensures puts { (me : Mac) (log : Log) → NodeStands A.stands A.queries self.old me log →
+            Puts P.takes P.same P.over port.old
+            (probing_acts (A.queries me) me log now target trace) result port.new }
+        ensures noted { (me : Mac) (log : Log) → NodeStands A.stands A.queries self.old me log →
+            newest_moment log ≤ now →
+            OnOk result (NodeStands A.stands A.queries self.new me
+            (with_input (A.queries me) me log now (given_session target trace))) }
+        ensures alive { is_dead self.new ≡ is_dead self.old }
+    {
+        let at = Place { me: self.me, now };
+        session(&mut self.kept, port, at, target, trace)?;
         Ok(())
     }
 

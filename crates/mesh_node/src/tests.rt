@@ -115,19 +115,3 @@ fn a_joined_group_is_present(rt: HostRuntime) -> Result<(), NodeErr> {
     assert_eq!(rt; node.locals().present(3, GROUP), Some(0));
     Ok(())
 }
-
-#[test]
-fn a_node_takes_nothing_after_a_refusal(rt: HostRuntime) -> Result<(), NodeErr> {
-    let mut node = Node::new(rt.alloc(), A, Iv::new(rt.alloc(), A));
-    let mut port = Taken {
-        acts: Vec::new(rt.alloc()),
-        room: 0,
-    };
-    assert_eq!(rt; node.take(&mut port, 0, &SIGHTING), Err(NodeErr::Frames));
-    assert_eq!(rt;
-        node.take(&mut port, 1, &Input::Wifi(false)),
-        Err(NodeErr::Dead)
-    );
-    assert_eq!(rt; port.acts.len(), 0);
-    Ok(())
-}

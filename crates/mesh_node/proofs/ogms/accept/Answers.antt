@@ -4,7 +4,7 @@ use Rattle.mesh_model.specs.Acts.Packing.{request_containers}
 use Rattle.mesh_model.specs.Knowledge.Steps.{with_life}
 use Rattle.mesh_model.specs.Tables.Versions.{Stamp}
 use Rattle.mesh_node.specs.Reading.{message}
-use Rattle.mesh_node.proofs.LengthLemmas.{sums_few}
+use Rattle.mesh_laws.proofs.RoomLemmas.{sums_few}
 use Rattle.mesh_node.proofs.OgmLemmas.{request_put}
 use Rattle.mesh_node.proofs.PutsLemmas.{stops_free}
 use Rattle.mesh_node.proofs.ogms.accept.Goals as goal

@@ -1,5 +1,5 @@
 use Rattle.std.proofs.Common.{sym, ◌∙◌, arith}
-use Rattle.mesh_node.proofs.LengthLemmas.{table_fits}
+use Rattle.mesh_laws.proofs.RoomLemmas.{table_fits}
 use Rattle.mesh_node.proofs.ogms.ogm.Goals as goal
 
 pub heard-requires-clause-fits : goal.heard-requires-clause-fits

@@ -5,6 +5,7 @@ returns-clause-noted g c = λ me known number stands. record {
   routes = stands.routes;
   tables = c.in_ok-heard.ensures.ok known.tables number stands.tables;
   marks = stands.marks;
+  probes = stands.probes;
   taken = stands.taken;
   sent = stands.sent;
 }

@@ -81,3 +81,31 @@ returns-in_ok-join_group-in-Join-clause-puts g c = λ me log number is late.
 pub returns-in_ok-join_group-in-Join-clause-noted : goal.returns-in_ok-join_group-in-Join-clause-noted
 returns-in_ok-join_group-in-Join-clause-noted g c = λ me log number is late.
     rw c.in-Join.is (c.in_ok-join_group-in-Join.ensures.noted me log is late)
+
+-- ---- ping and traceroute
+
+pub returns-in_err-take_session-in-Ping-clause-puts : goal.returns-in_err-take_session-in-Ping-clause-puts
+returns-in_err-take_session-in-Ping-clause-puts g c = λ me log number is late.
+    let p = err_from_is_err_and c.from_residual-in_err-take_session-in-Ping.result c.from_residual-in_err-take_session-in-Ping.ensures.1 in
+    rw (p.1, p.2, c.in-Ping.is) (c.in_err-take_session-in-Ping.ensures.puts me log is)
+
+pub returns-in_ok-take_session-in-Ping-clause-puts : goal.returns-in_ok-take_session-in-Ping-clause-puts
+returns-in_ok-take_session-in-Ping-clause-puts g c = λ me log number is late.
+    rw c.in-Ping.is (c.in_ok-take_session-in-Ping.ensures.puts me log is)
+
+pub returns-in_ok-take_session-in-Ping-clause-noted : goal.returns-in_ok-take_session-in-Ping-clause-noted
+returns-in_ok-take_session-in-Ping-clause-noted g c = λ me log number is late.
+    rw c.in-Ping.is (c.in_ok-take_session-in-Ping.ensures.noted me log is late)
+
+pub returns-in_err-take_session-in-Trace-clause-puts : goal.returns-in_err-take_session-in-Trace-clause-puts
+returns-in_err-take_session-in-Trace-clause-puts g c = λ me log number is late.
+    let p = err_from_is_err_and c.from_residual-in_err-take_session-in-Trace.result c.from_residual-in_err-take_session-in-Trace.ensures.1 in
+    rw (p.1, p.2, c.in-Trace.is) (c.in_err-take_session-in-Trace.ensures.puts me log is)
+
+pub returns-in_ok-take_session-in-Trace-clause-puts : goal.returns-in_ok-take_session-in-Trace-clause-puts
+returns-in_ok-take_session-in-Trace-clause-puts g c = λ me log number is late.
+    rw c.in-Trace.is (c.in_ok-take_session-in-Trace.ensures.puts me log is)
+
+pub returns-in_ok-take_session-in-Trace-clause-noted : goal.returns-in_ok-take_session-in-Trace-clause-noted
+returns-in_ok-take_session-in-Trace-clause-noted g c = λ me log number is late.
+    rw c.in-Trace.is (c.in_ok-take_session-in-Trace.ensures.noted me log is late)
