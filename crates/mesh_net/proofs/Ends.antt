@@ -376,6 +376,10 @@ pub if_ok_map : {X : Type 0} {P Q : X → Type 0} (r : Result X NetErr) → ((x 
 if_ok_map (Ok done) f p = f done p
 if_ok_map (Err error) f p = tt
 
+pub if_ok_done : {X : Type 0} {P : X → Type 0} {Q : Type 0} (r : Result X NetErr) → ((x : X) → P x → Q) → IfOk r P → OnOk r Q
+if_ok_done (Ok done) f p = f done p
+if_ok_done (Err error) f p = tt
+
 -- a net as a call leaves it
 pub net_by : {X : Type 0} {P Q : Type 0} (r : Result X NetErr) → OnErr r P → OnOk r Q → P ⊎ Q
 net_by (Ok done) p q = inr q

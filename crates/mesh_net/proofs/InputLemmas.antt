@@ -13,7 +13,7 @@ use Rattle.mesh_model.specs.Net.Runs.{delivered, frame_given, frame_over, tick_g
 use Rattle.mesh_model.specs.Routes.Queries.{Queries}
 use Rattle.mesh_model.specs.Routes.RouteLog.{RouteLog, MayTick}
 use Rattle.mesh_node.specs.declared.input.Input.{Input}
-use Rattle.mesh_node.specs.declared.input.Input.TheVariants.{Tick, Link, Frame, Gone, Join, Leave, Wifi}
+use Rattle.mesh_node.specs.declared.input.Input.TheVariants.{Tick, Link, Frame, Gone, Join, Leave, Wifi, Ping, Trace}
 use Rattle.mesh_node.specs.NodeStands.{MayTake, MayFollow, given_by}
 use Rattle.mesh_net.specs.declared.row.Arrival.{Arrival}
 use Rattle.mesh_net.specs.declared.row.Sending.{Sending}
@@ -36,6 +36,8 @@ line_counts ticks number (Gone key) line = tt
 line_counts ticks number (Join key) line = tt
 line_counts ticks number (Leave key) line = tt
 line_counts ticks number (Wifi on) line = tt
+line_counts ticks number (Ping target) line = tt
+line_counts ticks number (Trace target) line = tt
 
 line_follows : (before : Knowledge) (number : ℕ) (input : Input) → IsOfLine (given_by number input) → MayFollow before input
 line_follows before number (Tick index) line = absurd line
@@ -45,6 +47,8 @@ line_follows before number (Gone key) line = tt
 line_follows before number (Join key) line = tt
 line_follows before number (Leave key) line = tt
 line_follows before number (Wifi on) line = tt
+line_follows before number (Ping target) line = tt
+line_follows before number (Trace target) line = tt
 
 module _ {A : Type 0} (queries : Mac → Queries) (stands : A → Mac → RouteLog → Type 0) where
   -- what a node knows

@@ -17,5 +17,6 @@ pub mod TickLemmas
 pub mod PopLemmas
 pub mod Ends
 pub mod Slices
+pub mod RightLemmas
 pub mod JoinLemmas
 pub mod JoinCalls

@@ -2,7 +2,7 @@
 use Rattle.std.proofs.Common.{◌≡◌, ℕ, ◌≤◌, inl, inr, List, [], refl, sym, ap, ◌∙◌, subst, arith}
 use Rattle.mesh_base.specs.declared.address.Mac.{Mac}
 use Rattle.mesh_model.specs.declared.happening.Happening.{Happening}
-use Rattle.mesh_model.specs.Clients.Log.{Given, Tick, LinkFrame, Frame, Gone, Join, Leave, Arp, Dhcp, Wifi}
+use Rattle.mesh_model.specs.Clients.Log.{Given, Tick, LinkFrame, Frame, Gone, Join, Leave, Arp, Dhcp, Wifi, Ping, Trace}
 use Rattle.mesh_model.specs.Net.Due.{ticks_by}
 use Rattle.mesh_model.specs.Net.Limits.{clock_limit, scenario_setup}
 use Rattle.mesh_model.specs.Net.Mesh.{NodeLog, SentFrame, Mesh}
@@ -36,6 +36,8 @@ of_line frames (Leave key) l = (refl, tt)
 of_line frames (Arp mac own_ip asked_ip vid) l = (refl, tt)
 of_line frames (Dhcp key text) l = (refl, tt)
 of_line frames (Wifi on) l = (refl, tt)
+of_line frames (Ping target) l = (refl, tt)
+of_line frames (Trace target) l = (refl, tt)
 
 node_bytes : (mesh : Mesh) (new : NodeLog) → new.log ≡ [] → KeepsBytes mesh → KeepsBytes (with_node new mesh)
 node_bytes mesh new empty bytes place node found entry h = elim (get_last mesh.nodes new place node found) as (λ _. GivesItsBytes mesh.frames entry.given) [

@@ -15,7 +15,7 @@ use Rattle.mesh_model.specs.Routes.Queries.{Queries}
 use Rattle.mesh_model.specs.Routes.RouteLog.{RouteLog}
 use Rattle.mesh_node.specs.declared.failure.NodeErr.{NodeErr}
 use Rattle.mesh_node.specs.declared.input.Input.{Input}
-use Rattle.mesh_node.specs.declared.input.Input.TheVariants.{Tick, Link, Frame, Gone, Join, Leave, Wifi}
+use Rattle.mesh_node.specs.declared.input.Input.TheVariants.{Tick, Link, Frame, Gone, Join, Leave, Wifi, Ping, Trace}
 use Rattle.mesh_node.specs.NodeStands.{given_by}
 use Rattle.mesh_net.specs.declared.post.Post.{Post}
 use Rattle.mesh_net.specs.declared.row.Occasion.{Occasion}
@@ -42,6 +42,8 @@ ticks_are ticks number (Gone key) counts = omega arith
 ticks_are ticks number (Join key) counts = omega arith
 ticks_are ticks number (Leave key) counts = omega arith
 ticks_are ticks number (Wifi on) counts = omega arith
+ticks_are ticks number (Ping target) counts = omega arith
+ticks_are ticks number (Trace target) counts = omega arith
 
 module _ {A : Type 0} (queries : Mac → Queries) (stands : A → Mac → RouteLog → Type 0) where
   -- where a net has no node, the mesh has none

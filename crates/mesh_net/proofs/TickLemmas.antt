@@ -1,6 +1,6 @@
 -- Ticks of the nodes of a mesh that is reached: each has its number, and what is to come isn't
 -- before the clock.
-use Rattle.std.proofs.Common.{◌≡◌, ℕ, zero, suc, ◌+◌, ◌<◌, ◌≤◌, ◌⊎◌, inl, inr, Bool, true, false, not, if◌then◌else◌, List, [], ◌∷◌, slice_get, Option, Some, None, Ok, refl, sym, ap, ◌∙◌, subst, arith}
+use Rattle.std.proofs.Common.{◌≡◌, ℕ, zero, suc, ◌+◌, ◌<◌, ◌≤◌, ◌⊎◌, inl, inr, Bool, true, false, not, ◌&&◌, if◌then◌else◌, List, [], ◌∷◌, slice_get, Option, Some, None, Ok, refl, sym, ap, ◌∙◌, subst, arith}
 use Rattle.mesh_base.specs.Address.{is_broadcast}
 use Rattle.mesh_base.specs.declared.address.Mac.{Mac}
 use Rattle.mesh_base.specs.declared.client.Key.{Key}
@@ -11,10 +11,10 @@ use Rattle.mesh_model.specs.declared.happening.Class.TheVariants.{LinkDelivery, 
 use Rattle.mesh_model.specs.declared.happening.Happening.{Happening}
 use Rattle.mesh_model.specs.declared.packet.Head.{Head}
 use Rattle.mesh_model.specs.declared.packet.Head.TheVariants.{IvOgm, Bcast, Elp, Ogm2, Unicast, Frag, Unicast4, Icmp, Utvlv}
-use Rattle.mesh_model.specs.Clients.Log.{Given, Tick, LinkFrame, Frame, Gone, Join, Leave, Arp, Dhcp, Wifi, Log, LogEntry}
+use Rattle.mesh_model.specs.Clients.Log.{Given, Tick, LinkFrame, Frame, Gone, Join, Leave, Arp, Dhcp, Wifi, Ping, Trace, Log, LogEntry}
 use Rattle.mesh_model.specs.Clients.Mentions.{key_of}
 use Rattle.mesh_model.specs.Knowledge.Known.{Broadcast, Knowledge, agreed_byte, is_new_broadcast}
-use Rattle.mesh_model.specs.Knowledge.Steps.{Coming, knowledge, next_knowledge, after_announcement, after_answer, after_broadcast, after_containers, after_frame, after_head, after_message, after_packet, after_packets, after_roaming, after_sighting, after_taken, before_announcement, released_under, with_head}
+use Rattle.mesh_model.specs.Knowledge.Steps.{Coming, knowledge, next_knowledge, after_announcement, after_answer, after_broadcast, after_containers, after_frame, after_head, after_message, after_reply, after_packet, after_packets, after_roaming, after_sighting, after_taken, before_announcement, released_under, with_head}
 use Rattle.mesh_model.specs.Knowledge.Told.{Message, TableMessage, Asks, Answers, Neither, message_in, message_of}
 use Rattle.mesh_model.specs.Marks.Calls.{Forgotten}
 use Rattle.mesh_model.specs.Net.Due.{ticks_by, ticks_in}
@@ -29,6 +29,7 @@ use Rattle.mesh_model.specs.Packets.Containers.{containers_of}
 use Rattle.mesh_model.specs.Packets.Contents.{first_roaming, first_table}
 use Rattle.mesh_model.specs.Packets.FirstPacket.{Packet}
 use Rattle.mesh_model.specs.Packets.LinkFrame.{link_frame}
+use Rattle.mesh_model.specs.Probes.OpenProbes.{is_answer}
 use Rattle.mesh_model.specs.Routes.Addresses.{same_mac}
 use Rattle.mesh_model.specs.Routes.Queries.{Queries}
 use Rattle.mesh_model.specs.Routes.RouteLog.{FollowsIndex, MayTick, last_index, own_ticks}
@@ -93,7 +94,8 @@ head_counted q me came message tail (Ogm2 ttl flags seq orig throughput) known =
 head_counted q me came message tail (Unicast ttl ttvn dst) known = refl
 head_counted q me came message tail (Frag ttl number priority dst orig seq total) known = refl
 head_counted q me came message tail (Unicast4 ttl ttvn dst src subtype) known = refl
-head_counted q me came message tail (Icmp ttl msg dst orig uid seq) known = refl
+head_counted q me came message tail (Icmp ttl msg dst orig uid seq) known =
+    either_counted (same_mac dst me && is_answer msg) (after_reply q came.now msg seq known) known known refl refl
 head_counted q me came message tail (Utvlv ttl dst src) known =
     either_counted (same_mac dst me) (after_containers q came.now src tail known) known known (containers_counted q came.now src tail known) refl
 
@@ -115,6 +117,8 @@ index_by (Leave key) last = last
 index_by (Arp mac own_ip asked_ip vid) last = last
 index_by (Dhcp key text) last = last
 index_by (Wifi on) last = last
+index_by (Ping target) last = last
+index_by (Trace target) last = last
 
 -- the index of a node's last tick
 abbrev pub index_in : Log → Option ℕ
@@ -136,6 +140,8 @@ next_counted q me older known now (Leave key) = no_more known
 next_counted q me older known now (Arp mac own_ip asked_ip vid) = no_more known
 next_counted q me older known now (Dhcp key text) = no_more known
 next_counted q me older known now (Wifi on) = no_more known
+next_counted q me older known now (Ping target) = no_more known
+next_counted q me older known now (Trace target) = no_more known
 
 -- an algorithm has the ticks of its node
 log_counted : (q : Queries) (me : Mac) (log : Log) → counted (knowledge q me log) ≡ (ticks_in log, index_in log)
@@ -165,6 +171,8 @@ index_of (Leave key) = 0
 index_of (Arp mac own_ip asked_ip vid) = 0
 index_of (Dhcp key text) = 0
 index_of (Wifi on) = 0
+index_of (Ping target) = 0
+index_of (Trace target) = 0
 
 -- an input that isn't a tick leaves the number of the next
 same_number : (index : Option ℕ) (ticks : ℕ) → FollowsIndex index (suc ticks) → FollowsIndex index (suc (0 + ticks))
@@ -181,6 +189,8 @@ numbered_next log now (Leave key) acts o n = same_number (index_in log) (ticks_i
 numbered_next log now (Arp mac own_ip asked_ip vid) acts o n = same_number (index_in log) (ticks_in log) n
 numbered_next log now (Dhcp key text) acts o n = same_number (index_in log) (ticks_in log) n
 numbered_next log now (Wifi on) acts o n = same_number (index_in log) (ticks_in log) n
+numbered_next log now (Ping target) acts o n = same_number (index_in log) (ticks_in log) n
+numbered_next log now (Trace target) acts o n = same_number (index_in log) (ticks_in log) n
 
 abbrev pub AllNumbered : List NodeLog → Type 0
 AllNumbered nodes = (place : ℕ) (node : NodeLog) → slice_get nodes place ≡ Some node → Numbered node.log

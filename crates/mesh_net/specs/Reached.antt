@@ -5,7 +5,7 @@
 use Rattle.std.specs.Prelude.{◌≡◌, ℕ, ◌<◌, ◌≤◌, List, [], ◌∷◌, ◌++◌, length, Ok, Some}
 use Rattle.mesh_base.specs.declared.address.Mac.{Mac}
 use Rattle.mesh_model.specs.declared.happening.Happening.{Happening}
-use Rattle.mesh_model.specs.Clients.Log.{Given, Tick, LinkFrame, Frame, Gone, Join, Leave, Arp, Dhcp, Wifi}
+use Rattle.mesh_model.specs.Clients.Log.{Given, Tick, LinkFrame, Frame, Gone, Join, Leave, Arp, Dhcp, Wifi, Ping, Trace}
 use Rattle.mesh_model.specs.Net.Mesh.{NodeLog, NetLink, Mesh, Setup, empty_mesh}
 use Rattle.mesh_model.specs.Net.Inputs.{given_to}
 use Rattle.mesh_model.specs.Net.Due.{next_happening}
@@ -41,6 +41,8 @@ IsOfLine (Leave key) = Unit
 IsOfLine (Arp mac own_ip asked_ip vid) = Unit
 IsOfLine (Dhcp key text) = Unit
 IsOfLine (Wifi on) = Unit
+IsOfLine (Ping target) = Unit
+IsOfLine (Trace target) = Unit
 
 -- a mesh that is reached, with the clock
 pub data IsReached (setup : Setup) : ℕ → Mesh → Type 0 where

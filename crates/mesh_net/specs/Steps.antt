@@ -23,7 +23,7 @@ use Rattle.mesh_model.specs.Routes.RouteLog.{RouteLog, MayTick}
 use Rattle.mesh_node.specs.declared.failure.NodeErr.{NodeErr}
 use Rattle.mesh_node.specs.declared.failure.NodeErr.TheVariants as node_errors
 use Rattle.mesh_node.specs.declared.input.Input.{Input}
-use Rattle.mesh_node.specs.declared.input.Input.TheVariants.{Tick, Link, Frame, Gone, Join, Leave, Wifi}
+use Rattle.mesh_node.specs.declared.input.Input.TheVariants.{Tick, Link, Frame, Gone, Join, Leave, Wifi, Ping, Trace}
 use Rattle.mesh_node.specs.OwnStands.{newest_moment}
 use Rattle.mesh_net.specs.declared.failure.NetErr.{NetErr}
 use Rattle.mesh_net.specs.declared.failure.NetErr.TheVariants as net_errors
@@ -45,6 +45,8 @@ ticks_with ticks (Gone key) = ticks
 ticks_with ticks (Join key) = ticks
 ticks_with ticks (Leave key) = ticks
 ticks_with ticks (Wifi on) = ticks
+ticks_with ticks (Ping target) = ticks
+ticks_with ticks (Trace target) = ticks
 
 -- an input's index, where it is a tick, is that of the next tick after so many
 abbrev pub Counts : ℕ → Input → Type 0
@@ -55,6 +57,8 @@ Counts ticks (Gone key) = ⊤
 Counts ticks (Join key) = ⊤
 Counts ticks (Leave key) = ⊤
 Counts ticks (Wifi on) = ⊤
+Counts ticks (Ping target) = ⊤
+Counts ticks (Trace target) = ⊤
 
 -- the newest input of each node is not after a moment
 abbrev pub ArePast : ℕ → List NodeLog → Type 0

@@ -1,5 +1,6 @@
 -- What the calls of a net tell: what a step or a run leaves in the log of events, how far a run
--- came, and what each refusal means. The main words are `Ran` and `RunTells`.
+-- came, that what is told of tables is right, and what each refusal means. The main words are `Ran`,
+-- `TellsRightly` and `RunTells`.
 use Rattle.std.specs.Prelude.{◌≡◌, ℕ, ◌<◌, ◌≤◌, ◌⊎◌, Bool, true, false, List, ◌++◌, filter, length, Some, Ok, Err}
 use Rattle.std.specs.Fn.{iterate}
 use Rattle.mesh_base.specs.declared.address.Mac.{Mac}
@@ -17,6 +18,8 @@ use Rattle.mesh_model.specs.Routes.RouteLog.{RouteLog}
 use Rattle.mesh_model.specs.Run.Passing.{events_since}
 use Rattle.mesh_model.specs.Run.Steps.{new_node}
 use Rattle.mesh_model.specs.Text.Events.{is_shown}
+use Rattle.mesh_tie.specs.NetTables.{GainsAreRight, IsTellable, TablesAreRight}
+use Rattle.mesh_tie.specs.TieLaws.{AllKeep}
 use Rattle.mesh_net.specs.declared.failure.NetErr.{NetErr}
 use Rattle.mesh_net.specs.declared.failure.NetErr.TheVariants.{Limit, Dead, Memory}
 use Rattle.mesh_net.specs.declared.net.Net.{Net}
@@ -37,6 +40,19 @@ pub record Carried {A : Type 0} (queries : Mac → Queries) (stands : A → Mac 
   pub is : attempt ≡ Ok after
   pub standing : NetStands queries stands net choice clock after
   pub gains : Gains choice before after old new
+
+-- a net stands for a mesh behind a call whose tables are right, as are the events that the log
+-- gained: each frame that was sent by table is for a client that the addressee's commit names, as
+-- its sender was told last when it sent the frame. Where an event told of an alias of an originator,
+-- this says nothing of it
+pub record TellsRightly {A : Type 0} (queries : Mac → Queries)
+    (stands : A → Mac → RouteLog → Type 0) (net : Net A) (choice : FrameChoice) (before : Mesh)
+    (old new : List Event) : Type 0 where
+  pub clock : ℕ
+  pub after : Mesh
+  pub standing : NetStands queries stands net choice clock after
+  pub tables : AllKeep queries → IsTellable after → TablesAreRight queries after
+  pub events : AllKeep queries → IsTellable after → GainsAreRight queries before after old new
 
 -- why a step at the clock is refused
 abbrev pub StepTells : Attempt → NetErr → Type 0

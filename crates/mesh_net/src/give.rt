@@ -101,6 +101,8 @@ fn ticks_with(ticks: u64, input: &Input<'_>) -> u64
         | Input::Gone(_)
         | Input::Join(_)
         | Input::Leave(_)
-        | Input::Wifi(_) => ticks,
+        | Input::Wifi(_)
+        | Input::Ping { .. }
+        | Input::Trace { .. } => ticks,
     }
 }

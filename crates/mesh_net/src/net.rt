@@ -1,4 +1,4 @@
-ghost use Rattle.std.specs.Prelude.{◌≡◌, ◌↔◌, ◌-◌, ◌+◌, ℕ, suc, ◌≤◌, ◌<◌, true, false, is_ok, List, [], ◌∷◌, length, take, Option, Some, IfOk, IfErr, IfSome, OnOk, OnErr, IsErrOf, slice_get};
+ghost use Rattle.std.specs.Prelude.{◌≡◌, ◌↔◌, ◌-◌, ◌+◌, ℕ, suc, nat_lt, ◌≤◌, ◌<◌, true, false, is_ok, List, [], ◌∷◌, length, take, Option, Some, IfOk, IfErr, IfSome, OnOk, OnErr, IsErrOf, slice_get};
 ghost use Rattle.mesh_model.specs.declared.frame_choice.FrameChoice.{FrameChoice};
 ghost use Rattle.mesh_model.specs.declared.frame_choice.FrameChoice.TheVariants.{All};
 ghost use Rattle.mesh_model.specs.Net.Mesh.{Mesh, NodeLog, empty_mesh, address_at};
@@ -16,7 +16,7 @@ ghost use Rattle.mesh_net.specs.Given.{GiveTells};
 ghost use Rattle.mesh_net.specs.Sent.{Grew};
 ghost use Rattle.mesh_net.specs.Steps.{AreOnLinks, Begun, Gave, HasNodes, KeepsNet, MayTickAt, RanOn, WentUpTo, IsLate, SliceTells, Settled, SettleTells, StepFails, StepLeaves, net_error, tick_now, ticks_amid};
 ghost use Rattle.mesh_net.specs.Reached.{IsNewLink, IsOfLine};
-ghost use Rattle.mesh_net.specs.Tells.{Carried, StepTells, NodeTells, LinkTells, Ran, RanAll, RunTells, HasJoined, HasLinked};
+ghost use Rattle.mesh_net.specs.Tells.{Carried, StepTells, NodeTells, LinkTells, Ran, RanAll, RunTells, HasJoined, HasLinked, TellsRightly};
 
 use crate::failure::NetErr;
 use crate::give::give_at;
@@ -145,6 +145,10 @@ impl<A: Algo + Drop> Net<A> {
             NetStands A.queries A.stands self.old choice clock mesh →
             OnOk result (Carried A.queries A.stands self.new choice clock mesh log.old log.new
             (given_to (scenario_setup A.queries) node clock 0 (given_by 0 input.now) mesh)) }
+        ensures right { (choice : FrameChoice) (clock : ℕ) (mesh : Mesh) →
+            NetStands A.queries A.stands self.old choice clock mesh →
+            OnOk result
+            (TellsRightly A.queries A.stands self.new choice mesh log.old log.new) }
 
         // The first cause counts: an earlier refusal, the limit, memory.
         ensures cause { (choice : FrameChoice) (clock : ℕ) (mesh : Mesh) →
@@ -171,6 +175,10 @@ impl<A: Algo + Drop> Net<A> {
             NetStands A.queries A.stands self.old choice clock mesh →
             OnOk result (Carried A.queries A.stands self.new choice clock mesh log.old log.new
             (delivered (scenario_setup A.queries) (number - 1) clock mesh)) }
+        ensures right { (choice : FrameChoice) (clock : ℕ) (mesh : Mesh) →
+            NetStands A.queries A.stands self.old choice clock mesh →
+            OnOk result
+            (TellsRightly A.queries A.stands self.new choice mesh log.old log.new) }
 
         // The first cause counts: an earlier refusal, the limit, memory.
         ensures cause { (choice : FrameChoice) (clock : ℕ) (mesh : Mesh) →
@@ -200,6 +208,10 @@ impl<A: Algo + Drop> Net<A> {
             NetStands A.queries A.stands self.old choice clock mesh →
             OnOk result (RanAll A.queries A.stands (scenario_setup A.queries) self.new choice mesh t
             log.old log.new) }
+        ensures right { (choice : FrameChoice) (clock : ℕ) (mesh : Mesh) →
+            NetStands A.queries A.stands self.old choice clock mesh →
+            OnOk result
+            (TellsRightly A.queries A.stands self.new choice mesh log.old log.new) }
 
         // The first cause counts: an earlier refusal, the clock, the first limit or want of memory.
         ensures cause { (choice : FrameChoice) (clock : ℕ) (mesh : Mesh) →
@@ -224,6 +236,10 @@ impl<A: Algo + Drop> Net<A> {
             NetStands A.queries A.stands self.old choice clock mesh →
             IfOk result (Ran A.queries A.stands (scenario_setup A.queries) self.new choice clock
             mesh t most log.old log.new) }
+        ensures right { (choice : FrameChoice) (clock : ℕ) (mesh : Mesh) →
+            NetStands A.queries A.stands self.old choice clock mesh →
+            OnOk result
+            (TellsRightly A.queries A.stands self.new choice mesh log.old log.new) }
 
         // The first cause counts: an earlier refusal, the clock, the first limit or want of memory.
         ensures cause { (choice : FrameChoice) (clock : ℕ) (mesh : Mesh) →
@@ -248,6 +264,24 @@ impl<A: Algo + Drop> Net<A> {
         &self.seats[node as usize].node
     }
 
+    /// The address of the node at a place.
+    pub fn address(&self, node: u32) -> Mac
+        ensures { (choice : FrameChoice) (clock : ℕ) (mesh : Mesh) →
+            NetStands A.queries A.stands self.now choice clock mesh →
+            result ≡ address_at node mesh.nodes }
+    {
+        self.mac_at(node)
+    }
+
+    /// Whether there is a node.
+    pub fn has_nodes(&self) -> bool
+        ensures { (choice : FrameChoice) (clock : ℕ) (mesh : Mesh) →
+            NetStands A.queries A.stands self.now choice clock mesh →
+            result ≡ nat_lt 0 (length mesh.nodes) }
+    {
+        !self.seats.is_empty()
+    }
+
     /// The clock.
     pub fn now(&self) -> Millis
         ensures { (choice : FrameChoice) (clock : ℕ) (mesh : Mesh) →
@@ -267,6 +301,15 @@ impl<A: Algo + Drop> Net<A> {
             Ok(count) => count,
             Err(_) => u32::MAX,
         }
+    }
+
+    /// How many nodes there are.
+    pub fn len(&self) -> usize
+        ensures { (choice : FrameChoice) (clock : ℕ) (mesh : Mesh) →
+            NetStands A.queries A.stands self.now choice clock mesh →
+            result ≡ length mesh.nodes }
+    {
+        self.seats.len()
     }
 
     // A new node joins.

@@ -31,6 +31,10 @@ pub(crate) fn is_shown(choice: FrameChoice, event: &Event) -> bool
 {
     match event {
         Event::FrameSent { bytes, .. } => shows(choice, bytes.as_slice()),
-        Event::Received { .. } | Event::Lost { .. } | Event::Alias { .. } => true,
+        Event::Received { .. }
+        | Event::Lost { .. }
+        | Event::Alias { .. }
+        | Event::Pinged { .. }
+        | Event::Traced { .. } => true,
     }
 }

@@ -1,4 +1,4 @@
-use Rattle.std.proofs.Common.{sym, ◌∙◌, subst}
+use Rattle.std.proofs.Common.{◌-◌, sym, ◌∙◌, subst}
 use Rattle.std.specs.Result.{OnOk, IfErr}
 use Rattle.mesh_model.specs.Net.Due.{first_ticks}
 use Rattle.mesh_model.specs.Net.Runs.{delivered}
@@ -6,6 +6,7 @@ use Rattle.mesh_model.specs.Net.Limits.{scenario_setup}
 use Rattle.mesh_net.specs.NetStands.{NetStands}
 use Rattle.mesh_net.specs.Tells.{Carried, StepTells}
 use Rattle.mesh_net.proofs.Ends.{begun_now, carried_frame, cut_back, has_nodes, if_err_map, live_of, net_by, on_links, ok_has, on_err_map, on_ok_map, settle_tells}
+use Rattle.mesh_net.proofs.RightLemmas.{deliver_rightly}
 use Rattle.mesh_net.proofs.net.Net.deliver.Goals as goal
 
 pub deliver_at-given-requires : goal.deliver_at-given-requires
@@ -24,6 +25,11 @@ returns-clause-carried g c = λ choice clock mesh s.
     (subst (λ k. OnOk c.settle.result (Carried q st c.settle.new.self choice k mesh c.args.log.now c.settle.new.log (delivered (scenario_setup q) place k mesh))) s.clock_is
     (on_ok_map c.settle.result (λ ok. carried_frame q st net c.deliver_at-given.new.self c.settle.new.self choice mesh c.args.log.now c.deliver_at-given.new.log c.settle.new.log place s' c.deliver_at-given.ensures.kept ok.1 ok.2
     (ok_has c.deliver_at-given.result ok.0 (c.deliver_at-given.ensures.given choice mesh.last (first_ticks 0 mesh.nodes) mesh begun (on_links q st net choice clock mesh s)))) c.settle.ensures.ok))
+
+pub returns-clause-right : goal.returns-clause-right
+returns-clause-right g c = λ choice clock mesh s.
+    on_ok_map c.settle.result (λ done. deliver_rightly g.A.Algo.queries g.A.Algo.stands c.settle.new.self choice clock mesh c.args.log.now c.settle.new.log (c.args.number - 1) done)
+    (returns-clause-carried g c choice clock mesh s)
 
 pub returns-clause-cause : goal.returns-clause-cause
 returns-clause-cause g c = λ choice clock mesh s.

@@ -7,6 +7,7 @@ use Rattle.mesh_node.specs.NodeStands.{given_by}
 use Rattle.mesh_net.specs.NetStands.{NetStands}
 use Rattle.mesh_net.specs.Tells.{Carried, StepTells}
 use Rattle.mesh_net.proofs.Ends.{begun_now, carried_line, cut_back, has_nodes, if_err_map, live_of, net_by, ok_has, on_err_map, on_ok_map, settle_tells}
+use Rattle.mesh_net.proofs.RightLemmas.{input_rightly}
 use Rattle.mesh_net.proofs.net.Net.input.Goals as goal
 
 pub input_at-given-requires-clause-nodes : goal.input_at-given-requires-clause-nodes
@@ -23,6 +24,11 @@ returns-clause-carried g c = λ choice clock mesh s.
     subst (λ k. OnOk c.settle.result (Carried q st c.settle.new.self choice k mesh c.args.log.now c.settle.new.log (given_to (scenario_setup q) c.args.node k 0 (given_by 0 c.args.input.now) mesh))) s.clock_is
     (on_ok_map c.settle.result (λ ok. carried_line q st net c.input_at-given.new.self c.settle.new.self choice mesh c.args.log.now c.input_at-given.new.log c.settle.new.log c.args.node (given_by 0 c.args.input.now) s' c.input_at-given.ensures.kept ok.1 ok.2 c.requires.line
     (ok_has c.input_at-given.result ok.0 (c.input_at-given.ensures.given choice mesh.last (first_ticks 0 mesh.nodes) mesh begun))) c.settle.ensures.ok)
+
+pub returns-clause-right : goal.returns-clause-right
+returns-clause-right g c = λ choice clock mesh s.
+    on_ok_map c.settle.result (λ done. input_rightly g.A.Algo.queries g.A.Algo.stands c.settle.new.self choice clock mesh c.args.log.now c.settle.new.log c.args.node (given_by 0 c.args.input.now) c.requires.line done)
+    (returns-clause-carried g c choice clock mesh s)
 
 pub returns-clause-cause : goal.returns-clause-cause
 returns-clause-cause g c = λ choice clock mesh s.

@@ -4,6 +4,7 @@ use Rattle.mesh_model.specs.Net.Limits.{scenario_setup}
 use Rattle.mesh_net.specs.Steps.{RanOn}
 use Rattle.mesh_net.proofs.Ends.{live_of}
 use Rattle.mesh_net.proofs.Slices.{clock_soon, late_tells, live_on, ran_all, rises, same_live, same_stands, slice_tells, soon_on, tells_on, under_way_first, under_way_next}
+use Rattle.mesh_net.proofs.RightLemmas.{all_rightly}
 use Rattle.mesh_net.proofs.net.Net.run_to.Goals as goal
 
 pub loop-init : goal.loop-init
@@ -69,6 +70,10 @@ returns-clause-ran g c = λ choice clock mesh s.
     ran_all q st c.loop.self c.run_slice.new.self choice mesh c.args.t 4294967295 c.args.log.now c.loop.log c.run_slice.new.log c.in_ok-check_run.ensures.ok.2 w
     (subst (RanOn q st c.run_slice.new.self choice w.now w.after c.args.t 4294967295 c.loop.log c.run_slice.new.log) c.if-branch.false
     (c.in_ok-run_slice.ensures.ran choice w.now w.after w.standing))
+
+pub returns-clause-right : goal.returns-clause-right
+returns-clause-right g c = λ choice clock mesh s.
+    all_rightly g.A.Algo.queries g.A.Algo.stands c.run_slice.new.self choice mesh c.args.t c.args.log.now c.run_slice.new.log (returns-clause-ran g c choice clock mesh s)
 
 pub returns-clause-net : goal.returns-clause-net
 returns-clause-net g c =
