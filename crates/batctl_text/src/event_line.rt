@@ -2,23 +2,14 @@
 
 ghost use Rattle.std.specs.Prelude.{◌≡◌, ◌++◌, OnOk, OnErr};
 ghost use Rattle.mesh_base.specs.declared.event.Event.TheVariants.{Alias, FrameSent};
-ghost use Rattle.mesh_model.specs.Text.Events.{by_text, client_frame_line, event_line, kind_word, loss_word, name_text};
-ghost use Rattle.batctl_text.specs.Inner.Parts.{part_text};
+ghost use Rattle.mesh_model.specs.Text.Events.{by_text, client_frame_line, event_line, kind_word, loss_word};
 
-use crate::part::Part::{self, Address, Hex, Number, Text, Vlan};
+use crate::part::Part::{Address, Hex, Number, Text, Vlan};
+use crate::part::name_part;
+use crate::probe_line::{ping_line, trace_line};
 use crate::whole_line::put_line;
 use mesh_base::{Event, LossReason, Mac, Millis, Names, NoMemory, Reason, Vid};
 use mesh_codec::numbers::{BCAST, ELP, FRAG, ICMP, IV_OGM, OGM2, UNICAST, UNICAST4, UTVLV};
-
-// The name of a node, or its address where it has none.
-fn name_part<'a>(names: &'a Names, mac: Mac) -> Part<'a>
-    ensures { part_text result ≡ name_text names.now.nodes mac }
-{
-    match names.node_name(mac) {
-        Some(name) => Text(name),
-        None => Address(b"", mac),
-    }
-}
 
 // The word of a frame's kind, or `-` where its first byte is of none.
 fn kind_word(bytes: &[u8]) -> &'static [u8]
@@ -230,5 +221,16 @@ pub fn line(out: &mut Vec<u8>, names: &Names, event: &Event) -> Result<(), NoMem
             commit,
             earlier,
         } => alias_line(out, names, *node, *commit, *earlier),
+        Event::Pinged {
+            node,
+            target,
+            seq,
+            result,
+        } => ping_line(out, names, *node, *target, *seq, *result),
+        Event::Traced {
+            node,
+            target,
+            result,
+        } => trace_line(out, names, *node, *target, *result),
     }
 }

@@ -2,8 +2,8 @@
 //! happens in a run.
 //!
 //! Each call appends whole lines to a buffer, or leaves it as it was where memory runs out. A
-//! `LineText` holds a line while it is put together, and then appends it: the lines of `decode` put
-//! one part after another, and `put_line` takes the parts of the others as a list.
+//! `LineText` holds a line while it is put together, and then appends it: the lines of `decode` and
+//! of probes put one part after another, and `put_line` takes the parts of the others as a list.
 
 #![tactic(auto)]
 
@@ -17,6 +17,7 @@ mod line_text;
 mod local_table;
 mod packet;
 mod part;
+mod probe_line;
 mod route_table;
 mod whole_line;
 

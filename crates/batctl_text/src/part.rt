@@ -4,12 +4,13 @@ ghost use Rattle.std.specs.Prelude.{◌≡◌, ◌/◌, ◌%◌, ◌++◌, ◌<�
 ghost use Rattle.hex.specs.Hex.{encode_lower, lower_digits};
 ghost use Rattle.mesh_base.specs.Address.{hex_of_byte, mac_text, pairs_text};
 ghost use Rattle.mesh_model.specs.Text.PacketLines.{named_number, named_address, named_flags};
+ghost use Rattle.mesh_model.specs.Text.Events.{name_text};
 ghost use Rattle.mesh_model.specs.Text.GlobalTables.{byte_text};
 ghost use Rattle.mesh_model.specs.Text.Tables.{address_text, age_text, flag_text, flags_text, sum_text, vid_text};
 ghost use Rattle.batctl_text.specs.Inner.Parts.{part_text};
 
 use crate::line_text::LineText;
-use mesh_base::{Mac, Millis, NoMemory, Vid};
+use mesh_base::{Mac, Millis, Names, NoMemory, Vid};
 use mesh_tvlv::layout::{ISOLATED, WIFI};
 
 /// The base of hex digits.
@@ -36,6 +37,16 @@ pub enum Part<'a> {
     Byte(Option<u8>),
     /// Bytes as two hex digits each.
     Hex(&'a [u8]),
+}
+
+/// The name of a node, or its address where it has none.
+pub fn name_part<'a>(names: &'a Names, mac: Mac) -> Part<'a>
+    ensures { part_text result ≡ name_text names.now.nodes mac }
+{
+    match names.node_name(mac) {
+        Some(name) => Part::Text(name),
+        None => Part::Address(b"", mac),
+    }
 }
 
 // Appends a number of some digits.

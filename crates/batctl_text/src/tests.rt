@@ -1,5 +1,7 @@
 use super::*;
-use mesh_base::{Bytes, Event, LossReason, Mac, Names, NoMemory, Reason, Vid};
+use mesh_base::{
+    Bytes, Event, LossReason, Mac, Names, NoMemory, PingResult, Reason, TraceResult, Vid,
+};
 use mesh_model::Algorithm;
 use std::alloc::Global;
 use std::test::*;
@@ -265,6 +267,33 @@ fn client_frames_and_commits_have_their_lines(rt: HostRuntime) -> Result<(), Fai
     let text = b"recv 5501 B - 02:00:00:00:01:02 02:00:00:00:01:01 hi\n\
         lost 0 A 7 02:00:00:00:01:01 02:00:00:00:01:09 unknown\n\
         alias A 65536 0\n";
+    assert_eq!(rt; out.as_slice(), text.as_slice());
+    Ok(())
+}
+
+#[test]
+fn probes_have_their_lines(rt: HostRuntime) -> Result<(), Fail> {
+    let names = two_names(rt.alloc())?;
+    let mut out = Vec::new(rt.alloc());
+    let answered = Event::Pinged {
+        node: A,
+        target: B,
+        seq: 2,
+        result: PingResult::Reply { ttl: 50, rtt: 2 },
+    };
+    line(&mut out, &names, &answered)?;
+    let ended = Event::Traced {
+        node: A,
+        target: B,
+        result: TraceResult::Ended {
+            hop: 1,
+            from: B,
+            rtt: 2,
+        },
+    };
+    line(&mut out, &names, &ended)?;
+    let text = b"ping A B seq=2 reply ttl=50 rtt=2\n\
+        trace A B hop=1 B rtt=2 end\n";
     assert_eq!(rt; out.as_slice(), text.as_slice());
     Ok(())
 }
