@@ -1,26 +1,55 @@
 -- Lemmas on the faults that end a run.
-use Rattle.std.proofs.Common.{◌≡◌, ℕ, ◌+◌, ◌<◌, ◌≤◌, List, [], ◌∷◌, ◌++◌, length, Option, sym, ap, ◌∙◌, subst, length-append, arith}
+use Rattle.std.proofs.Common.{◌≡◌, ℕ, ◌+◌, ◌<◌, ◌≤◌, List, [], ◌∷◌, ◌++◌, length, Option, refl, sym, ap, ◌∙◌, subst, length-append, arith}
+use Rattle.std.specs.Io.KnownBytes.{Appends}
 use Rattle.mesh_model.specs.declared.frame_choice.FrameChoice.{FrameChoice}
 use Rattle.mesh_model.specs.declared.ending.LimitName.TheVariants.{Line, Input, Nodes, Links, Clients, Vlans, Frames, FrameBytes, Clock}
 use Rattle.mesh_model.specs.declared.ending.Stop.{Stop}
 use Rattle.mesh_model.specs.declared.ending.Stop.TheVariants.{Refused, Limit}
+use Rattle.mesh_model.specs.Scenario.Readings.{Reading}
 use Rattle.mesh_model.specs.Scenario.Commands.{command_of_line}
 use Rattle.mesh_model.specs.Scenario.Lines.{newline, lines_of, without_carriage_return}
 use Rattle.mesh_model.specs.Run.Halting.{halting_place}
 use Rattle.mesh_model.specs.Run.Outcome.{Outcome, reached}
 use Rattle.mesh_model.specs.Run.PlainRun.{after_lines, after_reading, line_outcome, output, plain_run, start}
-use Rattle.mesh_model.specs.Run.State.{text_of}
-use Rattle.mesh_run.specs.Inner.Lines.{CarryFails}
+use Rattle.mesh_model.specs.Run.State.{State, text_of}
+use Rattle.mesh_run.specs.Inner.Faults.{fault_at}
+use Rattle.mesh_run.specs.Inner.Lines.{BlamesWrite, CarryFails}
+use Rattle.mesh_run.specs.Inner.Scene.{HasLineCause, HasReadingCause}
 use Rattle.mesh_run.specs.Inner.Progress.{Fails, HaltsFrom, Stands}
 use Rattle.mesh_laws.proofs.CutLemmas.{IsCut-newline}
 use Rattle.mesh_laws.proofs.HaltLemmas.{plain_run-cut}
 use Rattle.mesh_laws.proofs.UnfinishedLemmas.{after_lines-newline, output-after_outcome, cut-length, halts_newline, line_outcome-newline}
-use Rattle.mesh_laws.proofs.RunLemmas.{after_lines-grows}
+use Rattle.mesh_laws.proofs.RunLemmas.{PrintsOn, after_lines-grows, after_reading-prints}
 use Rattle.mesh_run.specs.declared.fault.Fault.{Fault}
 use Rattle.mesh_run.specs.declared.fault.Fault.TheVariants.{Halted, Read, Write, Memory}
+use Rattle.mesh_run.specs.declared.fault.LineFault.{LineFault}
+use Rattle.mesh_run.specs.declared.fault.LineFault.TheVariants.{Stopped}
+use Rattle.mesh_run.specs.declared.fault.LineFault.TheVariants as line_fault
 use Rattle.mesh_run.specs.declared.runner.Runner.{Runner}
-use Rattle.mesh_run.proofs.FrontLemmas.{front-more, less-more}
+use Rattle.mesh_run.proofs.FrontLemmas.{front-before, front-more, less-more}
 use Rattle.mesh_run.proofs.ProgressLemmas.{HaltsFrom-after}
+
+-- ---- the fault of a line
+
+-- a line's fault, at its number
+pub line_fails : (base now : Option (List ℕ)) (state : State) (outcome : Outcome) (number : ℕ) (fault : LineFault) → PrintsOn state outcome → Appends base now (text_of state)
+    → HasLineCause state outcome fault → CarryFails outcome base now number (fault_at number fault)
+line_fails base now state outcome number (Stopped stop) grown printed cause = record { after = state; ended = cause; numbered = refl; printed = printed }
+line_fails base now state outcome number line_fault.Memory grown printed cause = front-before base now state outcome grown printed
+
+-- a line that isn't read, at its number
+pub reading_fails : (base now : Option (List ℕ)) (state : State) (reading : Reading) (number : ℕ) (fault : LineFault) → Appends base now (text_of state)
+    → HasReadingCause reading fault → CarryFails (after_reading state reading) base now number (fault_at number fault)
+reading_fails base now state reading number (Stopped stop) printed cause =
+    record { after = state; ended = ap (after_reading state) cause; numbered = refl; printed = printed }
+reading_fails base now state reading number line_fault.Memory printed cause = front-before base now state (after_reading state reading) (after_reading-prints state reading) printed
+
+-- it is blamed on nothing outside
+pub line_blameless : (old new number : ℕ) (fault : LineFault) → BlamesWrite old new (fault_at number fault)
+line_blameless old new number (Stopped stop) = tt
+line_blameless old new number line_fault.Memory = tt
+
+-- ---- the fault of a line that its newline ended
 
 -- a halt at a line that its newline ended comes at that newline at least
 halting_place-newline : (before least : ℕ) (rest : List ℕ) (stop : Stop) → before + length rest + 1 ≡ least → length rest ≤ 4096 → least ≤ 67108864

@@ -10,7 +10,7 @@ use Rattle.mesh_model.specs.declared.table_row.GlobalRow.{GlobalRow}
 use Rattle.mesh_model.specs.Knowledge.Known.{Knowledge, known_at}
 use Rattle.mesh_model.specs.Routes.Queries.{Queries}
 use Rattle.mesh_model.specs.Run.KnownTables.{held_entries, part_of, parts_at}
-use Rattle.mesh_model.specs.Tables.Known.{Known, TableCalls, known_by, nothing, originators_by, row_by, stamp_of}
+use Rattle.mesh_model.specs.Tables.Known.{TableCalls, known_by, nothing, originators_by, row_by, stamp_of}
 use Rattle.mesh_model.specs.Marks.RoamingMarks.{marks_at}
 use Rattle.mesh_model.specs.Text.GlobalTables.{GlobalPart, global_header, global_table_text, mark_line, part_text}
 use Rattle.mesh_run.specs.Inner.Shown.{held_part, live_row}
@@ -35,7 +35,7 @@ mapped_first : {X Y : Type 0} (f : X → Y) (o : Option X) (xs : List X) → con
 mapped_first f None xs = refl
 mapped_first f (Some x) xs = refl
 
-parts_by_rows : (q : Queries) (known : Knowledge) (now : ℕ) (origs : List Mac)
+pub parts_by_rows : (q : Queries) (known : Knowledge) (now : ℕ) (origs : List Mac)
     → filter_map (λ orig. part_of orig (known_at q known now orig)) origs ≡ map (held_part known.tables) (filter_map (live_row q known now) origs)
 parts_by_rows q known now [] = refl
 parts_by_rows q known now (orig ∷ origs) =

@@ -11,6 +11,9 @@ pub mod KnownLemmas
 pub mod NetLemmas
 pub mod PlaceLemmas
 pub mod StepLemmas
+pub mod SessionLemmas
 pub mod PassLemmas
 pub mod SliceLemmas
 pub mod Right
+pub mod CountLemmas
+pub mod GeneratedLemmas

@@ -1,14 +1,13 @@
 -- A slice of a run, by what the net tells of it.
-use Rattle.std.proofs.Common.{◌≡◌, ℕ, ◌+◌, ◌*◌, ◌<◌, ◌≤◌, ◌⊎◌, inl, inr, Bool, true, false, List, ◌++◌, filter, Option, Some, None, Result, Ok, Err, IfOk, IfErr, refl, sym, ap, ◌∙◌, subst, arith}
-use Rattle.std.specs.Fn.{iterate}
+use Rattle.std.proofs.Common.{◌≡◌, ℕ, ◌+◌, ◌*◌, ◌<◌, ◌≤◌, ◌⊎◌, inl, inr, Bool, true, false, List, ◌++◌, filter, Some, None, Result, Ok, Err, IfOk, IfErr, refl, sym, ap, ◌∙◌, subst, arith}
 use Rattle.std.specs.Prelude.{flat_map}
 use Rattle.mesh_base.specs.declared.event.Event.{Event}
 use Rattle.mesh_iv.specs.Tables.{Tables}
 use Rattle.mesh_model.specs.declared.ending.LimitName.{LimitName}
 use Rattle.mesh_model.specs.Net.Mesh.{Mesh}
-use Rattle.mesh_model.specs.Net.Runs.{Course, PassedLimit, begin, run_to, turn}
+use Rattle.mesh_model.specs.Net.Runs.{Course, begin}
 use Rattle.mesh_model.specs.Routes.AlgorithmIv.{iv_queries}
-use Rattle.mesh_model.specs.Run.Passing.{after_course, events_since, gone_on, run_until}
+use Rattle.mesh_model.specs.Run.Passing.{after_course, events_since, gone_on}
 use Rattle.mesh_model.specs.Run.Rules.{iv_setup}
 use Rattle.mesh_model.specs.Run.State.{State, names_of}
 use Rattle.mesh_model.specs.Text.Events.{event_line, is_shown}
@@ -19,7 +18,7 @@ use Rattle.mesh_net.specs.declared.net.Net.{Net}
 use Rattle.mesh_laws.specs.HappeningLaws.{CanRun}
 use Rattle.mesh_laws.specs.LineLaws.{IsBehind}
 use Rattle.mesh_laws.specs.Soundness.{rank}
-use Rattle.mesh_laws.proofs.Lines.Courses.{Follows, going_follows}
+use Rattle.mesh_laws.proofs.Lines.Courses.{going_follows}
 use Rattle.mesh_laws.proofs.Lines.KeptLinks.{KeepsLinks, turns_keep_links}
 use Rattle.mesh_laws.proofs.Lines.Slices.{behind_follows, ends_behind, goes_on_behind, risen}
 use Rattle.mesh_run.specs.Inner.Passages.{HasAdvanced, passage_by}

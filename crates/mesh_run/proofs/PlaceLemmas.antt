@@ -1,13 +1,13 @@
 -- Names, addresses and ends of a scene, and those of the state that it stands for.
-use Rattle.std.proofs.Common.{◌≡◌, ℕ, suc, ◌+◌, ◌<◌, ◌≤◌, Bool, true, false, ◌||◌, ◌&&◌, ◌==◌, if◌then◌else◌, List, [], ◌∷◌, ◌++◌, length, map, slice_get, Option, Some, None, is_some, refl, sym, ap, ap₂, ◌∙◌, subst, arith}
-use Rattle.std.specs.Prelude.{bytes_eq, nat_lt, nat_eq, not, position, find, option_map}
+use Rattle.std.proofs.Common.{◌≡◌, ℕ, suc, ◌+◌, ◌<◌, Bool, true, false, ◌||◌, ◌&&◌, ◌==◌, if◌then◌else◌, List, [], ◌∷◌, ◌++◌, length, map, slice_get, Option, Some, None, is_some, refl, sym, ap, ap₂, ◌∙◌, subst, arith}
+use Rattle.std.specs.Prelude.{bytes_eq, nat_lt, not, position, find, option_map}
 use Rattle.std.specs.List.{list_any, position_or_len}
 use Rattle.std.proofs.lemmas.Bool.{ltb-true}
 use Rattle.std.proofs.lemmas.Slice.Eq.{bytes_eq-Decides}
 use Rattle.mesh_base.specs.Names.{is_node_name, node_name}
 use Rattle.mesh_base.specs.declared.address.Mac.{Mac}
 use Rattle.mesh_base.specs.declared.names.NodeName.{NodeName}
-use Rattle.mesh_model.specs.Net.Mesh.{NodeLog, NetLink, has_address}
+use Rattle.mesh_model.specs.Net.Mesh.{NodeLog, has_address}
 use Rattle.mesh_model.specs.Net.Runs.{leads}
 use Rattle.mesh_model.specs.Run.State.{State, is_named, names_of, place_of}
 use Rattle.mesh_run.specs.Inner.Scene.{SceneStands, ends_of}

@@ -1,9 +1,8 @@
 -- What commands do to a state, and to the scene that stands for it.
-use Rattle.std.proofs.Common.{◌≡◌, ℕ, ◌+◌, ◌-◌, ◌<◌, ◌≤◌, ◌⊎◌, inl, inr, get_or, Bool, true, false, ◌||◌, ◌&&◌, List, [], ◌∷◌, ◌++◌, length, map, filter, slice_get, Option, Some, None, is_some, Ok, Err, refl, sym, ap, ◌∙◌, subst, append-nil, arith}
+use Rattle.std.proofs.Common.{◌≡◌, ℕ, ◌+◌, ◌-◌, ◌<◌, ◌≤◌, ◌⊎◌, inl, inr, get_or, Bool, true, false, ◌||◌, ◌&&◌, List, [], ◌∷◌, ◌++◌, length, map, filter, slice_get, Some, None, Ok, refl, sym, ap, ◌∙◌, subst, append-nil, arith}
 use Rattle.std.specs.Prelude.{bytes_eq, flat_map, nat_le, nat_lt, not, ◌==◌, if◌then◌else◌}
 use Rattle.std.specs.List.{list_any}
 use Rattle.std.specs.Option.{option_or}
-use Rattle.std.proofs.lemmas.Bool.{le-leb}
 use Rattle.std.proofs.lemmas.List.Concat.{flat_map-append}
 use Rattle.std.proofs.lemmas.Bool.Decides.{nat_tests}
 use Rattle.std.proofs.lemmas.Option.{slice_get_cases}
@@ -15,11 +14,12 @@ use Rattle.mesh_base.specs.declared.event.Event.{Event}
 use Rattle.mesh_base.specs.declared.names.NodeName.{NodeName}
 use Rattle.mesh_model.specs.declared.ending.LimitName.{LimitName}
 use Rattle.mesh_model.specs.declared.ending.LimitName.TheVariants.{Nodes, Links, Clock}
-use Rattle.mesh_model.specs.declared.ending.Refusal.TheVariants.{AddressTaken, LinkTaken, NameTaken, NoSuchFrame, NotBuilt, SameNode, UnknownName}
+use Rattle.mesh_model.specs.declared.ending.Refusal.TheVariants.{AddressTaken, LinkTaken, NameTaken, NoSuchFrame, NotBuilt, UnknownName}
 use Rattle.mesh_model.specs.declared.ending.Stop.TheVariants.{Refused}
 use Rattle.mesh_model.specs.declared.ending.Stop.TheVariants.{Limit as StopLimit}
 use Rattle.mesh_model.specs.declared.frame_choice.FrameChoice.{FrameChoice}
 use Rattle.mesh_model.specs.declared.line_form.Command.TheVariants.{Node, Link, Frame, Gone, Join, Leave, Wifi, Run, Deliver, Show}
+use Rattle.mesh_model.specs.declared.line_form.Table.{Table}
 use Rattle.mesh_model.specs.declared.line_form.Table.TheVariants.{Globals, Locals, Originators, Neighbors}
 use Rattle.mesh_model.specs.Clients.Log.{Given}
 use Rattle.mesh_model.specs.Clients.Log.{Frame as GivenFrame, Gone as GivenGone, Join as GivenJoin, Leave as GivenLeave, Wifi as GivenWifi}
@@ -31,16 +31,17 @@ use Rattle.mesh_model.specs.Run.Demands.{is_known, refusal_if}
 use Rattle.mesh_model.specs.Run.Outcome.{Ends, Goes, Outcome}
 use Rattle.mesh_model.specs.Run.Passing.{after_attempt, events_since, gone_on, run_until}
 use Rattle.mesh_model.specs.Run.Rules.{carried_out, iv_setup, unless_refused}
-use Rattle.mesh_model.specs.Run.Shown.{after_print, global_table, link_table, local_table, orig_table}
+use Rattle.mesh_model.specs.Run.Shown.{after_print, global_table, link_table, local_table, orig_table, shown}
 use Rattle.mesh_model.specs.Run.State.{GlobalsShown, Happened, LocalsShown, NeighborsShown, OriginatorsShown, Printed, State, names_of, place_of, printed_text, text_of}
 use Rattle.mesh_model.specs.Run.Steps.{at_node, input_step, new_node, with_link, with_node}
-use Rattle.mesh_model.specs.Text.Events.{event_line, event_text, is_shown}
+use Rattle.mesh_model.specs.Text.Events.{event_line, is_shown}
 use Rattle.mesh_net.specs.Tells.{LinkTells, NodeTells, StepTells}
 use Rattle.mesh_net.specs.declared.failure.NetErr.{NetErr}
 use Rattle.mesh_net.specs.declared.failure.NetErr.TheVariants.{Limit, Dead, Memory}
 use Rattle.mesh_laws.proofs.Schedule.Steps.{tickless}
 use Rattle.mesh_net.specs.Reached.{IsOfLine}
-use Rattle.mesh_run.specs.Inner.Scene.{Carries, HasLineCause, IvNetStands, SceneStands, ends_of, fault_of, given_at}
+use Rattle.mesh_run.specs.Inner.Scene.{Carries, HasLineCause, IvNetStands, SceneStands, ends_of, given_at}
+use Rattle.mesh_run.specs.Inner.Faults.{fault_of}
 use Rattle.mesh_run.specs.declared.scene.Scene.{Scene}
 use Rattle.mesh_run.proofs.NetLemmas.{of_line}
 use Rattle.mesh_run.proofs.PlaceLemmas.{map_last, place_within}
@@ -220,8 +221,9 @@ frame_again state number there = rw there refl
 
 -- ---- a table
 
-pub show_unknown_locals : (state : State) (name : List ℕ) → place_of state name ≡ None → carried_out iv_setup state (Show name Locals) ≡ Ends state (Refused UnknownName)
-show_unknown_locals state name none = rw none refl
+pub show_unknown : (state : State) (name : List ℕ) (table : Table) (print : ℕ → NodeLog → Printed) → shown table ≡ Some print → place_of state name ≡ None
+    → carried_out iv_setup state (Show name table) ≡ Ends state (Refused UnknownName)
+show_unknown state name table print built none = rw (built, none) refl
 
 pub shows_locals : (state : State) (name : List ℕ) (place : ℕ) (node : NodeLog) → place_of state name ≡ Some place → slice_get state.mesh.nodes place ≡ Some node
     → carried_out iv_setup state (Show name Locals) ≡ Goes (after_print state (LocalsShown (local_table state.clock node)))

@@ -1,8 +1,8 @@
 -- What a run of the program leaves, by its status: what out took since the call, and what was read
 -- from the intake. The main words are `Finishes`, `IsRefused`, `IsLimited`, `PrintsTaken`,
 -- `PrintsLessOf` and `PrintsFrontOf`, each over the choice of frames and
--- the bytes of the input, and `TellsStatus`.
-use Rattle.std.specs.Prelude.{◌≡◌, ℕ, ◌+◌, ◌<◌, ◌≤◌, ◌⊎◌, List, length, map, take, Option, Some, None, IfSome, String, string_bytes}
+-- the bytes of the input, `PrintsSummary` for lines that are generated, and `TellsStatus`.
+use Rattle.std.specs.Prelude.{◌≡◌, ◌≢◌, ℕ, ◌+◌, ◌<◌, ◌≤◌, ◌⊎◌, List, length, take, Option, Some, None, IfSome, option_and_then}
 use Rattle.std.specs.Io.KnownBytes.{Appends, Consumes, Keeps}
 use Rattle.mesh_base.specs.Writes.{AppendsFront}
 use Rattle.mesh_model.specs.declared.ending.LimitName.{LimitName}
@@ -12,15 +12,47 @@ use Rattle.mesh_model.specs.declared.frame_choice.FrameChoice.{FrameChoice}
 use Rattle.mesh_model.specs.Scenario.Halt.{Halt}
 use Rattle.mesh_model.specs.Scenario.Lines.{complete_lines}
 use Rattle.mesh_model.specs.Text.Messages.{halt_text, memory_text, read_fault_text, usage_text, write_fault_text}
+use Rattle.mesh_model.specs.Run.CommandLine.{Call, Source, FromInput, FromFile, Generated}
+use Rattle.mesh_model.specs.Run.Generated.{generated_input, generated_text}
 use Rattle.mesh_model.specs.Run.Halting.{GoesOn, halting_byte}
 use Rattle.mesh_model.specs.Run.PlainRun.{start, after_lines, plain_run, output}
-use Rattle.mesh_model.specs.Run.Statuses.{limited_status, memory_status, read_fault_status, refused_status, stop_status, usage_status, write_fault_status}
+use Rattle.mesh_model.specs.Run.Statuses.{finished_status, limited_status, memory_status, read_fault_status, refused_status, stop_status, usage_status, write_fault_status}
 
--- ---- the words of the call
+-- ---- the lines that words ask for
 
--- words as bytes
-abbrev pub texts : {A : Type 0} → List (String A) → List (List ℕ)
-texts words = map string_bytes words
+-- what an intake gives under each name, and without one as standard input, where it is told
+abbrev pub Names : Type 0
+Names = Option (List ℕ) → Option (List ℕ)
+
+-- the lines that are read from a source, where they are told; generated ones aren't read
+abbrev pub read_from : Names → Source → Option (List ℕ)
+read_from named FromInput = named None
+read_from named (FromFile name) = named (Some name)
+read_from named (Generated nodes) = None
+
+-- the lines from a source, where they are told
+abbrev pub told_from : Names → Source → Option (List ℕ)
+told_from named FromInput = named None
+told_from named (FromFile name) = named (Some name)
+told_from named (Generated nodes) = Some (generated_input nodes)
+
+-- how many nodes are generated
+abbrev pub nodes_from : Source → Option ℕ
+nodes_from FromInput = None
+nodes_from (FromFile name) = None
+nodes_from (Generated nodes) = Some nodes
+
+-- the lines that are read for words, where these are taken and the lines are told
+abbrev pub read_input : Names → Option Call → Option (List ℕ)
+read_input named call = option_and_then (λ asked. read_from named asked.source) call
+
+-- the lines that words ask for, read or generated, where the words are taken and the lines are told
+abbrev pub told_input : Names → Option Call → Option (List ℕ)
+told_input named call = option_and_then (λ asked. told_from named asked.source) call
+
+-- how many nodes words have generated
+abbrev pub nodes_asked : Option Call → Option ℕ
+nodes_asked call = option_and_then (λ asked. nodes_from asked.source) call
 
 -- ---- the end of a run
 
@@ -87,6 +119,15 @@ PrintsLessOf choice old new input = AppendsLess old new (output (plain_run choic
 -- a front of the whole output was written
 abbrev pub PrintsFrontOf : FrameChoice → (old new : Option (List ℕ)) → List ℕ → Type 0
 PrintsFrontOf choice old new input = AppendsFront old new (output (plain_run choice input))
+
+-- ---- generated lines
+
+-- what out took of the run of generated lines, by the status: all of its summary at the end, less
+-- than all of it where a write failed, and else nothing
+pub record PrintsSummary (status : ℕ) (old new : Option (List ℕ)) (nodes : ℕ) : Type 0 where
+  pub finished : status ≡ finished_status → Appends old new (generated_text nodes)
+  pub less : status ≡ write_fault_status → AppendsLess old new (generated_text nodes)
+  pub nothing : (status ≢ finished_status) × (status ≢ write_fault_status) → Keeps old new
 
 -- ---- the status
 

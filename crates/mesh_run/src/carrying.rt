@@ -6,7 +6,7 @@ ghost use Rattle.mesh_model.specs.Run.Rules.{carried_out, iv_setup};
 ghost use Rattle.mesh_run.specs.Inner.Lines.{BreaksOff, CarriesOn, CountsWrites};
 ghost use Rattle.mesh_run.specs.Inner.Scene.{IsSomewhere, lets_time_pass};
 
-use crate::fault::{Fault, LineFault};
+use crate::fault::Fault;
 use crate::line_fault::reading_fault;
 use crate::putting::put_text;
 use crate::running::run;
@@ -34,10 +34,8 @@ fn carry_whole<K: Sink>(
     ensures somewhere { OnOk result (IsSomewhere scene.new) }
 {
     text.clear();
-    match scene.carry_out(command, text) {
-        Ok(()) => {}
-        Err(LineFault::Stopped(stop)) => return Err(Fault::Halted { line: number, stop }),
-        Err(LineFault::Memory) => return Err(Fault::Memory),
+    if let Err(fault) = scene.carry_out(command, text) {
+        return Err(fault.at(number));
     }
     if let Err(Failed) = put_text(out, text.as_slice()) {
         return Err(Fault::Write);
@@ -64,10 +62,7 @@ pub fn carry_line<K: Sink>(
     match read_line(scene.alloc, line) {
         Ok(Command::Run { time }) => run(scene, text, out, time, number)?,
         Ok(command) => carry_whole(scene, text, out, command, number)?,
-        Err(error) => match reading_fault(error) {
-            LineFault::Stopped(stop) => return Err(Fault::Halted { line: number, stop }),
-            LineFault::Memory => return Err(Fault::Memory),
-        },
+        Err(error) => return Err(reading_fault(error).at(number)),
     }
     Ok(())
 }

@@ -6,8 +6,8 @@ ghost use Rattle.mesh_run.specs.Inner.Scene.{CarriesFrom, FailsFrom, IsSomewhere
 use crate::fault::LineFault;
 use crate::line_fault::refused;
 use crate::scene::Scene;
-use crate::showing::decode;
-use mesh_model::{Command, Refusal};
+use batctl_text::decode_text;
+use mesh_model::{Algorithm, Command, Refusal};
 use mesh_net::Link;
 use mesh_node::Input;
 
@@ -24,6 +24,7 @@ impl Scene {
     {
         match command {
             Command::Nothing => {}
+            Command::Algo(Algorithm::Iv) => self.choose_iv()?,
             Command::Node { name, mac } => self.add_node(name.as_slice(), mac)?,
             Command::Link {
                 from,
@@ -50,10 +51,14 @@ impl Scene {
             Command::Join { node, key } => self.give(node.as_slice(), &Input::Join(key), text)?,
             Command::Leave { node, key } => self.give(node.as_slice(), &Input::Leave(key), text)?,
             Command::Wifi { node, on } => self.give(node.as_slice(), &Input::Wifi(on), text)?,
+            Command::Ping { node, target } => self.ping(node.as_slice(), target.as_slice(), text)?,
+            Command::Trace { node, target } => {
+                self.trace(node.as_slice(), target.as_slice(), text)?;
+            }
             Command::Deliver { number } => self.deliver(number, text)?,
             Command::Show { node, table } => self.show(node.as_slice(), table, text)?,
-            Command::Decode { bytes } => decode(bytes.as_slice(), text)?,
-            Command::Algo(_)
+            Command::Decode { bytes } => decode_text(text, bytes.as_slice())?,
+            Command::Algo(Algorithm::V)
             | Command::Lan { .. }
             | Command::Arp { .. }
             | Command::Dhcp { .. }
@@ -65,8 +70,6 @@ impl Scene {
             | Command::Alfred { .. }
             | Command::Put { .. }
             | Command::Get { .. }
-            | Command::Ping { .. }
-            | Command::Trace { .. }
             | Command::Run { .. } => return Err(refused(Refusal::NotBuilt)),
         }
         Ok(())

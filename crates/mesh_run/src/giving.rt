@@ -1,5 +1,4 @@
-ghost use Rattle.std.specs.Prelude.{◌≡◌, ◌++◌, [], flat_map, Err, OnErr, OnOk};
-ghost use Rattle.mesh_model.specs.Text.Events.{event_line};
+ghost use Rattle.std.specs.Prelude.{◌≡◌, []};
 ghost use Rattle.mesh_model.specs.declared.line_form.Command.TheVariants as command;
 ghost use Rattle.mesh_model.specs.Run.Rules.{carried_out, iv_setup};
 ghost use Rattle.mesh_net.specs.Reached.{IsOfLine};
@@ -8,9 +7,9 @@ ghost use Rattle.mesh_run.specs.Inner.Scene.{CarriesFrom, FailsFrom, IsSomewhere
 
 use crate::event_text::put_events;
 use crate::fault::LineFault;
-use crate::line_fault::{net_fault, refused};
+use crate::line_fault::refused;
 use crate::scene::Scene;
-use mesh_base::{Mac, NoMemory, Vid};
+use mesh_base::{Mac, Vid};
 use mesh_model::Refusal;
 use mesh_node::Input;
 
@@ -63,10 +62,8 @@ impl Scene {
             return Err(refused(Refusal::UnknownName));
         };
         self.events.cut(0);
-        if let Err(error) = self.net.input(place, input, &mut self.events) {
-            return Err(net_fault(error));
-        }
-        self.tell_events(text)?;
+        self.net.input(place, input, &mut self.events)?;
+        put_events(text, &self.names, &self.events)?;
         Ok(())
     }
 
@@ -86,22 +83,8 @@ impl Scene {
             return Err(refused(Refusal::NoSuchFrame));
         }
         self.events.cut(0);
-        if let Err(error) = self.net.deliver(number as u32, &mut self.events) {
-            return Err(net_fault(error));
-        }
-        self.tell_events(text)?;
+        self.net.deliver(number as u32, &mut self.events)?;
+        put_events(text, &self.names, &self.events)?;
         Ok(())
-    }
-
-    /// Appends the lines of what happened in the step.
-    fn tell_events(&self, text: &mut Vec<u8>) -> Result<(), LineFault>
-        ensures ok { OnOk result (text.new.items ≡ text.old.items
-            ++ flat_map (event_line self.now.names.nodes) self.now.events) }
-        ensures memory { OnErr result (result ≡ Err LineFault.Memory) }
-    {
-        match put_events(text, &self.names, &self.events) {
-            Ok(()) => Ok(()),
-            Err(NoMemory) => Err(LineFault::Memory),
-        }
     }
 }

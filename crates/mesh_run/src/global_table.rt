@@ -1,4 +1,5 @@
 ghost use Rattle.std.specs.Prelude.{◌≡◌, ◌++◌, filter_map, flat_map, option_and_then, slice_get, IfOk, OnOk};
+ghost use Rattle.std.specs.List.{count_by};
 ghost use Rattle.mesh_base.specs.declared.address.Mac.{Mac};
 ghost use Rattle.mesh_iv.specs.Tables.{StandsFor};
 ghost use Rattle.mesh_model.specs.Clients.Log.{Log};
@@ -54,6 +55,16 @@ fn live_rows(
         }
     }
     Ok(rows)
+}
+
+/// How many tables of live originators are held in agreement.
+pub fn ok_count(alloc: Global, node: &Node<Iv>, now: Millis) -> Result<usize, NoMemory>
+    ensures { (me : Mac) (log : Log) → NodeStands iv_stands iv_queries node.now me log →
+        IfOk result (λ count. count ≡ count_by (λ part. part.row.ok)
+        (parts_at (iv_queries me) (knowledge (iv_queries me) me log) now)) }
+{
+    let rows = live_rows(alloc, node.algo(), node.globals(), now)?;
+    Ok(rows.iter().filter(|row| row.ok).count())
 }
 
 /// The clients whose marks stand, each with the node that its mark names.

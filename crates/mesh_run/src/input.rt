@@ -1,4 +1,5 @@
-ghost use Rattle.std.specs.Prelude.{ℕ, List, [], Option, None, IfSome, OnOk, IfErr};
+ghost use Rattle.std.specs.Prelude.{ℕ, List, [], Option, IfSome, OnOk, IfErr};
+ghost use Rattle.std.specs.Option.{option_copied};
 ghost use Rattle.std.specs.Io.KnownBytes.{IsAtEnd};
 ghost use Rattle.mesh_run.specs.Inner.Scene.{IsSomewhere};
 ghost use Rattle.mesh_run.specs.Inner.Progress.{Stands};
@@ -14,7 +15,7 @@ use mesh_model::FrameChoice;
 use std::alloc::Global;
 
 /// A run before its first line.
-fn new_runner(alloc: Global, choice: FrameChoice) -> Runner
+pub fn new_runner(alloc: Global, choice: FrameChoice) -> Runner
     ensures stands { (base : Option (List ℕ)) → Stands choice base base result [] }
     ensures somewhere { IsSomewhere result.scene }
 {
@@ -27,23 +28,24 @@ fn new_runner(alloc: Global, choice: FrameChoice) -> Runner
     }
 }
 
-/// Opens standard input and carries it out, with this choice of frames.
+/// Opens the input of this name, or standard input, and carries it out with this choice of frames.
 pub fn run_input<I: Intake, K: Sink>(
     alloc: Global,
     choice: FrameChoice,
+    name: Option<&str>,
     intake: &mut I,
     out: &mut K,
 ) -> Result<(), Fault>
-    ensures finished { OnOk result (IfSome (I.named intake.old None)
+    ensures finished { OnOk result (IfSome (I.named intake.old (option_copied name.entry))
         (Finishes choice (K.taken out.old) (K.taken out.new))) }
     ensures at_end { OnOk result (IsAtEnd (I.left intake.new)) }
-    ensures failed { IfErr result (λ fault. IfSome (I.named intake.old None)
+    ensures failed { IfErr result (λ fault. IfSome (I.named intake.old (option_copied name.entry))
         (RunFails choice (K.taken out.old) (K.taken out.new)
         (I.left intake.old) (I.left intake.new) fault)) }
     ensures faults { CountsFaults (I.faults intake.old) (I.faults intake.new)
         (K.faults out.old) (K.faults out.new) result }
 {
-    match intake.open(None) {
+    match intake.open(name) {
         Ok(()) => {}
         Err(OpenErr::Failed) => return Err(Fault::Read),
         Err(OpenErr::Memory) => return Err(Fault::Memory),

@@ -6,11 +6,11 @@ ghost use Rattle.mesh_run.specs.Inner.Scene.{CarriesFrom, FailsFrom, IsSomewhere
 
 use crate::ends::LinkEnds;
 use crate::fault::LineFault;
-use crate::line_fault::{net_fault, refused};
+use crate::line_fault::refused;
 use crate::scene::Scene;
-use mesh_base::{Mac, NoMemory};
+use mesh_base::Mac;
 use mesh_iv::Iv;
-use mesh_model::Refusal;
+use mesh_model::{Algorithm, Refusal};
 use mesh_net::Link;
 
 impl Scene {
@@ -28,13 +28,22 @@ impl Scene {
         if self.names.node_name(mac).is_some() {
             return Err(refused(Refusal::AddressTaken));
         }
-        if let Err(error) = self.net.add_node(mac, Iv::new(self.alloc, mac)) {
-            return Err(net_fault(error));
+        self.net.add_node(mac, Iv::new(self.alloc, mac))?;
+        self.names.add_node(mac, name)?;
+        Ok(())
+    }
+
+    /// `algo iv`, while there is no node
+    pub fn choose_iv(&self) -> Result<(), LineFault>
+        ensures ok { CarriesFrom self.now self.now
+            (λ state. carried_out iv_setup state (command.Algo Algorithm.Iv)) [] result }
+        ensures refused { FailsFrom self.now
+            (λ state. carried_out iv_setup state (command.Algo Algorithm.Iv)) result }
+    {
+        if self.net.has_nodes() {
+            return Err(refused(Refusal::AlgoAfterNode));
         }
-        match self.names.add_node(mac, name) {
-            Ok(()) => Ok(()),
-            Err(NoMemory) => Err(LineFault::Memory),
-        }
+        Ok(())
     }
 
     /// `link A B`, with options
@@ -62,12 +71,8 @@ impl Scene {
         if self.is_linked(ends) {
             return Err(refused(Refusal::LinkTaken));
         }
-        if let Err(error) = self.net.add_link(start, end, link) {
-            return Err(net_fault(error));
-        }
-        match self.ends.push(ends) {
-            Ok(()) => Ok(()),
-            Err(_unstored) => Err(LineFault::Memory),
-        }
+        self.net.add_link(start, end, link)?;
+        self.ends.push(ends)?;
+        Ok(())
     }
 }

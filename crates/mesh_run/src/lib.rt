@@ -4,13 +4,16 @@
 
 mod carrying;
 mod command;
+mod counting;
 mod ends;
 mod event_text;
 mod fault;
+mod generated;
 mod giving;
 mod global_table;
 mod input;
 mod joining;
+mod kept_text;
 mod line_fault;
 mod local_table;
 mod passage;
@@ -24,8 +27,8 @@ mod route_table;
 mod runner;
 mod running;
 mod scene;
+mod sessions;
 mod showing;
-mod words;
 
 pub use program::{
     FINISHED, LIMITED, OUT_OF_MEMORY, READ_FAULT, REFUSED, USAGE, WRITE_FAULT, batmesh,

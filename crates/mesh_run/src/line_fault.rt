@@ -1,11 +1,10 @@
 ghost use Rattle.std.specs.Prelude.{◌≡◌};
 ghost use Rattle.mesh_model.specs.Scenario.Readings.{Reading};
-ghost use Rattle.mesh_run.specs.Inner.Scene.{HasReadingCause, fault_of};
+ghost use Rattle.mesh_run.specs.Inner.Scene.{HasReadingCause};
 ghost use Rattle.mesh_scenario.specs.LineErr.{Refuses};
 
 use crate::fault::LineFault;
 use mesh_model::{LimitName, Refusal, Stop};
-use mesh_net::NetErr;
 use mesh_scenario::LineErr;
 
 /// The fault of a line that is refused.
@@ -31,16 +30,5 @@ pub fn reading_fault(error: LineErr) -> LineFault
         LineErr::OutOfRange => refused(Refusal::OutOfRange),
         LineErr::ExtraWord => refused(Refusal::ExtraWord),
         LineErr::Memory => LineFault::Memory,
-    }
-}
-
-/// The fault of a line whose step the net refuses. A net that refused something before has no
-/// other answer than want of memory; no scene asks it.
-pub fn net_fault(error: NetErr) -> LineFault
-    ensures { result ≡ fault_of error }
-{
-    match error {
-        NetErr::Limit(name) => LineFault::Stopped(Stop::Limit(name)),
-        NetErr::Dead | NetErr::Memory => LineFault::Memory,
     }
 }

@@ -1,20 +1,25 @@
-ghost use Rattle.std.specs.Prelude.{◌≡◌, ◌⊎◌, ◌↔◌, None, IfSome, IsSome};
-ghost use Rattle.std.specs.Io.KnownBytes.{IsAtEnd};
+ghost use Rattle.std.specs.Prelude.{◌≡◌, ◌≢◌, ◌<◌, ◌≤◌, ◌⊎◌, ℕ, List, None, Some, IfNone, IfSome, IsSome};
+ghost use Rattle.std.specs.Io.KnownBytes.{Appends, IsAtEnd};
+ghost use Rattle.std.specs.Option.{option_copied};
 ghost use Rattle.mesh_base.specs.Faults.{Rose};
+ghost use Rattle.mesh_model.specs.declared.frame_choice.FrameChoice.TheVariants.{Hidden};
+ghost use Rattle.mesh_model.specs.Run.CommandLine.{choice_of, most_nodes, words_of};
+ghost use Rattle.mesh_model.specs.Run.Generated.{generated_input, generated_run};
 ghost use Rattle.mesh_model.specs.Run.PlainRun.{plain_run};
 ghost use Rattle.mesh_model.specs.Run.Statuses.{IsStatus, finished_status, limited_status, memory_status, plain_status, read_fault_status, refused_status, usage_status, write_fault_status};
-ghost use Rattle.mesh_model.specs.Run.Words.{choice_of, words_of};
-ghost use Rattle.mesh_run.specs.Inner.Reading.{fault_status};
+ghost use Rattle.mesh_run.specs.Inner.Reading.{fault_status, fault_text};
 ghost use Rattle.mesh_tie.specs.LinesByTable.{PrintsRightFrames};
 ghost use Rattle.mesh_tie.specs.ShownTables.{PrintsCommits};
-ghost use Rattle.mesh_run.specs.Outcome.{Finishes, IsLimited, IsRefused, IsStatusOr, PrintsFrontOf, PrintsLessOf, PrintsTaken, TellsStatus, texts};
+ghost use Rattle.mesh_run.specs.Outcome.{Finishes, IsLimited, IsRefused, IsStatusOr, PrintsFrontOf, PrintsLessOf, PrintsSummary, PrintsTaken, TellsStatus, nodes_asked, read_input, told_input};
+ghost use Rattle.mesh_words.specs.Words.{texts};
 
 use crate::fault::Fault;
+use crate::generated::run_generated;
 use crate::input::run_input;
 use crate::report::tell_fault;
-use crate::words::choice_of;
 use mesh_base::{Failed, Intake, Sink, write_all};
-use mesh_model::Stop;
+use mesh_model::{FrameChoice, Stop};
+use mesh_words::{Source, WordsErr, read_words};
 use std::alloc::Global;
 
 /// The input was read to its end, every line was accepted, and all was written.
@@ -47,12 +52,96 @@ fn status_of(fault: Fault) -> u8
     }
 }
 
-/// Carries out the scenario that the intake gives, and answers the status with which the program
-/// ends.
+/// Writes the text of a fault, and answers its status.
+fn tell_status<E: Sink>(err: &mut E, fault: Fault) -> u8
+    ensures status { result ≡ fault_status fault }
+    ensures told { (Rose (E.faults err.old) (E.faults err.new) → ⊥) →
+        Appends (E.taken err.old) (E.taken err.new) (fault_text fault) }
+{
+    match tell_fault(err, fault) {
+        Ok(()) | Err(Failed) => status_of(fault),
+    }
+}
+
+/// Carries out the lines that the intake gives under this name, or as standard input, and answers
+/// the status with which the program ends.
+fn carry_input<I: Intake, K: Sink, E: Sink>(
+    alloc: Global,
+    choice: FrameChoice,
+    name: Option<&str>,
+    intake: &mut I,
+    out: &mut K,
+    err: &mut E,
+) -> u8
+    ensures status { IsStatus result }
+    ensures usage { result ≢ usage_status }
+    ensures finished { result ≡ finished_status →
+        IfSome (I.named intake.old (option_copied name.entry))
+        (Finishes choice (K.taken out.old) (K.taken out.new)) }
+    ensures at_end { result ≡ finished_status → IsAtEnd (I.left intake.new) }
+    ensures refused { result ≡ refused_status →
+        IfSome (I.named intake.old (option_copied name.entry))
+        (IsRefused choice (K.taken out.old) (K.taken out.new) (I.left intake.new)) }
+    ensures limited { result ≡ limited_status →
+        IfSome (I.named intake.old (option_copied name.entry))
+        (IsLimited choice (K.taken out.old) (K.taken out.new) (I.left intake.new)) }
+    ensures read_fault { result ≡ read_fault_status →
+        Rose (I.faults intake.old) (I.faults intake.new) }
+    ensures taken { result ≡ read_fault_status →
+        IfSome (I.named intake.old (option_copied name.entry))
+        (PrintsTaken choice (K.taken out.old) (K.taken out.new)
+        (I.left intake.old) (I.left intake.new)) }
+    ensures write_fault { result ≡ write_fault_status →
+        Rose (K.faults out.old) (K.faults out.new) }
+    ensures less { result ≡ write_fault_status →
+        IfSome (I.named intake.old (option_copied name.entry))
+        (PrintsLessOf choice (K.taken out.old) (K.taken out.new)) }
+    ensures front { result ≡ memory_status →
+        IfSome (I.named intake.old (option_copied name.entry))
+        (PrintsFrontOf choice (K.taken out.old) (K.taken out.new)) }
+    ensures complete { IfSome (I.named intake.old (option_copied name.entry))
+        (λ input. IsStatusOr result (plain_status (plain_run choice input).halt)) }
+    ensures told { (Rose (E.faults err.old) (E.faults err.new) → ⊥) →
+        TellsStatus choice result (I.named intake.old (option_copied name.entry))
+        (E.taken err.old) (E.taken err.new) }
+    ensures silent { result ≡ finished_status → err.new ≡ err.old }
+{
+    let fault = match run_input(alloc, choice, name, intake, out) {
+        Ok(()) => return FINISHED,
+        Err(fault) => fault,
+    };
+    tell_status(err, fault)
+}
+
+/// Carries out the lines of a generated mesh of so many nodes, 1 to 64, and answers the status with
+/// which the program ends.
+fn carry_generated<K: Sink, E: Sink>(alloc: Global, nodes: u8, out: &mut K, err: &mut E) -> u8
+    requires some { 0 < nodes }
+    requires few { nodes ≤ most_nodes }
+    ensures status { IsStatus result }
+    ensures other { (result ≢ usage_status) × (result ≢ read_fault_status) }
+    ensures printed { PrintsSummary result (K.taken out.old) (K.taken out.new) nodes }
+    ensures write_fault { result ≡ write_fault_status →
+        Rose (K.faults out.old) (K.faults out.new) }
+    ensures complete { IsStatusOr result (plain_status (generated_run nodes).halt) }
+    ensures told { (Rose (E.faults err.old) (E.faults err.new) → ⊥) →
+        TellsStatus Hidden result (Some (generated_input nodes))
+        (E.taken err.old) (E.taken err.new) }
+    ensures silent { result ≡ finished_status → err.new ≡ err.old }
+{
+    let fault = match run_generated(alloc, nodes, out) {
+        Ok(()) => return FINISHED,
+        Err(stopped) => stopped,
+    };
+    tell_status(err, fault)
+}
+
+/// Carries out the lines that words ask for, and answers the status with which the program ends.
 ///
-/// `words` are the command words after the program's name: none, or `--frames` and which link
-/// frames are printed, `none`, `all`, `client` or `ogm`. `out` takes what the scenario prints,
-/// `err` one line for each status other than `FINISHED`.
+/// `words` are the command words after the program's name: `--frames` and which link frames are
+/// printed, `none`, `all`, `client` or `ogm`; and FILE, or `--generate` and a number of nodes.
+/// Without both the lines come from standard input. `out` takes what they print, or of a generated
+/// mesh the line of its counts, `err` one line for each status other than `FINISHED`.
 #[tactic(auto, using(crate::proofs::Right::tables, crate::proofs::Right::frames))]
 pub fn batmesh<I: Intake, K: Sink, E: Sink>(
     alloc: Global,
@@ -64,65 +153,87 @@ pub fn batmesh<I: Intake, K: Sink, E: Sink>(
     ensures status { IsStatus result }
 
     // Where the input is told, out took the whole text of its plain run.
-    ensures finished { result ≡ finished_status → IfSome (I.named intake.old None)
+    ensures finished { result ≡ finished_status →
+        IfSome (read_input (I.named intake.old) (words_of (texts words.now)))
         (Finishes (choice_of (texts words.now)) (K.taken out.old) (K.taken out.new)) }
-    ensures at_end { result ≡ finished_status → IsAtEnd (I.left intake.new) }
+    ensures at_end { result ≡ finished_status → IfNone (nodes_asked (words_of (texts words.now)))
+        (IsAtEnd (I.left intake.new)) }
 
     // The plain run halts at a line, out took what it prints up to there, and reading stopped near
     // it.
-    ensures refused { result ≡ refused_status → IfSome (I.named intake.old None)
+    ensures refused { result ≡ refused_status →
+        IfSome (read_input (I.named intake.old) (words_of (texts words.now)))
         (IsRefused (choice_of (texts words.now)) (K.taken out.old) (K.taken out.new)
         (I.left intake.new)) }
-    ensures limited { result ≡ limited_status → IfSome (I.named intake.old None)
+    ensures limited { result ≡ limited_status →
+        IfSome (read_input (I.named intake.old) (words_of (texts words.now)))
         (IsLimited (choice_of (texts words.now)) (K.taken out.old) (K.taken out.new)
         (I.left intake.new)) }
 
-    // Other words aren't taken, and then nothing is opened, read or written to out.
-    ensures usage { (result ≡ usage_status) ↔ (words_of (texts words.now) ≡ None) }
-    ensures untouched { result ≡ usage_status → (intake.new ≡ intake.old) × (out.new ≡ out.old) }
+    // Of the plain run of generated lines out took the line of its counts, and the intake isn't
+    // touched.
+    ensures generated { IfSome (nodes_asked (words_of (texts words.now)))
+        (PrintsSummary result (K.taken out.old) (K.taken out.new)) }
+    ensures unread { IsSome (nodes_asked (words_of (texts words.now))) → intake.new ≡ intake.old }
+
+    // Other words aren't taken. Memory may be wanting to tell so. Nothing is opened then,
+    // nothing is read, and nothing is written to out.
+    ensures usage { result ≡ usage_status → words_of (texts words.now) ≡ None }
+    ensures not_taken { words_of (texts words.now) ≡ None →
+        (result ≡ usage_status) ⊎ (result ≡ memory_status) }
+    ensures untouched { words_of (texts words.now) ≡ None →
+        (intake.new ≡ intake.old) × (out.new ≡ out.old) }
 
     // A fault is blamed only on a count that rose. Where a read failed, the lines that had come
     // were printed and the run was still going; where a write did, less than the whole was taken.
     ensures read_fault { result ≡ read_fault_status →
         Rose (I.faults intake.old) (I.faults intake.new) }
-    ensures taken { result ≡ read_fault_status → IfSome (I.named intake.old None)
+    ensures taken { result ≡ read_fault_status →
+        IfSome (read_input (I.named intake.old) (words_of (texts words.now)))
         (PrintsTaken (choice_of (texts words.now)) (K.taken out.old) (K.taken out.new)
         (I.left intake.old) (I.left intake.new)) }
     ensures write_fault { result ≡ write_fault_status →
         Rose (K.faults out.old) (K.faults out.new) }
-    ensures less { result ≡ write_fault_status → IfSome (I.named intake.old None)
+    ensures less { result ≡ write_fault_status →
+        IfSome (read_input (I.named intake.old) (words_of (texts words.now)))
         (PrintsLessOf (choice_of (texts words.now)) (K.taken out.old) (K.taken out.new)) }
-    ensures front { result ≡ memory_status → IfSome (I.named intake.old None)
+    ensures front { result ≡ memory_status →
+        IfSome (read_input (I.named intake.old) (words_of (texts words.now)))
         (PrintsFrontOf (choice_of (texts words.now)) (K.taken out.old) (K.taken out.new)) }
 
     // Faults and want of memory aside, the status is that of the plain run.
-    ensures complete { IsSome (words_of (texts words.now)) → IfSome (I.named intake.old None)
+    ensures complete { IfSome (told_input (I.named intake.old) (words_of (texts words.now)))
         (λ input. IsStatusOr result
         (plain_status (plain_run (choice_of (texts words.now)) input).halt)) }
 
     // A fault of err changes no status.
     ensures told { (Rose (E.faults err.old) (E.faults err.new) → ⊥) →
-        TellsStatus (choice_of (texts words.now)) result (I.named intake.old None)
+        TellsStatus (choice_of (texts words.now)) result
+        (told_input (I.named intake.old) (words_of (texts words.now)))
         (E.taken err.old) (E.taken err.new) }
     ensures silent { result ≡ finished_status → err.new ≡ err.old }
 
-    // What the plain run prints as `ok` of an originator was committed by it for the message
-    // accepted last, and a frame that it prints as sent by table goes to a node whose table, so
-    // committed, names its client: each unless an alias of that node was printed before.
-    ensures ok { IfSome (I.named intake.old None) (PrintsCommits (choice_of (texts words.now))) }
-    ensures by_table { IfSome (I.named intake.old None)
-        (PrintsRightFrames (choice_of (texts words.now))) }
+    // Whatever lines are carried out, those of the input or those that came before a fault: what is
+    // printed as `ok` of an originator was committed by it for the message that the shown node
+    // accepted last, and a frame that is printed as sent by table goes to a node whose table names
+    // its client, as committed for the message that the sender had accepted last when it sent the
+    // frame; each unless an alias of that node was printed before.
+    ensures ok { (lines : List (List ℕ)) → PrintsCommits (choice_of (texts words.now)) lines }
+    ensures by_table { (lines : List (List ℕ)) →
+        PrintsRightFrames (choice_of (texts words.now)) lines }
 {
-    let Some(choice) = choice_of(words) else {
-        return match write_all(err, b"batmesh: usage\n") {
-            Ok(()) | Err(Failed) => USAGE,
-        };
+    let call = match read_words(alloc, words) {
+        Ok(call) => call,
+        Err(WordsErr::Usage) => {
+            return match write_all(err, b"batmesh: usage\n") {
+                Ok(()) | Err(Failed) => USAGE,
+            };
+        }
+        Err(WordsErr::Memory) => return tell_status(err, Fault::Memory),
     };
-    let fault = match run_input(alloc, choice, intake, out) {
-        Ok(()) => return FINISHED,
-        Err(fault) => fault,
-    };
-    match tell_fault(err, fault) {
-        Ok(()) | Err(Failed) => status_of(fault),
+    match call.source {
+        Source::Input => carry_input(alloc, call.choice, None, intake, out, err),
+        Source::File(name) => carry_input(alloc, call.choice, Some(name), intake, out, err),
+        Source::Generated(nodes) => carry_generated(alloc, nodes, out, err),
     }
 }

@@ -28,6 +28,7 @@ fn refusal_words(refusal: Refusal) -> &'static [u8]
         Refusal::AddressTaken => b"address taken",
         Refusal::SameNode => b"same node",
         Refusal::LinkTaken => b"link taken",
+        Refusal::AlgoAfterNode => b"algo after node",
         Refusal::NoSuchFrame => b"no such frame",
     }
 }

@@ -11,7 +11,7 @@ use crate::fault::Fault;
 use crate::passage::Passage;
 use crate::putting::put_text;
 use crate::scene::Scene;
-use mesh_base::{Failed, Millis, NoMemory, Sink};
+use mesh_base::{Failed, Millis, Sink};
 use mesh_model::{LimitName, Stop};
 use mesh_net::CLOCK_LIMIT;
 
@@ -35,10 +35,7 @@ fn run_slice<K: Sink>(
     ensures somewhere { OnOk result (IsSomewhere scene.new) }
 {
     text.clear();
-    let passage = match scene.pass(end, text) {
-        Ok(passage) => passage,
-        Err(NoMemory) => return Err(Fault::Memory),
-    };
+    let passage = scene.pass(end, text)?;
     if let Err(Failed) = put_text(out, text.as_slice()) {
         return Err(Fault::Write);
     }

@@ -1,8 +1,8 @@
-ghost use Rattle.std.specs.Prelude.{◌≡◌, ◌++◌, [], Err, OnErr, OnOk};
+ghost use Rattle.std.specs.Prelude.{◌≡◌, [], IfErr, IfOk};
 ghost use Rattle.mesh_model.specs.declared.line_form.Command.TheVariants as command;
 ghost use Rattle.mesh_model.specs.Run.Rules.{carried_out, iv_setup};
-ghost use Rattle.mesh_model.specs.Text.Decode.{decode_text as decoded};
-ghost use Rattle.mesh_run.specs.Inner.Scene.{CarriesFrom, FailsFrom, IsSomewhere};
+ghost use Rattle.mesh_model.specs.Run.State.{State};
+ghost use Rattle.mesh_run.specs.Inner.Scene.{CarriesFrom, FailsFrom, IsNodeOf, IsSomewhere, IsUnknown, SceneStands};
 
 use crate::fault::LineFault;
 use crate::global_table::show_globals;
@@ -10,20 +10,9 @@ use crate::line_fault::refused;
 use crate::local_table::show_locals;
 use crate::route_table::{show_neighbors, show_originators};
 use crate::scene::Scene;
-use batctl_text::decode_text;
-use mesh_base::NoMemory;
+use mesh_iv::Iv;
 use mesh_model::{Refusal, Table};
-
-/// `decode HEX`
-pub fn decode(bytes: &[u8], text: &mut Vec<u8>) -> Result<(), LineFault>
-    ensures ok { OnOk result (text.new.items ≡ text.old.items ++ decoded bytes.now) }
-    ensures memory { OnErr result (result ≡ Err LineFault.Memory) }
-{
-    match decode_text(text, bytes) {
-        Ok(()) => Ok(()),
-        Err(NoMemory) => Err(LineFault::Memory),
-    }
-}
+use mesh_node::Node;
 
 impl Scene {
     /// `show NODE T`: the tables of local clients, of what is known of the others', of originators
@@ -57,14 +46,9 @@ impl Scene {
         ensures refused { FailsFrom self.now (λ state. carried_out iv_setup state
             (command.Show name.now Table.Locals)) result }
     {
-        let Some(place) = self.place_of(name) else {
-            return Err(refused(Refusal::UnknownName));
-        };
-        let node = self.net.node(place);
-        match show_locals(self.alloc, node.locals(), name, self.net.now(), text) {
-            Ok(()) => Ok(()),
-            Err(NoMemory) => Err(LineFault::Memory),
-        }
+        let node = self.node_of(name)?;
+        show_locals(self.alloc, node.locals(), name, self.net.now(), text)?;
+        Ok(())
     }
 
     /// `show NODE tg`
@@ -76,14 +60,9 @@ impl Scene {
         ensures refused { FailsFrom self.now (λ state. carried_out iv_setup state
             (command.Show name.now Table.Globals)) result }
     {
-        let Some(place) = self.place_of(name) else {
-            return Err(refused(Refusal::UnknownName));
-        };
-        let node = self.net.node(place);
-        match show_globals(self.alloc, node, name, self.net.now(), text) {
-            Ok(()) => Ok(()),
-            Err(NoMemory) => Err(LineFault::Memory),
-        }
+        let node = self.node_of(name)?;
+        show_globals(self.alloc, node, name, self.net.now(), text)?;
+        Ok(())
     }
 
     /// `show NODE o`
@@ -95,14 +74,9 @@ impl Scene {
         ensures refused { FailsFrom self.now (λ state. carried_out iv_setup state
             (command.Show name.now Table.Originators)) result }
     {
-        let Some(place) = self.place_of(name) else {
-            return Err(refused(Refusal::UnknownName));
-        };
-        let node = self.net.node(place);
-        match show_originators(self.alloc, node.algo(), name, self.net.now(), text) {
-            Ok(()) => Ok(()),
-            Err(NoMemory) => Err(LineFault::Memory),
-        }
+        let node = self.node_of(name)?;
+        show_originators(self.alloc, node.algo(), name, self.net.now(), text)?;
+        Ok(())
     }
 
     /// `show NODE n`
@@ -114,13 +88,22 @@ impl Scene {
         ensures refused { FailsFrom self.now (λ state. carried_out iv_setup state
             (command.Show name.now Table.Neighbors)) result }
     {
+        let node = self.node_of(name)?;
+        show_neighbors(self.alloc, node.algo(), name, self.net.now(), text)?;
+        Ok(())
+    }
+
+    /// The node of a name.
+    fn node_of(&self, name: &[u8]) -> Result<&Node<Iv>, LineFault>
+        requires somewhere { IsSomewhere self.now }
+        ensures found { (state : State) → SceneStands self.now state →
+            IfOk result (λ node. IsNodeOf state name.now node.now) }
+        ensures unknown { (state : State) → SceneStands self.now state →
+            IfErr result (IsUnknown state name.now) }
+    {
         let Some(place) = self.place_of(name) else {
             return Err(refused(Refusal::UnknownName));
         };
-        let node = self.net.node(place);
-        match show_neighbors(self.alloc, node.algo(), name, self.net.now(), text) {
-            Ok(()) => Ok(()),
-            Err(NoMemory) => Err(LineFault::Memory),
-        }
+        Ok(self.net.node(place))
     }
 }

@@ -1,3 +1,5 @@
+mod calls;
+mod chain;
 mod faults;
 mod links;
 mod order;

@@ -1,29 +1,31 @@
 -- What a scene stands for: a state of the plain run. The main words are `SceneStands`, and for a
 -- call on a scene `CarriesFrom` and `FailsFrom`; for a slice of a run, `PassesFrom`.
-use Rattle.std.specs.Prelude.{◌≡◌, ℕ, Bool, true, false, not, List, map, ◌++◌, Result, Err, IfOk, OnOk, IfErr}
+use Rattle.std.specs.Prelude.{◌≡◌, ℕ, Bool, true, false, not, bytes_eq, List, [], ◌∷◌, map, ◌++◌, slice_get, Some, None, Result, Err, IfOk, OnOk, IfErr}
+use Rattle.std.specs.List.{list_any}
+use Rattle.std.specs.Option.{option_or}
 use Rattle.mesh_base.specs.declared.address.Mac.{Mac}
 use Rattle.mesh_iv.specs.Tables.{StandsFor, Tables}
 use Rattle.mesh_model.specs.declared.frame_choice.FrameChoice.{FrameChoice}
 use Rattle.mesh_model.specs.Clients.Log.{Given}
-use Rattle.mesh_model.specs.Net.Mesh.{Mesh, NetLink}
+use Rattle.mesh_model.specs.Net.Mesh.{Mesh, NetLink, NodeLog}
 use Rattle.mesh_model.specs.Routes.AlgorithmIv.{iv_queries}
 use Rattle.mesh_model.specs.Routes.RouteLog.{RouteLog}
 use Rattle.mesh_net.specs.NetStands.{NetStands}
 use Rattle.mesh_net.specs.declared.net.Net.{Net}
+use Rattle.mesh_node.specs.NodeStands.{NodeStands}
+use Rattle.mesh_node.specs.declared.node.Node.{Node as NodeValue}
 use Rattle.mesh_run.specs.declared.ends.LinkEnds.{LinkEnds}
-use Rattle.mesh_model.specs.declared.ending.Refusal.TheVariants.{UnknownName}
-use Rattle.mesh_model.specs.declared.ending.Stop.TheVariants.{Limit}
+use Rattle.mesh_model.specs.declared.ending.Refusal.TheVariants.{SameNode, UnknownName}
+use Rattle.mesh_model.specs.declared.ending.Stop.TheVariants.{Refused, Limit}
 use Rattle.mesh_model.specs.declared.line_form.Command.{Command}
 use Rattle.mesh_model.specs.declared.line_form.Command.TheVariants.{Nothing, Algo, Node, Link, Lan, Frame, Gone, Join, Leave, Arp, Dhcp, Wifi, GwOff, GwServer, GwClient, Mcast, Dat, Alfred, Put, Get, Ping, Trace, Run, Deliver, Show, Decode}
 use Rattle.mesh_model.specs.Run.Outcome.{Outcome, Goes, Ends}
 use Rattle.mesh_model.specs.Run.Passing.{run_until}
 use Rattle.mesh_model.specs.Run.Demands.{is_known, refusal_if}
 use Rattle.mesh_model.specs.Run.Rules.{iv_setup, unless_refused}
-use Rattle.mesh_model.specs.Run.State.{State, names_of, text_of}
-use Rattle.mesh_model.specs.Run.Steps.{at_node, input_step}
+use Rattle.mesh_model.specs.Run.State.{State, names_of, place_of, text_of}
+use Rattle.mesh_model.specs.Run.Steps.{at_node, input_step, session_step}
 use Rattle.mesh_model.specs.Scenario.Readings.{Reading}
-use Rattle.mesh_net.specs.declared.failure.NetErr.{NetErr}
-use Rattle.mesh_net.specs.declared.failure.NetErr.TheVariants as net
 use Rattle.mesh_run.specs.declared.fault.LineFault.{LineFault}
 use Rattle.mesh_run.specs.declared.fault.LineFault.TheVariants.{Stopped, Memory}
 use Rattle.mesh_run.specs.declared.passage.Passage.{Passage}
@@ -60,6 +62,14 @@ given_at name given state = unless_refused state
     (refusal_if (not (is_known state name)) UnknownName)
     (at_node name (input_step iv_setup given) state)
 
+-- the outcome of a line that begins a session of the node of one name with that of another
+abbrev pub session_at : List ℕ → List ℕ → (Mac → Given) → State → Outcome
+session_at node target given state = unless_refused state
+    (option_or (refusal_if
+    (list_any (λ name. not (is_known state name)) (node ∷ target ∷ [])) UnknownName)
+    (refusal_if (bytes_eq node target) SameNode))
+    (session_step iv_setup given node target state)
+
 -- a line that is carried out: the state after it, for which the scene stands, and what it printed
 pub record Carries (outcome : Outcome) (before : State) (scene : Scene)
     (printed : List ℕ) : Type 0 where
@@ -67,6 +77,19 @@ pub record Carries (outcome : Outcome) (before : State) (scene : Scene)
   pub carried : outcome ≡ Goes after
   pub stands : SceneStands scene after
   pub text : text_of after ≡ text_of before ++ printed
+
+-- the node of a name: its place, its row, and what it stands for
+pub record IsNodeOf (state : State) (name : List ℕ) (node : NodeValue Tables) : Type 0 where
+  pub place : ℕ
+  pub row : NodeLog
+  pub at : place_of state name ≡ Some place
+  pub found : slice_get state.mesh.nodes place ≡ Some row
+  pub stands : NodeStands iv_stands iv_queries node row.mac row.log
+
+-- a fault says that no node has a name, and none has it
+pub record IsUnknown (state : State) (name : List ℕ) (fault : LineFault) : Type 0 where
+  pub fault_is : fault ≡ Stopped (Refused UnknownName)
+  pub nowhere : place_of state name ≡ None
 
 -- the cause of a line's fault, which changes no state: want of memory is free
 abbrev pub HasLineCause : State → Outcome → LineFault → Type 0
@@ -77,12 +100,6 @@ HasLineCause before outcome Memory = Unit {0}
 abbrev pub HasReadingCause : Reading → LineFault → Type 0
 HasReadingCause reading (Stopped stop) = reading ≡ Err stop
 HasReadingCause reading Memory = Unit {0}
-
--- the fault of a line whose step the net refuses
-abbrev pub fault_of : NetErr → LineFault
-fault_of (net.Limit limit) = Stopped (Limit limit)
-fault_of net.Dead = Memory
-fault_of net.Memory = Memory
 
 -- from each state that the scene stood for, a call carries out what has this outcome, and prints
 abbrev pub CarriesFrom : (old new : Scene) → (State → Outcome) → List ℕ

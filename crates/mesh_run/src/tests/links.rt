@@ -131,3 +131,41 @@ fn a_tie_goes_to_the_lower_address(rt: HostRuntime) -> Result<(), Fail> {
     )];
     carry_out(&rt, rt.alloc(), &rows)
 }
+
+#[test]
+fn pings_and_traceroutes_are_answered(rt: HostRuntime) -> Result<(), Fail> {
+    let rows: [Row<'_>; 4] = [
+        (
+            &[],
+            "ping A B\nrun 3000\nping A B\ntraceroute A B\nrun 2\n",
+            FINISHED,
+            "ping A B seq=1 noroute\n\
+            ping A B seq=2 reply ttl=50 rtt=2\n\
+            trace A B hop=1 B rtt=2 end\n",
+            "",
+        ),
+        (
+            &[],
+            "traceroute B B\n",
+            REFUSED,
+            "",
+            "batmesh: line 5: same node\n",
+        ),
+        // The names are looked at before what else is asked.
+        (
+            &[],
+            "ping X X\n",
+            REFUSED,
+            "",
+            "batmesh: line 5: unknown name\n",
+        ),
+        (
+            &[],
+            "algo iv\n",
+            REFUSED,
+            "",
+            "batmesh: line 5: algo after node\n",
+        ),
+    ];
+    carry_out(&rt, rt.alloc(), &rows)
+}

@@ -1,4 +1,4 @@
-use Rattle.std.proofs.Common.{sym, ap, ◌∙◌, subst, rules}
+use Rattle.std.proofs.Common.{arith, sym, ap, ◌∙◌, subst, rules}
 use Rattle.std.proofs.lemmas.Result.{err_from_is_err_and}
 use Rattle.mesh_model.specs.declared.line_form.Command.{Command}
 use Rattle.mesh_model.specs.Run.Outcome.{Outcome}
@@ -6,9 +6,8 @@ use Rattle.mesh_model.specs.Run.PlainRun.{after_reading}
 use Rattle.mesh_model.specs.Run.Rules.{carried_out, iv_setup}
 use Rattle.mesh_model.specs.Scenario.Commands.{command_of_line}
 use Rattle.mesh_laws.proofs.Lines.ReadRange.{read-in-range}
-use Rattle.mesh_laws.proofs.RunLemmas.{after_reading-prints}
 use Rattle.mesh_run.specs.Inner.Lines.{CarryFails}
-use Rattle.mesh_run.proofs.FrontLemmas.{front-before}
+use Rattle.mesh_run.proofs.FaultLemmas.{line_blameless, reading_fails}
 use Rattle.mesh_run.proofs.carrying.carry_line.Goals as goal
 
 pub returns-in_err-run-in-Ok-Run-clause-failed : goal.returns-in_err-run-in-Ok-Run-clause-failed
@@ -38,7 +37,10 @@ returns-in_err-carry_whole-in-Ok g c =
       somewhere = rw p.1 tt;
     }
 
-pub returns-in-Memory-clause-failed : goal.returns-in-Memory-clause-failed
-returns-in-Memory-clause-failed g c = λ base state stands.
-    let reading = command_of_line c.args.line.now in
-    front-before base (g.K.Sink.taken c.args.out.now) state (after_reading state reading) (after_reading-prints state reading) stands.printed
+pub returns-in-Err-clause-failed : goal.returns-in-Err-clause-failed
+returns-in-Err-clause-failed g c = λ base state stands. rw c.at.ensures
+    (reading_fails base (g.K.Sink.taken c.args.out.now) state (command_of_line c.args.line.now) c.args.number c.reading_fault.result stands.printed
+    (c.reading_fault.ensures.cause (command_of_line c.args.line.now) c.in-Err.ensures.refused))
+
+pub returns-in-Err-clause-faults : goal.returns-in-Err-clause-faults
+returns-in-Err-clause-faults g c = record { kept = omega arith; cause = rw c.at.ensures (line_blameless _ _ c.args.number c.reading_fault.result) }

@@ -1,7 +1,7 @@
 use Rattle.std.proofs.Common.{ℕ, List, subst, sym}
 use Rattle.std.proofs.lemmas.Result.{err_from_is_err_and}
 use Rattle.mesh_model.specs.declared.line_form.Command.{Command}
-use Rattle.mesh_model.specs.declared.line_form.Command.TheVariants.{Node, Link, Frame, Show}
+use Rattle.mesh_model.specs.declared.line_form.Command.TheVariants.{Node, Link, Frame, Ping, Trace, Show}
 use Rattle.mesh_model.specs.Clients.Log.{Gone as GivenGone, Join as GivenJoin, Leave as GivenLeave, Wifi as GivenWifi}
 use Rattle.mesh_model.specs.Run.Outcome.{Outcome}
 use Rattle.mesh_model.specs.Run.Rules.{carried_out, iv_setup}
@@ -14,7 +14,7 @@ add_link-requires-clause-ranges c = c.requires.ranges c.in-Link.from c.in-Link.t
 
 pub returns-in_err-add_node-in-Node-clause-refused : goal.returns-in_err-add_node-in-Node-clause-refused
 returns-in_err-add_node-in-Node-clause-refused c = λ state stands.
-    let p = err_from_is_err_and c.from_residual.result c.from_residual.ensures.1 in
+    let p = err_from_is_err_and c.from_residual-in_err-add_node-in-Node.result c.from_residual-in_err-add_node-in-Node.ensures.1 in
     let node = c.in-Node in
     let fault = c.in_err-add_node-in-Node.field-0.0 in
     let F : List ℕ → Type 0 = λ name. HasLineCause state (carried_out iv_setup state (Node name node.mac)) fault in
@@ -121,6 +121,48 @@ returns-in_ok-give-in-Wifi-clause-ok c = λ state stands.
     let O : Outcome → Type 0 = λ o. Carries o state c.give-in-Wifi.new.self c.give-in-Wifi.new.text.items in
     let C : Command → Type 0 = λ command. Carries (carried_out iv_setup state command) state c.give-in-Wifi.new.self c.give-in-Wifi.new.text.items in
     subst C (sym line.is) (subst O (sym (wifi_given state line.node line.on)) (subst F c.as_slice-in-Wifi.ensures.value (c.in_ok-give-in-Wifi.ensures.ok state stands)))
+
+pub returns-in_err-ping-in-Ping-clause-refused : goal.returns-in_err-ping-in-Ping-clause-refused
+returns-in_err-ping-in-Ping-clause-refused c = λ state stands.
+    let p = err_from_is_err_and c.from_residual-in_err-ping-in-Ping.result c.from_residual-in_err-ping-in-Ping.ensures.1 in
+    let line = c.in-Ping in
+    let fault = c.in_err-ping-in-Ping.field-0.0 in
+    let L : List ℕ → List ℕ → Type 0 = λ node target. HasLineCause state (carried_out iv_setup state (Ping node target)) fault in
+    let C : Command → Type 0 = λ command. HasLineCause state (carried_out iv_setup state command) fault in
+    rw (p.1, p.2)
+    (subst C (sym line.is)
+    (subst (L line.node) c.as_slice-in-Ping-2.ensures.value
+    (subst (λ node. L node c.as_slice-in-Ping-2.result.now) c.as_slice-in-Ping.ensures.value (c.in_err-ping-in-Ping.ensures.refused state stands))))
+
+pub returns-in_ok-ping-in-Ping-clause-ok : goal.returns-in_ok-ping-in-Ping-clause-ok
+returns-in_ok-ping-in-Ping-clause-ok c = λ state stands.
+    let line = c.in-Ping in
+    let L : List ℕ → List ℕ → Type 0 = λ node target. Carries (carried_out iv_setup state (Ping node target)) state c.ping.new.self c.ping.new.text.items in
+    let C : Command → Type 0 = λ command. Carries (carried_out iv_setup state command) state c.ping.new.self c.ping.new.text.items in
+    subst C (sym line.is)
+    (subst (L line.node) c.as_slice-in-Ping-2.ensures.value
+    (subst (λ node. L node c.as_slice-in-Ping-2.result.now) c.as_slice-in-Ping.ensures.value (c.in_ok-ping-in-Ping.ensures.ok state stands)))
+
+pub returns-in_err-trace-in-Trace-clause-refused : goal.returns-in_err-trace-in-Trace-clause-refused
+returns-in_err-trace-in-Trace-clause-refused c = λ state stands.
+    let p = err_from_is_err_and c.from_residual-in_err-trace-in-Trace.result c.from_residual-in_err-trace-in-Trace.ensures.1 in
+    let line = c.in-Trace in
+    let fault = c.in_err-trace-in-Trace.field-0.0 in
+    let L : List ℕ → List ℕ → Type 0 = λ node target. HasLineCause state (carried_out iv_setup state (Trace node target)) fault in
+    let C : Command → Type 0 = λ command. HasLineCause state (carried_out iv_setup state command) fault in
+    rw (p.1, p.2)
+    (subst C (sym line.is)
+    (subst (L line.node) c.as_slice-in-Trace-2.ensures.value
+    (subst (λ node. L node c.as_slice-in-Trace-2.result.now) c.as_slice-in-Trace.ensures.value (c.in_err-trace-in-Trace.ensures.refused state stands))))
+
+pub returns-in_ok-trace-in-Trace-clause-ok : goal.returns-in_ok-trace-in-Trace-clause-ok
+returns-in_ok-trace-in-Trace-clause-ok c = λ state stands.
+    let line = c.in-Trace in
+    let L : List ℕ → List ℕ → Type 0 = λ node target. Carries (carried_out iv_setup state (Trace node target)) state c.trace.new.self c.trace.new.text.items in
+    let C : Command → Type 0 = λ command. Carries (carried_out iv_setup state command) state c.trace.new.self c.trace.new.text.items in
+    subst C (sym line.is)
+    (subst (L line.node) c.as_slice-in-Trace-2.ensures.value
+    (subst (λ node. L node c.as_slice-in-Trace-2.result.now) c.as_slice-in-Trace.ensures.value (c.in_ok-trace-in-Trace.ensures.ok state stands)))
 
 pub returns-in_err-show-in-Show-clause-refused : goal.returns-in_err-show-in-Show-clause-refused
 returns-in_err-show-in-Show-clause-refused c = λ state stands.

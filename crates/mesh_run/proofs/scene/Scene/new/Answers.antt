@@ -1,4 +1,4 @@
-use Rattle.std.proofs.Common.{◌≡◌, ap}
+use Rattle.std.proofs.Common.{ap}
 use Rattle.mesh_model.specs.declared.frame_choice.FrameChoice.TheVariants.{All}
 use Rattle.mesh_model.specs.Net.Mesh.{empty_mesh}
 use Rattle.mesh_base.specs.Names.{NamesGiven}

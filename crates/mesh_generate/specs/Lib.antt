@@ -1,0 +1,1 @@
+-- Nothing: what the contracts cite stands in mesh_model.

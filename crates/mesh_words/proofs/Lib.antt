@@ -1,0 +1,2 @@
+-- What the answers rest on.
+mod WordLemmas

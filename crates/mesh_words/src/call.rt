@@ -1,0 +1,19 @@
+use mesh_model::FrameChoice;
+
+/// From where the lines come.
+#[derive(Clone, Copy, Debug, PartialEq, Eq)]
+pub enum Source<'a> {
+    /// Standard input.
+    Input,
+    /// The file of this name.
+    File(&'a str),
+    /// The generator of a mesh of so many nodes.
+    Generated(u8),
+}
+
+/// What words ask for: the link frames that are printed, and the lines that are carried out.
+#[derive(Clone, Copy, Debug, PartialEq, Eq)]
+pub struct Call<'a> {
+    pub choice: FrameChoice,
+    pub source: Source<'a>,
+}
