@@ -2,7 +2,8 @@
 # How many link frames a second the built program carries out, and its peak memory: two nodes with a
 # link each way for 100,000 seconds, and a ring of 64 nodes with links to the eight next to each,
 # until the limit of frames; first with no frame printed, then with all. The files are made in a
-# folder of their own, which is removed.
+# folder of their own, which is removed. Then how long meshes of 8 and of 64 nodes take that the
+# program makes itself.
 set -e
 top=$(cd "$(dirname "$0")/.." && pwd)
 . "$top/bench/measure.sh"
@@ -51,3 +52,19 @@ frames 'two nodes, all printed' all "$work/duo" 400000
 ring 1000000 > "$work/ring"
 frames 'ring to the limit, none printed' none "$work/ring" 4194304
 frames 'ring to the limit, all printed' all "$work/ring" 4194304
+
+# The best of five calls that generate a mesh of $1 nodes.
+generate() {
+    best=
+    for _ in 1 2 3 4 5; do
+        start=$(date +%s%N)
+        "$program" --generate "$1" > "$work/counts"
+        end=$(date +%s%N)
+        took=$(((end - start) / 1000))
+        [ -n "$best" ] && [ "$best" -le "$took" ] || best=$took
+    done
+    echo "$(cat "$work/counts"): $best us"
+}
+
+generate 8
+generate 64
