@@ -55,23 +55,77 @@ fn added(alloc: Global, clients: &[u8]) -> Result<Changes, NoMemory> {
     Ok(changes)
 }
 
-/// An announcement of the empty table under byte 0.
-fn emptied(alloc: Global) -> Announcement {
-    Announcement {
-        byte: 0,
-        sums: Sums::new(alloc),
-        changes: Changes::new(alloc),
+/// What a table is told under: its originator, a byte, and the sum of the untagged VLAN.
+#[derive(Clone, Copy)]
+struct Told {
+    orig: Mac,
+    byte: u8,
+    sum: u32,
+}
+
+/// What a table of the tenth node is told under.
+fn ten(byte: u8, sum: u32) -> Told {
+    Told {
+        orig: node(10),
+        byte,
+        sum,
     }
 }
 
-/// An announcement under a byte and a sum, with changes.
-fn told(alloc: Global, byte: u8, sum: u32, changes: Changes) -> Result<Announcement, NoMemory> {
-    let sums = untagged(alloc, sum)?;
-    Ok(Announcement {
-        byte,
+/// Takes the tenth node's announcement of the empty table under byte 0. This and the next three have
+/// no clauses, so that the check of what calls them often stays short.
+fn hear_empty<L: Ledger>(
+    alloc: Global,
+    globals: &mut Globals,
+    steps: &mut Steps<L>,
+) -> Result<Heard, NoMemory> {
+    let announced = Announcement {
+        byte: 0,
+        sums: Sums::new(alloc),
+        changes: Changes::new(alloc),
+    };
+    globals.announce(node(10), &announced, steps)
+}
+
+/// Takes an announcement with changes.
+fn hear<L: Ledger>(
+    alloc: Global,
+    globals: &mut Globals,
+    told: Told,
+    changes: Changes,
+    steps: &mut Steps<L>,
+) -> Result<Heard, NoMemory> {
+    let sums = untagged(alloc, told.sum)?;
+    let announced = Announcement {
+        byte: told.byte,
         sums,
         changes,
-    })
+    };
+    globals.announce(told.orig, &announced, steps)
+}
+
+/// Takes an answer with a whole table.
+fn take_full<L: Ledger>(
+    alloc: Global,
+    globals: &mut Globals,
+    told: Told,
+    records: &Changes,
+    steps: &mut Steps<L>,
+) -> Result<Taken, NoMemory> {
+    let sums = untagged(alloc, told.sum)?;
+    globals.take_full(told.orig, told.byte, &sums, records, steps)
+}
+
+/// Takes an answer with changes.
+fn take_changes<L: Ledger>(
+    alloc: Global,
+    globals: &mut Globals,
+    told: Told,
+    records: &Changes,
+    steps: &mut Steps<L>,
+) -> Result<Taken, NoMemory> {
+    let sums = untagged(alloc, told.sum)?;
+    globals.take_changes(told.orig, told.byte, &sums, records, steps)
 }
 
 /// The outcomes of the announcements of the worked row, one after another.
@@ -80,16 +134,15 @@ fn announce_all<L: Ledger>(
     globals: &mut Globals,
     steps: &mut Steps<L>,
 ) -> Result<[Heard; 6], NoMemory> {
-    let orig = node(10);
     let none = || Changes::new(alloc);
     let add = || one(alloc, client(1), false);
     Ok([
-        globals.announce(orig, &emptied(alloc), steps)?,
-        globals.announce(orig, &told(alloc, 1, FIRST_SUM, add()?)?, steps)?,
-        globals.announce(orig, &told(alloc, 1, OTHER_SUM, none())?, steps)?,
-        globals.announce(orig, &told(alloc, 2, FIRST_SUM, add()?)?, steps)?,
-        globals.announce(orig, &told(alloc, 2, FIRST_SUM, none())?, steps)?,
-        globals.announce(orig, &told(alloc, 5, FIRST_SUM, none())?, steps)?,
+        hear_empty(alloc, globals, steps)?,
+        hear(alloc, globals, ten(1, FIRST_SUM), add()?, steps)?,
+        hear(alloc, globals, ten(1, OTHER_SUM), none(), steps)?,
+        hear(alloc, globals, ten(2, FIRST_SUM), add()?, steps)?,
+        hear(alloc, globals, ten(2, FIRST_SUM), none(), steps)?,
+        hear(alloc, globals, ten(5, FIRST_SUM), none(), steps)?,
     ])
 }
 
@@ -100,16 +153,14 @@ fn answer_all<L: Ledger>(
     globals: &mut Globals,
     steps: &mut Steps<L>,
 ) -> Result<([Taken; 3], bool), NoMemory> {
-    let orig = node(10);
-    let sums = untagged(alloc, FIRST_SUM)?;
     let whole = one(alloc, client(1), false)?;
-    let early = globals.take_full(orig, 2, &sums, &whole, steps)?;
-    let full = globals.take_full(orig, 5, &sums, &whole, steps)?;
-    let ok = globals.is_ok(orig);
-    let next = told(alloc, 6, FIRST_SUM, Changes::new(alloc))?;
-    globals.announce(orig, &next, steps)?;
+    let early = take_full(alloc, globals, ten(2, FIRST_SUM), &whole, steps)?;
+    let full = take_full(alloc, globals, ten(5, FIRST_SUM), &whole, steps)?;
+    let ok = globals.is_ok(node(10));
+    let next = ten(6, FIRST_SUM);
+    hear(alloc, globals, next, Changes::new(alloc), steps)?;
     let gone = one(alloc, client(9), true)?;
-    let changes = globals.take_changes(orig, 6, &sums, &gone, steps)?;
+    let changes = take_changes(alloc, globals, next, &gone, steps)?;
     Ok(([early, full, changes], ok))
 }
 
@@ -184,13 +235,15 @@ fn two_holders<L: Ledger>(alloc: Global, blank: Blank) -> Result<Globals, NoMemo
 {
     let mut steps = Steps::<L>::new(blank);
     let mut globals = Globals::new(alloc);
-    let sums = untagged(alloc, FIRST_SUM)?;
     let whole = one(alloc, client(1), false)?;
     for last in [12, 11] {
-        let orig = node(last);
-        let announced = told(alloc, 255, FIRST_SUM, Changes::new(alloc))?;
-        globals.announce(orig, &announced, &mut steps)?;
-        globals.take_full(orig, 255, &sums, &whole, &mut steps)?;
+        let told = Told {
+            orig: node(last),
+            byte: 255,
+            sum: FIRST_SUM,
+        };
+        hear(alloc, &mut globals, told, Changes::new(alloc), &mut steps)?;
+        take_full(alloc, &mut globals, told, &whole, &mut steps)?;
     }
     Ok(globals)
 }
@@ -224,14 +277,13 @@ fn announce_three<L: Ledger>(
     globals: &mut Globals,
     steps: &mut Steps<L>,
 ) -> Result<[Heard; 3], NoMemory> {
-    let orig = node(10);
     let none = || Changes::new(alloc);
     let first = added(alloc, &[1])?;
-    globals.announce(orig, &emptied(alloc), steps)?;
+    hear_empty(alloc, globals, steps)?;
     Ok([
-        globals.announce(orig, &told(alloc, 1, FIRST_SUM, first)?, steps)?,
-        globals.announce(orig, &told(alloc, 2, TWO_SUM, none())?, steps)?,
-        globals.announce(orig, &told(alloc, 3, THREE_SUM, none())?, steps)?,
+        hear(alloc, globals, ten(1, FIRST_SUM), first, steps)?,
+        hear(alloc, globals, ten(2, TWO_SUM), none(), steps)?,
+        hear(alloc, globals, ten(3, THREE_SUM), none(), steps)?,
     ])
 }
 
@@ -242,12 +294,11 @@ fn answer_late<L: Ledger>(
     globals: &mut Globals,
     steps: &mut Steps<L>,
 ) -> Result<(Taken, Option<u8>, Taken), NoMemory> {
-    let orig = node(10);
     let second = added(alloc, &[2])?;
-    let late = globals.take_changes(orig, 2, &untagged(alloc, TWO_SUM)?, &second, steps)?;
-    let kept = globals.held(orig).map(|(byte, _table)| byte);
+    let late = take_changes(alloc, globals, ten(2, TWO_SUM), &second, steps)?;
+    let kept = globals.held(node(10)).map(|(byte, _table)| byte);
     let whole = added(alloc, &[1, 2, 3])?;
-    let full = globals.take_full(orig, 3, &untagged(alloc, THREE_SUM)?, &whole, steps)?;
+    let full = take_full(alloc, globals, ten(3, THREE_SUM), &whole, steps)?;
     Ok((late, kept, full))
 }
 
@@ -294,13 +345,12 @@ fn alias_announced<L: Ledger>(
 {
     let mut steps = Steps::<L>::new(blank);
     let mut globals = Globals::new(alloc);
-    let orig = node(10);
-    let two = told(alloc, 1, TWO_SUM, added(alloc, &[1, 2])?)?;
-    let alias = told(alloc, 1, ALIAS_SUM, Changes::new(alloc))?;
+    let two = added(alloc, &[1, 2])?;
+    let none = Changes::new(alloc);
     let heard = [
-        globals.announce(orig, &emptied(alloc), &mut steps)?,
-        globals.announce(orig, &two, &mut steps)?,
-        globals.announce(orig, &alias, &mut steps)?,
+        hear_empty(alloc, &mut globals, &mut steps)?,
+        hear(alloc, &mut globals, ten(1, TWO_SUM), two, &mut steps)?,
+        hear(alloc, &mut globals, ten(1, ALIAS_SUM), none, &mut steps)?,
     ];
     Ok((heard, globals))
 }

@@ -25,9 +25,19 @@ fn row(vid: Vid, flags: u8, age: Millis) -> LocalRow {
     }
 }
 
-// Notes a sighting. It has no clauses, so that the check of what calls it often stays short.
+// Notes a sighting. This and the next have no clauses, so that the check of what calls them often
+// stays short.
 fn see(locals: &mut Locals, now: Millis, key: Key, flags: u8) -> Result<bool, LocalErr> {
     locals.see(now, key, flags)
+}
+
+// Commits the table of the present clients.
+fn commit<L: Ledger>(
+    locals: &mut Locals,
+    now: Millis,
+    steps: &mut Steps<L>,
+) -> Result<Option<u64>, NoMemory> {
+    locals.commit(now, steps)
 }
 
 // A client in two VLANs, sighted twice in the untagged one, and what each sighting answers.
@@ -111,7 +121,7 @@ fn ticks<L: Ledger>(alloc: Global, blank: Blank) -> Result<[(Option<u64>, u8, us
             see(&mut locals, 0, key(Vid::UNTAGGED), 0)?;
         }
         let now = if i == 4 { 600_000 } else { 1_000 };
-        let number = locals.commit(now, &mut steps)?;
+        let number = commit(&mut locals, now, &mut steps)?;
         let announced = locals.announcement()?;
         told[i] = (number, announced.byte, announced.changes.len());
     }
@@ -171,10 +181,10 @@ fn commit_257<L: Ledger>(alloc: Global, blank: Blank) -> Result<Locals, LocalErr
     see(&mut locals, 0, client(1), 0)?;
     for i in 0..256 {
         come_or_go(&mut locals, i % 2 == 0)?;
-        locals.commit(0, &mut steps)?;
+        commit(&mut locals, 0, &mut steps)?;
     }
     replace_first(&mut locals)?;
-    locals.commit(0, &mut steps)?;
+    commit(&mut locals, 0, &mut steps)?;
     Ok(locals)
 }
 
@@ -218,7 +228,7 @@ fn told_of_flags<L: Ledger>(alloc: Global, blank: Blank) -> Result<Option<usize>
     let mut locals = Locals::new(alloc);
     for flags in [0, 16] {
         see(&mut locals, 0, client(1), flags)?;
-        locals.commit(0, &mut steps)?;
+        commit(&mut locals, 0, &mut steps)?;
     }
     Ok(locals.told_changes().map(|changes| changes.len()))
 }
@@ -264,7 +274,7 @@ fn numbers<L: Ledger>(alloc: Global, blank: Blank) -> Result<[Option<u64>; 5], L
     note_both(&mut locals)?;
     for i in 0..5 {
         note_between(&mut locals, i, moments[i])?;
-        numbers[i] = locals.commit(moments[i], &mut steps)?;
+        numbers[i] = commit(&mut locals, moments[i], &mut steps)?;
     }
     Ok(numbers)
 }
