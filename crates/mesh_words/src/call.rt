@@ -1,5 +1,11 @@
 use mesh_model::FrameChoice;
 
+/// The fewest nodes that are generated.
+pub const LEAST_NODES: u8 = 3;
+
+/// The most nodes that are generated.
+pub const MOST_NODES: u8 = 64;
+
 /// From where the lines come.
 #[derive(Clone, Copy, Debug, PartialEq, Eq)]
 pub enum Source<'a> {

@@ -2,6 +2,7 @@ ghost use Rattle.std.specs.Prelude.{◌≡◌, IfOk, IfErr};
 ghost use Rattle.clap.specs.Words.{app_of, kind_of};
 ghost use Rattle.mesh_model.specs.Run.CommandLine.{the_command};
 
+use crate::call::{LEAST_NODES, MOST_NODES};
 use clap::error::ErrorKind;
 use clap::{Arg, ArgAction, Command, Error};
 use std::alloc::Global;
@@ -14,7 +15,7 @@ pub fn command<'a>(alloc: Global) -> Result<Command<'a>, Error>
     let frames = Arg::new(alloc, "frames")
         .long("frames")
         .action(ArgAction::Set);
-    let nodes = clap::value_parser!(u8).range(3..=64);
+    let nodes = clap::value_parser!(u8).range(i64::from(LEAST_NODES)..=i64::from(MOST_NODES));
     let generate = Arg::new(alloc, "generate")
         .long("generate")
         .action(ArgAction::Set)

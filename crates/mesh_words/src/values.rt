@@ -3,15 +3,9 @@ ghost use Rattle.clap.specs.Words.{found_of, rows_of};
 ghost use Rattle.mesh_model.specs.Run.CommandLine.{call_of_values, choice_given, choice_of_word, least_nodes, most_nodes, nodes_of_word, source_given};
 ghost use Rattle.mesh_words.specs.Words.{HasNodes, call_of, source_of};
 
-use crate::call::{Call, Source};
+use crate::call::{Call, LEAST_NODES, MOST_NODES, Source};
 use clap::ArgMatches;
 use mesh_model::FrameChoice;
-
-/// The fewest nodes that are generated.
-const LEAST_NODES: u8 = 3;
-
-/// The most nodes that are generated.
-const MOST_NODES: u8 = 64;
 
 /// The choice of frames of a word.
 #[tactic(auto, unfolding(mesh_model::specs::Run::CommandLine::choice_of_word))]

@@ -8,7 +8,7 @@ use Rattle.mesh_words.proofs.command.command.Goals as goal
 
 pub returns-clause-ok : goal.returns-clause-ok
 returns-clause-ok c =
-    let ranged : c.range-nodes.result ≡ Signed (pos 3) (pos 64) = rw c.value_parser.ensures at c.range-nodes.ensures ∙ ap₂ (λ (a b : ℤ). signed_between (int_max (pos 0) a) (int_min (pos 255) b)) c.new-2.ensures.start c.new-2.ensures.end in
+    let ranged : c.range-nodes.result ≡ Signed (pos 3) (pos 64) = rw (c.from.ensures, c.from-2.ensures) at (rw c.value_parser.ensures at c.range-nodes.ensures ∙ ap₂ (λ (a b : ℤ). signed_between (int_max (pos 0) a) (int_min (pos 255) b)) c.new-2.ensures.start c.new-2.ensures.end) in
     let given = c.value_parser-generate.ensures.given in
     let parser : c.value_parser-generate.result.value_parser ≡ Some (Signed (pos 3) (pos 64)) = given.1 ∙ ap Some (given.2 ∙ ranged) in
     let frames : rule_of c.action-frames.result ≡ frames_rule = search rules in
