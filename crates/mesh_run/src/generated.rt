@@ -9,7 +9,7 @@ use crate::fault::Fault;
 use crate::input::new_runner;
 use crate::kept_text::KeptText;
 use crate::putting::put_text;
-use mesh_base::{Failed, NoMemory, Sink};
+use mesh_base::{Failed, Sink};
 use mesh_generate::{generated_input, summary_line};
 use mesh_model::FrameChoice;
 use std::alloc::Global;
@@ -32,21 +32,15 @@ fn summary_of(alloc: Global, nodes: u8) -> Result<Vec<u8>, Fault>
     ensures summary { IfOk result (λ line. Summarizes nodes line.items) }
     ensures failed { IfErr result (HasGeneratedCause nodes) }
 {
-    let Ok(lines) = generated_input(alloc, nodes) else {
-        return Err(Fault::Memory);
-    };
+    let lines = generated_input(alloc, nodes)?;
     let mut runner = new_runner(alloc, FrameChoice::Hidden);
     let mut kept = KeptText::new(alloc);
     if let Err(fault) = runner.take_piece(&mut kept, lines.as_slice()) {
         return Err(kept_fault(fault));
     }
-    let Ok(counts) = runner.scene.counts(nodes, kept.text.as_slice()) else {
-        return Err(Fault::Memory);
-    };
+    let counts = runner.scene.counts(nodes, kept.text.as_slice())?;
     let mut line = Vec::new(alloc);
-    if let Err(NoMemory) = summary_line(&mut line, counts) {
-        return Err(Fault::Memory);
-    }
+    summary_line(&mut line, counts)?;
     Ok(line)
 }
 
@@ -59,10 +53,7 @@ pub fn run_generated<K: Sink>(alloc: Global, nodes: u8, out: &mut K) -> Result<(
         (GenerationFails nodes (K.taken out.old) (K.taken out.new)) }
     ensures faults { CountsWrites (K.faults out.old) (K.faults out.new) result }
 {
-    let line = match summary_of(alloc, nodes) {
-        Ok(line) => line,
-        Err(fault) => return Err(fault),
-    };
+    let line = summary_of(alloc, nodes)?;
     if let Err(Failed) = put_text(out, line.as_slice()) {
         return Err(Fault::Write);
     }

@@ -1,8 +1,6 @@
 -- What a scene stands for: a state of the plain run. The main words are `SceneStands`, and for a
 -- call on a scene `CarriesFrom` and `FailsFrom`; for a slice of a run, `PassesFrom`.
-use Rattle.std.specs.Prelude.{◌≡◌, ℕ, Bool, true, false, not, bytes_eq, List, [], ◌∷◌, map, ◌++◌, slice_get, Some, None, Result, Err, IfOk, OnOk, IfErr}
-use Rattle.std.specs.List.{list_any}
-use Rattle.std.specs.Option.{option_or}
+use Rattle.std.specs.Prelude.{◌≡◌, ℕ, Bool, true, false, not, List, [], map, ◌++◌, slice_get, Some, None, Result, Err, IfOk, OnOk, IfErr}
 use Rattle.mesh_base.specs.declared.address.Mac.{Mac}
 use Rattle.mesh_iv.specs.Tables.{StandsFor, Tables}
 use Rattle.mesh_model.specs.declared.frame_choice.FrameChoice.{FrameChoice}
@@ -15,14 +13,14 @@ use Rattle.mesh_net.specs.declared.net.Net.{Net}
 use Rattle.mesh_node.specs.NodeStands.{NodeStands}
 use Rattle.mesh_node.specs.declared.node.Node.{Node as NodeValue}
 use Rattle.mesh_run.specs.declared.ends.LinkEnds.{LinkEnds}
-use Rattle.mesh_model.specs.declared.ending.Refusal.TheVariants.{SameNode, UnknownName}
+use Rattle.mesh_model.specs.declared.ending.Refusal.TheVariants.{UnknownName}
 use Rattle.mesh_model.specs.declared.ending.Stop.TheVariants.{Refused, Limit}
 use Rattle.mesh_model.specs.declared.line_form.Command.{Command}
 use Rattle.mesh_model.specs.declared.line_form.Command.TheVariants.{Nothing, Algo, Node, Link, Lan, Frame, Gone, Join, Leave, Arp, Dhcp, Wifi, GwOff, GwServer, GwClient, Mcast, Dat, Alfred, Put, Get, Ping, Trace, Run, Deliver, Show, Decode}
 use Rattle.mesh_model.specs.Run.Outcome.{Outcome, Goes, Ends}
 use Rattle.mesh_model.specs.Run.Passing.{run_until}
 use Rattle.mesh_model.specs.Run.Demands.{is_known, refusal_if}
-use Rattle.mesh_model.specs.Run.Rules.{iv_setup, unless_refused}
+use Rattle.mesh_model.specs.Run.Rules.{first_refused_rule, iv_setup, unless_refused}
 use Rattle.mesh_model.specs.Run.State.{State, names_of, place_of, text_of}
 use Rattle.mesh_model.specs.Run.Steps.{at_node, input_step, session_step}
 use Rattle.mesh_model.specs.Scenario.Readings.{Reading}
@@ -62,13 +60,11 @@ given_at name given state = unless_refused state
     (refusal_if (not (is_known state name)) UnknownName)
     (at_node name (input_step iv_setup given) state)
 
--- the outcome of a line that begins a session of the node of one name with that of another
+-- the outcome of a line that begins a session of the node of one name with that of another; its
+-- rules are those of `ping`, whichever session it begins
 abbrev pub session_at : List ℕ → List ℕ → (Mac → Given) → State → Outcome
 session_at node target given state = unless_refused state
-    (option_or (refusal_if
-    (list_any (λ name. not (is_known state name)) (node ∷ target ∷ [])) UnknownName)
-    (refusal_if (bytes_eq node target) SameNode))
-    (session_step iv_setup given node target state)
+    (first_refused_rule state (Ping node target)) (session_step iv_setup given node target state)
 
 -- a line that is carried out: the state after it, for which the scene stands, and what it printed
 pub record Carries (outcome : Outcome) (before : State) (scene : Scene)

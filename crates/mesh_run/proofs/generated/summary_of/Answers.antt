@@ -13,7 +13,7 @@ returns-in-Err-clause-failed c =
     let fails = c.in-Err.ensures.failed Hidden base [] (c.new_runner-runner.ensures.stands base) [] in
     let bytes = c.as_slice.result.now in
     rw c.kept_fault.ensures
-    (generated-cause c.args.nodes 1 base (Some c.take_piece.new.out.text.items) c.in-Err.fault (([] ++ bytes) ++ []) (append-nil bytes ∙ c.as_slice.ensures.value ∙ c.in-Ok.ensures) fails)
+    (generated-cause c.args.nodes 1 base (Some c.take_piece.new.out.text.items) c.in-Err.fault (([] ++ bytes) ++ []) (append-nil bytes ∙ c.as_slice.ensures.value ∙ c.in_ok-lines.ensures) fails)
 
 pub returns-clause-summary : goal.returns-clause-summary
 returns-clause-summary c =
@@ -22,11 +22,11 @@ returns-clause-summary c =
     let Before : List ℕ → Type 0 = λ kept. Stands Hidden (Some []) (Some kept) c.new_runner-runner.result [] in
     let before = subst Before (sym c.new-kept.ensures) (c.new_runner-runner.ensures.stands (Some [])) in
     let After : List ℕ → Type 0 = λ input. Stands Hidden (Some []) (Some text) runner input in
-    let stands = subst After (c.as_slice.ensures.value ∙ c.in-Ok.ensures) (c.in_default-take_piece.ensures.ok Hidden (Some []) [] before) in
+    let stands = subst After (c.as_slice.ensures.value ∙ c.in_ok-lines.ensures) (c.in_default.ensures.ok Hidden (Some []) [] before) in
     let state = (after_lines (start Hidden) stands.lines).state in
-    let Counted : List ℕ → Type 0 = λ printed. HasCounts c.args.nodes state printed c.in-Ok-counts.counts in
-    let has = subst Counted c.as_slice-2.ensures.value (c.in-Ok-counts.ensures state stands.at.scene_is) in
-    let counts = c.in-Ok-counts.counts in
+    let Counted : List ℕ → Type 0 = λ printed. HasCounts c.args.nodes state printed c.in_ok-counts.counts in
+    let has = subst Counted c.as_slice-2.ensures.value (c.in_ok-counts.ensures state stands.at.scene_is) in
+    let counts = c.in_ok-counts.counts in
     let line = summary_line counts.nodes counts.frames counts.received counts.commits counts.ok in
     summarized c.args.nodes text c.summary_line.new.out.items runner counts stands has
-    (c.in_default-summary_line.ensures ∙ ap (λ front. front ++ line) c.new-line.ensures.items)
+    (c.in_ok-summary_line.ensures ∙ ap (λ front. front ++ line) c.new-line.ensures.items)
