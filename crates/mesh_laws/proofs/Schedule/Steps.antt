@@ -5,7 +5,7 @@ use Rattle.mesh_model.specs.declared.ending.LimitName.{LimitName}
 use Rattle.mesh_model.specs.declared.happening.Class.{Class}
 use Rattle.mesh_model.specs.declared.happening.Class.TheVariants.{LinkDelivery, NodeTick}
 use Rattle.mesh_model.specs.declared.happening.Happening.{Happening}
-use Rattle.mesh_model.specs.Clients.Log.{Given, Tick, LinkFrame, Frame, Gone, Join, Leave, Arp, Dhcp, Wifi, Ping, Trace, LogEntry}
+use Rattle.mesh_model.specs.Clients.Log.{Given, Tick, LinkFrame, LanFrame, Line, LogEntry}
 use Rattle.mesh_model.specs.Net.Mesh.{NetLink, SentFrame, NodeLog, Mesh, Setup, address_at}
 use Rattle.mesh_model.specs.Net.Sending.{Attempt, Actor, after_acts}
 use Rattle.mesh_model.specs.Net.Inputs.{noting, noted_at, noted, with_entry, entry_of, unless_passed, given_node, given_to}
@@ -26,15 +26,8 @@ get_front (z ∷ zs) ys (suc i) x e = get_front zs ys i x e
 pub gave_later : (before more : List SentFrame) (given : Given) → GivesItsBytes before given → GivesItsBytes (before ++ more) given
 gave_later before more (Tick index) g = tt
 gave_later before more (LinkFrame number from throughput bytes) g = (g.0, get_front before more (number - 1) g.0 g.1, g.2)
-gave_later before more (Frame src dst vid text) g = tt
-gave_later before more (Gone key) g = tt
-gave_later before more (Join key) g = tt
-gave_later before more (Leave key) g = tt
-gave_later before more (Arp mac own_ip asked_ip vid) g = tt
-gave_later before more (Dhcp key text) g = tt
-gave_later before more (Wifi on) g = tt
-gave_later before more (Ping target) g = tt
-gave_later before more (Trace target) g = tt
+gave_later before more (LanFrame bytes) g = tt
+gave_later before more (Line line) g = tt
 
 -- a node after it had so many more ticks, and was given frames with the bytes of these
 pub record Grew (frames : List SentFrame) (extra : ℕ) (node after : NodeLog) : Type 0 where

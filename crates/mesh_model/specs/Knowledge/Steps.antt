@@ -15,7 +15,7 @@ use Rattle.mesh_model.specs.declared.probe.Probe.{Probe}
 use Rattle.mesh_model.specs.declared.probe.Told.{Told}
 use Rattle.mesh_model.specs.declared.probe.Told.TheVariants.{Unknown, Done, Next}
 use Rattle.mesh_model.specs.declared.table_outcome.Request.{Request}
-use Rattle.mesh_model.specs.Clients.Log.{Given, Tick, LinkFrame, Frame, Gone, Join, Leave, Arp, Dhcp, Wifi, Ping, Trace, Log}
+use Rattle.mesh_model.specs.Clients.Log.{Given, Tick, LinkFrame, LanFrame, Line, LineGiven, Attach, Frame, Gone, Join, Leave, Arp, Dhcp, Sets, Put, Get, Ping, Trace, Log}
 use Rattle.mesh_model.specs.Clients.Mentions.{key_of, mentions}
 use Rattle.mesh_model.specs.Clients.Present.{present_row}
 use Rattle.mesh_model.specs.Knowledge.Addressee.{Way, addressee}
@@ -241,6 +241,23 @@ after_frame dst known =
 
 -- ---- the log
 
+-- what is known after what a line gives right after a log, from what was known before it
+abbrev pub line_knowledge : Queries → Mac → Log → Knowledge → ℕ → LineGiven → Knowledge
+line_knowledge q me older known now (Attach lan gateways) = known
+line_knowledge q me older known now (Frame src dst vid text) =
+    after_frame dst (after_sighting q me older now (key_of src vid) known)
+line_knowledge q me older known now (Gone key) = known
+line_knowledge q me older known now (Join key) = known
+line_knowledge q me older known now (Leave key) = known
+line_knowledge q me older known now (Arp mac own_ip asked_ip vid) =
+    after_sighting q me older now (key_of mac vid) known
+line_knowledge q me older known now (Dhcp key text) = after_sighting q me older now key known
+line_knowledge q me older known now (Sets setting) = known
+line_knowledge q me older known now (Put type_no version text) = known
+line_knowledge q me older known now (Get type_no) = known
+line_knowledge q me older known now (Ping target) = after_start q now target false known
+line_knowledge q me older known now (Trace target) = after_start q now target true known
+
 -- what is known after an input right after a log, from what was known before it
 abbrev pub next_knowledge : Queries → Mac → Log → Knowledge → ℕ → Given → Knowledge
 next_knowledge q me older known now (Tick index) =
@@ -248,17 +265,8 @@ next_knowledge q me older known now (Tick index) =
 next_knowledge q me older known now (LinkFrame number from throughput bytes) = after_packets q me
     (record { now = now; from = from; throughput = throughput; number = number }) known
     (link_frame bytes).packets
-next_knowledge q me older known now (Frame src dst vid text) =
-    after_frame dst (after_sighting q me older now (key_of src vid) known)
-next_knowledge q me older known now (Gone key) = known
-next_knowledge q me older known now (Join key) = known
-next_knowledge q me older known now (Leave key) = known
-next_knowledge q me older known now (Arp mac own_ip asked_ip vid) =
-    after_sighting q me older now (key_of mac vid) known
-next_knowledge q me older known now (Dhcp key text) = after_sighting q me older now key known
-next_knowledge q me older known now (Wifi on) = known
-next_knowledge q me older known now (Ping target) = after_start q now target false known
-next_knowledge q me older known now (Trace target) = after_start q now target true known
+next_knowledge q me older known now (LanFrame bytes) = known
+next_knowledge q me older known now (Line line) = line_knowledge q me older known now line
 
 -- what a node of this address knows by its log
 abbrev pub knowledge : Queries → Mac → Log → Knowledge
