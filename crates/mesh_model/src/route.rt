@@ -15,6 +15,8 @@ pub struct Beats {
 pub struct Hearing {
     /// Whether the originator's announcement is taken from this packet.
     pub accepted: bool,
+    /// Whether a life of the originator begins with it.
+    pub began: bool,
     /// What is sent on, on all links, with the packet's containers.
     pub forward: Option<Head>,
 }

@@ -28,18 +28,18 @@ pub fn a_link_with_an_echo_has_a_value()
 {}
 
 /// An OGM from its originator is sent on with DIRECTLINK, and with NOT_BEST_NEXT_HOP where there is
-/// no route to it.
+/// no route to it. A life begins with the first.
 pub fn direct_ogms_are_sent_on()
     ensures first { (iv_queries mac_a).hear log_before_1 1001 mac_b 1000 (ogm_of_b 1)
-        ≡ record { accepted = true; forward = Some (IvOgm 49 5 1 mac_b mac_b 0) } }
+        ≡ record { accepted = true; began = true; forward = Some (IvOgm 49 5 1 mac_b mac_b 0) } }
     ensures second { (iv_queries mac_a).hear log_before_2 2001 mac_b 1000 (ogm_of_b 2)
-        ≡ record { accepted = true; forward = Some (IvOgm 49 4 2 mac_b mac_b 9) } }
+        ≡ record { accepted = true; began = false; forward = Some (IvOgm 49 4 2 mac_b mac_b 9) } }
 {}
 
 /// A repeated OGM is neither accepted nor sent on.
 pub fn a_repeated_ogm_does_nothing()
     ensures { (iv_queries mac_a).hear log_with_2 2002 mac_b 1000 (ogm_of_b 2)
-        ≡ record { accepted = false; forward = None } }
+        ≡ record { accepted = false; began = false; forward = None } }
 {}
 
 /// The tables of originators and neighbours have B.

@@ -5,7 +5,7 @@
 -- what its new node was told to have. A sighting ends the client's mark, and is advertised where
 -- the client wasn't present just before and was elsewhere. A probe of a ping or a traceroute waits
 -- for its answer where it was sent. The main word is `knowledge`.
-use Rattle.std.specs.Prelude.{ℕ, suc, ◌&&◌, Bool, true, false, not, List, [], ◌∷◌, fold, Option, Some, None, is_none, is_some, if◌then◌else◌}
+use Rattle.std.specs.Prelude.{ℕ, suc, ◌&&◌, Bool, true, false, List, [], ◌∷◌, fold, Option, Some, None, is_none, is_some, if◌then◌else◌}
 use Rattle.mesh_base.specs.Address.{is_broadcast}
 use Rattle.mesh_base.specs.declared.address.Mac.{Mac}
 use Rattle.mesh_base.specs.declared.client.Key.{Key}
@@ -104,7 +104,8 @@ with_announcement came message request known = record known {
 -- begins drops what was known
 abbrev pub before_announcement : Queries → Coming → Head → Mac → Knowledge → Knowledge
 before_announcement q came head orig known =
-    with_life orig (not (q.live known.routes came.now orig)) (with_head came head known)
+    with_life orig (q.hear known.routes came.now came.from came.throughput head).began
+    (with_head came head known)
 
 -- the same after it
 abbrev pub after_announcement : Queries → Coming → Message → Knowledge → Knowledge
