@@ -21,6 +21,16 @@ pub struct Hearing {
     pub forward: Option<Head>,
 }
 
+/// How a number meets the life of its originator in which it comes: it is late, or a restart, or
+/// neither.
+#[derive(Clone, Copy, Debug, PartialEq, Eq)]
+pub struct Meeting {
+    /// Whether it is far below the newest number.
+    pub late: bool,
+    /// Whether a life begins with it.
+    pub restart: bool,
+}
+
 /// A live originator as a node knows it.
 #[derive(Clone, Copy, Debug, PartialEq, Eq)]
 pub struct OrigRow {

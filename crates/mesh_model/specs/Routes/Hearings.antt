@@ -5,9 +5,10 @@
 -- wasn't sent on in the life. The main word is `heard`.
 use Rattle.std.specs.Prelude.{ℕ, ◌&&◌, ◌||◌, nat_lt, Bool, false, not, List, [], ◌∷◌, Option, Some, None, if◌then◌else◌}
 use Rattle.mesh_base.specs.declared.address.Mac.{Mac}
+use Rattle.mesh_model.specs.declared.route.Meeting.{Meeting}
 use Rattle.mesh_model.specs.Routes.Addresses.{same_mac}
 use Rattle.mesh_model.specs.Routes.BestRoute.{best_route, is_over}
-use Rattle.mesh_model.specs.Routes.Life.{HeardOgm, Meeting, of, since, life, meeting, is_first, forwarded}
+use Rattle.mesh_model.specs.Routes.Life.{HeardOgm, of, since, life, meeting, is_first, forwarded}
 use Rattle.mesh_model.specs.Routes.Numbers.{has}
 use Rattle.mesh_model.specs.Routes.Ogm.{Ogm, ogm_of_head, passes}
 use Rattle.mesh_model.specs.Routes.Quality.{echo_quality, receive_quality, transmit_quality, average_quality}

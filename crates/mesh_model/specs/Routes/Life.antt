@@ -6,6 +6,7 @@
 -- list of hearings is newest first. The main word is `life`.
 use Rattle.std.specs.Prelude.{ℕ, ◌+◌, ◌-◌, ◌&&◌, nat_eq, nat_le, nat_lt, max, Bool, true, false, not, List, [], ◌∷◌, filter, if◌then◌else◌}
 use Rattle.mesh_base.specs.declared.address.Mac.{Mac}
+use Rattle.mesh_model.specs.declared.route.Meeting.{Meeting}
 use Rattle.mesh_model.specs.Routes.Addresses.{same_mac, insert_mac}
 use Rattle.mesh_model.specs.Routes.Numbers.{has, window_length}
 
@@ -60,11 +61,6 @@ is_live (h ∷ older) = true
 abbrev pub newest : List HeardOgm → ℕ
 newest [] = 0
 newest (h ∷ older) = if h.late then newest older else max h.seq (newest older)
-
--- how a number meets a life: it is late, or it is a restart, or it is neither
-pub record Meeting : Type 0 where
-  pub late : Bool
-  pub restart : Bool
 
 -- how a number that comes at a moment meets the life at that moment
 unfoldable pub meeting : (moment number : ℕ) → (alive : List HeardOgm) → Meeting
