@@ -23,8 +23,8 @@ use Rattle.mesh_model.specs.Routes.RouteLog.{RouteLog}
 use Rattle.mesh_laws.specs.Soundness.{IsSound}
 use Rattle.mesh_laws.proofs.Schedule.Due.{finds_next, next_due_some}
 use Rattle.mesh_laws.proofs.Schedule.Steps.{Was, delivered_effect, no_ticks, step_is, tickless, ticks_of}
-use Rattle.mesh_node.specs.declared.failure.NodeErr.{NodeErr}
-use Rattle.mesh_node.specs.declared.failure.NodeErr.TheVariants as node_errors
+use Rattle.node_ground.specs.declared.failure.NodeErr.{NodeErr}
+use Rattle.node_ground.specs.declared.failure.NodeErr.TheVariants as node_errors
 use Rattle.mesh_net.specs.declared.failure.NetErr.{NetErr}
 use Rattle.mesh_net.specs.declared.failure.NetErr.TheVariants as net_errors
 use Rattle.mesh_net.specs.declared.net.Net.{Net}

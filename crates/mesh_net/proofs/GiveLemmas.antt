@@ -20,12 +20,12 @@ use Rattle.mesh_net.proofs.LookUps.{some_one}
 use Rattle.mesh_model.specs.Net.Sending.{Attempt, on_ok, after_acts}
 use Rattle.mesh_model.specs.Routes.Queries.{Queries}
 use Rattle.mesh_model.specs.Routes.RouteLog.{RouteLog}
-use Rattle.mesh_node.specs.declared.failure.NodeErr.{NodeErr}
-use Rattle.mesh_node.specs.declared.failure.NodeErr.TheVariants.{Memory, Clients, Vlans, Frames, FrameBytes, Dead}
+use Rattle.node_ground.specs.declared.failure.NodeErr.{NodeErr}
+use Rattle.node_ground.specs.declared.failure.NodeErr.TheVariants.{Memory, Clients, Vlans, Frames, FrameBytes, Dead}
 use Rattle.mesh_node.specs.declared.node.Node.{Node}
 use Rattle.mesh_node.specs.NodeStands.{NodeStands}
-use Rattle.mesh_node.specs.Errors.{HasCause, HasClientCause}
-use Rattle.mesh_node.specs.Puts.{TakesAll, StopsAt, Puts, Leaves}
+use Rattle.node_ground.specs.Errors.{HasCause, HasClientCause}
+use Rattle.node_ground.specs.Puts.{TakesAll, StopsAt, Puts, Leaves}
 use Rattle.mesh_net.specs.declared.port.NetPort.{NetPort}
 use Rattle.mesh_net.specs.declared.post.Post.{Post}
 use Rattle.mesh_net.specs.declared.row.Sender.{Sender}

@@ -10,7 +10,7 @@ use Rattle.mesh_model.specs.Net.Mesh.{NodeLog, NetLink, SentFrame, Mesh, Setup, 
 use Rattle.mesh_model.specs.Net.Runs.{effect, after_happening, delivered, frame_given, frame_over, tick_given, throughput_between, with_last}
 use Rattle.mesh_model.specs.Net.Sending.{Actor, after_acts}
 use Rattle.mesh_model.specs.Run.Steps.{new_node}
-use Rattle.mesh_node.specs.OwnStands.{newest_moment}
+use Rattle.node_ground.specs.OwnStands.{newest_moment}
 use Rattle.mesh_laws.proofs.Lines.KeptLinks.{not_passed}
 use Rattle.mesh_laws.proofs.Schedule.Sends.{acts_send, as_ok, ok_one, on_ok_ok}
 use Rattle.mesh_net.specs.Reached.{IsReached, begins, joins, links, is_given, is_delivered, happens, passes}

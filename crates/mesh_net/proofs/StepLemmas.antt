@@ -13,7 +13,7 @@ use Rattle.mesh_model.specs.Net.Limits.{scenario_setup}
 use Rattle.mesh_model.specs.Net.Mesh.{NodeLog, Mesh}
 use Rattle.mesh_model.specs.Routes.Queries.{Queries}
 use Rattle.mesh_model.specs.Routes.RouteLog.{RouteLog}
-use Rattle.mesh_node.specs.declared.failure.NodeErr.{NodeErr}
+use Rattle.node_ground.specs.declared.failure.NodeErr.{NodeErr}
 use Rattle.mesh_node.specs.declared.input.Input.{Input}
 use Rattle.mesh_node.specs.declared.input.Input.TheVariants.{Tick, Link, Frame, Gone, Join, Leave, Wifi, Ping, Trace}
 use Rattle.mesh_node.specs.NodeStands.{given_by}

@@ -4,7 +4,7 @@ ghost use Rattle.mesh_model.specs.Net.Inputs.{given_to};
 ghost use Rattle.mesh_model.specs.Net.Limits.{scenario_setup, clock_limit};
 ghost use Rattle.mesh_model.specs.Net.Mesh.{NodeLog, Mesh};
 ghost use Rattle.mesh_node.specs.NodeStands.{NodeStands, MayTake, given_by, is_dead};
-ghost use Rattle.mesh_node.specs.OwnStands.{newest_moment};
+ghost use Rattle.node_ground.specs.OwnStands.{newest_moment};
 ghost use Rattle.mesh_net.specs.declared.row.Sending.{Sending};
 ghost use Rattle.mesh_net.specs.declared.seat.Seat.{Seat};
 ghost use Rattle.mesh_net.specs.Given.{HasGiven, GiveTells};

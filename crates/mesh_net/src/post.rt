@@ -10,7 +10,7 @@ ghost use Rattle.mesh_base.specs.declared.event.Event.TheVariants.{FrameSent};
 ghost use Rattle.mesh_model.specs.Text.Events.{is_shown};
 ghost use Rattle.mesh_model.specs.declared.happening.Happening.{Happening};
 ghost use Rattle.mesh_model.specs.declared.act.Act.TheVariants.{Link};
-ghost use Rattle.mesh_node.specs.Errors.{HasPortCause};
+ghost use Rattle.node_ground.specs.Errors.{HasPortCause};
 ghost use Rattle.mesh_laws.specs.Soundness.{IsSound};
 ghost use Rattle.mesh_net.specs.Kept.{PostStands, RowIs};
 ghost use Rattle.mesh_net.specs.Reached.{with_node, with_link};

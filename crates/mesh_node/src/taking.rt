@@ -10,25 +10,24 @@ ghost use Rattle.mesh_model.specs.Clients.Log as given;
 ghost use Rattle.mesh_model.specs.Knowledge.Steps.{knowledge};
 ghost use Rattle.mesh_model.specs.Packets.Numbers.{wifi_flag};
 ghost use Rattle.mesh_model.specs.Routes.RouteLog.{MayTick};
-ghost use Rattle.mesh_node.specs.FrameRows.{given_frame};
-ghost use Rattle.mesh_node.specs.NodeStands.{NodeStands, MayTake, given_by, given_session, is_dead, with_input};
-ghost use Rattle.mesh_node.specs.OwnStands.{newest_moment};
-ghost use Rattle.mesh_node.specs.Puts.{Answers, Leaves, Puts};
+ghost use Rattle.node_clients.specs.FrameRows.{given_frame};
+ghost use Rattle.mesh_node.specs.NodeStands.{NodeStands, MayTake, given_by, given_session, is_dead};
+ghost use Rattle.node_ground.specs.OwnStands.{with_input};
+ghost use Rattle.node_ground.specs.OwnStands.{newest_moment};
+ghost use Rattle.node_ground.specs.Puts.{Answers, Leaves, Puts};
 
-use crate::arrival::{Arrival, Place};
-use crate::client_frames::frame;
-use crate::failure::NodeErr;
 use crate::input::Input;
 use crate::node::Node;
-use crate::port::Port;
-use crate::probes::session;
-use crate::roaming::note_roamed;
 use crate::rows::link;
-use crate::ticks::tick;
 use mesh_algo::Algo;
 use mesh_base::{Key, Mac, Millis};
 use mesh_codec::ClientFrame;
 use mesh_tvlv::layout::WIFI;
+use node_clients::client_frames::frame;
+use node_clients::roaming::note_roamed;
+use node_ground::{Coming, NodeErr, Place, Port};
+use node_probes::probes::session;
+use node_tables::ticks::tick;
 
 impl<A: Algo> Node<A> {
     /// Takes what it is given, while it refused nothing: the row of the input.
@@ -53,7 +52,7 @@ impl<A: Algo> Node<A> {
         match *input {
             Input::Tick { index } => self.take_tick(port, now, index)?,
             Input::Link { from, tp, bytes } => {
-                self.take_link(port, Arrival { now, from, tp }, bytes)?;
+                self.take_link(port, Coming { now, from, tp }, bytes)?;
             }
             Input::Frame {
                 src,
@@ -103,7 +102,7 @@ impl<A: Algo> Node<A> {
     fn take_link<P: Port>(
         &mut self,
         port: &mut P,
-        came: Arrival,
+        came: Coming,
         bytes: &[u8],
     ) -> Result<(), NodeErr>
         requires { (me : Mac) × (log : Log) × NodeStands A.stands A.queries self.old me log

@@ -8,7 +8,7 @@ use Rattle.mesh_model.specs.Net.Mesh.{Mesh, NodeLog, SentFrame}
 use Rattle.mesh_model.specs.Routes.AlgorithmIv.{iv_queries}
 use Rattle.mesh_model.specs.Clients.Log.{Given}
 use Rattle.mesh_model.specs.Net.Due.{ticks_by}
-use Rattle.mesh_node.specs.OwnStands.{newest_moment}
+use Rattle.node_ground.specs.OwnStands.{newest_moment}
 use Rattle.mesh_net.specs.NetStands.{IsNet}
 use Rattle.mesh_net.specs.Reached.{IsOfLine}
 use Rattle.mesh_net.specs.declared.net.Net.{Net}

@@ -4,7 +4,7 @@ use Rattle.mesh_model.specs.Clients.Limits.{passed_limit}
 use Rattle.mesh_model.specs.Clients.Log.{Join}
 use Rattle.mesh_model.specs.Knowledge.Steps.{knowledge}
 use Rattle.mesh_node.specs.NodeStands.{MayFollow}
-use Rattle.mesh_node.proofs.SightLemmas.{answered_leaves}
+use Rattle.node_ground.proofs.LeavesLemmas.{answered_leaves}
 use Rattle.mesh_node.proofs.node.Node.carry_out.Goals as goal
 
 -- ---- ticks
