@@ -14,8 +14,8 @@ use Rattle.mesh_laws.proofs.Schedule.Members.{has_left, has_right, has_either, h
 use Rattle.mesh_laws.proofs.Schedule.Order.{at_most_trans, at_most_moments, before_irrefl, before_test, before_trans, test_before}
 use Rattle.mesh_laws.proofs.Schedule.Steps.{Was, at_place}
 use Rattle.mesh_net.specs.Steps.{tick_now}
-use Rattle.mesh_net.specs.Waiting.{Awaits, IsPopped, IsNoneDue, IsSomeDue}
-use Rattle.mesh_net.proofs.LookUps.{some_one, got_there}
+use Rattle.mesh_post.specs.Waiting.{Awaits, IsPopped, IsNoneDue, IsSomeDue}
+use Rattle.mesh_post.proofs.LookUps.{some_one, got_there}
 
 abbrev pub AwaitsIn : List Happening → Mesh → Type 0
 AwaitsIn waiting mesh = Awaits waiting mesh.last (first_ticks 0 mesh.nodes) mesh.links mesh.frames

@@ -16,7 +16,8 @@ use Rattle.mesh_laws.proofs.Schedule.Kept.{bytes_after}
 use Rattle.mesh_laws.proofs.Schedule.Members.{get_last}
 use Rattle.mesh_laws.proofs.Schedule.Sound.{steps_keep_sound, lines_keep_sound}
 use Rattle.mesh_laws.proofs.Schedule.Steps.{delivered_effect, no_ticks, step_is, tickless, ticks_of}
-use Rattle.mesh_net.specs.Reached.{IsReached, begins, joins, links, is_given, is_delivered, happens, passes, IsOfLine, with_node}
+use Rattle.mesh_net.specs.Reached.{IsReached, begins, joins, links, is_given, is_delivered, happens, passes, IsOfLine}
+use Rattle.mesh_post.specs.Joining.{with_node}
 
 -- what holds of a mesh that is reached, with the clock
 pub record Reached (clock : ℕ) (mesh : Mesh) : Type 0 where

@@ -23,14 +23,16 @@ use Rattle.mesh_tie.specs.Steps.{IsOfLine as IsTellableLine}
 use Rattle.mesh_tie.specs.Steps.{begins as nothing_yet}
 use Rattle.mesh_tie.specs.TieLaws.{AllKeep}
 use Rattle.mesh_tie.proofs.MeshSteps.{got_front, got_noted}
-use Rattle.mesh_tie.proofs.NetLemmas.{delivered_extends, gains_are_right, given_extends, happening_extends, tables_are_right, tellable_before}
 use Rattle.mesh_tie.proofs.RunReach.{Comes, delivered_comes, given_comes, happening_comes, later_settled}
 use Rattle.mesh_tie.proofs.SentLemmas.{given_is}
 use Rattle.mesh_net.specs.declared.net.Net.{Net}
 use Rattle.mesh_net.specs.NetStands.{NetStands}
-use Rattle.mesh_net.specs.Reached.{IsOfLine, IsReached, begins, happens, is_delivered, is_given, joins, links, passes, with_link, with_node}
+use Rattle.mesh_net.specs.Reached.{IsOfLine, IsReached, begins, happens, is_delivered, is_given, joins, links, passes}
+use Rattle.mesh_post.specs.Joining.{with_link, with_node}
 use Rattle.mesh_net.specs.Tells.{Carried, Gains, Ran, RanAll, TellsRightly}
+use Rattle.mesh_net.proofs.ExtendLemmas.{delivered_extends, given_extends, happening_extends, tellable_before}
 use Rattle.mesh_net.proofs.ReachedLemmas.{of_line}
+use Rattle.mesh_net.proofs.ToldLemmas.{gains_are_right, tables_are_right}
 
 -- ---- a net's mesh is one that steps reach
 -- what a line gives, if its clients are such as records can tell

@@ -42,7 +42,7 @@ use Rattle.mesh_laws.proofs.Schedule.Sends.{ok_one, on_ok_ok, acts_send}
 use Rattle.mesh_laws.proofs.Schedule.Steps.{delivered_effect, no_ticks, step_is, tickless}
 use Rattle.mesh_laws.proofs.Schedule.ToCome.{nodes_add_later, links_add_nothing}
 use Rattle.mesh_net.specs.Reached.{IsReached, begins, joins, links, is_given, is_delivered, happens, passes}
-use Rattle.mesh_net.proofs.LookUps.{some_one}
+use Rattle.mesh_post.proofs.LookUps.{some_one}
 use Rattle.mesh_net.proofs.ReachedLemmas.{reached, of_line}
 
 -- ---- what a node knows of its ticks

@@ -28,11 +28,11 @@ use Rattle.mesh_node.specs.OwnStands.{newest_moment}
 use Rattle.mesh_net.specs.declared.failure.NetErr.{NetErr}
 use Rattle.mesh_net.specs.declared.failure.NetErr.TheVariants as net_errors
 use Rattle.mesh_net.specs.declared.net.Net.{Net}
-use Rattle.mesh_net.specs.declared.post.Post.{Post}
-use Rattle.mesh_net.specs.declared.row.Sending.{Sending}
+use Rattle.mesh_post.specs.declared.post.Post.{Post}
+use Rattle.mesh_post.specs.declared.row.Sending.{Sending}
 use Rattle.mesh_net.specs.declared.seat.Seat.{Seat}
 use Rattle.mesh_net.specs.NetStands.{SeatsStand, NetStands}
-use Rattle.mesh_net.specs.Sent.{InStep, Logged}
+use Rattle.mesh_post.specs.Sent.{InStep, Logged}
 use Rattle.mesh_net.specs.Tells.{Ran, StepTells}
 
 -- ---- one node

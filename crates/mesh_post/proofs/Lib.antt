@@ -1,0 +1,10 @@
+-- What the methods rest on.
+pub mod QueueLemmas
+pub mod LookUps
+pub mod PostLemmas
+pub mod Chosen
+pub mod Ways
+pub mod Midway
+pub mod ActLemmas
+pub mod Back
+pub mod JoinLemmas
