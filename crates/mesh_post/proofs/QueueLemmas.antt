@@ -1,20 +1,20 @@
--- What stands in a queue after one more happening joined it.
-use Rattle.std.proofs.Common.{◌≡◌, ◌↔◌, ℕ, ◌<◌, ◌≤◌, ◌⊎◌, inl, inr, List, [], ◌∷◌, suc, slice_get, Option, Some, None, false, refl, sym, ap, ◌∙◌, subst, arith, Less, Equal, Greater, is_gt}
-use Rattle.std.specs.Option.{IfSome}
+-- A set of happenings in their order: one joins, and the first leaves.
+use Rattle.std.proofs.Common.{◌≡◌, ◌↔◌, ℕ, ◌⊎◌, inl, inr, List, [], ◌∷◌, suc, slice_get, Option, Some, None, false, refl, sym, ap, ◌∙◌, subst, arith, Less, Equal, Greater, is_gt}
+use Rattle.std.specs.Option.{IfSome, IsSome}
 use Rattle.std.specs.BTreeSet.{insert_key}
-use Rattle.std.proofs.lemmas.Bool.Decides.{nat_tests}
 use Rattle.std.specs.List.{All}
 use Rattle.std.specs.Ordering.{match_ordering}
 use Rattle.std.specs.declared.cmp.Ordering.{Ordering}
+use Rattle.std.specs.BTreeMap.Range.{IsLtBy, IsLeBy}
 use Rattle.mesh_model.specs.declared.happening.Happening.{Happening}
-use Rattle.mesh_model.specs.Net.Happenings.{Before, happening_order}
-use Rattle.mesh_model.specs.Net.Next.{Has}
-use Rattle.mesh_post.specs.Waiting.{IsPopped, IsNoneDue, IsSomeDue}
 use Rattle.mesh_model.specs.contracts.happening.HappeningOrd.TheImpl as ord
 use Rattle.mesh_model.specs.declared.happening.Class.{Class}
 use Rattle.mesh_model.specs.declared.happening.Class.TheVariants.{LinkDelivery, NodeTick}
-use Rattle.std.specs.BTreeMap.Range.{IsLtBy, IsLeBy}
-use Rattle.mesh_laws.proofs.Schedule.Order.{exact, moments}
+use Rattle.mesh_model.specs.Net.Happenings.{Before, happening_order, is_before}
+use Rattle.mesh_model.specs.Net.Next.{AtMost, Has}
+use Rattle.mesh_laws.proofs.Schedule.Order.{at_most_before, both_at_most, exact, not_before}
+use Rattle.mesh_post.specs.Waiting.{IsEarliest, Joins, Leaves}
+use Rattle.mesh_post.proofs.RisingLemmas.{has_at}
 
 -- a key stands among keys that another joined where it is that one, or stood there
 pub insert_has : (R : Happening → Happening → Ordering) → ((a b : Happening) → R a b ≡ Equal → a ≡ b) → (ks : List Happening) (k x : Happening) → Has (insert_key R ks k) x ↔ (x ≡ k) ⊎ Has ks x
@@ -29,6 +29,7 @@ insert_has R same (y ∷ ys) k x = by_order (R k y) refl (insert_has R same ys k
       elim [ inl p ↦ inr (more.1 (inl p)) | inr p ↦ elim p as (λ _. Has (y ∷ insert_key R ys k) x) [ inl q ↦ inl q | inr q ↦ inr (more.1 (inr q)) ] ],
     )
 
+-- the order of the code
 abbrev pub R : Happening → Happening → Ordering
 R = ord.cmp-value.it
 
@@ -42,44 +43,40 @@ same_order_at m n p q NodeTick NodeTick = refl
 pub same_order : (a b : Happening) → R a b ≡ happening_order a b
 same_order a b = same_order_at a.moment b.moment a.place b.place a.class b.class
 
-pub joined_has : (ks : List Happening) (k x : Happening) → Has (insert_key R ks k) x ↔ (x ≡ k) ⊎ Has ks x
-joined_has ks k x = insert_has R (λ a b e. exact a b (sym (same_order a b) ∙ e)) ks k x
+-- one more stands in a set that it joined
+pub joined : (ks : List Happening) (k : Happening) → Joins k ks (insert_key R ks k)
+joined ks k x = insert_has R (λ a b e. exact a b (sym (same_order a b) ∙ e)) ks k x
 
 all_has : {X : Type 0} (P : X → Type 0) (xs : List X) (x : X) → All P xs → Has xs x → P x
 all_has P [] x all h = absurd h
 all_has P (y ∷ ys) x all (inl e) = subst P (sym e) (all 0 y (omega arith))
 all_has P (y ∷ ys) x all (inr h) = all_has P ys x (λ k d l. all (suc k) d (omega (arith, l))) h
 
-all_before : (h : Happening) (ks : List Happening) → All (IsLtBy R h) ks → (x : Happening) → Has ks x → Before h x
-all_before h ks all x p = sym (same_order h x) ∙ all_has (IsLtBy R h) ks x all p
+not_after : (a b : Happening) → is_gt (happening_order a b) ≡ false → AtMost a b
+not_after a b p = elim (happening_order a b) as (λ r. happening_order a b ≡ r → is_gt r ≡ false → AtMost a b) [
+  | Less ↦ λ e q. inr e
+  | Equal ↦ λ e q. inl (exact a b e)
+  | Greater ↦ λ e q. cc
+] refl p
 
-first_due : (h : Happening) (ks : List Happening) (t : ℕ) → ((x : Happening) → Has ks x → Before h x) → IsSomeDue (h ∷ ks) t → h.moment ≤ t
-first_due h ks t above due = elim due.1 as (λ _. h.moment ≤ t) [
-  | inl e ↦ subst (λ (x : Happening). x.moment ≤ t) e due.2
-  | inr p ↦ let m = moments h due.0 (above due.0 p) in let l = due.2 in omega (arith, m, l)
-]
+-- the first key is the earliest
+pub first_key : (ks : List Happening) (f : Happening) → slice_get ks 0 ≡ Some f → All (IsLeBy R f) ks → IsEarliest ks (Some f)
+first_key ks f e all = (has_at ks 0 f e, λ x p. not_after f x (ap is_gt (sym (same_order f x)) ∙ all_has (IsLeBy R f) ks x all p))
 
--- the first of those that wait is taken away where one is due
-pub popped : (old new : List Happening) (t : ℕ) (o : Option Happening) → IfSome o (λ h. old ≡ h ∷ new) → IfSome o (λ h. All (IsLtBy R h) new) → IsSomeDue old t → IfSome o (IsPopped old new t)
-popped old new t None removal all due = tt
-popped old new t (Some h) removal all due = record {
-  old_is = removal;
-  above = all_before h new all;
-  within = first_due h new t (all_before h new all) (subst (λ ks. IsSomeDue ks t) removal due);
-}
-
-not_later : (a b : Happening) → is_gt (happening_order a b) ≡ false → a.moment ≤ b.moment
-not_later a b p = grind (arith, nat_tests)
-
--- none is due where the first isn't
-pub none_due : (h : Happening) (ks : List Happening) (t : ℕ) → All (IsLeBy R h) ks → t < h.moment → IsNoneDue ks t
-none_due h ks t all late x p =
-    let l = not_later h x (ap is_gt (sym (same_order h x)) ∙ all_has (IsLeBy R h) ks x all p) in
-    omega (arith, l, late)
-
-first_one : {X : Type 0} (a b : X) → Some a ≡ Some b → b ≡ a
-first_one a b e = cc
-
-pub first_has : {X : Type 0} (xs : List X) (x : X) → slice_get xs 0 ≡ Some x → Has xs x
-first_has [] x e = cc
-first_has (y ∷ ys) x e = inl (first_one y x e)
+-- it leaves, where it isn't after one that is after none
+pub key_leaves : (h f : Happening) (old new : List Happening) (o : Option Happening) → IsSome o → IfSome o (λ k. old ≡ k ∷ new) → IfSome o (λ k. All (IsLtBy R k) new) → Has old f → ((x : Happening) → Has old x → AtMost h x) → is_before h f ≡ false → ((x : Happening) → Has old x → AtMost f x) → Leaves h old new
+key_leaves h f old new None some removal all has low late first = cc
+key_leaves h f old new (Some k) some removal all has low late first =
+    let had : Has old k = subst (λ ks. Has ks k) (sym removal) (inl refl) in
+    let above : (x : Happening) → Has new x → Before k x = λ x p. sym (same_order k x) ∙ all_has (IsLtBy R k) new x all p in
+    let f_is : h ≡ f = both_at_most h f (low f has) (not_before h f late) in
+    let k_is : k ≡ h = by f_is above (subst (λ ks. Has ks f) removal has) in
+    record {
+      kept = λ x p. elim (subst (λ ks. Has ks x) removal p) as (λ _. (x ≡ h) ⊎ Has new x) [ inl e ↦ inl (e ∙ k_is) | inr q ↦ inr q ];
+      had = λ x p. subst (λ ks. Has ks x) (sym removal) (inr p);
+      above = λ x p. subst (λ y. Before y x) k_is (above x p);
+    }
+  where
+    by : h ≡ f → ((x : Happening) → Has new x → Before k x) → (f ≡ k) ⊎ Has new f → k ≡ h
+    by f_is above (inl e) = sym (f_is ∙ e)
+    by f_is above (inr p) = both_at_most k h (inr (subst (Before k) (sym f_is) (above f p))) (low k (subst (λ ks. Has ks k) (sym removal) (inl refl)))

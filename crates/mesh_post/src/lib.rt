@@ -8,6 +8,7 @@ mod leaving;
 mod port;
 mod post;
 mod queue;
+mod rising;
 mod row;
 mod sends;
 mod shown;

@@ -1,10 +1,11 @@
-ghost use Rattle.std.specs.Prelude.{◌≡◌, ◌↔◌, ◌⊎◌, ◌+◌, ◌*◌, ◌^◌, ◌<◌, map, true, false, [], OnOk, OnErr, IfSome, IfNone};
-ghost use Rattle.mesh_model.specs.declared.happening.Happening.{Happening};
+ghost use Rattle.std.specs.Prelude.{◌≡◌, ◌++◌, ◌+◌, ◌*◌, ◌^◌, ◌<◌, map, true, false, [], List, OnOk, OnErr, IfSome, IfNone};
 ghost use Rattle.mesh_model.specs.Net.Due.{arrivals_by, delivery_at, fate_of_mark};
-ghost use Rattle.mesh_model.specs.Net.Next.{Has};
-ghost use Rattle.mesh_post.specs.Waiting.{IsPopped, IsNoneDue, IsSomeDue};
+ghost use Rattle.mesh_model.specs.declared.happening.Happening.{Happening};
+ghost use Rattle.mesh_model.specs.Net.Next.{AtMost, Has};
 ghost use Rattle.mesh_post.specs.Sent.{Gained};
+ghost use Rattle.mesh_post.specs.Waiting.{IsEarliest, IsPopped, IsNoneDue, IsSomeDue, Joins, Leaves};
 
+use crate::rising::{Rising, is_before};
 use crate::row::{ONCE, TWICE};
 use mesh_base::{Millis, NoMemory};
 use mesh_model::{Class, Happening};
@@ -12,19 +13,24 @@ use std::alloc::Global;
 use std::collections::BTreeSet;
 use std::marker::Model;
 
-/// The happenings that are to come, each once, in their order.
+/// The happenings that are to come. What joins behind all that wait in a list waits there, and what
+/// finds no such list waits among the others. So the deliveries of links of one delay share a list,
+/// as do the ticks.
 #[derive(Debug, Drop)]
 pub struct Queue {
-    waiting: BTreeSet<Happening>,
+    first: Rising,
+    second: Rising,
+    third: Rising,
+    others: BTreeSet<Happening>,
 }
 
 impl Model for Queue {
-    ghost use Rattle.std.specs.Prelude.{List};
+    ghost use Rattle.std.specs.Prelude.{List, ◌++◌};
     ghost use Rattle.mesh_model.specs.declared.happening.Happening.{Happening};
 
     ghost Value = { List Happening };
 
-    ghost view = { λ q. q.waiting.keys };
+    ghost view = { λ q. q.first ++ (q.second ++ (q.third ++ q.others.keys)) };
 }
 
 impl Queue {
@@ -33,17 +39,27 @@ impl Queue {
         ensures { result ≡ [] }
     {
         Queue {
-            waiting: BTreeSet::new(alloc),
+            first: Rising::new(alloc),
+            second: Rising::new(alloc),
+            third: Rising::new(alloc),
+            others: BTreeSet::new(alloc),
         }
     }
 
     /// Lets a happening wait, too.
     pub fn push(&mut self, h: Happening) -> Result<(), NoMemory>
-        ensures ok { OnOk result ((x : Happening) →
-            Has self.new x ↔ (x ≡ h) ⊎ Has self.old x) }
+        ensures ok { OnOk result (Joins h self.old self.new) }
         ensures err { OnErr result (self.new ≡ self.old) }
     {
-        self.waiting.insert(h)?;
+        if self.first.takes(h) {
+            self.first.push(h)?;
+        } else if self.second.takes(h) {
+            self.second.push(h)?;
+        } else if self.third.takes(h) {
+            self.third.push(h)?;
+        } else {
+            self.others.insert(h)?;
+        }
         Ok(())
     }
 
@@ -52,10 +68,14 @@ impl Queue {
         ensures some { IfSome result (IsPopped self.old self.new t) }
         ensures none { IfNone result ((self.new ≡ self.old) × IsNoneDue self.old t) }
     {
-        if !self.is_due(t) {
+        let Some(h) = self.earliest() else {
+            return None;
+        };
+        if h.moment > t {
             return None;
         }
-        self.waiting.pop_first()
+        self.leave(h);
+        Some(h)
     }
 
     /// Whether a happening waits that is until a moment.
@@ -63,9 +83,9 @@ impl Queue {
         ensures due { result ≡ true → IsSomeDue self.now t }
         ensures none { result ≡ false → IsNoneDue self.now t }
     {
-        match self.waiting.first() {
+        match self.earliest() {
             None => false,
-            Some(first) => first.moment <= t,
+            Some(h) => h.moment <= t,
         }
     }
 
@@ -90,6 +110,67 @@ impl Queue {
         }
         Ok(())
     }
+
+    // The first happening.
+    fn earliest(&self) -> Option<Happening>
+        ensures { IsEarliest self.now result }
+    {
+        let behind = earlier(self.third.earliest(), first_of(&self.others));
+        earlier(self.first.earliest(), earlier(self.second.earliest(), behind))
+    }
+
+    // Takes the first happening away.
+    fn leave(&mut self, h: Happening)
+        requires { (x : Happening) → Has self.old x → AtMost h x }
+        ensures { Leaves h self.old self.new }
+    {
+        self.first.leave(h);
+        self.second.leave(h);
+        self.third.leave(h);
+        leave(&mut self.others, h);
+    }
+}
+
+// The earlier of two that are the first ones of those that wait here and there.
+fn earlier(here: Option<Happening>, there: Option<Happening>) -> Option<Happening>
+    ensures { (xs ys : List Happening) → IsEarliest xs here → IsEarliest ys there →
+        IsEarliest (xs ++ ys) result }
+{
+    match (here, there) {
+        (None, _) => there,
+        (Some(_), None) => here,
+        (Some(a), Some(b)) => {
+            if is_before(b, a) {
+                there
+            } else {
+                here
+            }
+        }
+    }
+}
+
+// The first happening.
+fn first_of(waiting: &BTreeSet<Happening>) -> Option<Happening>
+    ensures { IsEarliest waiting.now.keys result }
+{
+    match waiting.first() {
+        None => None,
+        Some(first) => Some(*first),
+    }
+}
+
+// Takes a happening away that is after none of those that wait.
+fn leave(waiting: &mut BTreeSet<Happening>, h: Happening)
+    requires { (x : Happening) → Has waiting.old.keys x → AtMost h x }
+    ensures { Leaves h waiting.old.keys waiting.new.keys }
+{
+    let Some(first) = waiting.first() else {
+        return;
+    };
+    if is_before(h, *first) {
+        return;
+    }
+    waiting.pop_first();
 }
 
 // A delivery of the frame at a place.
