@@ -1,3 +1,5 @@
+//! The program: the words of the call, the lines that they ask for, and the status at its end.
+
 ghost use Rattle.std.specs.Prelude.{◌≡◌, ◌≢◌, ◌<◌, ◌≤◌, ◌⊎◌, ℕ, List, None, Some, IfNone, IfSome, IsSome};
 ghost use Rattle.std.specs.Io.KnownBytes.{Appends, IsAtEnd};
 ghost use Rattle.std.specs.Option.{option_copied};
