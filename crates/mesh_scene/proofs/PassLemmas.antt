@@ -31,7 +31,7 @@ use Rattle.mesh_scene.specs.declared.slice.Passage.TheVariants.{Going, Ended}
 use Rattle.mesh_scene.specs.declared.slice.Passage.TheVariants.{Stopped as StoppedAt}
 use Rattle.mesh_scene.specs.declared.scene.Scene.{Scene}
 use Rattle.mesh_scene.proofs.NetLemmas.{net_clock, net_last, net_past, net_sound}
-use Rattle.mesh_scene.proofs.StepLemmas.{stands_gone, text_gone}
+use Rattle.mesh_scene.proofs.PrintLemmas.{stands_gone, text_gone}
 
 -- what the net ran from a state
 abbrev RanFrom : Net Tables → State → ℕ → (old new : List Event) → Bool → Type 0

@@ -7,11 +7,11 @@ ghost use Rattle.mesh_scene.specs.CarriesOut.{CarriesFrom, FailsFrom, lets_time_
 ghost use Rattle.mesh_scene.specs.SceneStands.{IsSomewhere};
 
 use crate::fault::{LineFault, refused};
+use crate::given::given_of;
 use crate::scene::Scene;
 use batctl_text::decode_text;
 use mesh_model::{Algorithm, Command, Refusal};
 use mesh_net::Link;
-use mesh_node::Input;
 
 impl Scene {
     /// Carries a command out, other than `run`, and appends what it prints.
@@ -24,6 +24,10 @@ impl Scene {
             text.new.items result }
         ensures refused { FailsFrom self.old (λ state. carried_out iv_setup state command) result }
     {
+        if let Some((name, input)) = given_of(&command) {
+            self.give(name, &input, text)?;
+            return Ok(());
+        }
         match command {
             Command::Nothing => {}
             Command::Algo(Algorithm::Iv) => self.choose_iv()?,
@@ -42,17 +46,6 @@ impl Scene {
                 };
                 self.add_link(from.as_slice(), to.as_slice(), &link)?;
             }
-            Command::Frame {
-                place,
-                src,
-                dst,
-                vid,
-                text: said,
-            } => self.take_frame(place.as_slice(), src, dst, vid, said.as_slice(), text)?,
-            Command::Gone { place, key } => self.give(place.as_slice(), &Input::Gone(key), text)?,
-            Command::Join { node, key } => self.give(node.as_slice(), &Input::Join(key), text)?,
-            Command::Leave { node, key } => self.give(node.as_slice(), &Input::Leave(key), text)?,
-            Command::Wifi { node, on } => self.give(node.as_slice(), &Input::Wifi(on), text)?,
             Command::Ping { node, target } => self.ping(node.as_slice(), target.as_slice(), text)?,
             Command::Trace { node, target } => {
                 self.trace(node.as_slice(), target.as_slice(), text)?;
@@ -60,7 +53,13 @@ impl Scene {
             Command::Deliver { number } => self.deliver(number, text)?,
             Command::Show { node, table } => self.show(node.as_slice(), table, text)?,
             Command::Decode { bytes } => decode_text(text, bytes.as_slice())?,
-            Command::Algo(Algorithm::V)
+            // What these give a node was given above.
+            Command::Gone { .. }
+            | Command::Join { .. }
+            | Command::Leave { .. }
+            | Command::Wifi { .. } => unreachable!(),
+            Command::Frame { .. }
+            | Command::Algo(Algorithm::V)
             | Command::Lan { .. }
             | Command::Arp { .. }
             | Command::Dhcp { .. }

@@ -7,8 +7,8 @@ ghost use Rattle.mesh_model.specs.Run.Rules.{carried_out, iv_setup};
 ghost use Rattle.mesh_scene.specs.CarriesOut.{CarriesFrom, FailsFrom};
 ghost use Rattle.mesh_scene.specs.SceneStands.{IsSomewhere};
 
-use crate::link_ends::LinkEnds;
 use crate::fault::{LineFault, refused};
+use crate::link_ends::LinkEnds;
 use crate::scene::Scene;
 use mesh_base::Mac;
 use mesh_iv::Iv;

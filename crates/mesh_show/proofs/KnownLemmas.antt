@@ -15,7 +15,7 @@ use Rattle.mesh_model.specs.Run.KnownTables.{held_entries, part_of, parts_at}
 use Rattle.mesh_model.specs.Tables.Known.{TableCalls, known_by, nothing, originators_by, row_by, stamp_of}
 use Rattle.mesh_model.specs.Marks.RoamingMarks.{marks_at}
 use Rattle.mesh_model.specs.Text.GlobalTables.{GlobalPart, global_header, global_table_text, mark_line, part_text}
-use Rattle.mesh_show.specs.Inner.Shown.{held_part, live_row}
+use Rattle.mesh_show.specs.Inner.Parts.{held_part, live_row}
 use Rattle.mesh_show.proofs.RowLemmas.{take-next}
 
 -- ---- one originator

@@ -1,2 +1,2 @@
 -- Words of the functions behind the tables. No public clause cites this room.
-pub mod Shown
+pub mod Parts

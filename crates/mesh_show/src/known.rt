@@ -15,7 +15,7 @@ ghost use Rattle.mesh_model.specs.Tables.Known.{TableCalls, known_by, originator
 ghost use Rattle.mesh_model.specs.Text.GlobalTables.{entry_line, global_table_text, mark_line, part_text};
 ghost use Rattle.mesh_node.specs.NodeStands.{NodeStands};
 ghost use Rattle.mesh_show.specs.IvStands.{iv_stands};
-ghost use Rattle.mesh_show.specs.Inner.Shown.{held_part, live_row};
+ghost use Rattle.mesh_show.specs.Inner.Parts.{held_part, live_row};
 ghost use Rattle.tt_global.specs.Globals.{GlobalsStand};
 ghost use Rattle.tt_sync.specs.Sync.{StandsFor as MarksStand};
 

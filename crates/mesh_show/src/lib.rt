@@ -6,8 +6,8 @@ mod clients;
 mod events;
 mod known;
 mod routes;
+mod tables;
 
-pub use clients::show_locals;
 pub use events::put_events;
-pub use known::{ok_count, show_globals};
-pub use routes::{show_neighbors, show_originators};
+pub use known::ok_count;
+pub use tables::{is_built, show_table};

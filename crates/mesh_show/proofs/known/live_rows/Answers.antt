@@ -3,7 +3,7 @@ use Rattle.std.specs.Prelude.{filter_map}
 use Rattle.mesh_model.specs.declared.table_row.GlobalRow.{GlobalRow}
 use Rattle.mesh_model.specs.Routes.AlgorithmIv.{iv_queries}
 use Rattle.mesh_model.specs.Tables.Known.{originators_by}
-use Rattle.mesh_show.specs.Inner.Shown.{live_row}
+use Rattle.mesh_show.specs.Inner.Parts.{live_row}
 use Rattle.mesh_show.proofs.KnownLemmas.{found_next}
 use Rattle.mesh_show.proofs.known.live_rows.Goals as goal
 use Rattle.mesh_show.proofs.known.live_rows.Goals.{in-Some+in_ok-push, in_default}

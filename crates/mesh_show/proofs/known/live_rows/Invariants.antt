@@ -5,7 +5,7 @@ use Rattle.mesh_iv.specs.Tables.{StandsFor}
 use Rattle.mesh_model.specs.Knowledge.Known.{Knowledge}
 use Rattle.mesh_model.specs.Routes.AlgorithmIv.{iv_queries}
 use Rattle.mesh_model.specs.Tables.Known.{originators_by}
-use Rattle.mesh_show.specs.Inner.Shown.{live_row}
+use Rattle.mesh_show.specs.Inner.Parts.{live_row}
 use Rattle.tt_global.specs.Globals.{GlobalsStand}
 use Rattle.mesh_show.proofs.known.live_rows.Given as goal
 

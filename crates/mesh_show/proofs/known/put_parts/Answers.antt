@@ -3,7 +3,7 @@ use Rattle.std.specs.Prelude.{flat_map}
 use Rattle.std.proofs.lemmas.Option.{slice_get-get_or}
 use Rattle.mesh_model.specs.declared.table_row.GlobalRow.{GlobalRow}
 use Rattle.mesh_model.specs.Text.GlobalTables.{part_text}
-use Rattle.mesh_show.specs.Inner.Shown.{held_part}
+use Rattle.mesh_show.specs.Inner.Parts.{held_part}
 use Rattle.mesh_show.proofs.RowLemmas.{texts-next}
 use Rattle.mesh_show.proofs.known.put_parts.Goals as goal
 

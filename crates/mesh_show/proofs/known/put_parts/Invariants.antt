@@ -2,7 +2,7 @@ use Rattle.std.proofs.Common.{◌≡◌, ◌++◌, take}
 use Rattle.std.specs.Prelude.{flat_map}
 use Rattle.mesh_model.specs.Tables.Known.{TableCalls}
 use Rattle.mesh_model.specs.Text.GlobalTables.{part_text}
-use Rattle.mesh_show.specs.Inner.Shown.{held_part}
+use Rattle.mesh_show.specs.Inner.Parts.{held_part}
 use Rattle.tt_global.specs.Globals.{GlobalsStand}
 use Rattle.mesh_show.proofs.known.put_parts.Given as goal
 

@@ -1,7 +1,7 @@
 use Rattle.std.proofs.Common.{refl, sym, ◌∙◌, arith}
 use Rattle.std.proofs.lemmas.Result.{err_from_is_err_and}
 use Rattle.mesh_scene.proofs.PlaceLemmas.{linked}
-use Rattle.mesh_scene.proofs.StepLemmas.{link_carries, link_fails, link_taken}
+use Rattle.mesh_scene.proofs.TopologyLemmas.{link_carries, link_fails, link_taken}
 use Rattle.mesh_scene.proofs.scene.Scene.add_link.Goals as goal
 
 pub returns-then-is_linked-clause-refused : goal.returns-then-is_linked-clause-refused

@@ -1,7 +1,7 @@
 use Rattle.std.proofs.Common.{is_some, refl, sym, ap, ◌∙◌, arith}
 use Rattle.std.proofs.lemmas.Result.{err_from_is_err_and}
 use Rattle.mesh_scene.proofs.PlaceLemmas.{addressed, option_is, placed}
-use Rattle.mesh_scene.proofs.StepLemmas.{address_taken, name_taken, node_carries, node_fails}
+use Rattle.mesh_scene.proofs.TopologyLemmas.{address_taken, name_taken, node_carries, node_fails}
 use Rattle.mesh_scene.proofs.scene.Scene.add_node.Goals as goal
 
 pub returns-then-is_some-clause-refused : goal.returns-then-is_some-clause-refused

@@ -1,14 +1,27 @@
-use Rattle.std.proofs.Common.{ℕ, List, subst, sym}
+use Rattle.std.proofs.Common.{◌≡◌, ◌×◌, ℕ, List, Option, Some, IfSome, subst, sym}
 use Rattle.std.proofs.lemmas.Result.{err_from_is_err_and}
 use Rattle.mesh_model.specs.declared.line_form.Command.{Command}
-use Rattle.mesh_model.specs.declared.line_form.Command.TheVariants.{Node, Link, Frame, Ping, Trace, Show}
-use Rattle.mesh_model.specs.Clients.Log.{Gone as GivenGone, Join as GivenJoin, Leave as GivenLeave, Wifi as GivenWifi}
+use Rattle.mesh_model.specs.declared.line_form.Command.TheVariants.{Node, Link, Ping, Trace, Show}
+use Rattle.mesh_model.specs.Clients.Log.{Given}
 use Rattle.mesh_model.specs.Run.Outcome.{Outcome}
 use Rattle.mesh_model.specs.Run.Rules.{carried_out, iv_setup}
 use Rattle.mesh_scene.specs.CarriesOut.{Carries, HasLineCause}
-use Rattle.mesh_scene.specs.Inner.AtNodes.{given_at}
-use Rattle.mesh_scene.proofs.StepLemmas.{gone_given, join_given, leave_given, wifi_given}
+use Rattle.mesh_scene.specs.Inner.AtNodes.{given_at, given_of}
+use Rattle.mesh_scene.proofs.GivenLemmas.{frame_refused, given_so}
 use Rattle.mesh_scene.proofs.scene.Scene.carry_out.Goals as goal
+
+pub returns-in_err-give-clause-refused : goal.returns-in_err-give-clause-refused
+returns-in_err-give-clause-refused c = λ state stands.
+    let p = err_from_is_err_and c.from_residual.result c.from_residual.ensures.1 in
+    let G : Option (List ℕ × Given) → Type 0 = λ o. IfSome o (λ given. carried_out iv_setup state c.args.command ≡ given_at given.0 given.1 state) in
+    let O : Outcome → Type 0 = λ o. HasLineCause state o c.in_err-give.field-0.0 in
+    rw (p.1, p.2) (subst O (sym (subst G c.given_of.ensures.some (given_so state c.args.command))) (c.in_err-give.ensures.refused state stands))
+
+pub returns-in_ok-give-clause-ok : goal.returns-in_ok-give-clause-ok
+returns-in_ok-give-clause-ok c = λ state stands.
+    let G : Option (List ℕ × Given) → Type 0 = λ o. IfSome o (λ given. carried_out iv_setup state c.args.command ≡ given_at given.0 given.1 state) in
+    let O : Outcome → Type 0 = λ o. Carries o state c.give.new.self c.give.new.text.items in
+    subst O (sym (subst G c.given_of.ensures.some (given_so state c.args.command))) (c.in_ok-give.ensures.ok state stands)
 
 pub add_link-requires-clause-ranges : goal.add_link-requires-clause-ranges
 add_link-requires-clause-ranges c = c.requires.ranges c.in-Link.from c.in-Link.to c.in-Link.pattern c.in-Link.delay c.in-Link.throughput c.in-Link.is
@@ -34,94 +47,6 @@ returns-in_err-add_link-in-Link-clause-refused c = λ state stands.
     (subst C (sym link.is)
     (subst (L link.from) c.as_slice-in-Link-2.ensures.value
     (subst (λ from. L from c.as_slice-in-Link-2.result.now) c.as_slice-in-Link.ensures.value (c.in_err-add_link-in-Link.ensures.refused state stands))))
-
-pub returns-in_err-take_frame-in-Frame-clause-refused : goal.returns-in_err-take_frame-in-Frame-clause-refused
-returns-in_err-take_frame-in-Frame-clause-refused c = λ state stands.
-    let p = err_from_is_err_and c.from_residual-in_err-take_frame-in-Frame.result c.from_residual-in_err-take_frame-in-Frame.ensures.1 in
-    let frame = c.in-Frame in
-    let fault = c.in_err-take_frame-in-Frame.field-0.0 in
-    let L : List ℕ → List ℕ → Type 0 = λ place said. HasLineCause state (carried_out iv_setup state (Frame place frame.src frame.dst frame.vid said)) fault in
-    let C : Command → Type 0 = λ command. HasLineCause state (carried_out iv_setup state command) fault in
-    rw (p.1, p.2)
-    (subst C (sym frame.is)
-    (subst (L frame.place) c.as_slice-in-Frame-2.ensures.value
-    (subst (λ place. L place c.as_slice-in-Frame-2.result.now) c.as_slice-in-Frame.ensures.value (c.in_err-take_frame-in-Frame.ensures.refused state stands))))
-
-pub returns-in_err-give-in-Gone-clause-refused : goal.returns-in_err-give-in-Gone-clause-refused
-returns-in_err-give-in-Gone-clause-refused c = λ state stands.
-    let p = err_from_is_err_and c.from_residual-in_err-give-in-Gone.result c.from_residual-in_err-give-in-Gone.ensures.1 in
-    let line = c.in-Gone in
-    let fault = c.in_err-give-in-Gone.field-0.0 in
-    let F : List ℕ → Type 0 = λ name. HasLineCause state (given_at name (GivenGone line.key) state) fault in
-    let O : Outcome → Type 0 = λ o. HasLineCause state o fault in
-    let C : Command → Type 0 = λ command. HasLineCause state (carried_out iv_setup state command) fault in
-    rw (p.1, p.2)
-    (subst C (sym line.is) (subst O (sym (gone_given state line.place line.key)) (subst F c.as_slice-in-Gone.ensures.value (c.in_err-give-in-Gone.ensures.refused state stands))))
-
-pub returns-in_ok-give-in-Gone-clause-ok : goal.returns-in_ok-give-in-Gone-clause-ok
-returns-in_ok-give-in-Gone-clause-ok c = λ state stands.
-    let line = c.in-Gone in
-    let F : List ℕ → Type 0 = λ name. Carries (given_at name (GivenGone line.key) state) state c.give.new.self c.give.new.text.items in
-    let O : Outcome → Type 0 = λ o. Carries o state c.give.new.self c.give.new.text.items in
-    let C : Command → Type 0 = λ command. Carries (carried_out iv_setup state command) state c.give.new.self c.give.new.text.items in
-    subst C (sym line.is) (subst O (sym (gone_given state line.place line.key)) (subst F c.as_slice-in-Gone.ensures.value (c.in_ok-give-in-Gone.ensures.ok state stands)))
-
-pub returns-in_err-give-in-Join-clause-refused : goal.returns-in_err-give-in-Join-clause-refused
-returns-in_err-give-in-Join-clause-refused c = λ state stands.
-    let p = err_from_is_err_and c.from_residual-in_err-give-in-Join.result c.from_residual-in_err-give-in-Join.ensures.1 in
-    let line = c.in-Join in
-    let fault = c.in_err-give-in-Join.field-0.0 in
-    let F : List ℕ → Type 0 = λ name. HasLineCause state (given_at name (GivenJoin line.key) state) fault in
-    let O : Outcome → Type 0 = λ o. HasLineCause state o fault in
-    let C : Command → Type 0 = λ command. HasLineCause state (carried_out iv_setup state command) fault in
-    rw (p.1, p.2)
-    (subst C (sym line.is) (subst O (sym (join_given state line.node line.key)) (subst F c.as_slice-in-Join.ensures.value (c.in_err-give-in-Join.ensures.refused state stands))))
-
-pub returns-in_ok-give-in-Join-clause-ok : goal.returns-in_ok-give-in-Join-clause-ok
-returns-in_ok-give-in-Join-clause-ok c = λ state stands.
-    let line = c.in-Join in
-    let F : List ℕ → Type 0 = λ name. Carries (given_at name (GivenJoin line.key) state) state c.give-in-Join.new.self c.give-in-Join.new.text.items in
-    let O : Outcome → Type 0 = λ o. Carries o state c.give-in-Join.new.self c.give-in-Join.new.text.items in
-    let C : Command → Type 0 = λ command. Carries (carried_out iv_setup state command) state c.give-in-Join.new.self c.give-in-Join.new.text.items in
-    subst C (sym line.is) (subst O (sym (join_given state line.node line.key)) (subst F c.as_slice-in-Join.ensures.value (c.in_ok-give-in-Join.ensures.ok state stands)))
-
-pub returns-in_err-give-in-Leave-clause-refused : goal.returns-in_err-give-in-Leave-clause-refused
-returns-in_err-give-in-Leave-clause-refused c = λ state stands.
-    let p = err_from_is_err_and c.from_residual-in_err-give-in-Leave.result c.from_residual-in_err-give-in-Leave.ensures.1 in
-    let line = c.in-Leave in
-    let fault = c.in_err-give-in-Leave.field-0.0 in
-    let F : List ℕ → Type 0 = λ name. HasLineCause state (given_at name (GivenLeave line.key) state) fault in
-    let O : Outcome → Type 0 = λ o. HasLineCause state o fault in
-    let C : Command → Type 0 = λ command. HasLineCause state (carried_out iv_setup state command) fault in
-    rw (p.1, p.2)
-    (subst C (sym line.is) (subst O (sym (leave_given state line.node line.key)) (subst F c.as_slice-in-Leave.ensures.value (c.in_err-give-in-Leave.ensures.refused state stands))))
-
-pub returns-in_ok-give-in-Leave-clause-ok : goal.returns-in_ok-give-in-Leave-clause-ok
-returns-in_ok-give-in-Leave-clause-ok c = λ state stands.
-    let line = c.in-Leave in
-    let F : List ℕ → Type 0 = λ name. Carries (given_at name (GivenLeave line.key) state) state c.give-in-Leave.new.self c.give-in-Leave.new.text.items in
-    let O : Outcome → Type 0 = λ o. Carries o state c.give-in-Leave.new.self c.give-in-Leave.new.text.items in
-    let C : Command → Type 0 = λ command. Carries (carried_out iv_setup state command) state c.give-in-Leave.new.self c.give-in-Leave.new.text.items in
-    subst C (sym line.is) (subst O (sym (leave_given state line.node line.key)) (subst F c.as_slice-in-Leave.ensures.value (c.in_ok-give-in-Leave.ensures.ok state stands)))
-
-pub returns-in_err-give-in-Wifi-clause-refused : goal.returns-in_err-give-in-Wifi-clause-refused
-returns-in_err-give-in-Wifi-clause-refused c = λ state stands.
-    let p = err_from_is_err_and c.from_residual-in_err-give-in-Wifi.result c.from_residual-in_err-give-in-Wifi.ensures.1 in
-    let line = c.in-Wifi in
-    let fault = c.in_err-give-in-Wifi.field-0.0 in
-    let F : List ℕ → Type 0 = λ name. HasLineCause state (given_at name (GivenWifi line.on) state) fault in
-    let O : Outcome → Type 0 = λ o. HasLineCause state o fault in
-    let C : Command → Type 0 = λ command. HasLineCause state (carried_out iv_setup state command) fault in
-    rw (p.1, p.2)
-    (subst C (sym line.is) (subst O (sym (wifi_given state line.node line.on)) (subst F c.as_slice-in-Wifi.ensures.value (c.in_err-give-in-Wifi.ensures.refused state stands))))
-
-pub returns-in_ok-give-in-Wifi-clause-ok : goal.returns-in_ok-give-in-Wifi-clause-ok
-returns-in_ok-give-in-Wifi-clause-ok c = λ state stands.
-    let line = c.in-Wifi in
-    let F : List ℕ → Type 0 = λ name. Carries (given_at name (GivenWifi line.on) state) state c.give-in-Wifi.new.self c.give-in-Wifi.new.text.items in
-    let O : Outcome → Type 0 = λ o. Carries o state c.give-in-Wifi.new.self c.give-in-Wifi.new.text.items in
-    let C : Command → Type 0 = λ command. Carries (carried_out iv_setup state command) state c.give-in-Wifi.new.self c.give-in-Wifi.new.text.items in
-    subst C (sym line.is) (subst O (sym (wifi_given state line.node line.on)) (subst F c.as_slice-in-Wifi.ensures.value (c.in_ok-give-in-Wifi.ensures.ok state stands)))
 
 pub returns-in_err-ping-in-Ping-clause-refused : goal.returns-in_err-ping-in-Ping-clause-refused
 returns-in_err-ping-in-Ping-clause-refused c = λ state stands.

@@ -11,7 +11,8 @@ use Rattle.mesh_laws.proofs.Schedule.Steps.{delivered_effect}
 use Rattle.mesh_scene.specs.Inner.NetAnswers.{fault_of}
 use Rattle.mesh_scene.specs.CarriesOut.{Carries, HasLineCause}
 use Rattle.mesh_scene.specs.declared.scene.Scene.{Scene}
-use Rattle.mesh_scene.proofs.StepLemmas.{attempt_carries, attempt_fails, deliver_again, deliver_none, deliver_past, stands_gone}
+use Rattle.mesh_scene.proofs.PrintLemmas.{attempt_carries, attempt_fails, stands_gone}
+use Rattle.mesh_scene.proofs.GivenLemmas.{deliver_again, deliver_none, deliver_past}
 use Rattle.mesh_scene.proofs.scene.Scene.deliver.Goals as goal
 
 pub returns-then-number-eq0-clause-refused : goal.returns-then-number-eq0-clause-refused

@@ -11,7 +11,8 @@ use Rattle.mesh_node.specs.NodeStands.{given_by}
 use Rattle.mesh_scene.specs.Inner.NetAnswers.{fault_of}
 use Rattle.mesh_scene.specs.CarriesOut.{HasLineCause}
 use Rattle.mesh_scene.specs.declared.scene.Scene.{Scene}
-use Rattle.mesh_scene.proofs.StepLemmas.{attempt_fails, given_carries, given_nowhere, given_there}
+use Rattle.mesh_scene.proofs.PrintLemmas.{attempt_fails}
+use Rattle.mesh_scene.proofs.GivenLemmas.{given_carries, given_nowhere, given_there}
 use Rattle.mesh_scene.proofs.scene.Scene.give.Goals as goal
 
 pub returns-in_default-clause-refused : goal.returns-in_default-clause-refused

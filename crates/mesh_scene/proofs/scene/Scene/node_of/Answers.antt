@@ -1,5 +1,7 @@
 use Rattle.std.proofs.Common.{sym, ◌∙◌}
-use Rattle.mesh_scene.proofs.StepLemmas.{node_at}
+use Rattle.mesh_scene.proofs.NetLemmas.{net_settled}
+use Rattle.mesh_scene.proofs.PlaceLemmas.{named_so}
+use Rattle.mesh_scene.proofs.TableLemmas.{node_at}
 use Rattle.mesh_scene.proofs.scene.Scene.node_of.Goals as goal
 
 pub returns-clause-found : goal.returns-clause-found
@@ -11,7 +13,11 @@ returns-clause-found c = λ state stands.
       row = there.0;
       at = is;
       found = there.1;
-      stands = c.node.ensures state.choice state.clock state.mesh there.0 stands.net_is there.1;
+      kept = record {
+        stands = c.node.ensures state.choice state.clock state.mesh there.0 stands.net_is there.1;
+        named = named_so state c.args.name.now c.in-Some.place there.0 is there.1;
+        past = net_settled c.args.self.now.net state.choice state.clock state.mesh c.in-Some.place there.0 stands.net_is there.1;
+      };
     }
 
 pub returns-in_default-clause-unknown : goal.returns-in_default-clause-unknown
