@@ -10,6 +10,3 @@ pub mod seq_window;
 pub use algo::Algo;
 pub use mesh_model::{Beats, Head, Hearing, LinkRow, OrigRow};
 pub use seq_window::SeqWindow;
-
-#[cfg(test)]
-mod tests;
