@@ -34,6 +34,3 @@ pub use input::Input;
 pub use mesh_model::Act;
 pub use node::Node;
 pub use port::Port;
-
-#[cfg(test)]
-mod tests;
