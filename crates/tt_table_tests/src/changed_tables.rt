@@ -51,7 +51,7 @@ fn changes_apply_strictly_or_not_at_all(rt: HostRuntime) -> Result<(), Fail> {
     let missing = Err(ApplyErr::Missing { entry });
     let present = Err(ApplyErr::Present { key: entry.key });
     assert_eq!(rt; outcomes, [missing, Ok(()), present]);
-    assert_eq!(rt; [0, 1].map(|i| table.entry_at(i)), [Some(entry), None]);
+    assert_eq!(rt; (table.entry_at(0), table.entry_at(1)), (Some(entry), None));
     Ok(())
 }
 
@@ -93,7 +93,7 @@ fn one_change_of_a_thousand_clients_takes_one_step(rt: HostRuntime) -> Result<()
         many.push(Change { entry, del: false })?;
     }
     let table = one_more::<Brand>(rt.alloc(), Blank::new(1), &many)?;
-    let last = [1000, 1001].map(|i| table.entry_at(i));
-    assert_eq!(rt; last, [Some(client(0xff, 1)), None]);
+    let last = (table.entry_at(1000), table.entry_at(1001));
+    assert_eq!(rt; last, (Some(client(0xff, 1)), None));
     Ok(())
 }
