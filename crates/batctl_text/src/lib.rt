@@ -27,6 +27,3 @@ pub use event_line::line;
 pub use global_table::{entry_line, global_header, global_line, mark_line};
 pub use local_table::{local_header, local_line};
 pub use route_table::{iv_link_line, link_header, orig_header, orig_line, v_link_line};
-
-#[cfg(test)]
-mod tests;
