@@ -18,6 +18,3 @@ pub use failure::NetErr;
 pub use link::Link;
 pub use mesh_node::{Input, Node};
 pub use net::{CLOCK_LIMIT, Net};
-
-#[cfg(test)]
-mod tests;
