@@ -33,6 +33,3 @@ mod showing;
 pub use program::{
     FINISHED, LIMITED, OUT_OF_MEMORY, READ_FAULT, REFUSED, USAGE, WRITE_FAULT, batmesh,
 };
-
-#[cfg(test)]
-mod tests;

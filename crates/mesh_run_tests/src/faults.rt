@@ -1,5 +1,6 @@
-use super::*;
-use crate::{LIMITED, READ_FAULT, REFUSED, USAGE, WRITE_FAULT};
+use super::ended::{ROOM, SHOWN_TWICE, TABLE, TABLE_TWICE, UNKNOWN_AT_7, run_over};
+use mesh_base::{MemIntake, MemSink};
+use mesh_run::{LIMITED, READ_FAULT, REFUSED, USAGE, WRITE_FAULT, batmesh};
 use std::test::Fail;
 
 #[test]

@@ -1,5 +1,7 @@
-use super::*;
-use crate::{FINISHED, REFUSED};
+use super::ended::ROOM;
+use mesh_base::{MemIntake, MemSink};
+use mesh_run::{FINISHED, REFUSED, batmesh};
+use std::alloc::Global;
 use std::process::Abort;
 use std::test::Fail;
 

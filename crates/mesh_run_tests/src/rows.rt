@@ -1,5 +1,7 @@
-use super::*;
-use crate::{FINISHED, LIMITED, REFUSED};
+use super::ended::{ROOM, SHOWN_TWICE, TABLE, TABLE_TWICE, UNKNOWN_AT_7, run_over};
+use mesh_base::{MemIntake, MemSink};
+use mesh_run::{FINISHED, LIMITED, REFUSED};
+use std::alloc::Global;
 use std::process::Abort;
 use std::test::Fail;
 

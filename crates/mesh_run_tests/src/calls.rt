@@ -1,6 +1,6 @@
-use super::ROOM;
-use crate::{FINISHED, USAGE, batmesh};
+use super::ended::ROOM;
 use mesh_base::{MemIntake, MemSink};
+use mesh_run::{FINISHED, USAGE, batmesh};
 use std::alloc::Global;
 use std::process::Abort;
 use std::test::Fail;

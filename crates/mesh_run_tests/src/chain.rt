@@ -1,5 +1,7 @@
-use super::*;
-use crate::{FINISHED, READ_FAULT, WRITE_FAULT};
+use super::ended::{Ended, ROOM, run_over};
+use mesh_base::{MemIntake, MemSink};
+use mesh_run::{FINISHED, READ_FAULT, WRITE_FAULT};
+use std::alloc::Global;
 use std::test::Fail;
 
 /// Nodes in a chain, each with links to its neighbours.

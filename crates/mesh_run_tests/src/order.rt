@@ -1,8 +1,8 @@
 ghost use Rattle.std.specs.Prelude.{◌≡◌, ◌<◌, ◌≤◌, length, None};
 
-use super::*;
-use crate::FINISHED;
-use mesh_base::{Failed, Intake, OpenErr, Sink};
+use super::ended::ROOM;
+use mesh_base::{Failed, Intake, MemSink, OpenErr, Sink};
+use mesh_run::{FINISHED, batmesh};
 use std::cell::Cell;
 use std::test::Fail;
 
