@@ -24,14 +24,20 @@ extends_more xs c place w = grind (arith, common_steps, w.begun, w.filled)
 -- the last chunk takes more behind its bytes
 pub extends_last : (xs : List Filling) (c d : Filling) (more : List ℕ)
     → d.bytes ≡ c.bytes ++ more → Extends (xs ++ c ∷ []) (xs ++ d ∷ [])
-extends_last xs c d more e place w = grind (arith, common_steps, part_of_front, w.begun, w.filled, e)
+extends_last xs c d more e place w =
+    grind (arith, common_steps, part_of_front, w.begun, w.filled, e)
 
 -- the same where chunks stand in front
 pub extends_youngest : (closed front old new : List Filling) (w c d : Filling) (more : List ℕ)
     → old ≡ front ++ c ∷ [] → new ≡ front ++ d ∷ [] → d.bytes ≡ c.bytes ++ more
     → Extends (closed ++ w ∷ old) (closed ++ w ∷ new)
 extends_youngest closed front old new w c d more e f g =
-    rw (e, f, ← append_assoc closed (w ∷ front) (c ∷ []), ← append_assoc closed (w ∷ front) (d ∷ []))
+    rw (
+      e,
+      f,
+      ← append_assoc closed (w ∷ front) (c ∷ []),
+      ← append_assoc closed (w ∷ front) (d ∷ []),
+    )
     (extends_last (closed ++ w ∷ front) c d more g)
 
 -- the youngest chunk stands at the number of those before it

@@ -1,5 +1,5 @@
--- That a store stays one, and its frames, through a push and where what grew is brought to the older
--- chunks.
+-- That a store stays one, and its frames, through a push and where what grew is brought to the
+-- older chunks.
 use Rattle.std.proofs.Common.{◌≡◌, ℕ, ◌+◌, ◌-◌, ◌*◌, ◌<◌, ◌≤◌, List, [], ◌∷◌, ◌++◌, ◌⊎◌, inl, inr, length, map, All, sum_by, refl, sym, ◌∙◌, ap, arith, rules, append_assoc, append-nil, length-append}
 use Rattle.frame_store.proofs.ChunksLemmas.{last_pushed, youngest_at}
 use Rattle.std.proofs.lemmas.Bool.{cases_lt}
@@ -33,7 +33,8 @@ pub pushed : (older : Older) (old mid new : Grown) (bytes : List ℕ) (place : P
     → frames older new ≡ frames older old ++ bytes ∷ []
 pushed older old mid new bytes place store wrote staged younger index =
     let same : chunks older new ≡ chunks older mid = rw (staged, younger) refl in
-    let before = same_frames (chunks older old) (chunks older mid) old.index.items store.kept wrote.extends in
+    let before = same_frames (chunks older old) (chunks older mid) old.index.items store.kept
+    wrote.extends in
     rw (same, index, wrote.index, map-append) (rw (before, wrote.there) refl)
 
 -- the chunks are those of a store where they are those of another
@@ -56,11 +57,15 @@ pub roomier : (older : Older) (old new : Grown) → IsTail older old → IsRoomi
 roomier older old new tail more =
     let same : chunks older new ≡ chunks older old = rw (more.staged, more.younger) refl in
     let list : frames older new ≡ frames older old = rw (same, more.index) refl in
-    let ready : IsReady older new = record { closed = tail.ready.closed; younger = omega (arith, tail.ready.younger, more.begins) } in (
+    let ready : IsReady older new = record {
+      closed = tail.ready.closed;
+      younger = omega (arith, tail.ready.younger, more.begins);
+    } in (
       record {
         ready = ready;
         store = record {
-          stand = same_chunks older old new tail.store.stand more.staged more.stages more.younger more.aside;
+          stand = same_chunks older old new tail.store.stand more.staged more.stages more.younger
+              more.aside;
           kept = rw (same, more.index) tail.store.kept;
           apart = rw more.index tail.store.apart;
           filled = rw (more.younger, more.staged, more.total) tail.store.filled;
@@ -93,7 +98,10 @@ stays older old mid new bytes place store within wrote staged younger aside inde
     let same : chunks older new ≡ chunks older mid = rw (staged, younger) refl in
     let list : frames older new ≡ frames older old ++ bytes ∷ []
     = pushed older old mid new bytes place store wrote staged younger index in
-    let ready : IsReady older new = record { closed = wrote.ready.closed; younger = rw younger wrote.ready.younger } in
+    let ready : IsReady older new = record {
+      closed = wrote.ready.closed;
+      younger = rw younger wrote.ready.younger;
+    } in
     let count : length (frames older old) ≡ length old.index.items = grind (arith, common_steps) in
     let few : length old.index.items < frames_limit
     = below frames_limit _ (λ h. within (inl (rw count h))) in
@@ -105,11 +113,20 @@ stays older old mid new bytes place store within wrote staged younger aside inde
     record {
       ready = ready;
       store = record {
-        stand = same_chunks older mid new wrote.stand (rw staged refl) (rw staged (omega arith)) (rw younger refl) aside;
-        kept = rw (same, index, wrote.index) (All-push (IsWithin (chunks older mid)) old.index.items place there wrote.within);
-        apart = rw (index, wrote.index) (All-push (IsApart older) old.index.items place store.apart wrote.apart);
+        stand = same_chunks older mid new wrote.stand (rw staged refl) (rw staged (omega arith))
+            (rw younger refl) aside;
+        kept = rw (same, index, wrote.index) (All-push (IsWithin (chunks older mid)) old.index.items
+            place there wrote.within);
+        apart = rw (index, wrote.index) (All-push (IsApart older) old.index.items place store.apart
+            wrote.apart);
         filled = rw (younger, staged, total, wrote.total) wrote.filled;
-        total = rw (list, sum_by_push (length {A = ℕ}) (frames older old) bytes, total, wrote.total, store.total) refl;
+        total = rw (
+          list,
+          sum_by_push (length {A = ℕ}) (frames older old) bytes,
+          total,
+          wrote.total,
+          store.total,
+        ) refl;
         few = rw (index, wrote.index) (grind (arith, common_steps, few));
         small = rw (total, wrote.total) small;
         ready = λ _. ready;
@@ -135,14 +152,17 @@ pub settles : (older now : Older) (old new : Grown) (front : List Filling) (y : 
     → new.staged.bytes ≡ [] → new.staged.size ≡ old.staged.size → new.younger.items ≡ []
     → new.aside ≡ old.aside → new.index ≡ old.index → new.total ≡ old.total
     → IsStore now new
-settles older now old new front y store ready before closed last staged size younger aside index total =
+settles older now old new front y store ready before closed last staged size younger aside index
+    total =
     let same : chunks now new ≡ chunks older old
     = settled_chunks older now old new front y before closed last staged younger in
     let list : frames now new ≡ frames older old = rw (same, index) refl in
     let was : newest older old ≡ y = rw before (last_pushed front y (with_staged older old)) in
-    let was_alone : last_chunk old.younger.items older.last ≡ y = rw before (last_pushed front y older.last) in
+    let was_alone : last_chunk old.younger.items older.last ≡ y
+    = rw before (last_pushed front y older.last) in
     let is : newest now new ≡ y = rw (younger, staged, last, append-nil) refl in
-    let all : length now.closed.items ≡ begun older old = rw (closed, before) (grind (arith, common_steps)) in
+    let all : length now.closed.items ≡ begun older old
+    = rw (closed, before) (grind (arith, common_steps)) in
     let many : begun now new ≡ begun older old = rw younger (omega (arith, all)) in
     record {
       stand = record {
@@ -155,9 +175,10 @@ settles older now old new front y store ready before closed last staged size you
         unused = rw aside store.stand.unused;
       };
       kept = rw (same, index) store.kept;
-      apart = rw index (All-weaker (IsWithin (chunks older old)) (IsApart now) (λ p w e. inl (rw last
-          (let there = youngest_at older.closed.items front old.younger.items (with_staged older old) y
-          p.chunk before (e ∙ all) in
+      apart = rw index (All-weaker (IsWithin (chunks older old)) (IsApart now)
+          (λ p w e. inl (rw last
+          (let there = youngest_at older.closed.items front old.younger.items
+          (with_staged older old) y p.chunk before (e ∙ all) in
           rw there.1 at w.filled))) old.index.items store.kept);
       filled = rw (is, many, total) (rw was at store.filled);
       total = rw (list, total) store.total;

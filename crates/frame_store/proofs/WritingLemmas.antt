@@ -24,18 +24,23 @@ pub lengthens : (older : Older) (old new : Grown) (front : List Filling) (c d : 
     → place.chunk ≡ length older.closed.items + length old.younger.items
     → place.start ≡ length c.bytes → place.len ≡ length bytes
     → HasWritten older old new bytes place
-lengthens older old new front c d bytes place stand filled ready before after e fits staged aside index total at from len =
+lengthens older old new front c d bytes place stand filled ready before after e fits staged aside
+    index total at from len =
     let was : newest older old ≡ c = rw before (last_pushed front c (with_staged older old)) in
     let is : newest older new ≡ d = rw after (last_pushed front d (with_staged older new)) in
-    let was_alone : last_chunk old.younger.items older.last ≡ c = rw before (last_pushed front c older.last) in
-    let alone : last_chunk new.younger.items older.last ≡ d = rw after (last_pushed front d older.last) in
+    let was_alone : last_chunk old.younger.items older.last ≡ c
+    = rw before (last_pushed front c older.last) in
+    let alone : last_chunk new.younger.items older.last ≡ d
+    = rw after (last_pushed front d older.last) in
     let size : d.size ≡ c.size = cc in
     let more : d.bytes ≡ c.bytes ++ bytes = cc in
     let long : length d.bytes ≡ length c.bytes + length bytes = grind (arith, common_steps) in
     let many : length new.younger.items ≡ length old.younger.items = grind (arith, common_steps) in
     let some_pushed : 0 < length old.younger.items = grind (arith, common_steps) in
-    let there : (place.chunk < length (chunks older new)) × (chunk_at (chunks older new) place.chunk ≡ d)
-    = youngest_at older.closed.items front new.younger.items (with_staged older new) d place.chunk after (omega arith) in
+    let there : (place.chunk < length (chunks older new))
+    × (chunk_at (chunks older new) place.chunk ≡ d)
+    = youngest_at older.closed.items front new.younger.items (with_staged older new) d
+    place.chunk after (omega arith) in
     record {
       stand = record {
         fits = rw staged stand.fits;
@@ -46,7 +51,8 @@ lengthens older old new front c d bytes place stand filled ready before after e 
         large_aside = rw aside stand.large_aside;
         unused = rw aside stand.unused;
       };
-      extends = rw staged (extends_youngest older.closed.items front old.younger.items new.younger.items
+      extends = rw staged (extends_youngest older.closed.items front old.younger.items
+          new.younger.items
           (with_staged older old) c d bytes before after more);
       within = record { begun = there.0; filled = rw (there.1, long) (omega arith) };
       there = rw (there.1, more, from, len) (grind (arith, common_steps));
@@ -62,10 +68,11 @@ lengthens older old new front c d bytes place stand filled ready before after e 
 taken : (old new c : Filling) (len staged : ℕ) → IsTaken old new c len
     → old.size ≤ staged → (0 < old.size → chunk_size ≤ old.size) → old.bytes ≡ []
     → (new.size ≤ staged) × (0 < new.size → chunk_size ≤ new.size) × (new.bytes ≡ [])
-taken old new c len staged (inl t) fits large unused = (omega (arith, t.1), λ h. absurd (omega (arith, t.1)), t.2)
+taken old new c len staged (inl t) fits large unused =
+    (omega (arith, t.1), λ h. absurd (omega (arith, t.1)), t.2)
 taken old new c len staged (inr t) fits large unused = rw t.1 (fits, large, unused)
 
--- what finds room in a chunk that is begun, or in the one that stays aside, is what found room before
+-- what finds room in a chunk that is begun, or in the one that stays aside, found room before
 taken_spare : (old new c : Filling) (len room : ℕ) → IsTaken old new c len → room < len
     → max room old.size ≤ max (c.size - len) new.size + len
 taken_spare old new c len room (inl t) h = omega (arith, t.0)
@@ -90,22 +97,33 @@ pub begins : (older : Older) (old mid new : Grown) (c d : Filling) (bytes : List
     → place.chunk ≡ length older.closed.items + length mid.younger.items + 1
     → place.start ≡ 0 → place.len ≡ length bytes
     → HasWritten older old new bytes place
-begins older old mid new c d bytes place stand filled ready longer fresh e after staged aside index total at from len =
+begins older old mid new c d bytes place stand filled ready longer fresh e after staged aside
+    index total at from len =
     let size : d.size ≡ c.size = cc in
     let bare : d.bytes ≡ bytes = cc (fresh.empty) in
     let grew : new.younger.items ≡ old.younger.items ++ d ∷ [] = rw (← fresh.younger) after in
-    let is : newest older new ≡ d = rw grew (last_pushed old.younger.items d (with_staged older new)) in
+    let is : newest older new ≡ d
+    = rw grew (last_pushed old.younger.items d (with_staged older new)) in
     let alone : last_chunk new.younger.items older.last ≡ d
     = rw grew (last_pushed old.younger.items d older.last) in
-    let many : length new.younger.items ≡ length old.younger.items + 1 = grind (arith, common_steps) in
+    let many : length new.younger.items ≡ length old.younger.items + 1
+    = grind (arith, common_steps) in
     let behind : chunks older new ≡ chunks older old ++ d ∷ []
-    = rw (grew, staged, fresh.staged, append_assoc older.closed.items (with_staged older old ∷ old.younger.items) (d ∷ [])) refl in
-    let others : length (chunks older old) ≡ length older.closed.items + length mid.younger.items + 1
+    = rw (
+      grew,
+      staged,
+      fresh.staged,
+      append_assoc older.closed.items (with_staged older old ∷ old.younger.items) (d ∷ []),
+    ) refl in
+    let others : length (chunks older old)
+    ≡ length older.closed.items + length mid.younger.items + 1
     = rw fresh.younger (grind (arith, common_steps)) in
-    let there : (place.chunk < length (chunks older new)) × (chunk_at (chunks older new) place.chunk ≡ d)
+    let there : (place.chunk < length (chunks older new))
+    × (chunk_at (chunks older new) place.chunk ≡ d)
     = rw (behind, at, ← others)
     (grind (arith, common_steps), get_or-append_seam (chunks older old) d [] _) in
-    let left : (new.aside.size ≤ new.staged.size) × (0 < new.aside.size → chunk_size ≤ new.aside.size) × (new.aside.bytes ≡ [])
+    let left : (new.aside.size ≤ new.staged.size) × (0 < new.aside.size → chunk_size ≤ new.aside.size)
+    × (new.aside.bytes ≡ [])
     = rw (aside, staged) (taken old.aside mid.aside c (length bytes) mid.staged.size fresh.aside
     (omega (arith, stand.stages_aside, fresh.more)) stand.large_aside stand.unused) in
     record {
@@ -129,7 +147,8 @@ begins older old mid new c d bytes place stand filled ready longer fresh e after
       ));
       ready = ready;
       spare = rw (is, aside, size, bare)
-          (taken_spare old.aside mid.aside c (length bytes) (rest (newest older old)) fresh.aside longer);
+          (taken_spare old.aside mid.aside c (length bytes) (rest (newest older old)) fresh.aside
+          longer);
       index = index ∙ fresh.index;
       total = total ∙ fresh.total;
     }

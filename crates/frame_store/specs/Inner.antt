@@ -10,7 +10,8 @@ use Rattle.frame_store.specs.Frames.{chunks, spare_bytes}
 use Rattle.frame_store.specs.Store.{AreChunks, AreFilled, chunk_size, IsApart, IsReady}
 
 -- bytes were written behind all others, at a place, and what was there stays
-pub record HasWritten (older : Older) (old new : Grown) (bytes : List ℕ) (place : Place) : Type 0 where
+pub record HasWritten (older : Older) (old new : Grown) (bytes : List ℕ) (place : Place)
+    : Type 0 where
   pub stand : AreChunks older new
   pub extends : Extends (chunks older old) (chunks older new)
   pub within : IsWithin (chunks older new) place

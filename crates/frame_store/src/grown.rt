@@ -3,7 +3,7 @@ use crate::place::Place;
 use std::alloc::Global;
 
 /// All of a store that grows: what is to stand behind the bytes of the last older chunk, the chunks
-/// that were begun since, the one that stands aside until it is begun, and the places of all frames.
+/// that were begun since, the one that stands aside until it is begun, and all frames' places.
 #[derive(Debug, Drop)]
 pub struct Grown {
     pub(crate) staged: Chunk,

@@ -134,9 +134,9 @@ impl FrameStore {
             ≡ spare_bytes self.old.older self.old.grown }
     {
         settle(&mut self.older, &mut self.grown);
-        let place = self.grown.index[place as usize];
+        let at = self.grown.index[place as usize];
         let older = &self.older;
-        let bytes = older_frame_at(older, place);
+        let bytes = older_frame_at(older, at);
         (
             bytes,
             Tail {

@@ -22,5 +22,6 @@ returns-clause-ok c =
     } in
     let more : IsRoomier c.args.grown.now room = search rules in
     let tail = roomier c.args.older.now c.args.grown.now room c.requires.tail more in
-    rw (← tail.1) (pushed c.args.older.now room c.write.new.grown new c.args.bytes.now c.in_ok-place.place
+    rw (← tail.1) (pushed c.args.older.now room c.write.new.grown new c.args.bytes.now
+    c.in_ok-place.place
     tail.0.store c.in_ok-place.ensures.ok (search rules) (search rules) (search rules))

@@ -4,7 +4,8 @@ use Rattle.frame_store.proofs.StoreLemmas.{settles}
 use Rattle.frame_store.proofs.settling.settle.Goals as goal
 
 pub returns-in-Some-clause-stands : goal.returns-in-Some-clause-stands
-returns-in-Some-clause-stands c = settles c.args.older.now _ c.args.grown.now _ c.pop.new.self.items c.in-Some.youngest
+returns-in-Some-clause-stands c =
+    settles c.args.older.now _ c.args.grown.now _ c.pop.new.self.items c.in-Some.youngest
     c.requires.stands (search rules) (search rules)
     (rw (
       rw c.unwrap.ensures at c.append-in-Some.ensures.items,
