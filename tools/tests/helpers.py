@@ -1,0 +1,78 @@
+"""What the tests share: running a tool, loading one as a module, and what isn't there."""
+
+import contextlib
+import importlib.machinery
+import importlib.util
+import io
+import os
+import shutil
+import sys
+import tempfile
+import unittest
+from pathlib import Path
+from unittest import mock
+
+import batmesh_run
+
+TOOLS = Path(__file__).resolve().parent.parent
+TOP = TOOLS.parent
+EXAMPLES = TOP / "examples"
+DATA = Path(__file__).resolve().parent / "data"
+BUILT = TOP / "crates" / "batmesh" / "out" / "batmesh"
+PROGRAM = os.environ.get("BATMESH") or (str(BUILT) if BUILT.is_file() else None)
+
+needs_program = unittest.skipUnless(
+    PROGRAM, "the program isn't built; BATMESH in the environment may name one"
+)
+needs_dpkt = unittest.skipUnless(
+    importlib.util.find_spec("dpkt"), "dpkt isn't installed (python3-dpkt)"
+)
+
+
+def needs_command(name, package):
+    return unittest.skipUnless(shutil.which(name), f"{name} isn't installed ({package})")
+
+
+def load_tool(name):
+    """A tool as a module."""
+    loader = importlib.machinery.SourceFileLoader(f"tool_{name}", str(TOOLS / name))
+    module = importlib.util.module_from_spec(importlib.util.spec_from_loader(loader.name, loader))
+    sys.modules[loader.name] = module
+    loader.exec_module(module)
+    return module
+
+
+def run_tool(name, *words, program=PROGRAM, text=""):
+    """Runs a tool in this process, and answers its status, its output as bytes, its error text."""
+    tool = load_tool(name)
+    out, said = io.TextIOWrapper(io.BytesIO()), io.StringIO()
+    given = io.TextIOWrapper(io.BytesIO(text.encode()))
+    status = 0
+    batmesh_run.program.cache_clear()
+    with (
+        mock.patch.object(sys, "argv", [str(TOOLS / name), *map(str, words)]),
+        mock.patch.object(sys, "stdin", given),
+        mock.patch.dict(os.environ, BATMESH=str(program or "/no/program")),
+        contextlib.redirect_stdout(out),
+        contextlib.redirect_stderr(said),
+    ):
+        try:
+            batmesh_run.main_of(tool.work)
+        except SystemExit as end:
+            status = end.code or 0
+        out.flush()
+    return status, out.buffer.getvalue(), said.getvalue()
+
+
+class Folder(unittest.TestCase):
+    """A test with a folder of its own."""
+
+    def setUp(self):
+        held = tempfile.TemporaryDirectory()
+        self.addCleanup(held.cleanup)
+        self.folder = Path(held.name)
+
+    def write(self, name, content):
+        path = self.folder / name
+        path.write_bytes(content if isinstance(content, bytes) else content.encode())
+        return path
