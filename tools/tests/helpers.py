@@ -64,6 +64,30 @@ def run_tool(name, *words, program=PROGRAM, text=""):
     return status, out.buffer.getvalue(), said.getvalue()
 
 
+def printed_of(text, frames="none"):
+    """What the program prints of a scenario that it carries out to its end."""
+    batmesh_run.program.cache_clear()
+    with mock.patch.dict(os.environ, BATMESH=PROGRAM):
+        return batmesh_run.run_whole(text, frames)
+
+
+STAND_IN = """#!{0}
+import sys
+printed, refused = {1!r}, {2!r}
+own = 0
+for number, line in enumerate(sys.stdin, start=1):
+    if line.startswith("decode 030f02ba7a6d6573"):
+        print("packet elp orig=02:ba:7a:6d:65:73 seq=%d interval=0" % int(line[23:31], 16))
+        continue
+    own += 1
+    if own == refused:
+        print("batmesh: line %d: unknown name" % number, file=sys.stderr)
+        sys.exit(1)
+    for text in printed.get(own, ()):
+        print(text)
+"""
+
+
 class Folder(unittest.TestCase):
     """A test with a folder of its own."""
 
@@ -71,6 +95,16 @@ class Folder(unittest.TestCase):
         held = tempfile.TemporaryDirectory()
         self.addCleanup(held.cleanup)
         self.folder = Path(held.name)
+
+    def stand_in(self, printed, refused=None):
+        """A program that prints, of each line of its input by number, what is written down here.
+
+        Lines with a tool's mark aren't counted, and print the mark. At the refused line, if there
+        is one, it ends as the program does.
+        """
+        path = self.write("stand_in", STAND_IN.format(sys.executable, printed, refused))
+        path.chmod(0o755)
+        return path
 
     def write(self, name, content):
         path = self.folder / name
