@@ -32,6 +32,8 @@ def main_of(work):
     except Trouble as trouble:
         print(f"{tool}: {trouble}", file=sys.stderr)
         sys.exit(2)
+    except KeyboardInterrupt:
+        sys.exit(130)
     except BrokenPipeError:
         # Whoever reads the output has had enough of it.
         os.dup2(os.open(os.devnull, os.O_WRONLY), sys.stdout.fileno())
@@ -265,38 +267,38 @@ def run_whole(text, frames="none"):
 # Marks: a line of the language that prints just its own number, so that the output of one line can
 # be told from that of the next. It is the decoding of a link probe with that number.
 
-MARK_PRINTED = "packet elp orig=02:ba:7a:6d:65:73 seq={} interval=0"
-
 
 def mark_line(number):
     """A line that prints the mark with this number."""
-    return "decode 030f02ba7a6d6573{:08x}00000000".format(number)
+    return f"decode 030f02ba7a6d6573{number:08x}00000000"
 
 
 def mark_printed(number):
     """What a mark's line prints."""
-    return MARK_PRINTED.format(number)
+    return f"packet elp orig=02:ba:7a:6d:65:73 seq={number} interval=0"
 
 
 def run_by_line(lines, frames="none"):
-    """Runs a scenario, and answers what each line printed, and how the run ended.
+    """Runs scenario lines, and answers what each line printed, and how the run ended.
 
-    The answer is a list of the printed lines by line, as far as the run came, and the run's end
-    with the numbers of the scenario's own lines in its error text.
+    The first is a list of the printed lines by line, as far as the run came. The error text of the
+    second has the number of the line as it is given here.
     """
     marked = []
-    for line in lines:
-        marked += [line.text, mark_line(line.number)]
+    for place, line in enumerate(lines, start=1):
+        marked += [line.text, mark_line(place)]
     done = run("".join(text + "\n" for text in marked), frames)
     printed = [[]]
     for text in done.printed:
-        if len(printed) <= len(lines) and text == mark_printed(len(printed)):
+        if text == mark_printed(len(printed)):
             printed.append([])
         else:
             printed[-1].append(text)
     if done.status == 0:
         printed.pop()
-    error = re.sub(r"line (\d+)", lambda found: f"line {(int(found[1]) + 1) // 2}", done.error)
+    error = re.sub(
+        r"line (\d+)", lambda found: f"line {lines[(int(found[1]) - 1) // 2].number}", done.error
+    )
     return printed, Run(done.printed, done.status, error)
 
 
@@ -310,7 +312,7 @@ class Talk:
                 stdin=subprocess.PIPE,
                 stdout=subprocess.PIPE,
                 stderr=subprocess.PIPE,
-                text=True,
+                encoding="utf-8",
             )
         except OSError as error:
             raise Trouble(f"can't run {program()}: {error.strerror}") from error

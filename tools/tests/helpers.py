@@ -42,17 +42,24 @@ def load_tool(name):
     return module
 
 
+@contextlib.contextmanager
+def running(program):
+    """Has the tools run this program."""
+    batmesh_run.program.cache_clear()
+    with mock.patch.dict(os.environ, BATMESH=str(program or "/no/program")):
+        yield
+
+
 def run_tool(name, *words, program=PROGRAM, text=""):
     """Runs a tool in this process, and answers its status, its output as bytes, its error text."""
     tool = load_tool(name)
     out, said = io.TextIOWrapper(io.BytesIO()), io.StringIO()
     given = io.TextIOWrapper(io.BytesIO(text.encode()))
     status = 0
-    batmesh_run.program.cache_clear()
     with (
+        running(program),
         mock.patch.object(sys, "argv", [str(TOOLS / name), *map(str, words)]),
         mock.patch.object(sys, "stdin", given),
-        mock.patch.dict(os.environ, BATMESH=str(program or "/no/program")),
         contextlib.redirect_stdout(out),
         contextlib.redirect_stderr(said),
     ):
@@ -66,8 +73,7 @@ def run_tool(name, *words, program=PROGRAM, text=""):
 
 def printed_of(text, frames="none"):
     """What the program prints of a scenario that it carries out to its end."""
-    batmesh_run.program.cache_clear()
-    with mock.patch.dict(os.environ, BATMESH=PROGRAM):
+    with running(PROGRAM):
         return batmesh_run.run_whole(text, frames)
 
 

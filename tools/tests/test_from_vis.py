@@ -102,6 +102,13 @@ class Writing(Folder):
             line for line in self.scenario(MESHVIEWER, "--seed", 1) if line.startswith("link")
         ])
 
+    def test_the_way_back_is_added_on_demand(self):
+        picture = (DATA / "vis.jsondoc").read_text()
+        for words, count in (([], 5), (["--both"], 10)):
+            _, out, _ = run_tool("from_vis", self.write("v.json", picture), *words)
+            links = [line for line in out.decode().splitlines() if line.startswith("link")]
+            self.assertEqual(len(links), count)
+
     def test_of_a_large_mesh_the_nodes_around_one_are_chosen(self):
         ring = {"batadv": {
             "nodes": [{"id": f"02:00:00:00:00:{i:02x}"} for i in range(100)],

@@ -1,13 +1,11 @@
 """tshark and `decode` read the same: of the packets of an example, and of the frames of all runs."""
 
 import json
-import os
-from unittest import mock
 
 import batmesh_run
 import capture
 from helpers import (
-    DATA, EXAMPLES, PROGRAM, Folder, needs_command, needs_dpkt, needs_program, run_tool,
+    DATA, EXAMPLES, PROGRAM, Folder, needs_command, needs_dpkt, needs_program, run_tool, running,
 )
 from tshark_lines import as_told_by_both, read_packets
 
@@ -37,7 +35,7 @@ class Tshark(Folder):
     @needs_program
     def test_the_frames_of_linux_are_read_as_decode_prints_them(self):
         _, out, _ = run_tool("from_pcap", DATA / "linux.pcap")
-        printed = self.decoded(out.decode())
+        printed = decoded(out.decode())
         read = list(read_packets(DATA / "linux.pcap"))
         self.assertEqual(len(read), len(printed))
         for lines, texts in zip(read, printed):
@@ -53,7 +51,8 @@ class Tshark(Folder):
 
     def compare(self, scenario):
         """How many frames of a run both read, each alike."""
-        frames = batmesh_run.frames_of(self.run_program(scenario.read_text(), "all").printed)
+        with running(PROGRAM):
+            frames = batmesh_run.frames_of(batmesh_run.run(scenario.read_text(), "all").printed)
         if not frames:
             return 0
         status, out, _ = run_tool("to_pcap", scenario, self.write("frames", "\n".join(
@@ -61,23 +60,14 @@ class Tshark(Folder):
         )))
         self.assertEqual(status, 0)
         read = list(read_packets(self.write("capture", out)))
-        printed = self.decoded("".join(f"decode {frame.data.hex()}\n" for frame in frames))
+        printed = decoded("".join(f"decode {frame.data.hex()}\n" for frame in frames))
         for frame, lines, texts in zip(frames, read, printed, strict=True):
             self.assertEqual(lines, as_told_by_both(texts), frame.head)
         return len(frames)
 
-    def run_program(self, text, frames="none"):
-        batmesh_run.program.cache_clear()
-        with mock.patch.dict(os.environ, BATMESH=PROGRAM):
-            return batmesh_run.run(text, frames)
 
-    def decoded(self, text):
-        """What the program prints of each decode line."""
-        lines = [line for line in batmesh_run.scenario_lines(text) if line.words]
-        lines = [
-            batmesh_run.Line(number, line.text, line.words)
-            for number, line in enumerate(lines, start=1)
-        ]
-        batmesh_run.program.cache_clear()
-        with mock.patch.dict(os.environ, BATMESH=PROGRAM):
-            return batmesh_run.run_by_line(lines)[0]
+def decoded(text):
+    """What the program prints of each decode line of a scenario."""
+    lines = [line for line in batmesh_run.scenario_lines(text) if line.words]
+    with running(PROGRAM):
+        return batmesh_run.run_by_line(lines)[0]
