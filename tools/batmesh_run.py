@@ -40,12 +40,12 @@ def main_of(work):
         sys.exit(0)
 
 
-def words_parser(about, **more):
-    """A parser for a tool's words, which says that the tool isn't proved."""
+def words_parser(about):
+    """A parser for a tool's words, whose help is the tool's own head."""
     return argparse.ArgumentParser(
         description=about,
-        epilog="Not proved: this tool stands beside the program. tools/README.md has an example.",
-        **more,
+        epilog="tools/README.md has an example.",
+        formatter_class=argparse.RawDescriptionHelpFormatter,
     )
 
 

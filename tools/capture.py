@@ -60,7 +60,7 @@ def address_text(data):
 
 
 def payload_of(packet):
-    """The payload of an Ethernet or cooked packet, or None where its header isn't whole or known."""
+    """The payload of a packet, or None where its link header isn't whole or known."""
     data = packet.data
     if packet.link_type == ETHERNET and len(data) >= 14:
         return _behind_tags(address_text(data[6:12]), address_text(data[:6]), data[12:])
@@ -99,7 +99,8 @@ def _pcap_packets(data):
     if kind is None:
         raise Trouble("this is no capture: it begins neither as pcap nor as pcapng")
     little = kind.__hdr_fmt__[0] == "<"
-    header = _unpacked(dpkt.pcap.LEFileHdr if little else dpkt.pcap.FileHdr, data, "the file's head")
+    file_kind = dpkt.pcap.LEFileHdr if little else dpkt.pcap.FileHdr
+    header = _unpacked(file_kind, data, "the file's head")
     nano = magic in (dpkt.pcap.TCPDUMP_MAGIC_NANO, dpkt.pcap.PMUDPCT_MAGIC_NANO)
     parts = 10**9 if nano else 10**6
     place, number = dpkt.pcap.FileHdr.__hdr_len__, 0
@@ -166,9 +167,9 @@ def _blocks(data):
 
 
 def _interface(order, block):
-    little = order == "<"
-    kind = dpkt.pcapng.InterfaceDescriptionBlockLE if little else dpkt.pcapng.InterfaceDescriptionBlock
-    head = kind()
+    head = dpkt.pcapng.InterfaceDescriptionBlock()
+    if order == "<":
+        head = dpkt.pcapng.InterfaceDescriptionBlockLE()
     head.unpack_hdr(block)
     parts, offset = 10**6, 0
     for code, value in _options(order, block[16:-4]):

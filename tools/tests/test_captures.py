@@ -38,7 +38,8 @@ def pcapng(order, resolution, offset, stamp, packet):
     section = struct.pack(order + "IHHq", 0x1A2B3C4D, 1, 0, -1)
     idle = struct.pack(order + "HHI", 1, 0, 0)
     options = struct.pack(order + "HHBxxxHHqHH", 9, 1, resolution, 14, 8, offset, 0, 0)
-    head = struct.pack(order + "IIIII", 1, stamp >> 32, stamp & 0xFFFFFFFF, len(packet), len(packet))
+    stamps = stamp >> 32, stamp & 0xFFFFFFFF
+    head = struct.pack(order + "IIIII", 1, *stamps, len(packet), len(packet))
     return (
         block(order, 0x0A0D0D0A, section)
         + block(order, 1, idle)

@@ -5,7 +5,7 @@ from helpers import EXAMPLES, Folder, load_tool, needs_command, needs_program, r
 
 draw = load_tool("draw")
 
-# examples/diamond.scn with the table that stands beside it as the last one of A.
+# Three nodes, and tables as the program prints them, with a node that has no name here.
 NODES = {"A": "02:00:00:00:00:0a", "B": "02:00:00:00:00:0b", "C": "02:00:00:00:00:0c"}
 TABLES = """o B algo=iv count=0
 o A algo=iv count=3

@@ -1,4 +1,4 @@
-"""Real meshes' pictures in JSON. vis.json and vis.jsondoc are the examples of batadv-vis' manual."""
+"""Pictures of real meshes. vis.json and vis.jsondoc are the examples of batadv-vis' manual."""
 
 import json
 import unittest
@@ -11,8 +11,8 @@ from_vis = load_tool("from_vis")
 MESHVIEWER = {
     "timestamp": "2026-01-01T00:00:00Z",
     "nodes": [
-        {"node_id": "a", "hostname": "Rathaus-Süd 1", "mac": "02:00:00:00:00:0A", "is_online": True},
-        {"node_id": "b", "hostname": "Rathaus-Süd 2", "mac": "02:00:00:00:00:0b", "is_online": True},
+        {"node_id": "a", "hostname": "Rathaus-Süd 1", "mac": "02:00:00:00:00:0A"},
+        {"node_id": "b", "hostname": "Rathaus-Süd 2", "mac": "02:00:00:00:00:0b"},
         {"node_id": "c", "hostname": "gone", "mac": "02:00:00:00:00:0c", "is_online": False},
     ],
     "links": [

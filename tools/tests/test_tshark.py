@@ -1,4 +1,4 @@
-"""tshark and `decode` read the same: of the packets of an example, and of the frames of all runs."""
+"""tshark and `decode` read the same of the packets of an example and of the frames of runs."""
 
 import json
 

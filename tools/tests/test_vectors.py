@@ -1,4 +1,4 @@
-"""The vectors: each against its scenario and the output stored beside it, and against the schema."""
+"""The vectors: each against its scenario, the output stored beside it, and the schema."""
 
 import importlib.util
 import json

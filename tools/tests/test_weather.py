@@ -1,4 +1,4 @@
-"""Weather, over a mesh whose frames are written down here, and over the program where it is built."""
+"""Weather, over a mesh whose frames are written down, and over the program where it is built."""
 
 import re
 import unittest

@@ -1,5 +1,6 @@
 """What tshark reads of mesh packets, in the lines in which the program's `decode` prints it."""
 
+import re
 import subprocess
 import xml.etree.ElementTree as ElementTree
 
@@ -41,7 +42,7 @@ def read_packets(capture):
 def as_told_by_both(lines):
     """Lines of `decode` without what tshark doesn't tell."""
     kept = [line for line in lines if line.split()[0] not in ("rest", "bad")]
-    return [" ".join(word for word in line.split() if not word.startswith("data=")) for line in kept]
+    return [re.sub(r" data=\d+", "", line) for line in kept]
 
 
 def _packet_lines(packet):
