@@ -1,10 +1,11 @@
 """Weather, over a mesh whose frames are written down, and over the program where it is built."""
 
+import json
 import re
 import unittest
 
 import batmesh_run
-from helpers import Folder, load_tool, needs_program, printed_of, run_tool
+from helpers import EXAMPLES, Folder, load_tool, needs_program, printed_of, run_tool
 
 weather = load_tool("weather")
 
@@ -76,6 +77,20 @@ class Weather(unittest.TestCase):
         _, mesh = expand(text, both_ways(1000))
         self.assertEqual(mesh.delivered, [(1001, 1), (1001, 2)])
 
+    def test_each_frame_of_an_example_comes_when_its_link_would_bring_it(self):
+        vector = json.loads((EXAMPLES / "vectors" / "ping.json").read_text())
+        text = (EXAMPLES / "ping.scn").read_text()
+        links = [step for step in vector["steps"] if step["command"] == "link"]
+        calm = "".join(f"#! loss {link['from']} {link['to']} 0\n" for link in links)
+        frames = [(frame["moment"], f"{frame['from']}>{frame['to']}") for frame in vector["frames"]]
+        self.assertEqual(len(frames), vector["frame_count"])
+        plain, mesh = expand(text.replace("run 8500\n", calm + "run 8500\n"), frames)
+        self.assertEqual(mesh.delivered, [
+            (moment + 1, number) for number, (moment, _) in enumerate(frames, start=1)
+        ])
+        runs = [int(line.split()[1]) for line in plain if line.startswith("run")]
+        self.assertEqual(sum(runs), 8520)
+
     def test_a_dead_node_neither_sends_nor_hears(self):
         frames = [(1000, ends) for ends in ("A>B", "B>A", "B>C", "C>B")]
         frames += [(1500, ends) for ends in ("B>C", "C>B")]
@@ -129,10 +144,21 @@ class WithTheProgram(Folder):
         self.assertEqual(printed_of(self.expanded(calm)), printed_of(text))
 
     def test_a_dead_node_is_forgotten_after_200_seconds(self):
-        text = CHAIN + "run 20000\nshow A o\n#! dead C\nrun 190000\nshow A o\nrun 20000\nshow A o\n"
+        text = (EXAMPLES / "weather" / "dead_node.scn").read_text()
         printed = printed_of(self.expanded(text))
         counts = [int(count) for count in re.findall(r"o A algo=iv count=(\d)", "\n".join(printed))]
-        self.assertEqual(counts, [2, 2, 1])
+        self.assertEqual(counts, [2, 1])
+        self.assertEqual([line for line in printed if line.startswith(("ping", "lost"))], [
+            "ping A C seq=1 reply ttl=49 rtt=4",
+            "ping A C seq=3 noroute",
+            "lost 225100 A - 02:00:00:00:01:02 02:00:00:00:01:01 unknown",
+        ])
+
+    def test_a_detour_stands_six_seconds_after_a_link_failed(self):
+        text = (EXAMPLES / "weather" / "failed_link.scn").read_text()
+        printed = printed_of(self.expanded(text))
+        hops = re.findall(r"o \S+0c seq=\d+ seen=\d+ next=\S+:(\w+)", "\n".join(printed))
+        self.assertEqual(hops, ["0c", "0c", "0b", "0b", "0c"])
 
     def test_a_refused_line_is_told_with_its_number(self):
         status, _, said = run_tool("weather", self.write("s.scn", NODES + "show C o\n"))
