@@ -100,13 +100,13 @@ def _pcap_packets(data):
         raise Trouble("this is no capture: it begins neither as pcap nor as pcapng")
     little = kind.__hdr_fmt__[0] == "<"
     file_kind = dpkt.pcap.LEFileHdr if little else dpkt.pcap.FileHdr
-    header = _unpacked(file_kind, data, "the file's head")
+    header = _unpacked(file_kind, data, 0, "the file's head")
     nano = magic in (dpkt.pcap.TCPDUMP_MAGIC_NANO, dpkt.pcap.PMUDPCT_MAGIC_NANO)
     parts = 10**9 if nano else 10**6
     place, number = dpkt.pcap.FileHdr.__hdr_len__, 0
     while place < len(data):
         number += 1
-        head = _unpacked(kind, data[place:], f"packet {number}")
+        head = _unpacked(kind, data, place, f"packet {number}")
         begin = place + kind.__hdr_len__
         place = begin + head.caplen
         if place > len(data):
@@ -115,11 +115,12 @@ def _pcap_packets(data):
         yield Packet(number, moment, header.linktype & 0xFFFF, data[begin:place], head.len)
 
 
-def _unpacked(kind, data, what):
-    """A header of a kind at the beginning of data."""
-    if len(data) < kind.__hdr_len__:
+def _unpacked(kind, data, place, what):
+    """The header of a kind that begins at a place of the file."""
+    end = place + kind.__hdr_len__
+    if end > len(data):
         raise Trouble(f"{what} ends behind the end of the file")
-    return kind(data[: kind.__hdr_len__])
+    return kind(data[place:end])
 
 
 @dataclass(frozen=True)
@@ -158,7 +159,7 @@ def _blocks(data):
         if len(data) - place < 12:
             raise Trouble(f"the block at byte {place} ends behind the end of the file")
         if int.from_bytes(data[place : place + 4], "big") == SECTION:
-            order = _order_of_section(data[place:])
+            order = _order_of_section(data[place : place + 12])
         kind, length = struct.unpack_from(order + "II", data, place)
         if length < 12 or length % 4 or place + length > len(data):
             raise Trouble(f"the block at byte {place} tells a length of {length}, which can't be")

@@ -5,7 +5,7 @@ import pty
 import shutil
 import subprocess
 
-from helpers import TOP, Folder
+from common import TOP, Folder
 
 # It refuses line 2 of its input, or gives the texts and statuses that its first word asks for.
 STAND_IN = """#!/bin/sh

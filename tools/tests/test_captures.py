@@ -3,7 +3,7 @@
 import struct
 from decimal import Decimal
 
-from helpers import DATA, EXAMPLES, Folder, needs_dpkt, run_tool
+from common import DATA, EXAMPLES, Folder, needs_dpkt, run_tool
 
 ROWS = EXAMPLES / "vectors" / "rows"
 # A link probe with the number 1 and the interval 500 ms, and Ethernet headers from A to all.

@@ -1,7 +1,7 @@
 """Pictures: what Graphviz and gnuplot are given, and what they make of it where they are there."""
 
 import batmesh_run
-from helpers import EXAMPLES, Folder, load_tool, needs_command, needs_program, run_tool
+from common import EXAMPLES, Folder, load_tool, needs_command, needs_program, run_tool
 
 draw = load_tool("draw")
 

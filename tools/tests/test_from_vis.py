@@ -4,7 +4,7 @@ import json
 import unittest
 
 import batmesh_run
-from helpers import DATA, Folder, load_tool, needs_program, printed_of, run_tool
+from common import DATA, Folder, load_tool, needs_program, printed_of, run_tool
 
 from_vis = load_tool("from_vis")
 

@@ -1,6 +1,6 @@
 """Transcripts, over lines whose output is written down, and over the program where it is built."""
 
-from helpers import EXAMPLES, Folder, needs_program, run_tool
+from common import EXAMPLES, Folder, needs_program, run_tool
 
 # A scenario, and what the stand-in prints of its lines by number, in the forms of the program.
 SCENARIO = """# A client roams from A to B.

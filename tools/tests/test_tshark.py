@@ -4,7 +4,7 @@ import json
 
 import batmesh_run
 import capture
-from helpers import (
+from common import (
     DATA, EXAMPLES, PROGRAM, Folder, needs_command, needs_dpkt, needs_program, run_tool, running,
 )
 from tshark_lines import as_told_by_both, read_packets

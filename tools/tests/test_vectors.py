@@ -5,7 +5,7 @@ import json
 import unittest
 
 import batmesh_run
-from helpers import EXAMPLES, load_tool, needs_program, run_tool
+from common import EXAMPLES, load_tool, needs_program, run_tool
 
 vectors = load_tool("vectors")
 STORED = {path.stem: path for path in sorted(vectors.VECTORS.glob("*.json"))}

@@ -5,7 +5,7 @@ import re
 import unittest
 
 import batmesh_run
-from helpers import EXAMPLES, Folder, load_tool, needs_program, printed_of, run_tool
+from common import EXAMPLES, Folder, load_tool, needs_program, printed_of, run_tool
 
 weather = load_tool("weather")
 
@@ -129,6 +129,26 @@ class Weather(unittest.TestCase):
             with self.assertRaises(batmesh_run.Trouble) as caught:
                 expand(text, [])
             self.assertIn(told, str(caught.exception))
+
+
+class OverAPipe(Folder):
+    """The whole tool, over a stand-in that sends two frames in the sixth line that it is given."""
+
+    TEXT = PAIR + "#! loss A B 0\nrun 1001\n"
+    PRINTED = {6: ["f1 1000 A>B elp 030f", "f2 1000 B>A elp 030f"]}
+
+    def test_the_plain_scenario_is_printed(self):
+        program = self.stand_in(self.PRINTED)
+        status, out, said = run_tool("weather", self.write("s.scn", self.TEXT), program=program)
+        self.assertEqual((status, said), (0, ""))
+        self.assertEqual(out.decode().splitlines()[3:], [
+            "link A B pattern=h", "link B A", "# weather: loss A B 0", "run 1001", "deliver 1",
+        ])
+
+    def test_a_refused_line_is_told_with_its_number(self):
+        program = self.stand_in({}, refused=3)
+        status, _, said = run_tool("weather", self.write("s.scn", self.TEXT), program=program)
+        self.assertEqual((status, said), (2, "tools/weather: line 3: unknown name\n"))
 
 
 @needs_program

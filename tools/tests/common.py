@@ -83,7 +83,8 @@ printed, refused = {1!r}, {2!r}
 own = 0
 for number, line in enumerate(sys.stdin, start=1):
     if line.startswith("decode 030f02ba7a6d6573"):
-        print("packet elp orig=02:ba:7a:6d:65:73 seq=%d interval=0" % int(line[23:31], 16))
+        mark = int(line[23:31], 16)
+        print("packet elp orig=02:ba:7a:6d:65:73 seq=%d interval=0" % mark, flush=True)
         continue
     own += 1
     if own == refused:
