@@ -3,8 +3,6 @@ use Rattle.std.proofs.Common.{◌≡◌, ℕ, zero, suc, ◌+◌, ◌<◌, List,
 use Rattle.std.specs.Prelude.{Some, None, option_map, slice_get, map}
 use Rattle.std.specs.List.{flat_map, concat}
 use Rattle.std.proofs.lemmas.List.{append-nil}
-use Rattle.mesh_model.specs.Scenario.Lines.{newline}
-use Rattle.mesh_model.specs.Text.PacketLines.{line_of}
 
 -- there is an element at each place below the length
 pub some_at : {X Y : Type 0} (g : X → Y) (xs : List X) (i : ℕ) → i < length xs → option_map g (slice_get xs i) ≡ None → ⊥
@@ -40,18 +38,3 @@ concat-append (x ∷ xs) ys = ap (λ more. x ++ more) (concat-append xs ys) ∙ 
 pub concat-map : {X : Type 0} (line : X → List ℕ) (xs : List X) → concat (map line xs) ≡ flat_map line xs
 concat-map line [] = refl
 concat-map line (x ∷ xs) = ap (λ more. line x ++ more) (concat-map line xs)
-
--- a text behind which these parts were put, one after another
-abbrev pub put_behind : List ℕ → List (List ℕ) → List ℕ
-put_behind text [] = text
-put_behind text (part ∷ parts) = put_behind (text ++ part) parts
-
-parts-put : (text : List ℕ) (parts : List (List ℕ)) → put_behind text parts ≡ text ++ concat parts
-parts-put text [] = sym (append-nil text)
-parts-put text (part ∷ parts) = parts-put (text ++ part) parts ∙ append_assoc text part (concat parts)
-
--- a line whose parts were put one after another
-pub line-put : (old new : List ℕ) (parts : List (List ℕ)) → new ≡ old ++ put_behind [] parts ++ newline ∷ [] → new ≡ old ++ line_of parts
-line-put old new parts is =
-    is ∙ append_assoc old (put_behind [] parts) (newline ∷ [])
-    ∙ ap (λ (text : List ℕ). old ++ (text ++ newline ∷ [])) (parts-put [] parts)

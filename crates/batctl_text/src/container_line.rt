@@ -4,20 +4,18 @@ ghost use Rattle.std.specs.Prelude.{◌≡◌, ◌++◌, OnOk, OnErr};
 ghost use Rattle.mesh_model.specs.Text.ContainerLines.{container_start, plain_line, gateway_line, roaming_line, multicast_line, table_start, change_line};
 ghost use Rattle.mesh_model.specs.Text.Tables.{vlan_line};
 ghost use Rattle.mesh_tvlv.specs.Walk.{seen};
+ghost use Rattle.batctl_text.specs.Inner.Parts.{part_text};
 
-use crate::line_text::LineText;
-use crate::part::{put_named_address, put_named_flags, put_named_number, put_sum, put_vid};
+use crate::part::Part::{self, Address, Flags, Number, Sum, Text, Vlan};
+use crate::whole_line::put_line;
 use mesh_base::{Key, NoMemory, Vid};
 use mesh_tvlv::{Container, TtView};
 
-// Appends the front of a container's line: its type, version and length.
-fn put_start(line: &mut LineText, container: &Container<'_>) -> Result<(), NoMemory>
-    ensures { OnOk result (line.new ≡ line.old ++ container_start (seen container.now)) }
+// What a container's line begins with.
+fn start(container: &Container<'_>) -> Part<'static>
+    ensures { part_text result ≡ container_start (seen container.now) }
 {
-    put_named_number(line, b"tvlv ", u64::from(container.kind))?;
-    put_named_number(line, b" version=", u64::from(container.version))?;
-    put_named_number(line, b" len=", container.body.len() as u64)?;
-    Ok(())
+    Part::Container(container.kind, container.version, container.body.len())
 }
 
 /// Appends the line of a container whose body has no fields that are known.
@@ -26,10 +24,7 @@ pub fn plain_line(out: &mut Vec<u8>, container: &Container<'_>) -> Result<(), No
     ensures ok { OnOk result (out.new.items ≡ out.old.items ++ plain_line (seen container.now)) }
     ensures err { OnErr result (out.new.items ≡ out.old.items) }
 {
-    let mut line = LineText::new(*out.allocator());
-    put_start(&mut line, container)?;
-    line.end(out)?;
-    Ok(())
+    put_line(out, &[start(container)])
 }
 
 /// Appends the line of a gateway's container, with its bandwidth down and up in 100 kbit/s.
@@ -44,12 +39,14 @@ pub fn gateway_line(
         ++ gateway_line (seen container.now) (record { download = download; upload = upload })) }
     ensures err { OnErr result (out.new.items ≡ out.old.items) }
 {
-    let mut line = LineText::new(*out.allocator());
-    put_start(&mut line, container)?;
-    put_named_number(&mut line, b" down=", u64::from(download))?;
-    put_named_number(&mut line, b" up=", u64::from(upload))?;
-    line.end(out)?;
-    Ok(())
+    put_line(
+        out,
+        &[
+            start(container),
+            Number(b" down=", u64::from(download)),
+            Number(b" up=", u64::from(upload)),
+        ],
+    )
 }
 
 /// Appends the line of a roaming advertisement.
@@ -63,13 +60,15 @@ pub fn roaming_line(
         ≡ out.old.items ++ roaming_line (seen container.now) client) }
     ensures err { OnErr result (out.new.items ≡ out.old.items) }
 {
-    let mut line = LineText::new(*out.allocator());
-    put_start(&mut line, container)?;
-    put_named_address(&mut line, b" mac=", client.mac)?;
-    line.put(b" vid=")?;
-    put_vid(&mut line, client.vid)?;
-    line.end(out)?;
-    Ok(())
+    put_line(
+        out,
+        &[
+            start(container),
+            Address(b" mac=", client.mac),
+            Text(b" vid="),
+            Vlan(client.vid),
+        ],
+    )
 }
 
 /// Appends the line of multicast flags.
@@ -83,11 +82,7 @@ pub fn multicast_line(
         ≡ out.old.items ++ multicast_line (seen container.now) flags) }
     ensures err { OnErr result (out.new.items ≡ out.old.items) }
 {
-    let mut line = LineText::new(*out.allocator());
-    put_start(&mut line, container)?;
-    put_named_flags(&mut line, b" flags=", flags)?;
-    line.end(out)?;
-    Ok(())
+    put_line(out, &[start(container), Flags(b" flags=", flags)])
 }
 
 /// Appends the first line of a translation table.
@@ -101,14 +96,16 @@ pub fn table_start(
         ≡ out.old.items ++ table_start (seen container.now) table.now) }
     ensures err { OnErr result (out.new.items ≡ out.old.items) }
 {
-    let mut line = LineText::new(*out.allocator());
-    put_start(&mut line, container)?;
-    put_named_flags(&mut line, b" flags=", table.flags())?;
-    put_named_number(&mut line, b" ttvn=", u64::from(table.ttvn()))?;
-    put_named_number(&mut line, b" vlans=", table.vlans() as u64)?;
-    put_named_number(&mut line, b" changes=", table.changes() as u64)?;
-    line.end(out)?;
-    Ok(())
+    put_line(
+        out,
+        &[
+            start(container),
+            Flags(b" flags=", table.flags()),
+            Number(b" ttvn=", u64::from(table.ttvn())),
+            Number(b" vlans=", table.vlans() as u64),
+            Number(b" changes=", table.changes() as u64),
+        ],
+    )
 }
 
 /// Appends the line of a VLAN with the checksum of its clients.
@@ -118,13 +115,7 @@ pub fn vlan_line(out: &mut Vec<u8>, vid: Vid, sum: u32) -> Result<(), NoMemory>
         ≡ out.old.items ++ vlan_line (record { vid = vid; sum = sum })) }
     ensures err { OnErr result (out.new.items ≡ out.old.items) }
 {
-    let mut line = LineText::new(*out.allocator());
-    line.put(b"vlan ")?;
-    put_vid(&mut line, vid)?;
-    line.put(b" sum=")?;
-    put_sum(&mut line, sum)?;
-    line.end(out)?;
-    Ok(())
+    put_line(out, &[Text(b"vlan "), Vlan(vid), Text(b" sum="), Sum(sum)])
 }
 
 /// Appends the line of a record with these flags, as they stand.
@@ -134,11 +125,13 @@ pub fn change_line(out: &mut Vec<u8>, flags: u8, client: Key) -> Result<(), NoMe
         ≡ out.old.items ++ change_line (record { flags = flags; key = client })) }
     ensures err { OnErr result (out.new.items ≡ out.old.items) }
 {
-    let mut line = LineText::new(*out.allocator());
-    put_named_flags(&mut line, b"change ", flags)?;
-    put_named_address(&mut line, b" ", client.mac)?;
-    line.put(b" ")?;
-    put_vid(&mut line, client.vid)?;
-    line.end(out)?;
-    Ok(())
+    put_line(
+        out,
+        &[
+            Flags(b"change ", flags),
+            Address(b" ", client.mac),
+            Text(b" "),
+            Vlan(client.vid),
+        ],
+    )
 }

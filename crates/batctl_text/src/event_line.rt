@@ -1,7 +1,6 @@
 //! The line of an event.
 
 ghost use Rattle.std.specs.Prelude.{◌≡◌, ◌++◌, OnOk, OnErr};
-ghost use Rattle.mesh_base.specs.declared.event.Event.TheVariants.{Alias, FrameSent};
 ghost use Rattle.mesh_model.specs.Text.Events.{by_text, client_frame_line, event_line, kind_word, loss_word};
 
 use crate::part::Part::{Address, Hex, Number, Text, Vlan};
@@ -59,38 +58,16 @@ fn loss_word(reason: LossReason) -> &'static [u8]
     }
 }
 
-// Appends the line of a link frame that is sent.
-#[tactic(auto, unfolding(mesh_model::specs::Text::Events::event_line))]
-fn frame_line<'a>(
-    out: &mut Vec<u8>,
-    names: &'a Names,
-    number: u32,
+/// A client frame that reached clients, or was lost.
+#[derive(Clone, Copy)]
+struct ClientFrame<'a> {
+    word: &'a [u8],
     moment: Millis,
-    from: Mac,
-    to: Mac,
-    reason: Option<Reason>,
-    bytes: &'a [u8],
-) -> Result<(), NoMemory>
-    ensures ok { OnOk result (out.new.items ≡ out.old.items
-        ++ event_line names.now.nodes (FrameSent number moment from to reason bytes.now)) }
-    ensures err { OnErr result (out.new.items ≡ out.old.items) }
-{
-    put_line(
-        out,
-        &[
-            Number(b"f", u64::from(number)),
-            Number(b" ", moment),
-            Text(b" "),
-            name_part(names, from),
-            Text(b">"),
-            name_part(names, to),
-            Text(b" "),
-            Text(kind_word(bytes)),
-            Text(by_text(reason)),
-            Text(b" "),
-            Hex(bytes),
-        ],
-    )
+    node: Mac,
+    vid: Vid,
+    src: Mac,
+    dst: Mac,
+    last: &'a [u8],
 }
 
 // Appends the line of a client frame: a word, moment, node, VLAN, source and destination, and what
@@ -98,56 +75,27 @@ fn frame_line<'a>(
 #[tactic(auto, unfolding(mesh_model::specs::Text::Events::client_frame_line))]
 fn client_frame_line<'a>(
     out: &mut Vec<u8>,
-    word: &'a [u8],
     names: &'a Names,
-    moment: Millis,
-    node: Mac,
-    vid: Vid,
-    src: Mac,
-    dst: Mac,
-    last: &'a [u8],
+    frame: &ClientFrame<'a>,
 ) -> Result<(), NoMemory>
     ensures ok { OnOk result (out.new.items ≡ out.old.items
-        ++ client_frame_line word.now names.now.nodes moment node vid src dst last.now) }
+        ++ client_frame_line frame.now.word.now names.now.nodes frame.now.moment frame.now.node
+        frame.now.vid frame.now.src frame.now.dst frame.now.last.now) }
     ensures err { OnErr result (out.new.items ≡ out.old.items) }
 {
     put_line(
         out,
         &[
-            Text(word),
-            Number(b" ", moment),
+            Text(frame.word),
+            Number(b" ", frame.moment),
             Text(b" "),
-            name_part(names, node),
+            name_part(names, frame.node),
             Text(b" "),
-            Vlan(vid),
-            Address(b" ", src),
-            Address(b" ", dst),
+            Vlan(frame.vid),
+            Address(b" ", frame.src),
+            Address(b" ", frame.dst),
             Text(b" "),
-            Text(last),
-        ],
-    )
-}
-
-// Appends the line of a commit that announces what an earlier one announced.
-#[tactic(auto, unfolding(mesh_model::specs::Text::Events::event_line))]
-fn alias_line(
-    out: &mut Vec<u8>,
-    names: &Names,
-    node: Mac,
-    commit: u64,
-    earlier: u64,
-) -> Result<(), NoMemory>
-    ensures ok { OnOk result (out.new.items ≡ out.old.items
-        ++ event_line names.now.nodes (Alias node commit earlier)) }
-    ensures err { OnErr result (out.new.items ≡ out.old.items) }
-{
-    put_line(
-        out,
-        &[
-            Text(b"alias "),
-            name_part(names, node),
-            Number(b" ", commit),
-            Number(b" ", earlier),
+            Text(frame.last),
         ],
     )
 }
@@ -157,7 +105,7 @@ fn alias_line(
 /// A node that has no name is printed by its address. What a choice of frames hides is the
 /// caller's matter: each event has its line here.
 #[tactic(auto, unfolding(mesh_model::specs::Text::Events::event_line))]
-pub fn line(out: &mut Vec<u8>, names: &Names, event: &Event) -> Result<(), NoMemory>
+pub fn line<'a>(out: &mut Vec<u8>, names: &'a Names, event: &'a Event) -> Result<(), NoMemory>
     ensures ok { OnOk result (out.new.items
         ≡ out.old.items ++ event_line names.now.nodes event.now) }
     ensures err { OnErr result (out.new.items ≡ out.old.items) }
@@ -170,15 +118,21 @@ pub fn line(out: &mut Vec<u8>, names: &Names, event: &Event) -> Result<(), NoMem
             to,
             reason,
             bytes,
-        } => frame_line(
+        } => put_line(
             out,
-            names,
-            *number,
-            *moment,
-            *from,
-            *to,
-            *reason,
-            bytes.as_slice(),
+            &[
+                Number(b"f", u64::from(*number)),
+                Number(b" ", *moment),
+                Text(b" "),
+                name_part(names, *from),
+                Text(b">"),
+                name_part(names, *to),
+                Text(b" "),
+                Text(kind_word(bytes.as_slice())),
+                Text(by_text(*reason)),
+                Text(b" "),
+                Hex(bytes.as_slice()),
+            ],
         ),
         Event::Received {
             moment,
@@ -187,17 +141,18 @@ pub fn line(out: &mut Vec<u8>, names: &Names, event: &Event) -> Result<(), NoMem
             src,
             dst,
             text,
-        } => client_frame_line(
-            out,
-            b"recv",
-            names,
-            *moment,
-            *node,
-            *vid,
-            *src,
-            *dst,
-            text.as_slice(),
-        ),
+        } => {
+            let frame = ClientFrame {
+                word: b"recv",
+                moment: *moment,
+                node: *node,
+                vid: *vid,
+                src: *src,
+                dst: *dst,
+                last: text.as_slice(),
+            };
+            client_frame_line(out, names, &frame)
+        }
         Event::Lost {
             moment,
             node,
@@ -205,22 +160,31 @@ pub fn line(out: &mut Vec<u8>, names: &Names, event: &Event) -> Result<(), NoMem
             src,
             dst,
             reason,
-        } => client_frame_line(
-            out,
-            b"lost",
-            names,
-            *moment,
-            *node,
-            *vid,
-            *src,
-            *dst,
-            loss_word(*reason),
-        ),
+        } => {
+            let frame = ClientFrame {
+                word: b"lost",
+                moment: *moment,
+                node: *node,
+                vid: *vid,
+                src: *src,
+                dst: *dst,
+                last: loss_word(*reason),
+            };
+            client_frame_line(out, names, &frame)
+        }
         Event::Alias {
             node,
             commit,
             earlier,
-        } => alias_line(out, names, *node, *commit, *earlier),
+        } => put_line(
+            out,
+            &[
+                Text(b"alias "),
+                name_part(names, *node),
+                Number(b" ", *commit),
+                Number(b" ", *earlier),
+            ],
+        ),
         Event::Pinged {
             node,
             target,

@@ -1,9 +1,8 @@
 //! Printed text: the tables of a node, after batctl(8), the text of `decode`, and the lines of what
 //! happens in a run.
 //!
-//! Each call appends whole lines to a buffer, or leaves it as it was where memory runs out. A
-//! `LineText` holds a line while it is put together, and then appends it: the lines of `decode` and
-//! of probes put one part after another, and `put_line` takes the parts of the others as a list.
+//! Each call appends whole lines to a buffer, or leaves it as it was where memory runs out. A line
+//! is a list of parts; `put_line` puts their texts together in a `LineText`, and then appends it.
 
 #![tactic(auto)]
 
@@ -27,6 +26,3 @@ pub use event_line::line;
 pub use global_table::{entry_line, global_header, global_line, mark_line};
 pub use local_table::{local_header, local_line};
 pub use route_table::{iv_link_line, link_header, orig_header, orig_line, v_link_line};
-
-#[cfg(test)]
-mod tests;

@@ -1,6 +1,6 @@
 //! The parts of a line: texts, numbers, addresses, VLANs, flags, checksums and ages.
 
-ghost use Rattle.std.specs.Prelude.{◌≡◌, ◌/◌, ◌%◌, ◌++◌, ◌<◌, decimal, slice_index, List, [], ◌∷◌, OnOk};
+ghost use Rattle.std.specs.Prelude.{◌≡◌, ◌/◌, ◌%◌, ◌++◌, ◌<◌, codes, decimal, slice_index, List, [], ◌∷◌, OnOk};
 ghost use Rattle.hex.specs.Hex.{encode_lower, lower_digits};
 ghost use Rattle.mesh_base.specs.Address.{hex_of_byte, mac_text, pairs_text};
 ghost use Rattle.mesh_model.specs.Text.PacketLines.{named_number, named_address, named_flags};
@@ -25,6 +25,10 @@ pub enum Part<'a> {
     Number(&'a [u8], u64),
     /// An address behind its name.
     Address(&'a [u8], Mac),
+    /// What a container's line begins with: its type, version and length.
+    Container(u8, u8, usize),
+    /// A byte of flags behind its name, as two hex digits.
+    Flags(&'a [u8], u8),
     /// A VLAN: `-`, its number, or `raw:` and its wire number.
     Vlan(Vid),
     /// The flags of an entry, a letter or `-` each.
@@ -35,6 +39,8 @@ pub enum Part<'a> {
     Hop(Option<Mac>),
     /// A byte in decimal, or `-` for none.
     Byte(Option<u8>),
+    /// A checksum as eight hex digits.
+    Sum(u32),
     /// Bytes as two hex digits each.
     Hex(&'a [u8]),
 }
@@ -70,9 +76,9 @@ fn put_number(line: &mut LineText, number: u64) -> Result<(), NoMemory>
     Ok(())
 }
 
-/// Appends a number in decimal behind its name.
+// Appends a number in decimal behind its name.
 #[inline(always)]
-pub fn put_named_number(line: &mut LineText, name: &[u8], number: u64) -> Result<(), NoMemory>
+fn put_named_number(line: &mut LineText, name: &[u8], number: u64) -> Result<(), NoMemory>
     ensures { OnOk result (line.new ≡ line.old ++ named_number name.now number) }
 {
     line.put(name)?;
@@ -80,9 +86,9 @@ pub fn put_named_number(line: &mut LineText, name: &[u8], number: u64) -> Result
     Ok(())
 }
 
-/// Appends an address behind its name.
+// Appends an address behind its name.
 #[inline(always)]
-pub fn put_named_address(line: &mut LineText, name: &[u8], mac: Mac) -> Result<(), NoMemory>
+fn put_named_address(line: &mut LineText, name: &[u8], mac: Mac) -> Result<(), NoMemory>
     ensures { OnOk result (line.new ≡ line.old ++ named_address name.now mac) }
 {
     line.put(name)?;
@@ -90,9 +96,25 @@ pub fn put_named_address(line: &mut LineText, name: &[u8], mac: Mac) -> Result<(
     Ok(())
 }
 
-/// Appends a byte of flags behind its name, as two hex digits.
+// Appends what a container's line begins with.
+fn put_container_start(
+    line: &mut LineText,
+    kind: u8,
+    version: u8,
+    len: usize,
+) -> Result<(), NoMemory>
+    ensures { OnOk result (line.new ≡ line.old ++ named_number (codes "tvlv ") kind
+        ++ named_number (codes " version=") version ++ named_number (codes " len=") len) }
+{
+    put_named_number(line, b"tvlv ", u64::from(kind))?;
+    put_named_number(line, b" version=", u64::from(version))?;
+    put_named_number(line, b" len=", len as u64)?;
+    Ok(())
+}
+
+// Appends a byte of flags behind its name, as two hex digits.
 #[inline(always)]
-pub fn put_named_flags(line: &mut LineText, name: &[u8], flags: u8) -> Result<(), NoMemory>
+fn put_named_flags(line: &mut LineText, name: &[u8], flags: u8) -> Result<(), NoMemory>
     ensures { OnOk result (line.new ≡ line.old ++ named_flags name.now flags) }
 {
     line.put(name)?;
@@ -141,9 +163,9 @@ fn low_digit(byte: u8) -> u8
     b"0123456789abcdef"[usize::from(byte % HEX)]
 }
 
-/// Appends a VLAN: `-`, its number, or `raw:` and its wire number.
+// Appends a VLAN: `-`, its number, or `raw:` and its wire number.
 #[tactic(auto, unfolding(mesh_model::specs::Text::Tables::vid_text))]
-pub fn put_vid(line: &mut LineText, vid: Vid) -> Result<(), NoMemory>
+fn put_vid(line: &mut LineText, vid: Vid) -> Result<(), NoMemory>
     ensures { OnOk result (line.new ≡ line.old ++ vid_text vid) }
 {
     if vid == Vid::UNTAGGED {
@@ -157,9 +179,9 @@ pub fn put_vid(line: &mut LineText, vid: Vid) -> Result<(), NoMemory>
     Ok(())
 }
 
-/// Appends a checksum as eight hex digits.
+// Appends a checksum as eight hex digits.
 #[tactic(auto, unfolding(mesh_model::specs::Text::Tables::sum_text))]
-pub fn put_sum(line: &mut LineText, sum: u32) -> Result<(), NoMemory>
+fn put_sum(line: &mut LineText, sum: u32) -> Result<(), NoMemory>
     ensures { OnOk result (line.new ≡ line.old ++ sum_text sum) }
 {
     let mut digits = [0; 8];
@@ -237,11 +259,14 @@ pub fn put_part(line: &mut LineText, part: &Part<'_>) -> Result<(), NoMemory>
         Part::Text(text) => line.put(text)?,
         Part::Number(name, value) => put_named_number(line, name, value)?,
         Part::Address(name, mac) => put_named_address(line, name, mac)?,
+        Part::Container(kind, version, len) => put_container_start(line, kind, version, len)?,
+        Part::Flags(name, flags) => put_named_flags(line, name, flags)?,
         Part::Vlan(vid) => put_vid(line, vid)?,
         Part::Marks(flags) => put_marks(line, flags)?,
         Part::Age(age) => put_age(line, age)?,
         Part::Hop(mac) => put_hop(line, mac)?,
         Part::Byte(byte) => put_byte(line, byte)?,
+        Part::Sum(sum) => put_sum(line, sum)?,
         Part::Hex(bytes) => put_hex(line, bytes)?,
     }
     Ok(())

@@ -2,7 +2,7 @@
 
 ghost use Rattle.std.specs.Prelude.{◌≡◌, ◌++◌, codes, OnOk, OnErr};
 ghost use Rattle.mesh_model.specs.declared.route.LinkRow.TheVariants.{Iv as IvLink, V as VLink};
-ghost use Rattle.mesh_model.specs.Text.Tables.{algorithm_word, link_line, orig_line, route_header};
+ghost use Rattle.mesh_model.specs.Text.Tables.{algorithm_word, neighbor_line, orig_line, route_header};
 
 use crate::part::Part::{Address, Hop, Number, Text};
 use crate::whole_line::put_line;
@@ -110,9 +110,9 @@ pub fn link_header(
 
 /// Appends the line of a neighbour under algorithm IV: its address, how many of its numbers were
 /// received, and how many own ones came back.
-#[tactic(auto, unfolding(mesh_model::specs::Text::Tables::link_line))]
+#[tactic(auto, unfolding(mesh_model::specs::Text::Tables::neighbor_line))]
 pub fn iv_link_line(out: &mut Vec<u8>, neigh: Mac, rq: u32, eq: u32) -> Result<(), NoMemory>
-    ensures ok { OnOk result (out.new.items ≡ out.old.items ++ link_line (IvLink neigh rq eq)) }
+    ensures ok { OnOk result (out.new.items ≡ out.old.items ++ neighbor_line (IvLink neigh rq eq)) }
     ensures err { OnErr result (out.new.items ≡ out.old.items) }
 {
     put_line(
@@ -127,9 +127,9 @@ pub fn iv_link_line(out: &mut Vec<u8>, neigh: Mac, rq: u32, eq: u32) -> Result<(
 
 /// Appends the line of a neighbour under algorithm V: its address, the throughput to it, and the
 /// milliseconds since its last ELP.
-#[tactic(auto, unfolding(mesh_model::specs::Text::Tables::link_line))]
+#[tactic(auto, unfolding(mesh_model::specs::Text::Tables::neighbor_line))]
 pub fn v_link_line(out: &mut Vec<u8>, neigh: Mac, tp: u32, seen: Millis) -> Result<(), NoMemory>
-    ensures ok { OnOk result (out.new.items ≡ out.old.items ++ link_line (VLink neigh tp seen)) }
+    ensures ok { OnOk result (out.new.items ≡ out.old.items ++ neighbor_line (VLink neigh tp seen)) }
     ensures err { OnErr result (out.new.items ≡ out.old.items) }
 {
     put_line(

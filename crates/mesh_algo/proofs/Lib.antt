@@ -1,4 +1,5 @@
 -- What the methods rest on.
+pub mod Meetings
 pub mod LifeLemmas
 pub mod BestLemmas
 pub mod IvLaws

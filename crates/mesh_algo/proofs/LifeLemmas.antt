@@ -19,10 +19,13 @@ or_parts true b e = absurd (true≢false e)
 or_parts false b e = (refl, e)
 
 -- ---- lives
--- of the hearings before one its life has those of the life at its moment
-pub since-life : (h : HeardOgm) (older : List HeardOgm) → since h older ≡ life h.moment older
-since-life h [] = refl
-since-life h (g ∷ older) = refl
+-- of the hearings before one its life has those of the life at its moment, where it is no restart
+pub since-life : (h : HeardOgm) (older : List HeardOgm) → h.restart ≡ false → since h older ≡ life h.moment older
+since-life h older same = ap (λ b. cond b [] (life h.moment older)) same
+
+-- a restart begins its life
+pub since-restart : (h : HeardOgm) (older : List HeardOgm) → h.restart ≡ true → since h older ≡ []
+since-restart h older anew = ap (λ b. cond b [] (life h.moment older)) anew
 
 pub of_same : (o : Mac) (h : HeardOgm) (older : List HeardOgm) → same_mac h.orig o ≡ true → of o (h ∷ older) ≡ h ∷ of o older
 of_same o h older e = ap (λ b. cond b (h ∷ of o older) (of o older)) e

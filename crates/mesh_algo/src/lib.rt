@@ -8,8 +8,5 @@ pub mod laws;
 pub mod seq_window;
 
 pub use algo::Algo;
-pub use mesh_model::{Beats, Head, Hearing, LinkRow, OrigRow};
+pub use mesh_model::{Beats, Head, Hearing, LinkRow, Meeting, OrigRow};
 pub use seq_window::SeqWindow;
-
-#[cfg(test)]
-mod tests;

@@ -36,6 +36,3 @@ pub use outside::{Intake, PIECE_LIMIT, Sink};
 pub use real::{RealIntake, RealSink};
 pub use steps::Steps;
 pub use transfer::write_all;
-
-#[cfg(test)]
-mod tests;

@@ -22,10 +22,3 @@ pub use link_frame::LinkFrame;
 pub use mesh_model::{Ending, Head, NoPacket, TvlvErr};
 pub use payload::{ClientFrame, read_client_frame, write_client_frame};
 pub use writing::encode;
-
-#[cfg(test)]
-mod link_frame_tests;
-#[cfg(test)]
-mod payload_tests;
-#[cfg(test)]
-mod tests;

@@ -11,6 +11,3 @@ mod terms;
 
 pub use input::generated_input;
 pub use summary::{Counts, received_lines, summary_line};
-
-#[cfg(test)]
-mod tests;

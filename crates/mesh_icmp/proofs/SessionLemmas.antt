@@ -2,7 +2,7 @@
 use Rattle.std.proofs.Common.{◌≡◌, ◌∙◌, sym, ap, subst, ℕ, ◌+◌, ◌%◌, nat_eq, Bool, true, false, cond, List, [], ◌∷◌, ◌++◌, find, Option, Some, None}
 use Rattle.mesh_base.specs.declared.address.Mac.{Mac}
 use Rattle.mesh_model.specs.declared.probe.OpenProbe.{OpenProbe}
-use Rattle.mesh_model.specs.Probes.OpenProbes.{ProbeCall, Probes, after_answer, is_followed, numbers, probes_by, with_next, with_probe, without_probe}
+use Rattle.mesh_model.specs.Probes.OpenProbes.{ProbeCall, Probes, answered_probes, leads_on, numbers, probes_by, with_next, with_probe, without_probe}
 use Rattle.mesh_icmp.specs.Sessions.{Kept, StandsFor, has_number, next_after, without}
 use Rattle.mesh_icmp.proofs.QueueLemmas.{find_given, find_without, none_left}
 use Rattle.mesh_icmp.proofs.RankLemmas.{number_is_next}
@@ -44,7 +44,7 @@ keeps_given latest now target trace ttl xs probes keeps =
 -- ---- an answer to a number
 module _ (latest now seq msg : ℕ) (xs : List OpenProbe) (probes : Probes) (keeps : Keeps latest xs probes) where
   abbrev After : ℕ → List OpenProbe → Option OpenProbe → Type 0
-  After number ys asked = Keeps number ys (after_answer now seq msg probes asked)
+  After number ys asked = Keeps number ys (answered_probes now seq msg probes asked)
 
   -- that no open probe has
   pub answered_none : find (has_number seq) xs ≡ None → After latest (without seq xs) (probes.waiting seq)
@@ -53,13 +53,13 @@ module _ (latest now seq msg : ℕ) (xs : List OpenProbe) (probes : Probes) (kee
       (subst (λ ys. Keeps latest ys probes) (sym (none_left seq xs found)) keeps)
 
   -- whose session ends
-  pub answered_last : (asked : OpenProbe) → find (has_number seq) xs ≡ Some asked → is_followed msg asked ≡ false → After latest (without seq xs) (probes.waiting seq)
+  pub answered_last : (asked : OpenProbe) → find (has_number seq) xs ≡ Some asked → leads_on msg asked ≡ false → After latest (without seq xs) (probes.waiting seq)
   answered_last asked found ends =
       subst (After latest (without seq xs)) (sym found ∙ keeps.open_is seq)
       (subst (λ b. Keeps latest (without seq xs) (cond b (with_next now asked (without_probe seq probes)) (without_probe seq probes))) (sym ends) (keeps_without latest seq xs probes keeps))
 
   -- whose session goes on
-  pub answered_next : (asked : OpenProbe) → find (has_number seq) xs ≡ Some asked → is_followed msg asked ≡ true
+  pub answered_next : (asked : OpenProbe) → find (has_number seq) xs ≡ Some asked → leads_on msg asked ≡ true
       → After (next_after latest) (given_after now asked.probe.target asked.trace (asked.probe.ttl + 1) latest (without seq xs)) (probes.waiting seq)
   answered_next asked found goes =
       let given = keeps_given latest now asked.probe.target asked.trace (asked.probe.ttl + 1) (without seq xs) (without_probe seq probes) (keeps_without latest seq xs probes keeps) in

@@ -8,6 +8,3 @@ mod waiting;
 
 pub use mesh_model::{OpenProbe, Probe, Told};
 pub use sessions::Sessions;
-
-#[cfg(test)]
-mod tests;

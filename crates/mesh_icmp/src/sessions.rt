@@ -1,5 +1,5 @@
 ghost use Rattle.std.specs.Prelude.{◌≡◌, List, [], ◌∷◌, IfOk, OnOk, OnErr};
-ghost use Rattle.mesh_model.specs.Probes.OpenProbes.{ProbeCall, Started, Answered, Closed, first_probe, first_ttl, is_followed, told, probes_by};
+ghost use Rattle.mesh_model.specs.Probes.OpenProbes.{ProbeCall, Started, Answered, Closed, first_probe, session_ttl, leads_on, told, probes_by};
 ghost use Rattle.mesh_icmp.specs.Sessions.{StandsFor};
 
 use crate::waiting::Waiting;
@@ -46,7 +46,7 @@ impl Sessions {
         ensures err { OnErr result (self.new ≡ self.old) }
     {
         self.waiting.reserve()?;
-        Ok(self.waiting.give(now, target, trace, first_ttl(trace)))
+        Ok(self.waiting.give(now, target, trace, session_ttl(trace)))
     }
 
     /// The open probe of this number, if there is one.
@@ -69,7 +69,7 @@ impl Sessions {
             return Told::Unknown;
         };
         let Probe { target, ttl, .. } = asked.probe;
-        if !is_followed(&asked, msg) {
+        if !leads_on(&asked, msg) {
             return Told::Done {
                 target,
                 sent: asked.sent,
@@ -94,15 +94,15 @@ impl Sessions {
 }
 
 // The ttl of a session's first probe.
-fn first_ttl(trace: bool) -> u8
-    ensures { result ≡ first_ttl trace }
+fn session_ttl(trace: bool) -> u8
+    ensures { result ≡ session_ttl trace }
 {
     if trace { 1 } else { LAST_HOP }
 }
 
 // Whether a further probe follows an answer of this message type.
-fn is_followed(asked: &OpenProbe, msg: u8) -> bool
-    ensures { result ≡ is_followed msg asked.now }
+fn leads_on(asked: &OpenProbe, msg: u8) -> bool
+    ensures { result ≡ leads_on msg asked.now }
 {
     asked.trace && asked.probe.ttl < LAST_HOP && msg == TTL_EXCEEDED
 }

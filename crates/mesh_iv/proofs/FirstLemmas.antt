@@ -1,13 +1,13 @@
 -- An OGM that is the first of its number from its neighbour: its value, whether it is sent on, and the
 -- tables after it.
-use Rattle.std.proofs.Common.{◌≡◌, ⊎_elim, ℕ, ◌+◌, ◌-◌, ◌<◌, max, nat_lt, Bool, true, false, cond, not, ◌&&◌, ◌||◌, List, [], ◌∷◌, is_none, option_map, Option, Some, None, arith, refl, sym, ap, ap₂, ◌∙◌}
+use Rattle.std.proofs.Common.{◌≡◌, ⊎_elim, ℕ, ◌-◌, max, nat_lt, Bool, true, false, cond, not, ◌&&◌, ◌||◌, List, [], ◌∷◌, is_none, option_map, Option, Some, None, arith, refl, sym, ap, ap₂, ◌∙◌}
 use Rattle.std.specs.Map.{lookup}
-use Rattle.std.proofs.lemmas.Bool.{cases_Bool, and_parts, leb-false, lt-ltb, not-true}
+use Rattle.std.proofs.lemmas.Bool.{cases_Bool, and_parts, lt-ltb, not-true}
 use Rattle.mesh_base.specs.declared.address.Mac.{Mac}
 use Rattle.mesh_model.specs.Routes.Addresses.{same_mac}
 use Rattle.mesh_model.specs.Routes.AlgorithmIv.{answer_to, iv_route}
 use Rattle.mesh_model.specs.Routes.BestRoute.{best_route, is_over}
-use Rattle.mesh_model.specs.Routes.Life.{HeardOgm, of, newest, is_first, is_accepted, forwarded}
+use Rattle.mesh_model.specs.Routes.Life.{HeardOgm, of, is_live, newest, is_first, is_accepted, forwarded}
 use Rattle.mesh_model.specs.Routes.Numbers.{has, greatest, among, window}
 use Rattle.mesh_model.specs.Routes.Quality.{average_quality}
 use Rattle.mesh_model.specs.Routes.RouteLog.{RouteLog}
@@ -27,8 +27,9 @@ use Rattle.mesh_iv.specs.Writing.{IsWritten, is_over_after, life_then, rows_kept
 use Rattle.mesh_iv.proofs.BestWalk.{walk_best}
 use Rattle.mesh_iv.proofs.HeardRows.{first_row, other_row, newest_by_row, forwarded_by_row}
 use Rattle.mesh_iv.proofs.PutLemmas.{kept_other, kept_own}
-use Rattle.mesh_iv.proofs.StandLemmas.{life_is_latest, no_life}
-use Rattle.mesh_iv.proofs.StepLemmas.{hearings, echoes, v, before_is, valued_before_is, other_orig, lives_step, paths_step, step_stands}
+use Rattle.mesh_iv.proofs.StandLemmas.{before_is_latest, no_life}
+use Rattle.mesh_iv.proofs.ValueLemmas.{near}
+use Rattle.mesh_iv.proofs.StepLemmas.{hearings, echoes, v, other_orig, lives_step, paths_step, step_stands}
 
 -- the mark of being sent on changes no route
 marked_route : (g : HeardOgm) (b : Bool) (l : List HeardOgm) → iv_route (record g { sent_on = b } ∷ l) ≡ iv_route (g ∷ l)
@@ -49,24 +50,20 @@ module _ (me : Mac) (log : RouteLog) (came : OgmCame) (first : is_first (hearing
   on_time : own.late ≡ false
   on_time = not-true own.late (and_parts (not own.late) _ first).0
 
-  near : newest lived < came.seq + 64
-  near = leb-false (came.seq + 64) (newest lived) on_time
-
   newest_then : newest (own ∷ lived) ≡ max came.seq (newest lived)
   newest_then = next_newest came.from own lived on_time
 
   -- ---- whether it is sent on
   has_sent : has came.seq (window (forwarded lived)) ≡ has came.seq (forwarded lived)
   has_sent =
-      let le = forwarded-le lived in let low = near in
+      let le = forwarded-le lived in let low = near me log came on_time in
       has-window came.seq (forwarded lived) ∙ ap (λ b. b && has came.seq (forwarded lived)) (lt-ltb (greatest (forwarded lived) - came.seq) 64 (omega (arith, le, low)))
 
   pub sent_is : (row : Option Life) → row ≡ life_row lived → own.sent_on ≡ goes_on came own.value (forwarded_by row) (is_over came.from (iv_route (own ∷ lived)))
   sent_is row e =
       let g = v me log came in
       let rest : Option Mac → List HeardOgm → Bool = λ route l. nat_lt 1 came.ttl && (same_mac came.from came.orig || (nat_lt 0 own.value && (is_over came.from route && not (has came.seq (forwarded l))))) in
-      ap (λ l. is_first g l && rest (iv_route (g ∷ l)) l) (valued_before_is me log came)
-      ∙ ap (λ b. b && rest (iv_route (g ∷ lived)) lived) first
+      ap (λ b. b && rest (iv_route (g ∷ lived)) lived) first
       ∙ ap (λ route. rest route lived) (sym (marked_route g own.sent_on lived))
       ∙ ap (λ b. nat_lt 1 came.ttl && (same_mac came.from came.orig || (nat_lt 0 own.value && (is_over came.from (iv_route (own ∷ lived)) && not b)))) (sym has_sent ∙ ap (λ l. has came.seq l) (sym (forwarded_by_row lived row e)))
 
@@ -87,7 +84,7 @@ module _ (me : Mac) (log : RouteLog) (came : OgmCame) (first : is_first (hearing
         is.stands.paths_stand.are pair
         ∙ ap (λ b. cond b (echo_row (echoes me log came pair.from)) (path_row pair.from (latest (of pair.orig (hearings me log came))))) (ap (λ o. same_mac o me) (sym same) ∙ other_orig me log came is.passing)
         ∙ ap (λ o. path_row pair.from (latest (of o (hearings me log came)))) (sym same)
-        ∙ ap (λ l. path_row pair.from l) (sym (life_is_latest came.moment (of came.orig (hearings me log came)) r (sym e)))
+        ∙ ap (λ l. path_row pair.from l) (sym (before_is_latest own (of came.orig (hearings me log came)) r (sym e)))
 
     own_rows : (pair : Pair) → same_mac came.orig pair.orig ≡ true → lookup (same_pair pair) new.paths ≡ path_row pair.from (own ∷ lived)
     own_rows pair t =
@@ -112,7 +109,7 @@ module _ (me : Mac) (log : RouteLog) (came : OgmCame) (first : is_first (hearing
     pub over_then : is_over_after came row new.paths ≡ is_over came.from (iv_route (own ∷ lived))
     over_then =
         let last : latest (of came.orig (own ∷ hearings me log came)) ≡ own ∷ lived
-        = ap (λ l. latest l) (of_same came.orig own (hearings me log came) (same_self came.orig)) ∙ ap (λ l. own ∷ l) (before_is me log came) in
+        = ap (λ l. latest l) (of_same came.orig own (hearings me log came) (same_self came.orig)) in
         let top : max (newest_by row) came.seq ≡ newest (own ∷ lived)
         = (let n = newest_by_row lived row is.row_is in let t = newest_then in omega (arith, n, t)) in
         ap (λ n. is_best came.from (walk n came.orig None new.paths)) (top ∙ ap (λ l. newest l) (sym last))
@@ -148,8 +145,13 @@ module _ (me : Mac) (log : RouteLog) (came : OgmCame) (first : is_first (hearing
     accepted_is [] r e a is_a timely = is_a ∙ ap (λ x. is_none x || nat_lt (newest_by x) came.seq) e
     accepted_is (g ∷ older) r e a is_a timely = is_a ∙ ap (λ x. is_none x || nat_lt (newest_by x) came.seq) e ∙ sym (ap (λ b. not b && nat_lt (newest (g ∷ older)) came.seq) timely)
 
-    pub first_answer : (a : Bool) (f : Option _) → a ≡ (is_none row || nat_lt (newest_by row) came.seq)
-        → f ≡ sent_on_as came value (forwarded_by row) (is_over_after came row new.paths) → record { accepted = a; forward = f } ≡ answer_to own lived
-    first_answer a f accepted sent =
-        ap₂ (λ x y. record { accepted = x; forward = y }) (accepted_is lived row is.row_is a accepted on_time)
+    begun_is : (l : List HeardOgm) (r : Option Life) → r ≡ life_row l → is_none r ≡ not (is_live l)
+    begun_is [] r e = ap (λ x. is_none x) e
+    begun_is (g ∷ older) r e = ap (λ x. is_none x) e
+
+    pub first_answer : (a b : Bool) (f : Option _) → a ≡ (is_none row || nat_lt (newest_by row) came.seq) → b ≡ is_none row
+        → f ≡ sent_on_as came value (forwarded_by row) (is_over_after came row new.paths) → record { accepted = a; began = b; forward = f } ≡ answer_to own lived
+    first_answer a b f accepted begun sent =
+        ap (λ x. record { accepted = a; began = x; forward = f }) (begun ∙ begun_is lived row is.row_is)
+        ∙ ap₂ (λ x y. record { accepted = x; began = not (is_live lived); forward = y }) (accepted_is lived row is.row_is a accepted on_time)
         (sent ∙ ap₂ (λ b o. cond b (Some (head_on came value o)) None) sent_then over_then ∙ ap (λ n. cond own.sent_on (Some (head_on came n (is_over came.from (iv_route (own ∷ lived))))) None) value_is)

@@ -4,7 +4,7 @@ use Rattle.std.proofs.lemmas.Bool.{cases_Bool, and_parts, or_cases, false≢true
 use Rattle.mesh_base.specs.declared.address.Mac.{Mac}
 use Rattle.mesh_model.specs.Routes.Addresses.{same_mac}
 use Rattle.mesh_model.specs.Routes.Hearings.{hearing, heard, heard_with}
-use Rattle.mesh_model.specs.Routes.Life.{HeardOgm, life_span, of, since, is_live, numbers_from}
+use Rattle.mesh_model.specs.Routes.Life.{HeardOgm, life_span, of, since, life, is_live, numbers_from}
 use Rattle.mesh_model.specs.Routes.Ogm.{Ogm, ogm_of_head, is_echo, passes}
 use Rattle.mesh_model.specs.Routes.Quality.{echo_quality, echoes_with, echoes_from, own_ogms}
 use Rattle.mesh_model.specs.Routes.RouteLog.{RouteLog, OwnTick, HeadCame}
@@ -70,13 +70,21 @@ numbers_any k (h ∷ older) e =
     (λ f. or_right (same_mac k h.from) (any_from k older) (numbers_any k older (ap (λ l. has_any l) (sym (other_numbers k h older f)) ∙ e)))
     (cases_Bool (same_mac h.from k))
 
-since_any : (k : Mac) (h : HeardOgm) (l : List HeardOgm) → any_from k (since h l) ≡ true → any_from k l ≡ true
-since_any k h [] e = e
-since_any k h (g ∷ older) e =
-    elim (nat_lt (h.moment - g.moment) life_span) as (λ b. any_from k (cond b (g ∷ since g older) []) ≡ true → (same_mac k g.from || any_from k older) ≡ true) [
-      | true ↦ λ x. ⊎_elim (λ t. or_left (same_mac k g.from) (any_from k older) t) (λ r. or_right (same_mac k g.from) (any_from k older) (since_any k g older r)) (or_cases (same_mac k g.from) (any_from k (since g older)) x)
+none_or_any : (k : Mac) (restart : Bool) (l : List HeardOgm) → any_from k (cond restart [] l) ≡ true → any_from k l ≡ true
+none_or_any k true l e = absurd (false≢true e)
+none_or_any k false l e = e
+
+life_any : (k : Mac) (moment : ℕ) (l : List HeardOgm) → any_from k (life moment l) ≡ true → any_from k l ≡ true
+life_any k moment [] e = e
+life_any k moment (g ∷ older) e =
+    elim (nat_lt (moment - g.moment) life_span) as (λ b. any_from k (cond b (g ∷ since g older) []) ≡ true → (same_mac k g.from || any_from k older) ≡ true) [
+      | true ↦ λ x. ⊎_elim (λ t. or_left (same_mac k g.from) (any_from k older) t)
+          (λ r. or_right (same_mac k g.from) (any_from k older) (life_any k g.moment older (none_or_any k g.restart (life g.moment older) r))) (or_cases (same_mac k g.from) (any_from k (since g older)) x)
       | false ↦ λ x. absurd (false≢true x)
     ] e
+
+since_any : (k : Mac) (h : HeardOgm) (l : List HeardOgm) → any_from k (since h l) ≡ true → any_from k l ≡ true
+since_any k h l e = life_any k h.moment l (none_or_any k h.restart (life h.moment l) e)
 
 latest_any : (k : Mac) (l : List HeardOgm) → any_from k (latest l) ≡ true → any_from k l ≡ true
 latest_any k [] e = e

@@ -1,5 +1,5 @@
 -- What tables that stand for a log answer.
-use Rattle.std.proofs.Common.{◌≡◌, ◌⊎◌, ⊎_elim, ℕ, suc, ◌-◌, ◌%◌, ◌==◌, ◌≤◌, max, nat_lt, nat_le, Bool, true, false, cond, not, ◌&&◌, List, [], ◌∷◌, length, Option, Some, None, arith, refl, sym, ap, ◌∙◌, subst}
+use Rattle.std.proofs.Common.{◌≡◌, ⊎_elim, ℕ, suc, ◌-◌, ◌%◌, ◌==◌, ◌≤◌, max, nat_lt, nat_le, Bool, true, false, cond, not, ◌&&◌, List, [], ◌∷◌, length, Option, Some, None, arith, refl, sym, ap, ◌∙◌, subst}
 use Rattle.std.specs.List.Sorted.{IsStrictlySortedBy}
 use Rattle.std.specs.Map.{keys_of, lookup}
 use Rattle.std.proofs.lemmas.Bool.{cases_Bool, and_parts, leb-true, not-true}
@@ -9,7 +9,7 @@ use Rattle.mesh_model.specs.Routes.AlgorithmIv.{iv_life}
 use Rattle.mesh_model.specs.Routes.BestRoute.{best_route}
 use Rattle.mesh_model.specs.Routes.Hearings.{hearing, heard, heard_with}
 use Rattle.mesh_model.specs.Routes.Life.{HeardOgm, life_span, of, since, life, newest, numbers_from}
-use Rattle.mesh_model.specs.Routes.Numbers.{has, greatest, seen_among, window, window_length}
+use Rattle.mesh_model.specs.Routes.Numbers.{greatest, seen_among, window, window_length}
 use Rattle.mesh_model.specs.Routes.Ogm.{Ogm, ogm_of_head, is_echo, passes, has_flag}
 use Rattle.mesh_model.specs.Packets.Numbers.{directlink_flag}
 use Rattle.mesh_model.specs.Routes.Quality.{own_ogms, echoes_with, echoes_from, echo_quality, receive_quality, received_in}
@@ -77,6 +77,14 @@ life_is_latest moment (h ∷ older) row e =
     elim (nat_lt (moment - h.moment) life_span) as (λ b. life_row (cond b (h ∷ since h older) []) ≡ Some row → cond b (h ∷ since h older) [] ≡ h ∷ since h older) [
       | true ↦ λ r. refl
       | false ↦ λ r. cc
+    ] e
+
+-- a life that a hearing goes on with is the originator's last
+pub before_is_latest : (h : HeardOgm) (hearings : List HeardOgm) (row : Life) → life_row (since h hearings) ≡ Some row → since h hearings ≡ latest hearings
+before_is_latest h hearings row e =
+    elim h.restart as (λ b. life_row (cond b [] (life h.moment hearings)) ≡ Some row → cond b [] (life h.moment hearings) ≡ latest hearings) [
+      | true ↦ λ r. cc
+      | false ↦ λ r. life_is_latest h.moment hearings row r
     ] e
 
 pub newest_of_row : (alive : List HeardOgm) (row : Life) → life_row alive ≡ Some row → row.newest ≡ newest alive

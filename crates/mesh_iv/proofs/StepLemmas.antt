@@ -8,7 +8,7 @@ use Rattle.mesh_model.specs.Routes.Addresses.{mac_order, same_mac}
 use Rattle.mesh_model.specs.Routes.AlgorithmIv.{answer_to, forward_head}
 use Rattle.mesh_model.specs.Routes.BestRoute.{best_route, is_over}
 use Rattle.mesh_model.specs.Routes.Hearings.{before, heard, sends_on, valued}
-use Rattle.mesh_model.specs.Routes.Life.{HeardOgm, of, since, newest, numbers_from, is_first, is_accepted, forwarded}
+use Rattle.mesh_model.specs.Routes.Life.{HeardOgm, of, since, is_live, newest, numbers_from, is_first, is_accepted, forwarded}
 use Rattle.mesh_model.specs.Routes.Numbers.{has, window}
 use Rattle.mesh_model.specs.Routes.Ogm.{passes, has_flag}
 use Rattle.mesh_model.specs.Packets.Numbers.{directlink_flag}
@@ -16,7 +16,7 @@ use Rattle.mesh_model.specs.Routes.Queries.{unheard}
 use Rattle.mesh_model.specs.Routes.Quality.{average_quality, echo_quality, echoes_from, own_ogms}
 use Rattle.mesh_model.specs.Routes.RouteLog.{RouteLog}
 use Rattle.mesh_laws.proofs.WindowLemmas.{has-le}
-use Rattle.mesh_algo.proofs.LifeLemmas.{and_false, since-life, numbers-le, late_newest, next_newest, late_forwarded, next_forwarded}
+use Rattle.mesh_algo.proofs.LifeLemmas.{and_false, numbers-le, late_newest, next_newest, late_forwarded, next_forwarded}
 use Rattle.mesh_laws.proofs.MacLemmas.{same_exact}
 use Rattle.mesh_iv.specs.declared.ogm.OgmCame.{OgmCame}
 use Rattle.mesh_iv.specs.declared.path.Path.{Path}
@@ -28,7 +28,7 @@ use Rattle.mesh_iv.specs.Rows.{latest, life_row, path_row, echo_row}
 use Rattle.mesh_iv.specs.Tables.{Tables, StandsFor, LivesStand, PathsStand, path_at}
 use Rattle.mesh_iv.specs.Walk.{pair_order, same_pair}
 use Rattle.mesh_iv.proofs.HeardRows.{touched_row}
-use Rattle.mesh_iv.proofs.StandLemmas.{life_is_latest}
+use Rattle.mesh_iv.proofs.StandLemmas.{before_is_latest}
 
 -- what isn't the first of its number isn't sent on
 first_to_send : (g : HeardOgm) (l : List HeardOgm) → is_first g l ≡ false → sends_on g l ≡ false
@@ -48,16 +48,9 @@ module _ (me : Mac) (log : RouteLog) (came : OgmCame) where
   abbrev pub alive : List HeardOgm
   alive = life_before me log came
 
-  -- the life before the hearing is that at its moment
-  pub before_is : since h (of came.orig hearings) ≡ alive
-  before_is = since-life h (of came.orig hearings)
-
   -- the hearing before it is decided whether it is sent on
   abbrev pub v : HeardOgm
   v = valued came.moment came.from (ogm_in came) hearings (echo_quality me came.from log)
-
-  pub valued_before_is : since v (of came.orig hearings) ≡ alive
-  valued_before_is = since-life v (of came.orig hearings)
 
   pub other_orig : passes me (ogm_in came) ≡ true → same_mac came.orig me ≡ false
   other_orig p = not-true (same_mac came.orig me) (and_parts (not (same_mac came.orig me)) _ p).0
@@ -75,7 +68,7 @@ module _ (me : Mac) (log : RouteLog) (came : OgmCame) where
   lives_step old new stand updated sorted = record {
     are = λ q. updated q
         ∙ elim (same_mac came.orig q) as (λ b. same_mac came.orig q ≡ b → cond b (life_row (h ∷ alive)) (lookup (same_mac q) old) ≡ life_row (latest (cond b (h ∷ of q hearings) (of q hearings)))) [
-          | true ↦ λ t. ap (λ l. life_row (h ∷ l)) (sym before_is ∙ ap (λ o. since h (of o hearings)) (same_exact came.orig q t))
+          | true ↦ λ t. ap (λ o. life_row (h ∷ since h (of o hearings))) (same_exact came.orig q t)
           | false ↦ λ t. stand.are q
         ] refl;
     rise = sorted;
@@ -86,7 +79,7 @@ module _ (me : Mac) (log : RouteLog) (came : OgmCame) where
   own_row pair other t =
       let own = same_exact came.orig pair.orig t in
       let not_me : same_mac pair.orig me ≡ false = ap (λ o. same_mac o me) (sym own) ∙ other in
-      ap (λ l. path_row pair.from (h ∷ l)) (sym before_is ∙ ap (λ o. since h (of o hearings)) own)
+      ap (λ o. path_row pair.from (h ∷ since h (of o hearings))) own
       ∙ ap (λ b. path_row pair.from (latest (cond b (h ∷ of pair.orig hearings) (of pair.orig hearings)))) (sym t)
       ∙ ap (λ b. cond b (echo_row (echoes pair.from)) (path_row pair.from (latest (of pair.orig (h ∷ hearings))))) (sym not_me)
 
@@ -120,7 +113,7 @@ module _ (me : Mac) (log : RouteLog) (came : OgmCame) where
 
   -- ---- an OGM that is late or repeated
   pub not_sent : is_first h alive ≡ false → h.sent_on ≡ false
-  not_sent first = first_to_send v (before v hearings) (ap (λ l. is_first v l) valued_before_is ∙ first)
+  not_sent first = first_to_send v (before v hearings) first
 
   within : has h.seq (numbers_from h.from alive) ≡ true → max h.seq (newest alive) ≡ newest alive
   within seen = let le = has-le h.seq (numbers_from h.from alive) seen in let top = numbers-le h.from alive in omega (arith, le, top)
@@ -153,7 +146,7 @@ module _ (me : Mac) (log : RouteLog) (came : OgmCame) where
       → IsStrictlySortedBy mac_order (keys_of new.lives) → new.paths ≡ old.paths → StandsFor me new (input_of came tp ∷ log)
   touch_stands tp row old new is first same_me same_sent updated sorted same_paths =
       let other = other_orig is.passing in
-      let last = life_is_latest came.moment (of came.orig hearings) row (sym is.row_is) in
+      let last = before_is_latest h (of came.orig hearings) row (sym is.row_is) in
       let life_is : Some (touched row) ≡ life_row (h ∷ alive)
       = row_parts alive row (sym is.row_is) ∙ ap₂ (λ n f. Some (record { last = came.moment; newest = n; forwarded = window f })) (sym (touched_newest first)) (sym (touched_forwarded first)) in
       step_stands tp old new is.stands is.passing same_me same_sent
@@ -173,7 +166,13 @@ module _ (me : Mac) (log : RouteLog) (came : OgmCame) where
       (λ timely. let top = up timely in ap (λ b. not h.late && b) (le-ltb (newest (g ∷ older)) h.seq (omega (arith, top))) ∙ and_false (not h.late))
       (cases_Bool h.late)
 
+  lives_on : (l : List HeardOgm) (row : Life) → life_row l ≡ Some row → is_live l ≡ true
+  lives_on [] row e = cc
+  lives_on (g ∷ older) row e = refl
+
   -- nothing is made of it
   pub touch_answer : (row : Life) → life_row alive ≡ Some row → is_first h alive ≡ false → answer_to h alive ≡ unheard
   touch_answer row e first =
-      ap₂ (λ a b. record { accepted = a; forward = cond b (Some (forward_head h (h ∷ alive))) None }) (accepted_not alive row e (λ timely. within (repeated first timely))) (not_sent first)
+      ap₂ (λ a b. record { accepted = a; began = not (is_live alive); forward = cond b (Some (forward_head h (h ∷ alive))) None })
+      (accepted_not alive row e (λ timely. within (repeated first timely))) (not_sent first)
+      ∙ ap (λ b. record { accepted = false; began = not b; forward = None }) (lives_on alive row e)

@@ -5,7 +5,7 @@ use Rattle.mesh_model.specs.declared.packet.Head.{Head}
 use Rattle.mesh_model.specs.declared.packet.Head.TheVariants.{IvOgm}
 use Rattle.mesh_model.specs.Routes.Addresses.{same_mac}
 use Rattle.mesh_model.specs.Routes.AlgorithmIv.{iv_life, after_hop}
-use Rattle.mesh_model.specs.Routes.Hearings.{hearing, heard}
+use Rattle.mesh_model.specs.Routes.Hearings.{before, hearing, heard}
 use Rattle.mesh_model.specs.Routes.Life.{HeardOgm, is_first, numbers_from}
 use Rattle.mesh_model.specs.Routes.Numbers.{has, window}
 use Rattle.mesh_model.specs.Routes.Ogm.{ogm_of_head, passes}
@@ -24,16 +24,20 @@ use Rattle.mesh_iv.specs.Tables.{Tables, StandsFor}
 abbrev pub input_of : OgmCame → ℕ → RouteInput
 input_of came throughput = HeadCame came.moment came.from throughput (head_of came)
 
--- the originator's life before an OGM
-abbrev pub life_before : Mac → RouteLog → OgmCame → List HeardOgm
-life_before me log came = iv_life me log came.moment came.orig
+-- the life that the originator has when an OGM comes, which its number meets
+abbrev pub lived_at : Mac → RouteLog → OgmCame → List HeardOgm
+lived_at me log came = iv_life me log came.moment came.orig
 
 -- the hearing of an OGM
 abbrev pub hearing_of : Mac → RouteLog → OgmCame → HeardOgm
 hearing_of me log came =
     hearing came.moment came.from (ogm_in came) (heard me log) (echo_quality me came.from log)
 
--- an OGM is heard, by tables that stand for a log, where the originator has this row while it lives
+-- the originator's life before an OGM, with which the hearing goes on
+abbrev pub life_before : Mac → RouteLog → OgmCame → List HeardOgm
+life_before me log came = before (hearing_of me log came) (heard me log)
+
+-- an OGM is heard, by tables that stand for a log, where the life that it goes on with has this row
 pub record IsHeard (me : Mac) (tables : Tables) (log : RouteLog) (came : OgmCame)
     (row : Option Life) : Type 0 where
   pub stands : StandsFor me tables log

@@ -1,13 +1,14 @@
-ghost use Rattle.std.specs.Prelude.{◌≡◌, ℕ, ◌+◌, ◌∷◌, ◌||◌, nat_le, nat_lt, max, false, is_none, Option, Some, IfOk, OnOk, OnErr};
+ghost use Rattle.std.specs.Prelude.{◌≡◌, ℕ, ◌+◌, ◌∷◌, ◌||◌, nat_lt, max, false, is_none, List, Option, Some, None, IfOk, OnOk, OnErr, if◌then◌else◌};
 ghost use Rattle.mesh_base.specs.declared.address.Mac.{Mac};
 ghost use Rattle.mesh_model.specs.Routes.AlgorithmIv.{answer_to, iv_answer};
 ghost use Rattle.mesh_model.specs.Routes.Hearings.{heard};
-ghost use Rattle.mesh_model.specs.Routes.Life.{is_first};
+ghost use Rattle.mesh_model.specs.Routes.Life.{HeardOgm, is_first, meeting};
 ghost use Rattle.mesh_model.specs.Routes.Ogm.{passes};
 ghost use Rattle.mesh_model.specs.Routes.Quality.{echo_quality};
 ghost use Rattle.mesh_model.specs.Routes.RouteLog.{RouteLog};
 ghost use Rattle.mesh_iv.specs.Came.{ogm_in};
 ghost use Rattle.mesh_iv.specs.Hears.{IsFirstHeard, IsHeard, hearing_of, input_of, kept_row, life_before, newest_by};
+ghost use Rattle.mesh_iv.specs.Rows.{life_row};
 ghost use Rattle.mesh_iv.specs.Tables.{StandsFor};
 ghost use Rattle.mesh_iv.specs.declared.row.Life.{Life};
 
@@ -18,7 +19,7 @@ use crate::quality::transmit_quality;
 use crate::row::{Life, Pair};
 use crate::table::put;
 use crate::writing::{newest_of, write};
-use mesh_algo::Hearing;
+use mesh_algo::{Hearing, Meeting};
 use mesh_base::NoMemory;
 
 /// How many numbers below the newest one is late.
@@ -27,6 +28,7 @@ const LATE: u32 = 64;
 /// What is made of a head that isn't heard.
 pub(crate) const UNHEARD: Hearing = Hearing {
     accepted: false,
+    began: false,
     forward: None,
 };
 
@@ -47,9 +49,11 @@ impl Iv {
             self.note_echo(ogm)?;
             return Ok(UNHEARD);
         }
-        let life = self.life(ogm.moment, ogm.orig);
+        let lived = self.life(ogm.moment, ogm.orig);
+        let met = meeting(ogm, &lived);
+        let life = going_on(lived, met);
         let path = self.path_before(ogm, &life);
-        if is_late(ogm, &life) || path.heard.has(ogm.seq) {
+        if met.late || path.heard.has(ogm.seq) {
             self.touch(ogm, &life)?;
             return Ok(UNHEARD);
         }
@@ -131,8 +135,11 @@ impl Iv {
         let value = self.value(ogm, path, newest);
         let row = path.with(ogm.seq, value);
         let forward = write(&mut self.lives, &mut self.paths, ogm, life, row, value)?;
-        let accepted = is_accepted(ogm.seq, life);
-        Ok(Hearing { accepted, forward })
+        Ok(Hearing {
+            accepted: is_accepted(ogm.seq, life),
+            began: life.is_none(),
+            forward,
+        })
     }
 
     // The value of an OGM, whose number is the newest or below it.
@@ -159,9 +166,20 @@ fn is_accepted(seq: u32, life: &Option<Life>) -> bool
     life.is_none() || newest_of(life) < seq
 }
 
-// Whether a number is far below the newest of the life.
-fn is_late(ogm: &OgmCame, life: &Option<Life>) -> bool
-    ensures { result ≡ nat_le (ogm.now.seq + 64) (newest_by life.now) }
+// How the number of an OGM meets the life of its originator.
+fn meeting(ogm: &OgmCame, life: &Option<Life>) -> Meeting
+    ensures { (alive : List HeardOgm) → life.now ≡ life_row alive →
+        result ≡ meeting ogm.now.moment ogm.now.seq alive }
 {
-    newest_of(life).saturating_sub(ogm.seq) >= LATE
+    Meeting {
+        late: newest_of(life).saturating_sub(ogm.seq) >= LATE,
+        restart: false,
+    }
+}
+
+// The life that an OGM goes on with: none where it is a restart.
+fn going_on(life: Option<Life>, met: Meeting) -> Option<Life>
+    ensures { result ≡ (if met.restart then None else life) }
+{
+    if met.restart { None } else { life }
 }

@@ -18,7 +18,7 @@ use Rattle.mesh_model.specs.Scenario.Commands.{command_of_line}
 use Rattle.mesh_model.specs.Scenario.LinkOptions.{least_delay, delay_limit, least_throughput, throughput_limit}
 use Rattle.mesh_model.specs.Scenario.Terms.{is_pattern}
 use Rattle.mesh_model.specs.Run.State.{Printed, State, first_state, text_of}
-use Rattle.mesh_model.specs.Run.Outcome.{Goes, Ends, reached, and_then}
+use Rattle.mesh_model.specs.Run.Outcome.{Goes, Ends, reached, followed_by}
 use Rattle.mesh_model.specs.Run.Passing.{gone_on, run_until, one_happening}
 use Rattle.mesh_model.specs.Run.Rules.{carried_out, first_refused_rule}
 use Rattle.mesh_laws.specs.Soundness.{FitsPlaces, IsSound, KeepsBytes}
@@ -41,12 +41,12 @@ pub record CanPass (setup : Setup) (t : ℕ) (state : State) : Type 0 where
 abbrev pub GoesOn : Type 0
 GoesOn = (setup : Setup) (first last : ℕ) (state : State) → CanPass setup first state →
     first ≤ last → last ≤ clock_limit →
-    run_until setup last state ≡ and_then (run_until setup first state) (run_until setup last)
+    run_until setup last state ≡ followed_by (run_until setup first state) (run_until setup last)
 
 -- a run is its first happening, and then the run
 abbrev pub GoesByHappenings : Type 0
 GoesByHappenings = (setup : Setup) (t : ℕ) (state : State) → CanPass setup t state →
-    run_until setup t state ≡ and_then (one_happening setup t state) (run_until setup t)
+    run_until setup t state ≡ followed_by (one_happening setup t state) (run_until setup t)
 
 -- a mesh stands behind so many turns of another's run until a moment, and the run goes on there
 pub record IsBehind (setup : Setup) (t : ℕ) (before after : Mesh) : Type 0 where

@@ -4,7 +4,7 @@
 -- with. The main words are `IsSound` and `KeepsBytes`.
 use Rattle.std.specs.Prelude.{◌≡◌, ℕ, suc, ◌+◌, ◌*◌, ◌-◌, ◌<◌, ◌≤◌, ◌⊎◌, List, length, slice_get, Some, ⊤}
 use Rattle.mesh_model.specs.declared.happening.Happening.{Happening}
-use Rattle.mesh_model.specs.Clients.Log.{Given, Tick, LinkFrame, Frame, Gone, Join, Leave, Arp, Dhcp, Wifi, Ping, Trace, LogEntry}
+use Rattle.mesh_model.specs.Clients.Log.{Given, Tick, LinkFrame, LanFrame, Line, LogEntry}
 use Rattle.mesh_model.specs.Net.Happenings.{Before, class_number}
 use Rattle.mesh_model.specs.Net.Mesh.{NodeLog, NetLink, SentFrame, Mesh, Setup}
 use Rattle.mesh_model.specs.Net.Due.{ticks_in, tick_at}
@@ -40,15 +40,8 @@ abbrev pub GivesItsBytes : List SentFrame → Given → Type 0
 GivesItsBytes frames (Tick index) = ⊤
 GivesItsBytes frames (LinkFrame number from throughput bytes) =
     (frame : SentFrame) × (slice_get frames (number - 1) ≡ Some frame) × (frame.bytes ≡ bytes)
-GivesItsBytes frames (Frame src dst vid text) = ⊤
-GivesItsBytes frames (Gone key) = ⊤
-GivesItsBytes frames (Join key) = ⊤
-GivesItsBytes frames (Leave key) = ⊤
-GivesItsBytes frames (Arp mac own_ip asked_ip vid) = ⊤
-GivesItsBytes frames (Dhcp key text) = ⊤
-GivesItsBytes frames (Wifi on) = ⊤
-GivesItsBytes frames (Ping target) = ⊤
-GivesItsBytes frames (Trace target) = ⊤
+GivesItsBytes frames (LanFrame bytes) = ⊤
+GivesItsBytes frames (Line line) = ⊤
 
 -- every frame in every log has the bytes that it was sent with
 abbrev pub KeepsBytes : Mesh → Type 0

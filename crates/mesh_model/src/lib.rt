@@ -31,7 +31,7 @@ pub use name_list::NameList;
 pub use packet::Head;
 pub use probe::{OpenProbe, Probe, Told};
 pub use roaming_mark::RoamingMark;
-pub use route::{Beats, Hearing, LinkRow, OrigRow};
+pub use route::{Beats, Hearing, LinkRow, Meeting, OrigRow};
 pub use table_change::Change;
 pub use table_outcome::{Difference, Heard, Request, Taken};
 pub use table_row::{GlobalRow, LocalRow};

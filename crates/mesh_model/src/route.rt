@@ -15,8 +15,20 @@ pub struct Beats {
 pub struct Hearing {
     /// Whether the originator's announcement is taken from this packet.
     pub accepted: bool,
+    /// Whether a life of the originator begins with it.
+    pub began: bool,
     /// What is sent on, on all links, with the packet's containers.
     pub forward: Option<Head>,
+}
+
+/// How a number meets the life of its originator in which it comes: it is late, or a restart, or
+/// neither.
+#[derive(Clone, Copy, Debug, PartialEq, Eq)]
+pub struct Meeting {
+    /// Whether it is far below the newest number.
+    pub late: bool,
+    /// Whether a life begins with it.
+    pub restart: bool,
 }
 
 /// A live originator as a node knows it.

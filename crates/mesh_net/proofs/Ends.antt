@@ -23,26 +23,26 @@ use Rattle.mesh_model.specs.Routes.RouteLog.{RouteLog}
 use Rattle.mesh_laws.specs.Soundness.{IsSound}
 use Rattle.mesh_laws.proofs.Schedule.Due.{finds_next, next_due_some}
 use Rattle.mesh_laws.proofs.Schedule.Steps.{Was, delivered_effect, no_ticks, step_is, tickless, ticks_of}
-use Rattle.mesh_node.specs.declared.failure.NodeErr.{NodeErr}
-use Rattle.mesh_node.specs.declared.failure.NodeErr.TheVariants as node_errors
+use Rattle.node_ground.specs.declared.failure.NodeErr.{NodeErr}
+use Rattle.node_ground.specs.declared.failure.NodeErr.TheVariants as node_errors
 use Rattle.mesh_net.specs.declared.failure.NetErr.{NetErr}
 use Rattle.mesh_net.specs.declared.failure.NetErr.TheVariants as net_errors
 use Rattle.mesh_net.specs.declared.net.Net.{Net}
-use Rattle.mesh_net.specs.declared.post.Post.{Post}
-use Rattle.mesh_net.specs.declared.row.Sending.{Sending}
+use Rattle.mesh_post.specs.declared.post.Post.{Post}
+use Rattle.mesh_post.specs.declared.row.Sending.{Sending}
 use Rattle.mesh_net.specs.Given.{GiveTells}
-use Rattle.mesh_net.specs.Kept.{FramesAre}
+use Rattle.mesh_post.specs.Kept.{FramesAre}
 use Rattle.mesh_net.specs.declared.seat.Seat.{Seat}
 use Rattle.std.specs.Global.{Vec}
 use Rattle.mesh_model.specs.Text.Events.{is_shown}
 use Rattle.mesh_net.specs.NetStands.{NetStands, SeatsStand, IsNet, IsLive}
 use Rattle.mesh_net.proofs.PopLemmas.{popped_next, popped_waits, ticker_is, all_others, tick_or_later, ticks_next}
 use Rattle.mesh_net.specs.Reached.{IsReached, is_given, is_delivered, happens, IsOfLine}
-use Rattle.mesh_net.specs.Sent.{InStep, Logged, Grew}
+use Rattle.mesh_post.specs.Sent.{InStep, Logged, Grew}
 use Rattle.mesh_net.specs.Steps.{AreOnLinks, ArePast, Begun, Gave, HasNodes, KeepsNet, MayTickAt, Settled, SettleTells, StepFails, Stepped, net_error, ticks_amid}
 use Rattle.mesh_net.specs.Tells.{Carried, Gains, StepTells}
-use Rattle.mesh_net.specs.Waiting.{IsPopped}
-use Rattle.mesh_net.proofs.LookUps.{some_one}
+use Rattle.mesh_post.specs.Waiting.{IsPopped}
+use Rattle.mesh_post.proofs.LookUps.{some_one}
 use Rattle.mesh_net.proofs.MomentLemmas.{are_past, past_later}
 use Rattle.mesh_net.proofs.ReachedLemmas.{reached, of_line}
 use Rattle.mesh_net.proofs.TickLemmas.{may_tick, not_before}

@@ -14,26 +14,26 @@ use Rattle.mesh_model.specs.Clients.Log.{Given, LogEntry}
 use Rattle.mesh_model.specs.Net.Inputs.{entry_of, noted_at, noted, given_to, given_node, unless_passed}
 use Rattle.mesh_model.specs.Net.Limits.{scenario_setup}
 use Rattle.mesh_model.specs.Net.Mesh.{NodeLog, NetLink, Mesh, address_at}
-use Rattle.mesh_net.specs.declared.row.Row.{Row}
-use Rattle.mesh_net.specs.Kept.{RowIs}
-use Rattle.mesh_net.proofs.LookUps.{some_one}
+use Rattle.mesh_post.specs.declared.row.Row.{Row}
+use Rattle.mesh_post.specs.Kept.{RowIs}
+use Rattle.mesh_post.proofs.LookUps.{some_one}
 use Rattle.mesh_model.specs.Net.Sending.{Attempt, on_ok, after_acts}
 use Rattle.mesh_model.specs.Routes.Queries.{Queries}
 use Rattle.mesh_model.specs.Routes.RouteLog.{RouteLog}
-use Rattle.mesh_node.specs.declared.failure.NodeErr.{NodeErr}
-use Rattle.mesh_node.specs.declared.failure.NodeErr.TheVariants.{Memory, Clients, Vlans, Frames, FrameBytes, Dead}
+use Rattle.node_ground.specs.declared.failure.NodeErr.{NodeErr}
+use Rattle.node_ground.specs.declared.failure.NodeErr.TheVariants.{Memory, Clients, Vlans, Frames, FrameBytes, Dead}
 use Rattle.mesh_node.specs.declared.node.Node.{Node}
 use Rattle.mesh_node.specs.NodeStands.{NodeStands}
-use Rattle.mesh_node.specs.Errors.{HasCause, HasClientCause}
-use Rattle.mesh_node.specs.Puts.{TakesAll, StopsAt, Puts, Leaves}
-use Rattle.mesh_net.specs.declared.port.NetPort.{NetPort}
-use Rattle.mesh_net.specs.declared.post.Post.{Post}
-use Rattle.mesh_net.specs.declared.row.Sender.{Sender}
-use Rattle.mesh_net.specs.declared.row.Sending.{Sending}
+use Rattle.node_ground.specs.Errors.{HasCause, HasClientCause}
+use Rattle.node_ground.specs.Puts.{TakesAll, StopsAt, Puts, Leaves}
+use Rattle.mesh_post.specs.declared.port.NetPort.{NetPort}
+use Rattle.mesh_post.specs.declared.post.Post.{Post}
+use Rattle.mesh_post.specs.declared.row.Sender.{Sender}
+use Rattle.mesh_post.specs.declared.row.Sending.{Sending}
 use Rattle.mesh_net.specs.Given.{HasGiven, GiveTells}
-use Rattle.mesh_net.specs.Sent.{InStep, MaySend, Logged, Grew, PortTook, PortSame, passed_by, actor_of}
-use Rattle.mesh_net.proofs.ActLemmas.{over_act}
-use Rattle.mesh_net.proofs.Midway.{logged_none, logged_both, grew_none, grew_both}
+use Rattle.mesh_post.specs.Sent.{InStep, MaySend, Logged, Grew, PortTook, PortSame, passed_by, actor_of}
+use Rattle.mesh_post.proofs.ActLemmas.{over_act}
+use Rattle.mesh_post.proofs.Midway.{logged_none, logged_both, grew_none, grew_both}
 
 -- what a port would pass
 abbrev pub port_over : NetPort → Act → Option LimitName

@@ -15,15 +15,15 @@ use Rattle.mesh_model.specs.Routes.RouteLog.{RouteLog, MayTick}
 use Rattle.mesh_node.specs.declared.input.Input.{Input}
 use Rattle.mesh_node.specs.declared.input.Input.TheVariants.{Tick, Link, Frame, Gone, Join, Leave, Wifi, Ping, Trace}
 use Rattle.mesh_node.specs.NodeStands.{MayTake, MayFollow, given_by}
-use Rattle.mesh_net.specs.declared.row.Arrival.{Arrival}
-use Rattle.mesh_net.specs.declared.row.Sending.{Sending}
+use Rattle.mesh_post.specs.declared.row.Arrival.{Arrival}
+use Rattle.mesh_post.specs.declared.row.Sending.{Sending}
 use Rattle.mesh_net.specs.declared.net.Net.{Net}
 use Rattle.mesh_net.specs.declared.seat.Seat.{Seat}
-use Rattle.mesh_net.specs.Lanes.{ArrivalIs}
+use Rattle.mesh_post.specs.Lanes.{ArrivalIs}
 use Rattle.mesh_net.specs.NetStands.{SeatsStand}
 use Rattle.mesh_net.specs.Reached.{IsOfLine}
 use Rattle.mesh_net.specs.Steps.{AreOnLinks, Begun, Counts, HasNodes, MayTickAt}
-use Rattle.mesh_net.proofs.LookUps.{some_one, got_there}
+use Rattle.mesh_post.proofs.LookUps.{some_one, got_there}
 use Rattle.mesh_net.proofs.MomentLemmas.{past_at}
 use Rattle.mesh_net.proofs.SeatLemmas.{seat_at, seats_length}
 

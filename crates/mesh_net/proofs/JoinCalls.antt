@@ -1,17 +1,24 @@
 -- A net after a node or a link was to join it, when it noted whether that was refused.
-use Rattle.std.proofs.Common.{◌≡◌, ℕ, inl, inr, Bool, false, [], Result, Ok, Err, is_err}
-use Rattle.std.specs.Result.{IfOk, OnOk}
+use Rattle.std.proofs.Common.{◌≡◌, ℕ, ◌<◌, inl, inr, Bool, false, [], Result, Ok, Err, is_err, sym, subst}
+use Rattle.std.specs.Result.{IfErr, IfOk, IsErrAnd, OnOk}
 use Rattle.mesh_base.specs.declared.address.Mac.{Mac}
 use Rattle.mesh_model.specs.declared.frame_choice.FrameChoice.{FrameChoice}
+use Rattle.mesh_model.specs.Net.Limits.{nodes_limit}
 use Rattle.mesh_model.specs.Net.Mesh.{NetLink, Mesh}
 use Rattle.mesh_model.specs.Routes.Queries.{Queries}
 use Rattle.mesh_model.specs.Routes.RouteLog.{RouteLog}
 use Rattle.mesh_model.specs.Run.Steps.{new_node}
 use Rattle.mesh_net.specs.declared.failure.NetErr.{NetErr}
+use Rattle.mesh_net.specs.declared.failure.NetErr.TheVariants.{Memory}
 use Rattle.mesh_net.specs.declared.net.Net.{Net}
 use Rattle.mesh_net.specs.NetStands.{NetStands, IsNet}
-use Rattle.mesh_net.specs.Reached.{with_node, with_link}
-use Rattle.mesh_net.specs.Tells.{HasJoined, HasLinked}
+use Rattle.mesh_post.specs.Joining.{with_node, with_link}
+use Rattle.mesh_net.specs.Tells.{HasJoined, HasLinked, NodeTells}
+
+-- memory ran out where there was room
+pub node_memory : (r : Result ℕ NetErr) (count : ℕ) → count < nodes_limit → IsErrAnd r (λ e. e ≡ Memory) → IfErr r (NodeTells count)
+node_memory (Ok place) count few h = absurd h
+node_memory (Err e) count few h = subst (NodeTells count) (sym h) few
 
 module _ {A : Type 0} (queries : Mac → Queries) (stands : A → Mac → RouteLog → Type 0) where
   -- a net that notes whether it is dead

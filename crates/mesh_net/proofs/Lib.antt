@@ -1,13 +1,5 @@
 -- What the methods rest on.
-pub mod QueueLemmas
-pub mod LookUps
-pub mod PostLemmas
-pub mod Chosen
-pub mod Ways
-pub mod Midway
-pub mod ActLemmas
 pub mod GiveLemmas
-pub mod Back
 pub mod ReachedLemmas
 pub mod MomentLemmas
 pub mod SeatLemmas
@@ -17,6 +9,7 @@ pub mod TickLemmas
 pub mod PopLemmas
 pub mod Ends
 pub mod Slices
+pub mod ExtendLemmas
+pub mod ToldLemmas
 pub mod RightLemmas
-pub mod JoinLemmas
 pub mod JoinCalls

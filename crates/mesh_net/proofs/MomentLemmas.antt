@@ -5,14 +5,14 @@ use Rattle.mesh_model.specs.declared.happening.Class.TheVariants.{LinkDelivery, 
 use Rattle.mesh_model.specs.declared.happening.Happening.{Happening}
 use Rattle.mesh_model.specs.Clients.Log.{Given, LogEntry, Tick, LinkFrame}
 use Rattle.mesh_model.specs.Net.Due.{ticks_in}
-use Rattle.mesh_model.specs.Net.Inputs.{noted_at, noted, with_entry, entry_of, given_node, given_to}
+use Rattle.mesh_model.specs.Net.Inputs.{noted_at, noted, after_entry, entry_of, given_node, given_to}
 use Rattle.mesh_model.specs.Net.Mesh.{NodeLog, NetLink, SentFrame, Mesh, Setup, address_at}
 use Rattle.mesh_model.specs.Net.Runs.{effect, after_happening, delivered, frame_given, frame_over, tick_given, throughput_between, with_last}
 use Rattle.mesh_model.specs.Net.Sending.{Actor, after_acts}
 use Rattle.mesh_model.specs.Run.Steps.{new_node}
-use Rattle.mesh_node.specs.OwnStands.{newest_moment}
-use Rattle.mesh_laws.proofs.Lines.KeptLinks.{not_passed}
+use Rattle.node_ground.specs.OwnStands.{newest_moment}
 use Rattle.mesh_laws.proofs.Schedule.Sends.{acts_send, as_ok, ok_one, on_ok_ok}
+use Rattle.mesh_laws.proofs.Schedule.Steps.{not_passed}
 use Rattle.mesh_net.specs.Reached.{IsReached, begins, joins, links, is_given, is_delivered, happens, passes}
 use Rattle.mesh_net.specs.Steps.{ArePast}
 
@@ -44,7 +44,7 @@ noted_past now (suc place) entry (node ∷ nodes) is past = (past.0, noted_past 
 same_mesh : (now : ℕ) (mesh after : Mesh) → as_ok mesh ≡ as_ok after → KeepsPast now mesh after
 same_mesh now mesh after e = subst (KeepsPast now mesh) (ok_one mesh after e) (λ past. past)
 
-entry_keeps : (setup : Setup) (now : ℕ) (mesh : Mesh) (actor : Actor) (entry : LogEntry) (after : Mesh) → entry.moment ≤ now → with_entry setup actor entry mesh ≡ Ok after → KeepsPast now mesh after
+entry_keeps : (setup : Setup) (now : ℕ) (mesh : Mesh) (actor : Actor) (entry : LogEntry) (after : Mesh) → entry.moment ≤ now → after_entry setup actor entry mesh ≡ Ok after → KeepsPast now mesh after
 entry_keeps setup now mesh actor entry after is e =
     let p = on_ok_ok (noted actor.place entry) (after_acts setup actor entry.acts mesh) after e in
     let sends = acts_send setup actor entry.acts mesh p.0 p.1 in
@@ -56,7 +56,7 @@ node_keeps setup mesh place now root given None after e = same_mesh now mesh aft
 node_keeps setup mesh place now root given (Some n) after e =
     let actor : Actor = record { place = place; mac = n.mac; now = now; root = root } in
     let entry : LogEntry = entry_of setup n now given in
-    entry_keeps setup now mesh actor entry after (omega arith) (not_passed (setup.client_limit n.mac n.log now given) (with_entry setup actor entry mesh) after e)
+    entry_keeps setup now mesh actor entry after (omega arith) (not_passed (setup.client_limit n.mac n.log now given) (after_entry setup actor entry mesh) after e)
 
 given_keeps : (setup : Setup) (mesh : Mesh) (place now root : ℕ) (given : Given) (after : Mesh) → given_to setup place now root given mesh ≡ Ok after → KeepsPast now mesh after
 given_keeps setup mesh place now root given after e = node_keeps setup mesh place now root given (slice_get mesh.nodes place) after e

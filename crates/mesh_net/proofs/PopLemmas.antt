@@ -14,8 +14,8 @@ use Rattle.mesh_laws.proofs.Schedule.Members.{has_left, has_right, has_either, h
 use Rattle.mesh_laws.proofs.Schedule.Order.{at_most_trans, at_most_moments, before_irrefl, before_test, before_trans, test_before}
 use Rattle.mesh_laws.proofs.Schedule.Steps.{Was, at_place}
 use Rattle.mesh_net.specs.Steps.{tick_now}
-use Rattle.mesh_net.specs.Waiting.{Awaits, IsPopped, IsNoneDue, IsSomeDue}
-use Rattle.mesh_net.proofs.LookUps.{some_one, got_there}
+use Rattle.mesh_post.specs.Waiting.{Awaits, IsPopped, IsNoneDue, IsSomeDue}
+use Rattle.mesh_post.proofs.LookUps.{some_one, got_there}
 
 abbrev pub AwaitsIn : List Happening → Mesh → Type 0
 AwaitsIn waiting mesh = Awaits waiting mesh.last (first_ticks 0 mesh.nodes) mesh.links mesh.frames
@@ -61,17 +61,17 @@ some_not_quiet waiting t mesh sound waits some quiet =
 -- ---- what is popped
 module _ (waiting rest : List Happening) (t : ℕ) (h : Happening) (mesh : Mesh) (sound : IsSound mesh) (waits : AwaitsIn waiting mesh) (popped : IsPopped waiting rest t h) where
   split : (x : Happening) → Has waiting x → (x ≡ h) ⊎ Has rest x
-  split x p = subst (λ q. Has q x) popped.old_is p
+  split x p = popped.leaves.kept x p
 
   joined : (x : Happening) → Has rest x → Has waiting x
-  joined x p = subst (λ q. Has q x) (sym popped.old_is) (inr p)
+  joined x p = popped.leaves.had x p
 
   head : Has waiting h
-  head = subst (λ q. Has q h) (sym popped.old_is) (inl refl)
+  head = popped.waited
 
   first_of : (x : Happening) → (x ≡ h) ⊎ Has rest x → AtMost h x
   first_of x (inl e) = inl (sym e)
-  first_of x (inr p) = inr (popped.above x p)
+  first_of x (inr p) = inr (popped.leaves.above x p)
 
   pub popped_next : IsNext t mesh h
   popped_next =
@@ -104,10 +104,10 @@ module _ (waiting rest : List Happening) (t : ℕ) (h : Happening) (mesh : Mesh)
       not_head x (test_before h x f.0) (split x ((waits x).1 (inr f.1)))
 
   pub popped_waits : Awaits rest h others mesh.links mesh.frames
-  popped_waits x = (λ p. rest_to x (popped.above x p) ((waits x).0 (joined x p)), rest_from x)
+  popped_waits x = (λ p. rest_to x (popped.leaves.above x p) ((waits x).0 (joined x p)), rest_from x)
 
   pub tick_or_later : (x : Happening) → Has (first_ticks 0 mesh.nodes) x → (x ≡ h) ⊎ Before h x
-  tick_or_later x p = elim (split x ((waits x).1 (inr p))) as (λ _. (x ≡ h) ⊎ Before h x) [ inl e ↦ inl e | inr r ↦ inr (popped.above x r) ]
+  tick_or_later x p = elim (split x ((waits x).1 (inr p))) as (λ _. (x ≡ h) ⊎ Before h x) [ inl e ↦ inl e | inr r ↦ inr (popped.leaves.above x r) ]
 
   -- behind a delivery, all ticks wait
   not_tick : h.class ≡ LinkDelivery → (x : Happening) → Has (first_ticks 0 mesh.nodes) x → (x ≡ h) ⊎ Before h x → Has others x

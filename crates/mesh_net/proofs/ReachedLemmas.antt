@@ -2,7 +2,7 @@
 use Rattle.std.proofs.Common.{◌≡◌, ℕ, ◌≤◌, inl, inr, List, [], refl, sym, ap, ◌∙◌, subst, arith}
 use Rattle.mesh_base.specs.declared.address.Mac.{Mac}
 use Rattle.mesh_model.specs.declared.happening.Happening.{Happening}
-use Rattle.mesh_model.specs.Clients.Log.{Given, Tick, LinkFrame, Frame, Gone, Join, Leave, Arp, Dhcp, Wifi, Ping, Trace}
+use Rattle.mesh_model.specs.Clients.Log.{Given, Tick, LinkFrame, LanFrame, Line}
 use Rattle.mesh_model.specs.Net.Due.{ticks_by}
 use Rattle.mesh_model.specs.Net.Limits.{clock_limit, scenario_setup}
 use Rattle.mesh_model.specs.Net.Mesh.{NodeLog, SentFrame, Mesh}
@@ -16,7 +16,8 @@ use Rattle.mesh_laws.proofs.Schedule.Kept.{bytes_after}
 use Rattle.mesh_laws.proofs.Schedule.Members.{get_last}
 use Rattle.mesh_laws.proofs.Schedule.Sound.{steps_keep_sound, lines_keep_sound}
 use Rattle.mesh_laws.proofs.Schedule.Steps.{delivered_effect, no_ticks, step_is, tickless, ticks_of}
-use Rattle.mesh_net.specs.Reached.{IsReached, begins, joins, links, is_given, is_delivered, happens, passes, IsOfLine, with_node}
+use Rattle.mesh_net.specs.Reached.{IsReached, begins, joins, links, is_given, is_delivered, happens, passes, IsOfLine}
+use Rattle.mesh_post.specs.Joining.{with_node}
 
 -- what holds of a mesh that is reached, with the clock
 pub record Reached (clock : ℕ) (mesh : Mesh) : Type 0 where
@@ -29,15 +30,8 @@ pub record Reached (clock : ℕ) (mesh : Mesh) : Type 0 where
 pub of_line : (frames : List SentFrame) (given : Given) → IsOfLine given → (ticks_by given ≡ 0) × GivesItsBytes frames given
 of_line frames (Tick index) l = absurd l
 of_line frames (LinkFrame number from throughput bytes) l = absurd l
-of_line frames (Frame src dst vid text) l = (refl, tt)
-of_line frames (Gone key) l = (refl, tt)
-of_line frames (Join key) l = (refl, tt)
-of_line frames (Leave key) l = (refl, tt)
-of_line frames (Arp mac own_ip asked_ip vid) l = (refl, tt)
-of_line frames (Dhcp key text) l = (refl, tt)
-of_line frames (Wifi on) l = (refl, tt)
-of_line frames (Ping target) l = (refl, tt)
-of_line frames (Trace target) l = (refl, tt)
+of_line frames (LanFrame bytes) l = absurd l
+of_line frames (Line line) l = (refl, tt)
 
 node_bytes : (mesh : Mesh) (new : NodeLog) → new.log ≡ [] → KeepsBytes mesh → KeepsBytes (with_node new mesh)
 node_bytes mesh new empty bytes place node found entry h = elim (get_last mesh.nodes new place node found) as (λ _. GivesItsBytes mesh.frames entry.given) [

@@ -1,11 +1,11 @@
 -- What a net tells of tables is right: its mesh is one that steps reach, and its log gained events of
 -- that mesh.
-use Rattle.std.proofs.Common.{◌≡◌, ◌⊎◌, inl, inr, ◌≤◌, ℕ, zero, suc, Bool, List, [], ◌∷◌, ◌++◌, filter, length, slice_get, Some, None, Ok, refl, sym, ap, subst, ◌∙◌, arith}
+use Rattle.std.proofs.Common.{◌≡◌, ◌⊎◌, inl, inr, ◌≤◌, ℕ, suc, Bool, List, [], ◌∷◌, ◌++◌, filter, length, slice_get, Some, None, Ok, refl, sym, ap, subst, ◌∙◌, arith}
 use Rattle.std.specs.Fn.{iterate}
 use Rattle.mesh_base.specs.declared.address.Mac.{Mac}
 use Rattle.mesh_base.specs.declared.event.Event.{Event}
 use Rattle.mesh_model.specs.declared.frame_choice.FrameChoice.{FrameChoice}
-use Rattle.mesh_model.specs.Clients.Log.{Given, Tick, LinkFrame, Frame, Gone, Join, Leave, Arp, Dhcp, Wifi, Ping, Trace}
+use Rattle.mesh_model.specs.Clients.Log.{Given, Tick, LinkFrame, LanFrame, Line}
 use Rattle.mesh_model.specs.Net.Inputs.{entry_of, given_to, noting}
 use Rattle.mesh_model.specs.Net.Limits.{scenario_setup}
 use Rattle.mesh_model.specs.Net.Mesh.{NodeLog, Mesh, Setup}
@@ -15,37 +15,33 @@ use Rattle.mesh_model.specs.Routes.Queries.{Queries}
 use Rattle.mesh_model.specs.Routes.RouteLog.{RouteLog}
 use Rattle.mesh_model.specs.Run.Steps.{new_node}
 use Rattle.mesh_model.specs.Text.Events.{is_shown}
-use Rattle.mesh_laws.proofs.Lines.Courses.{Follows, follows_both, follows_itself, going_follows, since_is, turn_follows}
+use Rattle.mesh_laws.proofs.Lines.Courses.{Follows, going_follows, since_is}
+use Rattle.mesh_laws.proofs.Lines.Slices.{turns_follow}
 use Rattle.mesh_laws.proofs.Schedule.Steps.{Effect, delivered_effect, get_front, no_ticks, tickless}
 use Rattle.mesh_tie.specs.NetTables.{IsTellable, NamesClients}
-use Rattle.mesh_tie.specs.Steps.{IsNew, goes_on, line_gives, link_joins, newest_moment, node_joins}
-use Rattle.mesh_tie.specs.Steps.{IsOfLine as IsTellableLine}
+use Rattle.mesh_tie.specs.Steps.{IsNew, goes_on, line_gives, link_joins, newest_moment, node_joins, Steps, MayBeGiven}
 use Rattle.mesh_tie.specs.Steps.{begins as nothing_yet}
 use Rattle.mesh_tie.specs.TieLaws.{AllKeep}
 use Rattle.mesh_tie.proofs.MeshSteps.{got_front, got_noted}
-use Rattle.mesh_tie.proofs.NetLemmas.{delivered_extends, gains_are_right, given_extends, happening_extends, tables_are_right, tellable_before}
 use Rattle.mesh_tie.proofs.RunReach.{Comes, delivered_comes, given_comes, happening_comes, later_settled}
 use Rattle.mesh_tie.proofs.SentLemmas.{given_is}
 use Rattle.mesh_net.specs.declared.net.Net.{Net}
 use Rattle.mesh_net.specs.NetStands.{NetStands}
-use Rattle.mesh_net.specs.Reached.{IsOfLine, IsReached, begins, happens, is_delivered, is_given, joins, links, passes, with_link, with_node}
+use Rattle.mesh_net.specs.Reached.{IsOfLine, IsReached, begins, happens, is_delivered, is_given, joins, links, passes}
+use Rattle.mesh_post.specs.Joining.{with_link, with_node}
 use Rattle.mesh_net.specs.Tells.{Carried, Gains, Ran, RanAll, TellsRightly}
+use Rattle.mesh_net.proofs.ExtendLemmas.{delivered_extends, given_extends, happening_extends, tellable_before}
 use Rattle.mesh_net.proofs.ReachedLemmas.{of_line}
+use Rattle.mesh_net.proofs.ToldLemmas.{gains_are_right, tables_are_right}
 
 -- ---- a net's mesh is one that steps reach
--- what a line gives, if its clients are such as records can tell
-tellable_line : (given : Given) → IsOfLine given → NamesClients given → IsTellableLine given
-tellable_line (Tick index) of names = absurd of
-tellable_line (LinkFrame number from throughput bytes) of names = absurd of
-tellable_line (Frame src dst vid text) of names = names
-tellable_line (Gone key) of names = names
-tellable_line (Join key) of names = names
-tellable_line (Leave key) of names = names
-tellable_line (Arp mac own_ip asked_ip vid) of names = names
-tellable_line (Dhcp key text) of names = names
-tellable_line (Wifi on) of names = tt
-tellable_line (Ping target) of names = tt
-tellable_line (Trace target) of names = tt
+-- what a line gives, if its client is such as records can tell, is a step
+line_step : (queries : Mac → Queries) (mesh after : Mesh) (place now : ℕ) (node : NodeLog) (given : Given) → IsOfLine given → NamesClients given → slice_get mesh.nodes place ≡ Some node → MayBeGiven node now
+    → given_to (scenario_setup queries) place now 0 given mesh ≡ Ok after → Steps queries mesh after
+line_step queries mesh after place now node (Tick index) of names found may got = absurd of
+line_step queries mesh after place now node (LinkFrame number from throughput bytes) of names found may got = absurd of
+line_step queries mesh after place now node (LanFrame bytes) of names found may got = absurd of
+line_step queries mesh after place now node (Line line) of names found may got = line_gives mesh after place now node line found may names got
 
 at_end : (nodes : List NodeLog) (new : NodeLog) → slice_get (nodes ++ new ∷ []) (length nodes) ≡ Some new
 at_end [] new = refl
@@ -91,7 +87,7 @@ comes_to queries keep _ _ (links clock mesh link way few new) t =
     record { reachable = goes_on mesh (with_link link mesh) c.reachable (link_joins mesh link); settled = c.settled }
 comes_to queries keep _ _ (is_given clock mesh after place given way line e) t =
     let c = comes_to queries keep clock mesh way (tellable_before mesh after (given_extends queries mesh after place clock 0 given e) t) in
-    let d = given_comes queries mesh after place clock 0 given c.reachable c.settled (λ node found may got. line_gives mesh after place clock node given found may (tellable_line given line (names node found)) got) e in
+    let d = given_comes queries mesh after place clock 0 given c.reachable c.settled (λ node found may got. line_step queries mesh after place clock node given line (names node found) found may got) e in
     record { reachable = d.reachable; settled = d.settled }
   where
     names : (node : NodeLog) → slice_get mesh.nodes place ≡ Some node → NamesClients given
@@ -113,11 +109,6 @@ comes_to queries keep _ _ (passes clock later mesh way l low quiet) t =
 -- ---- a mesh that follows another
 pub effect_follows : (setup : Setup) (extra : ℕ → ℕ) (now : ℕ) (mesh after : Mesh) → Effect setup extra now mesh after → Follows mesh after
 effect_follows setup extra now mesh after effect = record { more = effect.adds.more_events; events = effect.adds.events; names = effect.names }
-
-turns_follow : (setup : Setup) (t count : ℕ) (o : Course) → Follows o.mesh (iterate (turn setup t) count o).mesh
-turns_follow setup t zero o = follows_itself o.mesh
-turns_follow setup t (suc count) o =
-    follows_both o.mesh (turn setup t o).mesh (iterate (turn setup t) count (turn setup t o)).mesh (turn_follows setup t o) (turns_follow setup t count (turn setup t o))
 
 pub taken_follows : (setup : Setup) (t count : ℕ) (before after : Mesh) → iterate (turn setup t) count (begin before) ≡ begin after → Follows before after
 taken_follows setup t count before after taken = subst (λ (o : Course). Follows before o.mesh) taken (turns_follow setup t count (begin before))

@@ -8,7 +8,7 @@ use Rattle.mesh_model.specs.Routes.Queries.{Queries}
 use Rattle.mesh_model.specs.Routes.RouteLog.{RouteLog}
 use Rattle.mesh_net.specs.declared.seat.Seat.{Seat}
 use Rattle.mesh_net.specs.NetStands.{SeatIs, SeatsStand}
-use Rattle.mesh_net.proofs.LookUps.{some_one}
+use Rattle.mesh_post.proofs.LookUps.{some_one}
 
 module _ {A : Type 0} (queries : Mac → Queries) (stands : A → Mac → RouteLog → Type 0) where
   pub seats_length : (seats : List (Seat A)) (rows : List NodeLog) → SeatsStand queries stands seats rows → length seats ≡ length rows

@@ -22,12 +22,12 @@ use Rattle.mesh_net.specs.declared.failure.NetErr.TheVariants as net_errors
 use Rattle.mesh_net.specs.declared.net.Net.{Net}
 use Rattle.mesh_net.specs.NetStands.{NetStands, IsDead, IsLive, IsNet}
 use Rattle.mesh_net.specs.Reached.{passes}
-use Rattle.mesh_net.specs.Sent.{Logged}
+use Rattle.mesh_post.specs.Sent.{Logged}
 use Rattle.mesh_net.specs.Steps.{IsLate, RanOn, Rested, SliceTells, StepFails, StepLeaves, Stepped, Went, WentUpTo}
 use Rattle.mesh_net.specs.Tells.{RanAll, RunTells}
-use Rattle.mesh_net.specs.Waiting.{IsNoneDue, IsSomeDue}
+use Rattle.mesh_post.specs.Waiting.{IsNoneDue, IsSomeDue}
 use Rattle.mesh_net.proofs.Ends.{gains}
-use Rattle.mesh_net.proofs.Midway.{logged_none, logged_both}
+use Rattle.mesh_post.proofs.Midway.{logged_none, logged_both}
 use Rattle.mesh_net.proofs.PopLemmas.{none_quiet, some_not_quiet}
 use Rattle.mesh_net.proofs.ReachedLemmas.{reached}
 

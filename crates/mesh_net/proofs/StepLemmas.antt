@@ -13,14 +13,14 @@ use Rattle.mesh_model.specs.Net.Limits.{scenario_setup}
 use Rattle.mesh_model.specs.Net.Mesh.{NodeLog, Mesh}
 use Rattle.mesh_model.specs.Routes.Queries.{Queries}
 use Rattle.mesh_model.specs.Routes.RouteLog.{RouteLog}
-use Rattle.mesh_node.specs.declared.failure.NodeErr.{NodeErr}
+use Rattle.node_ground.specs.declared.failure.NodeErr.{NodeErr}
 use Rattle.mesh_node.specs.declared.input.Input.{Input}
 use Rattle.mesh_node.specs.declared.input.Input.TheVariants.{Tick, Link, Frame, Gone, Join, Leave, Wifi, Ping, Trace}
 use Rattle.mesh_node.specs.NodeStands.{given_by}
-use Rattle.mesh_net.specs.declared.post.Post.{Post}
-use Rattle.mesh_net.specs.declared.row.Occasion.{Occasion}
-use Rattle.mesh_net.specs.declared.row.Sender.{Sender}
-use Rattle.mesh_net.specs.declared.row.Sending.{Sending}
+use Rattle.mesh_post.specs.declared.post.Post.{Post}
+use Rattle.mesh_net.specs.declared.give.Occasion.{Occasion}
+use Rattle.mesh_post.specs.declared.row.Sender.{Sender}
+use Rattle.mesh_post.specs.declared.row.Sending.{Sending}
 use Rattle.mesh_net.specs.declared.seat.Seat.{Seat}
 use Rattle.mesh_net.specs.Given.{HasGiven, GiveTells}
 use Rattle.mesh_model.specs.Net.Due.{deliveries}
@@ -28,9 +28,9 @@ use Rattle.mesh_model.specs.Net.Happenings.{Before}
 use Rattle.mesh_model.specs.Net.Next.{Has}
 use Rattle.mesh_model.specs.Net.Sending.{Attempt}
 use Rattle.mesh_net.specs.NetStands.{SeatsStand}
-use Rattle.mesh_net.specs.Sent.{MaySend}
+use Rattle.mesh_post.specs.Sent.{MaySend}
 use Rattle.mesh_net.specs.Steps.{ticks_with, Counts, Stage, CountsOn, Tried}
-use Rattle.mesh_net.proofs.Midway.{logged_none}
+use Rattle.mesh_post.proofs.Midway.{logged_none}
 use Rattle.mesh_net.proofs.SeatLemmas.{seat_set}
 
 -- the ticks that a node had with an input

@@ -5,26 +5,25 @@ use Rattle.mesh_base.specs.Address.{is_broadcast}
 use Rattle.mesh_base.specs.declared.address.Mac.{Mac}
 use Rattle.mesh_base.specs.declared.client.Key.{Key}
 use Rattle.mesh_model.specs.declared.act.Act.{Act}
-use Rattle.mesh_model.specs.declared.ending.LimitName.{LimitName}
 use Rattle.mesh_model.specs.declared.happening.Class.{Class}
 use Rattle.mesh_model.specs.declared.happening.Class.TheVariants.{LinkDelivery, NodeTick}
 use Rattle.mesh_model.specs.declared.happening.Happening.{Happening}
 use Rattle.mesh_model.specs.declared.packet.Head.{Head}
 use Rattle.mesh_model.specs.declared.packet.Head.TheVariants.{IvOgm, Bcast, Elp, Ogm2, Unicast, Frag, Unicast4, Icmp, Utvlv}
-use Rattle.mesh_model.specs.Clients.Log.{Given, Tick, LinkFrame, Frame, Gone, Join, Leave, Arp, Dhcp, Wifi, Ping, Trace, Log, LogEntry}
+use Rattle.mesh_model.specs.Clients.Log.{Given, Tick, LinkFrame, LanFrame, Line, LineGiven, Attach, Frame, Gone, Join, Leave, Arp, Dhcp, Sets, Put, Get, Ping, Trace, Log, LogEntry}
 use Rattle.mesh_model.specs.Clients.Mentions.{key_of}
 use Rattle.mesh_model.specs.Knowledge.Known.{Broadcast, Knowledge, agreed_byte, is_new_broadcast}
-use Rattle.mesh_model.specs.Knowledge.Steps.{Coming, knowledge, next_knowledge, after_announcement, after_answer, after_broadcast, after_containers, after_frame, after_head, after_message, after_reply, after_packet, after_packets, after_roaming, after_sighting, after_taken, before_announcement, released_under, with_head}
+use Rattle.mesh_model.specs.Knowledge.Steps.{Coming, knowledge, next_knowledge, after_announcement, after_answer, after_broadcast, after_containers, after_frame, after_head, after_message, after_reply, after_packet, after_packets, after_roaming, after_sighting, after_taken, before_announcement, released_under, with_head, line_knowledge}
 use Rattle.mesh_model.specs.Knowledge.Told.{Message, TableMessage, Asks, Answers, Neither, message_in, message_of}
 use Rattle.mesh_model.specs.Marks.Calls.{Forgotten}
 use Rattle.mesh_model.specs.Net.Due.{ticks_by, ticks_in}
 use Rattle.mesh_model.specs.Net.Happenings.{Before}
-use Rattle.mesh_model.specs.Net.Inputs.{entry_of, noted, noted_at, given_to, given_node, unless_passed, with_entry}
+use Rattle.mesh_model.specs.Net.Inputs.{entry_of, noted, noted_at, given_to, given_node, after_entry}
 use Rattle.mesh_model.specs.Net.Limits.{scenario_setup}
 use Rattle.mesh_model.specs.Net.Mesh.{NodeLog, NetLink, SentFrame, Mesh, Setup, address_at}
 use Rattle.mesh_model.specs.Net.Next.{Happens}
 use Rattle.mesh_model.specs.Net.Runs.{after_happening, effect, frame_given, frame_over, throughput_between, tick_given, with_last}
-use Rattle.mesh_model.specs.Net.Sending.{Attempt, Actor, after_acts}
+use Rattle.mesh_model.specs.Net.Sending.{Actor, after_acts}
 use Rattle.mesh_model.specs.Packets.Containers.{containers_of}
 use Rattle.mesh_model.specs.Packets.Contents.{first_roaming, first_table}
 use Rattle.mesh_model.specs.Packets.FirstPacket.{Packet}
@@ -39,10 +38,10 @@ use Rattle.mesh_laws.proofs.Schedule.Added.{added}
 use Rattle.mesh_laws.proofs.Schedule.Members.{get_last}
 use Rattle.mesh_laws.proofs.Schedule.Order.{moments}
 use Rattle.mesh_laws.proofs.Schedule.Sends.{ok_one, on_ok_ok, acts_send}
-use Rattle.mesh_laws.proofs.Schedule.Steps.{delivered_effect, no_ticks, step_is, tickless}
+use Rattle.mesh_laws.proofs.Schedule.Steps.{delivered_effect, no_ticks, not_passed, step_is, tickless}
 use Rattle.mesh_laws.proofs.Schedule.ToCome.{nodes_add_later, links_add_nothing}
 use Rattle.mesh_net.specs.Reached.{IsReached, begins, joins, links, is_given, is_delivered, happens, passes}
-use Rattle.mesh_net.proofs.LookUps.{some_one}
+use Rattle.mesh_post.proofs.LookUps.{some_one}
 use Rattle.mesh_net.proofs.ReachedLemmas.{reached, of_line}
 
 -- ---- what a node knows of its ticks
@@ -59,7 +58,7 @@ message_counted : (q : Queries) (came : Coming) (head : Head) (message : Message
 message_counted q came head message known =
     let heard : Knowledge = with_head came head known in
     either_counted (q.hear known.routes came.now came.from came.throughput head).accepted (after_announcement q came message (before_announcement q came head message.orig known)) heard known
-    (either_counted (not (q.live known.routes came.now message.orig)) (record heard { tables = Dropped message.orig ∷ heard.tables; marks = Forgotten message.orig ∷ heard.marks }) heard known refl refl)
+    (either_counted (q.hear known.routes came.now came.from came.throughput head).began (record heard { tables = Dropped message.orig ∷ heard.tables; marks = Forgotten message.orig ∷ heard.marks }) heard known refl refl)
     refl
 
 taken_counted : (q : Queries) (came : Coming) (head : Head) (message : Option Message) (known : Knowledge) → counted (after_taken q came head message known) ≡ counted known
@@ -110,15 +109,8 @@ frame_counted dst known = either_counted (is_broadcast dst) (record known { sent
 abbrev pub index_by : Given → Option ℕ → Option ℕ
 index_by (Tick index) last = Some index
 index_by (LinkFrame number from throughput bytes) last = last
-index_by (Frame src dst vid text) last = last
-index_by (Gone key) last = last
-index_by (Join key) last = last
-index_by (Leave key) last = last
-index_by (Arp mac own_ip asked_ip vid) last = last
-index_by (Dhcp key text) last = last
-index_by (Wifi on) last = last
-index_by (Ping target) last = last
-index_by (Trace target) last = last
+index_by (LanFrame bytes) last = last
+index_by (Line line) last = last
 
 -- the index of a node's last tick
 abbrev pub index_in : Log → Option ℕ
@@ -128,20 +120,28 @@ index_in (entry ∷ older) = index_by entry.given (index_in older)
 no_more : (known : Knowledge) → counted known ≡ (0 + own_ticks known.routes, last_index known.routes)
 no_more known = ap (λ n. (n, last_index known.routes)) (omega arith)
 
+-- a line adds no tick
+line_counted : (q : Queries) (me : Mac) (older : Log) (known : Knowledge) (now : ℕ) (line : LineGiven) → counted (line_knowledge q me older known now line) ≡ counted known
+line_counted q me older known now (Attach lan gateways) = refl
+line_counted q me older known now (Frame src dst vid text) = frame_counted dst (after_sighting q me older now (key_of src vid) known)
+line_counted q me older known now (Gone key) = refl
+line_counted q me older known now (Join key) = refl
+line_counted q me older known now (Leave key) = refl
+line_counted q me older known now (Arp mac own_ip asked_ip vid) = refl
+line_counted q me older known now (Dhcp key text) = refl
+line_counted q me older known now (Sets setting) = refl
+line_counted q me older known now (Put type_no version text) = refl
+line_counted q me older known now (Get type_no) = refl
+line_counted q me older known now (Ping target) = refl
+line_counted q me older known now (Trace target) = refl
+
 -- an input adds its tick, and no other
 next_counted : (q : Queries) (me : Mac) (older : Log) (known : Knowledge) (now : ℕ) (given : Given) → counted (next_knowledge q me older known now given) ≡ (ticks_by given + own_ticks known.routes, index_by given (last_index known.routes))
 next_counted q me older known now (Tick index) = ap (λ n. (n, Some index)) (omega arith)
 next_counted q me older known now (LinkFrame number from throughput bytes) =
     packets_counted q me (record { now = now; from = from; throughput = throughput; number = number }) known (link_frame bytes).packets ∙ no_more known
-next_counted q me older known now (Frame src dst vid text) = frame_counted dst (after_sighting q me older now (key_of src vid) known) ∙ no_more known
-next_counted q me older known now (Gone key) = no_more known
-next_counted q me older known now (Join key) = no_more known
-next_counted q me older known now (Leave key) = no_more known
-next_counted q me older known now (Arp mac own_ip asked_ip vid) = no_more known
-next_counted q me older known now (Dhcp key text) = no_more known
-next_counted q me older known now (Wifi on) = no_more known
-next_counted q me older known now (Ping target) = no_more known
-next_counted q me older known now (Trace target) = no_more known
+next_counted q me older known now (LanFrame bytes) = no_more known
+next_counted q me older known now (Line line) = line_counted q me older known now line ∙ no_more known
 
 -- an algorithm has the ticks of its node
 log_counted : (q : Queries) (me : Mac) (log : Log) → counted (knowledge q me log) ≡ (ticks_in log, index_in log)
@@ -164,15 +164,8 @@ as_tick index = Tick index
 abbrev index_of : Given → ℕ
 index_of (Tick index) = index
 index_of (LinkFrame number from throughput bytes) = 0
-index_of (Frame src dst vid text) = 0
-index_of (Gone key) = 0
-index_of (Join key) = 0
-index_of (Leave key) = 0
-index_of (Arp mac own_ip asked_ip vid) = 0
-index_of (Dhcp key text) = 0
-index_of (Wifi on) = 0
-index_of (Ping target) = 0
-index_of (Trace target) = 0
+index_of (LanFrame bytes) = 0
+index_of (Line line) = 0
 
 -- an input that isn't a tick leaves the number of the next
 same_number : (index : Option ℕ) (ticks : ℕ) → FollowsIndex index (suc ticks) → FollowsIndex index (suc (0 + ticks))
@@ -182,15 +175,8 @@ numbered_next : (log : Log) (now : ℕ) (given : Given) (acts : List Act) → Is
 numbered_next log now (Tick index) acts (inl e) n = absurd (omega (arith, e))
 numbered_next log now (Tick index) acts (inr e) n = let i : index ≡ suc (ticks_in log) = ap index_of e in omega (arith, i)
 numbered_next log now (LinkFrame number from throughput bytes) acts o n = same_number (index_in log) (ticks_in log) n
-numbered_next log now (Frame src dst vid text) acts o n = same_number (index_in log) (ticks_in log) n
-numbered_next log now (Gone key) acts o n = same_number (index_in log) (ticks_in log) n
-numbered_next log now (Join key) acts o n = same_number (index_in log) (ticks_in log) n
-numbered_next log now (Leave key) acts o n = same_number (index_in log) (ticks_in log) n
-numbered_next log now (Arp mac own_ip asked_ip vid) acts o n = same_number (index_in log) (ticks_in log) n
-numbered_next log now (Dhcp key text) acts o n = same_number (index_in log) (ticks_in log) n
-numbered_next log now (Wifi on) acts o n = same_number (index_in log) (ticks_in log) n
-numbered_next log now (Ping target) acts o n = same_number (index_in log) (ticks_in log) n
-numbered_next log now (Trace target) acts o n = same_number (index_in log) (ticks_in log) n
+numbered_next log now (LanFrame bytes) acts o n = same_number (index_in log) (ticks_in log) n
+numbered_next log now (Line line) acts o n = same_number (index_in log) (ticks_in log) n
 
 abbrev pub AllNumbered : List NodeLog → Type 0
 AllNumbered nodes = (place : ℕ) (node : NodeLog) → slice_get nodes place ≡ Some node → Numbered node.log
@@ -203,16 +189,12 @@ noted_numbered zero entry (n ∷ rest) order all (suc place) node e = all (suc p
 noted_numbered (suc at) entry (n ∷ rest) order all zero node e = all 0 node e
 noted_numbered (suc at) entry (n ∷ rest) order all (suc place) node e = noted_numbered at entry rest order (λ p x f. all (suc p) x f) place node e
 
-unpassed : (o : Option LimitName) (step : Attempt) (after : Mesh) → unless_passed o step ≡ Ok after → step ≡ Ok after
-unpassed None step after e = e
-unpassed (Some limit) step after e = cc
-
 node_numbered : (setup : Setup) (mesh after : Mesh) (place now root : ℕ) (given : Given) (o : Option NodeLog) → slice_get mesh.nodes place ≡ o → given_node setup place now root given o mesh ≡ Ok after → ((node : NodeLog) → slice_get mesh.nodes place ≡ Some node → IsInOrder node.log given) → AllNumbered mesh.nodes → AllNumbered after.nodes
 node_numbered setup mesh after place now root given None found e order all = subst (λ (m : Mesh). AllNumbered m.nodes) (ok_one mesh after e) all
 node_numbered setup mesh after place now root given (Some n) found e order all =
     let actor : Actor = record { place = place; mac = n.mac; now = now; root = root } in
     let entry : LogEntry = entry_of setup n now given in
-    let p = on_ok_ok (noted place entry) (after_acts setup actor entry.acts mesh) after (unpassed (setup.client_limit n.mac n.log now given) (with_entry setup actor entry mesh) after e) in
+    let p = on_ok_ok (noted place entry) (after_acts setup actor entry.acts mesh) after (not_passed (setup.client_limit n.mac n.log now given) (after_entry setup actor entry mesh) after e) in
     let sends = acts_send setup actor entry.acts mesh p.0 p.1 in
     subst (λ (m : Mesh). AllNumbered m.nodes) (ok_one (record p.0 { nodes = noted_at place entry p.0.nodes }) after p.2)
     (subst (λ ns. AllNumbered (noted_at place entry ns)) (sym sends.nodes) (noted_numbered place entry mesh.nodes order all))

@@ -12,14 +12,14 @@ use Rattle.mesh_model.specs.Net.Mesh.{NodeLog, Mesh}
 use Rattle.mesh_model.specs.Net.Sending.{Attempt}
 use Rattle.mesh_model.specs.Routes.Queries.{Queries}
 use Rattle.mesh_model.specs.Routes.RouteLog.{RouteLog}
-use Rattle.mesh_node.specs.declared.failure.NodeErr.{NodeErr}
-use Rattle.mesh_node.specs.declared.failure.NodeErr.TheVariants.{Memory, Clients, Vlans, Frames, FrameBytes, Dead}
+use Rattle.node_ground.specs.declared.failure.NodeErr.{NodeErr}
+use Rattle.node_ground.specs.declared.failure.NodeErr.TheVariants.{Memory, Clients, Vlans, Frames, FrameBytes, Dead}
 use Rattle.mesh_node.specs.declared.node.Node.{Node}
 use Rattle.mesh_node.specs.NodeStands.{NodeStands}
-use Rattle.mesh_net.specs.declared.post.Post.{Post}
-use Rattle.mesh_net.specs.declared.row.Sender.{Sender}
-use Rattle.mesh_net.specs.declared.row.Sending.{Sending}
-use Rattle.mesh_net.specs.Sent.{InStep, Logged}
+use Rattle.mesh_post.specs.declared.post.Post.{Post}
+use Rattle.mesh_post.specs.declared.row.Sender.{Sender}
+use Rattle.mesh_post.specs.declared.row.Sending.{Sending}
+use Rattle.mesh_post.specs.Sent.{InStep, Logged}
 
 -- the node at a place was given something: the mesh after it
 pub record HasGiven {A : Type 0} (queries : Mac → Queries) (stands : A → Mac → RouteLog → Type 0)

@@ -1,10 +1,6 @@
--- What the contracts cite, in reading order: what a net stands for, and what its calls tell. Kept,
--- Sent and Waiting stand in no public clause but through `NetStands`.
+-- What the contracts cite, in reading order: what a net stands for, and what its calls tell. Given
+-- and Steps stand in no public clause.
 pub mod Reached
-pub mod Waiting
-pub mod Kept
-pub mod Lanes
-pub mod Sent
 pub mod Given
 pub mod NetStands
 pub mod Tells

@@ -14,7 +14,7 @@ use Rattle.mesh_node.specs.NodeStands.{NodeStands}
 use Rattle.mesh_net.specs.declared.net.Net.{Net}
 use Rattle.mesh_net.specs.declared.seat.Seat.{Seat}
 use Rattle.mesh_net.specs.Reached.{IsReached}
-use Rattle.mesh_net.specs.Sent.{InStep}
+use Rattle.mesh_post.specs.Sent.{InStep}
 
 -- a node at its place stands for a node of the mesh
 pub record SeatIs {A : Type 0} (queries : Mac → Queries) (stands : A → Mac → RouteLog → Type 0)

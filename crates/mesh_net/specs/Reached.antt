@@ -2,10 +2,10 @@
 -- nodes, by frames that are delivered again, by happenings, each the next, and by the passing of
 -- time in which nothing happens. What is proved of every run can be applied to them. The main word
 -- is `IsReached`.
-use Rattle.std.specs.Prelude.{◌≡◌, ℕ, ◌<◌, ◌≤◌, List, [], ◌∷◌, ◌++◌, length, Ok, Some}
+use Rattle.std.specs.Prelude.{◌≡◌, ℕ, ◌<◌, ◌≤◌, List, length, Ok, Some}
 use Rattle.mesh_base.specs.declared.address.Mac.{Mac}
 use Rattle.mesh_model.specs.declared.happening.Happening.{Happening}
-use Rattle.mesh_model.specs.Clients.Log.{Given, Tick, LinkFrame, Frame, Gone, Join, Leave, Arp, Dhcp, Wifi, Ping, Trace}
+use Rattle.mesh_model.specs.Clients.Log.{Given, Tick, LinkFrame, LanFrame, Line}
 use Rattle.mesh_model.specs.Net.Mesh.{NodeLog, NetLink, Mesh, Setup, empty_mesh}
 use Rattle.mesh_model.specs.Net.Inputs.{given_to}
 use Rattle.mesh_model.specs.Net.Due.{next_happening}
@@ -14,14 +14,7 @@ use Rattle.mesh_model.specs.Net.Next.{IsQuiet}
 use Rattle.mesh_model.specs.Net.Runs.{after_happening, delivered}
 use Rattle.mesh_model.specs.Scenario.LinkOptions.{least_delay, delay_limit}
 use Rattle.mesh_model.specs.Run.Steps.{new_node}
-
--- a mesh with one more node
-abbrev pub with_node : NodeLog → Mesh → Mesh
-with_node node mesh = record mesh { nodes = mesh.nodes ++ node ∷ [] }
-
--- a mesh with one more link
-abbrev pub with_link : NetLink → Mesh → Mesh
-with_link link mesh = record mesh { links = mesh.links ++ link ∷ [] }
+use Rattle.mesh_post.specs.Joining.{with_node, with_link}
 
 -- a link that may join: it leads from one node to another, with a delay of a link line
 pub record IsNewLink (mesh : Mesh) (link : NetLink) : Type 0 where
@@ -34,15 +27,8 @@ pub record IsNewLink (mesh : Mesh) (link : NetLink) : Type 0 where
 abbrev pub IsOfLine : Given → Type 0
 IsOfLine (Tick index) = ⊥
 IsOfLine (LinkFrame number from throughput bytes) = ⊥
-IsOfLine (Frame src dst vid text) = Unit
-IsOfLine (Gone key) = Unit
-IsOfLine (Join key) = Unit
-IsOfLine (Leave key) = Unit
-IsOfLine (Arp mac own_ip asked_ip vid) = Unit
-IsOfLine (Dhcp key text) = Unit
-IsOfLine (Wifi on) = Unit
-IsOfLine (Ping target) = Unit
-IsOfLine (Trace target) = Unit
+IsOfLine (LanFrame bytes) = ⊥
+IsOfLine (Line line) = Unit
 
 -- a mesh that is reached, with the clock
 pub data IsReached (setup : Setup) : ℕ → Mesh → Type 0 where

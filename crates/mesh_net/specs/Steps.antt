@@ -20,19 +20,19 @@ use Rattle.mesh_laws.specs.Soundness.{rank}
 use Rattle.mesh_model.specs.Net.Sending.{Attempt}
 use Rattle.mesh_model.specs.Routes.Queries.{Queries}
 use Rattle.mesh_model.specs.Routes.RouteLog.{RouteLog, MayTick}
-use Rattle.mesh_node.specs.declared.failure.NodeErr.{NodeErr}
-use Rattle.mesh_node.specs.declared.failure.NodeErr.TheVariants as node_errors
+use Rattle.node_ground.specs.declared.failure.NodeErr.{NodeErr}
+use Rattle.node_ground.specs.declared.failure.NodeErr.TheVariants as node_errors
 use Rattle.mesh_node.specs.declared.input.Input.{Input}
 use Rattle.mesh_node.specs.declared.input.Input.TheVariants.{Tick, Link, Frame, Gone, Join, Leave, Wifi, Ping, Trace}
-use Rattle.mesh_node.specs.OwnStands.{newest_moment}
+use Rattle.node_ground.specs.OwnStands.{newest_moment}
 use Rattle.mesh_net.specs.declared.failure.NetErr.{NetErr}
 use Rattle.mesh_net.specs.declared.failure.NetErr.TheVariants as net_errors
 use Rattle.mesh_net.specs.declared.net.Net.{Net}
-use Rattle.mesh_net.specs.declared.post.Post.{Post}
-use Rattle.mesh_net.specs.declared.row.Sending.{Sending}
+use Rattle.mesh_post.specs.declared.post.Post.{Post}
+use Rattle.mesh_post.specs.declared.row.Sending.{Sending}
 use Rattle.mesh_net.specs.declared.seat.Seat.{Seat}
 use Rattle.mesh_net.specs.NetStands.{SeatsStand, NetStands}
-use Rattle.mesh_net.specs.Sent.{InStep, Logged}
+use Rattle.mesh_post.specs.Sent.{InStep, Logged}
 use Rattle.mesh_net.specs.Tells.{Ran, StepTells}
 
 -- ---- one node

@@ -24,7 +24,7 @@ use Rattle.mesh_net.specs.declared.failure.NetErr.{NetErr}
 use Rattle.mesh_net.specs.declared.failure.NetErr.TheVariants.{Limit, Dead, Memory}
 use Rattle.mesh_net.specs.declared.net.Net.{Net}
 use Rattle.mesh_net.specs.NetStands.{NetStands}
-use Rattle.mesh_net.specs.Reached.{with_node, with_link}
+use Rattle.mesh_post.specs.Joining.{with_node, with_link}
 
 -- a log that gained the events that a mesh has and an earlier one hadn't, as far as the choice
 -- shows them

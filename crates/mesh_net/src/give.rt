@@ -4,20 +4,27 @@ ghost use Rattle.mesh_model.specs.Net.Inputs.{given_to};
 ghost use Rattle.mesh_model.specs.Net.Limits.{scenario_setup, clock_limit};
 ghost use Rattle.mesh_model.specs.Net.Mesh.{NodeLog, Mesh};
 ghost use Rattle.mesh_node.specs.NodeStands.{NodeStands, MayTake, given_by, is_dead};
-ghost use Rattle.mesh_node.specs.OwnStands.{newest_moment};
-ghost use Rattle.mesh_net.specs.declared.row.Sending.{Sending};
+ghost use Rattle.node_ground.specs.OwnStands.{newest_moment};
+ghost use Rattle.mesh_post.specs.declared.row.Sending.{Sending};
 ghost use Rattle.mesh_net.specs.declared.seat.Seat.{Seat};
 ghost use Rattle.mesh_net.specs.Given.{HasGiven, GiveTells};
-ghost use Rattle.mesh_net.specs.Sent.{Grew, InStep, MaySend};
+ghost use Rattle.mesh_post.specs.Sent.{Grew, InStep, MaySend};
 ghost use Rattle.mesh_net.specs.Steps.{Stage, Tried, CountsOn, ticks_with};
 
-use crate::port::NetPort;
-use crate::post::Post;
-use crate::row::{Occasion, Sender};
 use crate::seat::Seat;
 use mesh_algo::Algo;
-use mesh_base::Events;
+use mesh_base::{Events, Millis};
 use mesh_node::{Input, Node, NodeErr};
+use mesh_post::{NetPort, Post, Sender};
+
+/// When the node at a place acts.
+#[derive(Clone, Copy, Debug)]
+pub struct Occasion {
+    pub(crate) place: u32,
+    pub(crate) now: Millis,
+    /// What its frames hand on.
+    pub(crate) root: u64,
+}
 
 // Gives a node something: its acts are carried out.
 pub(crate) fn give<A: Algo>(
@@ -98,9 +105,9 @@ fn ticks_with(ticks: u64, input: &Input<'_>) -> u64
         Input::Tick { index } => index,
         Input::Link { .. }
         | Input::Frame { .. }
-        | Input::Gone(_)
-        | Input::Join(_)
-        | Input::Leave(_)
+        | Input::Gone { .. }
+        | Input::Join { .. }
+        | Input::Leave { .. }
         | Input::Wifi(_)
         | Input::Ping { .. }
         | Input::Trace { .. } => ticks,

@@ -1,23 +1,19 @@
-//! The net: nodes, links between them, and all frames that were ever sent. Happenings are carried
-//! out one after another, each exactly in its order.
+//! The net: nodes and links between them. Happenings are carried out one after another, each exactly
+//! in its order.
 
 #![tactic(auto)]
 
 mod failure;
 mod give;
+mod joins;
 mod link;
 mod net;
-mod port;
-mod post;
-mod queue;
-mod row;
+mod runs;
 mod seat;
-mod shown;
+mod steps;
 
 pub use failure::NetErr;
 pub use link::Link;
 pub use mesh_node::{Input, Node};
-pub use net::{CLOCK_LIMIT, Net};
-
-#[cfg(test)]
-mod tests;
+pub use net::Net;
+pub use runs::CLOCK_LIMIT;

@@ -9,18 +9,18 @@ use Rattle.mesh_model.specs.Knowledge.Steps.{Coming, after_packet, after_packets
 use Rattle.mesh_model.specs.Packets.FirstPacket.{Packet}
 use Rattle.mesh_model.specs.Routes.Queries.{Queries}
 use Rattle.mesh_model.specs.Routes.RouteLog.{RouteLog}
-use Rattle.mesh_node.specs.declared.arrival.Arrival.{Arrival}
-use Rattle.mesh_node.specs.declared.failure.NodeErr.{NodeErr}
-use Rattle.mesh_node.specs.declared.kept.Kept.{Kept}
-use Rattle.mesh_node.specs.KnowledgeStands.{KnowledgeStands, coming}
-use Rattle.mesh_node.specs.OwnStands.{OwnStands}
-use Rattle.mesh_node.specs.Puts.{Puts}
-use Rattle.mesh_node.proofs.PutsLemmas.{puts_behind, stops_among}
+use Rattle.node_ground.specs.declared.coming.Coming as arrived
+use Rattle.node_ground.specs.declared.failure.NodeErr.{NodeErr}
+use Rattle.node_ground.specs.declared.knowledge.NodeKnowledge.{NodeKnowledge}
+use Rattle.node_ground.specs.KnowledgeStands.{KnowledgeStands, coming}
+use Rattle.node_ground.specs.OwnStands.{OwnStands}
+use Rattle.node_ground.specs.Puts.{Puts}
+use Rattle.node_ground.proofs.PutsLemmas.{puts_behind, stops_among}
 use Rattle.tt_local.specs.Locals.{LocalsView}
 
 module _ {A P : Type 0} (stands : A → Mac → RouteLog → Type 0) (queries : Mac → Queries)
     (takes : P → Act → P → Type 0) (same : P → P → Type 0) (over : P → Act → Option LimitName)
-    (locals : LocalsView) (me : Mac) (came : Arrival) where
+    (locals : LocalsView) (me : Mac) (came : arrived.Coming) where
   -- what the rest leaves is what the whole leaves, by what is known before the whole and before the rest
   pub record IsBetween (way : Coming) (whole rest : List Packet) (begin here : Knowledge) (old mid : P) : Type 0 where
     pub heard : after_packets (queries me) me way here rest ≡ after_packets (queries me) me way begin whole
@@ -29,18 +29,18 @@ module _ {A P : Type 0} (stands : A → Mac → RouteLog → Type 0) (queries : 
         → Puts takes same over old (packets_acts (queries me) me own way begin whole) result new
 
   -- what is kept and a port behind the packets before the rest
-  pub record IsUnderway (whole rest : List Packet) (first kept : Kept A) (old mid : P) : Type 0 where
+  pub record IsUnderway (whole rest : List Packet) (first kept : NodeKnowledge A) (old mid : P) : Type 0 where
     pub each : (known : Knowledge) (number : ℕ) → KnowledgeStands stands first me known
         → (here : Knowledge) × KnowledgeStands stands kept me here × IsBetween (coming came number) whole rest known here old mid
 
   -- before the first
-  pub begins : (whole : List Packet) (kept : Kept A) (port : P) → IsUnderway whole whole kept kept port port
+  pub begins : (whole : List Packet) (kept : NodeKnowledge A) (port : P) → IsUnderway whole whole kept kept port port
   begins whole kept port = record {
     each = λ known number is. (known, is, record { heard = refl; puts = λ own owns result new puts. puts });
   }
 
   -- behind one more
-  pub goes_on : (whole rest : List Packet) (packet : Packet) (first kept next : Kept A) (old mid new : P) → IsUnderway whole (packet ∷ rest) first kept old mid
+  pub goes_on : (whole rest : List Packet) (packet : Packet) (first kept next : NodeKnowledge A) (old mid new : P) → IsUnderway whole (packet ∷ rest) first kept old mid
       → ((known : Knowledge) (number : ℕ) → KnowledgeStands stands kept me known → KnowledgeStands stands next me (after_packet (queries me) me (coming came number) known packet))
       → ((known : Knowledge) (own : Own) (number : ℕ) → KnowledgeStands stands kept me known → OwnStands locals own came.now
       → Puts takes same over mid (packet_acts (queries me) me own (coming came number) known packet) (Ok tt) new)
@@ -62,7 +62,7 @@ module _ {A P : Type 0} (stands : A → Mac → RouteLog → Type 0) (queries : 
   }
 
   -- it stops at one
-  pub stops : (whole rest : List Packet) (packet : Packet) (first kept : Kept A) (old mid new : P) (error : NodeErr)
+  pub stops : (whole rest : List Packet) (packet : Packet) (first kept : NodeKnowledge A) (old mid new : P) (error : NodeErr)
       → IsUnderway whole (packet ∷ rest) first kept old mid
       → ((known : Knowledge) (own : Own) (number : ℕ) → KnowledgeStands stands kept me known → OwnStands locals own came.now
       → Puts takes same over mid (packet_acts (queries me) me own (coming came number) known packet) (Err error) new)
@@ -75,14 +75,14 @@ module _ {A P : Type 0} (stands : A → Mac → RouteLog → Type 0) (queries : 
       (packets_acts (queries me) me own (coming came number) (after_packet (queries me) me (coming came number) at.0 packet) rest) (put at.0 own number at.1 owns))
 
   -- behind the last
-  pub ends_noted : (whole : List Packet) (first kept : Kept A) (old mid : P) → IsUnderway whole [] first kept old mid
+  pub ends_noted : (whole : List Packet) (first kept : NodeKnowledge A) (old mid : P) → IsUnderway whole [] first kept old mid
       → (known : Knowledge) (number : ℕ) → KnowledgeStands stands first me known
       → KnowledgeStands stands kept me (after_packets (queries me) me (coming came number) known whole)
   ends_noted whole first kept old mid way known number is =
       let at = way.each known number is in
       subst (λ here. KnowledgeStands stands kept me here) at.2.heard at.1
 
-  pub ends_put : (whole : List Packet) (first kept : Kept A) (old mid : P) → IsUnderway whole [] first kept old mid
+  pub ends_put : (whole : List Packet) (first kept : NodeKnowledge A) (old mid : P) → IsUnderway whole [] first kept old mid
       → (known : Knowledge) (own : Own) (number : ℕ) → KnowledgeStands stands first me known → OwnStands locals own came.now
       → Puts takes same over old (packets_acts (queries me) me own (coming came number) known whole) (Ok tt) mid
   unfolding packets_acts

@@ -1,13 +1,2 @@
--- The words of the contracts, in reading order.
-pub mod Errors
-pub mod Puts
-pub mod BroadcastsStand
-pub mod KnowledgeStands
-pub mod OwnStands
-pub mod Ways
-pub mod Icmp
-pub mod FrameRows
+-- The words of the contracts.
 pub mod NodeStands
-pub mod Sending
-pub mod Reading
-pub mod Tables

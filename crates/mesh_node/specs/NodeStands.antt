@@ -1,18 +1,18 @@
 -- What a node stands for: the log of the node of an address. What it keeps of the others stands for
 -- what it knows by that log, its local clients for the mentions and the commits there, and it has
 -- refused nothing. `stands` is the algorithm's own word. The main word is `NodeStands`.
-use Rattle.std.specs.Prelude.{◌≡◌, ◌≤◌, ℕ, Bool, true, false, ◌∷◌, ⊤}
+use Rattle.std.specs.Prelude.{◌≡◌, ◌≤◌, ℕ, Bool, true, false, ⊤}
 use Rattle.mesh_base.specs.declared.address.Mac.{Mac}
-use Rattle.mesh_model.specs.Acts.Choosing.{acts_of}
 use Rattle.mesh_model.specs.Clients.Log.{Given, Log}
 use Rattle.mesh_model.specs.Clients.Log as log
+use Rattle.mesh_model.specs.Clients.Settings as settings
 use Rattle.mesh_model.specs.Clients.Mentions.{is_wifi_on}
 use Rattle.mesh_model.specs.Knowledge.Known.{Knowledge}
 use Rattle.mesh_model.specs.Knowledge.Steps.{knowledge}
 use Rattle.mesh_model.specs.Routes.Queries.{Queries}
 use Rattle.mesh_model.specs.Routes.RouteLog.{RouteLog, MayTick}
-use Rattle.mesh_node.specs.KnowledgeStands.{KnowledgeStands}
-use Rattle.mesh_node.specs.OwnStands.{HasClients, newest_moment}
+use Rattle.node_ground.specs.KnowledgeStands.{KnowledgeStands}
+use Rattle.node_ground.specs.OwnStands.{HasClients, newest_moment}
 use Rattle.mesh_node.specs.declared.input.Input.{Input}
 use Rattle.mesh_node.specs.declared.input.Input.TheVariants.{Tick, Link, Frame, Gone, Join, Leave, Wifi, Ping, Trace}
 use Rattle.mesh_node.specs.declared.node.Node.{Node}
@@ -30,23 +30,18 @@ pub record NodeStands {A : Type 0} (stands : A → Mac → RouteLog → Type 0)
 abbrev pub given_by : ℕ → Input → Given
 given_by number (Tick index) = log.Tick index
 given_by number (Link from tp bytes) = log.LinkFrame number from tp bytes.now
-given_by number (Frame src dst vid text) = log.Frame src dst vid text.now
-given_by number (Gone key) = log.Gone key
-given_by number (Join key) = log.Join key
-given_by number (Leave key) = log.Leave key
-given_by number (Wifi on) = log.Wifi on
-given_by number (Ping target) = log.Ping target
-given_by number (Trace target) = log.Trace target
+given_by number (Frame src dst vid text) = log.Line (log.Frame src dst vid text.now)
+given_by number (Gone key) = log.Line (log.Gone key)
+given_by number (Join key) = log.Line (log.Join key)
+given_by number (Leave key) = log.Line (log.Leave key)
+given_by number (Wifi on) = log.Line (log.Sets (settings.Wifi on))
+given_by number (Ping target) = log.Line (log.Ping target)
+given_by number (Trace target) = log.Line (log.Trace target)
 
 -- a ping or, for `trace`, a traceroute begins
 abbrev pub given_session : Mac → Bool → Given
-given_session target true = log.Trace target
-given_session target false = log.Ping target
-
--- a log with one more input, and the acts that the node then puts
-abbrev pub with_input : Queries → Mac → Log → ℕ → Given → Log
-with_input q me log now given =
-    record { moment = now; given = given; acts = acts_of q me log now given } ∷ log
+given_session target true = log.Line (log.Trace target)
+given_session target false = log.Line (log.Ping target)
 
 -- whether a node refused something before
 abbrev pub is_dead : {A : Type 0} → Node A → Bool

@@ -21,11 +21,17 @@ pub enum Input<'a> {
         text: &'a [u8],
     },
     /// A client departs from this node.
-    Gone(Key),
+    Gone {
+        key: Key,
+    },
     /// A client of this node joins a group.
-    Join(Key),
+    Join {
+        key: Key,
+    },
     /// The last client of this node that was in a group leaves it.
-    Leave(Key),
+    Leave {
+        key: Key,
+    },
     /// Whether the clients that are sighted from now on are on a wireless device.
     Wifi(bool),
     /// A ping of this node to another one begins.

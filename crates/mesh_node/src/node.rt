@@ -4,18 +4,17 @@ ghost use Rattle.mesh_model.specs.Acts.Choosing.{acts_of};
 ghost use Rattle.mesh_model.specs.Clients.Limits.{passed_limit};
 ghost use Rattle.mesh_model.specs.Clients.Log.{Given, Log};
 ghost use Rattle.mesh_model.specs.Knowledge.Steps.{knowledge};
-ghost use Rattle.mesh_node.specs.NodeStands.{NodeStands, MayTake, given_by, is_dead, with_input};
-ghost use Rattle.mesh_node.specs.OwnStands.{HasClients, newest_moment};
-ghost use Rattle.mesh_node.specs.Puts.{Leaves};
+ghost use Rattle.mesh_node.specs.NodeStands.{NodeStands, MayTake, given_by, is_dead};
+ghost use Rattle.node_ground.specs.OwnStands.{with_input};
+ghost use Rattle.node_ground.specs.OwnStands.{HasClients, newest_moment};
+ghost use Rattle.node_ground.specs.Puts.{Leaves};
 ghost use Rattle.tt_global.specs.Globals.{GlobalsStand};
 ghost use Rattle.tt_sync.specs.Sync.{StandsFor};
 
-use crate::failure::NodeErr;
 use crate::input::Input;
-use crate::kept::Kept;
-use crate::port::Port;
 use mesh_algo::Algo;
 use mesh_base::{Mac, Millis};
+use node_ground::{NodeErr, NodeKnowledge, Port};
 use std::alloc::Global;
 use tt_global::Globals;
 use tt_local::Locals;
@@ -26,7 +25,7 @@ use tt_sync::Sync;
 pub struct Node<A: Algo> {
     pub(crate) me: Mac,
     pub(crate) locals: Locals,
-    pub(crate) kept: Kept<A>,
+    pub(crate) kept: NodeKnowledge<A>,
     pub(crate) wifi: bool,
     pub(crate) dead: bool,
 }
@@ -40,7 +39,7 @@ impl<A: Algo> Node<A> {
         Node {
             me,
             locals: Locals::new(alloc),
-            kept: Kept::new(alloc, algo),
+            kept: NodeKnowledge::new(alloc, algo),
             wifi: false,
             dead: false,
         }

@@ -7,33 +7,30 @@ ghost use Rattle.mesh_model.specs.Knowledge.Known.{Knowledge};
 ghost use Rattle.mesh_model.specs.Knowledge.Steps.{after_packet, after_packets};
 ghost use Rattle.mesh_model.specs.Packets.Layout.{HasSpelling};
 ghost use Rattle.mesh_model.specs.Packets.LinkFrame.{link_frame};
-ghost use Rattle.mesh_node.specs.KnowledgeStands.{KnowledgeStands, coming};
-ghost use Rattle.mesh_node.specs.OwnStands.{OwnStands};
-ghost use Rattle.mesh_node.specs.Puts.{Puts};
+ghost use Rattle.node_ground.specs.KnowledgeStands.{KnowledgeStands, coming};
+ghost use Rattle.node_ground.specs.OwnStands.{OwnStands};
+ghost use Rattle.node_ground.specs.Puts.{Puts};
 
-use crate::arrival::{Arrival, Place};
-use crate::carried::{broadcast, here, passed};
-use crate::containers::containers_here;
-use crate::echoes::icmp;
-use crate::failure::NodeErr;
-use crate::icmp_message::IcmpMessage;
-use crate::kept::Kept;
-use crate::ogms::ogm;
-use crate::on_the_way::containers_past;
-use crate::port::Port;
 use mesh_algo::Algo;
 use mesh_base::Mac;
 use mesh_codec::{Head, LinkFrame, Packet};
+use node_clients::carried::{broadcast, here, passed};
+use node_ground::{Coming, NodeErr, NodeKnowledge, Place, Port};
+use node_probes::echoes::icmp;
+use node_probes::icmp_message::IcmpMessage;
+use node_tables::containers::containers_here;
+use node_tables::ogms::ogm;
+use node_tables::on_the_way::containers_past;
 use tt_local::Locals;
 
 /// A packet of a link frame.
 #[tactic(auto, unfolding(mesh_model::specs::Acts::Rows::packet_acts))]
 fn packet<A: Algo, P: Port>(
-    kept: &mut Kept<A>,
+    kept: &mut NodeKnowledge<A>,
     port: &mut P,
     locals: &Locals,
     me: Mac,
-    came: Arrival,
+    came: Coming,
     packet: &Packet<'_>,
 ) -> Result<(), NodeErr>
     requires stands { (known : Knowledge) × KnowledgeStands A.stands kept.old me known }
@@ -87,11 +84,11 @@ fn packet<A: Algo, P: Port>(
 
 /// A link frame.
 pub(crate) fn link<A: Algo, P: Port>(
-    kept: &mut Kept<A>,
+    kept: &mut NodeKnowledge<A>,
     port: &mut P,
     locals: &Locals,
     me: Mac,
-    came: Arrival,
+    came: Coming,
     bytes: &[u8],
 ) -> Result<(), NodeErr>
     requires stands { (known : Knowledge) × KnowledgeStands A.stands kept.old me known }

@@ -7,28 +7,28 @@ ghost use Rattle.mesh_model.specs.Acts.Choosing.{acts_of, probing_acts};
 ghost use Rattle.mesh_model.specs.Clients.Limits.{passed_limit};
 ghost use Rattle.mesh_model.specs.Clients.Log.{Given, Log};
 ghost use Rattle.mesh_model.specs.Clients.Log as given;
+ghost use Rattle.mesh_model.specs.Clients.Settings as settings;
 ghost use Rattle.mesh_model.specs.Knowledge.Steps.{knowledge};
 ghost use Rattle.mesh_model.specs.Packets.Numbers.{wifi_flag};
 ghost use Rattle.mesh_model.specs.Routes.RouteLog.{MayTick};
-ghost use Rattle.mesh_node.specs.FrameRows.{given_frame};
-ghost use Rattle.mesh_node.specs.NodeStands.{NodeStands, MayTake, given_by, given_session, is_dead, with_input};
-ghost use Rattle.mesh_node.specs.OwnStands.{newest_moment};
-ghost use Rattle.mesh_node.specs.Puts.{Answers, Leaves, Puts};
+ghost use Rattle.node_clients.specs.FrameRows.{given_frame};
+ghost use Rattle.mesh_node.specs.NodeStands.{NodeStands, MayTake, given_by, given_session, is_dead};
+ghost use Rattle.node_ground.specs.OwnStands.{with_input};
+ghost use Rattle.node_ground.specs.OwnStands.{newest_moment};
+ghost use Rattle.node_ground.specs.Puts.{Answers, Leaves, Puts};
 
-use crate::arrival::{Arrival, Place};
-use crate::client_frames::frame;
-use crate::failure::NodeErr;
 use crate::input::Input;
 use crate::node::Node;
-use crate::port::Port;
-use crate::probes::session;
-use crate::roaming::note_roamed;
 use crate::rows::link;
-use crate::ticks::tick;
 use mesh_algo::Algo;
 use mesh_base::{Key, Mac, Millis};
 use mesh_codec::ClientFrame;
 use mesh_tvlv::layout::WIFI;
+use node_clients::client_frames::frame;
+use node_clients::roaming::note_roamed;
+use node_ground::{Coming, NodeErr, Place, Port};
+use node_probes::probes::session;
+use node_tables::ticks::tick;
 
 impl<A: Algo> Node<A> {
     /// Takes what it is given, while it refused nothing: the row of the input.
@@ -53,7 +53,7 @@ impl<A: Algo> Node<A> {
         match *input {
             Input::Tick { index } => self.take_tick(port, now, index)?,
             Input::Link { from, tp, bytes } => {
-                self.take_link(port, Arrival { now, from, tp }, bytes)?;
+                self.take_link(port, Coming { now, from, tp }, bytes)?;
             }
             Input::Frame {
                 src,
@@ -69,9 +69,9 @@ impl<A: Algo> Node<A> {
                 };
                 self.take_frame(port, now, &frame)?;
             }
-            Input::Gone(key) => self.lose_client(now, key),
-            Input::Join(key) => self.join_group(now, key)?,
-            Input::Leave(key) => self.leave_group(now, key),
+            Input::Gone { key } => self.lose_client(now, key),
+            Input::Join { key } => self.join_group(now, key)?,
+            Input::Leave { key } => self.leave_group(now, key),
             Input::Wifi(on) => self.set_wifi(now, on),
             Input::Ping { target } => self.take_session(port, now, target, false)?,
             Input::Trace { target } => self.take_session(port, now, target, true)?,
@@ -103,7 +103,7 @@ impl<A: Algo> Node<A> {
     fn take_link<P: Port>(
         &mut self,
         port: &mut P,
-        came: Arrival,
+        came: Coming,
         bytes: &[u8],
     ) -> Result<(), NodeErr>
         requires { (me : Mac) × (log : Log) × NodeStands A.stands A.queries self.old me log
@@ -178,7 +178,7 @@ impl<A: Algo> Node<A> {
         ensures noted { (me : Mac) (log : Log) → NodeStands A.stands A.queries self.old me log →
             newest_moment log ≤ now →
             NodeStands A.stands A.queries self.new me
-            (with_input (A.queries me) me log now (given.Gone key)) }
+            (with_input (A.queries me) me log now (given.Line (given.Gone key))) }
         ensures alive { is_dead self.new ≡ is_dead self.old }
     {
         self.locals.gone(key);
@@ -187,11 +187,11 @@ impl<A: Algo> Node<A> {
     // Notes that a client joined a group.
     fn join_group(&mut self, now: Millis, key: Key) -> Result<(), NodeErr>
         ensures answers { (me : Mac) (log : Log) → NodeStands A.stands A.queries self.old me log →
-            newest_moment log ≤ now → Answers (passed_limit me log now (given.Join key)) result }
+            newest_moment log ≤ now → Answers (passed_limit me log now (given.Line (given.Join key))) result }
         ensures noted { (me : Mac) (log : Log) → NodeStands A.stands A.queries self.old me log →
             newest_moment log ≤ now →
             OnOk result (NodeStands A.stands A.queries self.new me
-            (with_input (A.queries me) me log now (given.Join key))) }
+            (with_input (A.queries me) me log now (given.Line (given.Join key)))) }
         ensures alive { is_dead self.new ≡ is_dead self.old }
     {
         self.locals.join(now, key)?;
@@ -203,7 +203,7 @@ impl<A: Algo> Node<A> {
         ensures noted { (me : Mac) (log : Log) → NodeStands A.stands A.queries self.old me log →
             newest_moment log ≤ now →
             NodeStands A.stands A.queries self.new me
-            (with_input (A.queries me) me log now (given.Leave key)) }
+            (with_input (A.queries me) me log now (given.Line (given.Leave key))) }
         ensures alive { is_dead self.new ≡ is_dead self.old }
     {
         self.locals.leave(key);
@@ -214,7 +214,7 @@ impl<A: Algo> Node<A> {
         ensures noted { (me : Mac) (log : Log) → NodeStands A.stands A.queries self.old me log →
             newest_moment log ≤ now →
             NodeStands A.stands A.queries self.new me
-            (with_input (A.queries me) me log now (given.Wifi on)) }
+            (with_input (A.queries me) me log now (given.Line (given.Sets (settings.Wifi on)))) }
         ensures alive { is_dead self.new ≡ is_dead self.old }
     {
         self.wifi = on;

@@ -5,7 +5,7 @@ use Rattle.std.specs.Option.{option_map_or}
 use Rattle.mesh_base.specs.declared.address.Mac.{Mac}
 use Rattle.mesh_model.specs.declared.ending.Stop.{Stop}
 use Rattle.mesh_model.specs.declared.frame_choice.FrameChoice.{FrameChoice}
-use Rattle.mesh_model.specs.Clients.Log.{Given, Tick, LinkFrame, Frame, Gone, Join, Leave, Arp, Dhcp, Wifi, Ping, Trace, Log}
+use Rattle.mesh_model.specs.Clients.Log.{Given, Tick, LinkFrame, LanFrame, Line, Log}
 use Rattle.mesh_model.specs.Net.Mesh.{Setup}
 use Rattle.mesh_model.specs.Run.State.{State, first_state, node_named, text_of}
 use Rattle.mesh_model.specs.Run.Outcome.{Outcome, Goes, Ends, reached}
@@ -80,15 +80,8 @@ abbrev pub taken_by : ℕ → Given → List Taken
 taken_by moment (Tick index) = []
 taken_by moment (LinkFrame number from throughput bytes) =
     record { moment = moment; number = number; from = from; throughput = throughput } ∷ []
-taken_by moment (Frame src dst vid text) = []
-taken_by moment (Gone key) = []
-taken_by moment (Join key) = []
-taken_by moment (Leave key) = []
-taken_by moment (Arp mac own_ip asked_ip vid) = []
-taken_by moment (Dhcp key text) = []
-taken_by moment (Wifi on) = []
-taken_by moment (Ping target) = []
-taken_by moment (Trace target) = []
+taken_by moment (LanFrame bytes) = []
+taken_by moment (Line line) = []
 
 -- the link frames in a log, newest first
 abbrev pub taken : Log → List Taken

@@ -1,7 +1,7 @@
 //! What calls leave of the probes that wait for an answer, computed from the definitions alone.
 
 ghost use Rattle.std.specs.Prelude.{◌≡◌, true, false, [], ◌∷◌};
-ghost use Rattle.mesh_model.specs.Probes.OpenProbes.{Started, Answered, Closed, first_probe, is_followed, next_number, told, probes_by, no_probes};
+ghost use Rattle.mesh_model.specs.Probes.OpenProbes.{Started, Answered, Closed, first_probe, leads_on, next_number, told, probes_by, no_probes};
 ghost use Rattle.mesh_model.specs.declared.probe.Told.TheVariants.{Unknown, Done, Next};
 ghost use Rattle.mesh_rows.specs.CallRows.{node, hop_50};
 
@@ -27,7 +27,7 @@ pub fn a_traceroute_goes_on()
 
 /// After hop 50 no further one follows.
 pub fn a_traceroute_ends_at_hop_50()
-    ensures { is_followed 11 hop_50 ≡ false }
+    ensures { leads_on 11 hop_50 ≡ false }
 {}
 
 /// The 65,536th probe has the number 0, and the one after it the number 1.

@@ -5,7 +5,7 @@ ghost use Rattle.mesh_model.specs.Routes.AlgorithmIv.{iv_queries};
 ghost use Rattle.mesh_model.specs.Routes.Hearings.{heard};
 ghost use Rattle.mesh_model.specs.Routes.Numbers.{window};
 ghost use Rattle.mesh_model.specs.Routes.Quality.{asymmetry, echo_quality, link_quality, receive_quality, transmit_quality};
-ghost use Rattle.mesh_model.specs.Text.Tables.{link_line, link_table_text, orig_line, orig_table_text};
+ghost use Rattle.mesh_model.specs.Text.Tables.{neighbor_line, link_table_text, orig_line, orig_table_text};
 ghost use Rattle.mesh_model.specs.declared.packet.Head.TheVariants.{IvOgm};
 ghost use Rattle.mesh_model.specs.declared.route.LinkRow.TheVariants.{Iv, V as VLink};
 ghost use Rattle.mesh_rows.specs.RouteRows.{mac_a, mac_b, ogm_of_b, log_before_1, log_with_1, log_before_2, log_with_2, log_of_a, heard_by_a, originators_of_a, neighbours_of_a};
@@ -28,18 +28,18 @@ pub fn a_link_with_an_echo_has_a_value()
 {}
 
 /// An OGM from its originator is sent on with DIRECTLINK, and with NOT_BEST_NEXT_HOP where there is
-/// no route to it.
+/// no route to it. A life begins with the first.
 pub fn direct_ogms_are_sent_on()
     ensures first { (iv_queries mac_a).hear log_before_1 1001 mac_b 1000 (ogm_of_b 1)
-        ≡ record { accepted = true; forward = Some (IvOgm 49 5 1 mac_b mac_b 0) } }
+        ≡ record { accepted = true; began = true; forward = Some (IvOgm 49 5 1 mac_b mac_b 0) } }
     ensures second { (iv_queries mac_a).hear log_before_2 2001 mac_b 1000 (ogm_of_b 2)
-        ≡ record { accepted = true; forward = Some (IvOgm 49 4 2 mac_b mac_b 9) } }
+        ≡ record { accepted = true; began = false; forward = Some (IvOgm 49 4 2 mac_b mac_b 9) } }
 {}
 
 /// A repeated OGM is neither accepted nor sent on.
 pub fn a_repeated_ogm_does_nothing()
     ensures { (iv_queries mac_a).hear log_with_2 2002 mac_b 1000 (ogm_of_b 2)
-        ≡ record { accepted = false; forward = None } }
+        ≡ record { accepted = false; began = false; forward = None } }
 {}
 
 /// The tables of originators and neighbours have B.
@@ -63,7 +63,7 @@ pub fn both_tables_are_printed()
       next = None;
       metric = 0;
     }) ≡ lines (codes "o 02:00:00:00:00:0b seq=7 seen=0 next=- metric=0" ∷ []) }
-    ensures throughput { link_line (VLink mac_b 50 499)
+    ensures throughput { neighbor_line (VLink mac_b 50 499)
         ≡ lines (codes "n 02:00:00:00:00:0b tp=50 seen=499" ∷ []) }
 {}
 

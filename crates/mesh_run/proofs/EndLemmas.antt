@@ -18,12 +18,12 @@ use Rattle.mesh_run.specs.Inner.Progress.{FailsIn, HaltsFrom, Stands}
 use Rattle.mesh_run.specs.Outcome.{AppendsLess, Finishes}
 use Rattle.mesh_laws.proofs.CutLemmas.{IsCut-more, lines_of-cut_end, open_line}
 use Rattle.mesh_laws.proofs.HaltLemmas.{after_line-going, halts_after}
-use Rattle.mesh_laws.proofs.UnfinishedLemmas.{output-after_outcome, cut-length, halts_input, halts_long, line_outcome-last}
+use Rattle.mesh_run.proofs.UnfinishedLemmas.{output-after_outcome, cut-length, halts_input, halts_long, line_outcome-last}
 use Rattle.mesh_laws.proofs.RunLemmas.{after_lines-append}
 use Rattle.mesh_run.specs.declared.fault.Fault.{Fault}
 use Rattle.mesh_run.specs.declared.fault.Fault.TheVariants.{Halted, Read, Write, Memory}
 use Rattle.mesh_run.specs.declared.runner.Runner.{Runner}
-use Rattle.mesh_run.specs.declared.scene.Scene.{Scene}
+use Rattle.mesh_scene.specs.declared.scene.Scene.{Scene}
 use Rattle.mesh_run.proofs.ProgressLemmas.{HaltsFrom-after}
 
 -- ---- the byte past the limit of the input

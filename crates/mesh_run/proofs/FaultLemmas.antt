@@ -14,17 +14,18 @@ use Rattle.mesh_model.specs.Run.PlainRun.{after_lines, after_reading, line_outco
 use Rattle.mesh_model.specs.Run.State.{State, text_of}
 use Rattle.mesh_run.specs.Inner.Faults.{fault_at}
 use Rattle.mesh_run.specs.Inner.Lines.{BlamesWrite, CarryFails}
-use Rattle.mesh_run.specs.Inner.Scene.{HasLineCause, HasReadingCause}
+use Rattle.mesh_scene.specs.CarriesOut.{HasLineCause}
+use Rattle.mesh_run.specs.Inner.Faults.{HasReadingCause}
 use Rattle.mesh_run.specs.Inner.Progress.{Fails, HaltsFrom, Stands}
 use Rattle.mesh_laws.proofs.CutLemmas.{IsCut-newline}
 use Rattle.mesh_laws.proofs.HaltLemmas.{plain_run-cut}
-use Rattle.mesh_laws.proofs.UnfinishedLemmas.{after_lines-newline, output-after_outcome, cut-length, halts_newline, line_outcome-newline}
+use Rattle.mesh_run.proofs.UnfinishedLemmas.{after_lines-newline, output-after_outcome, cut-length, halts_newline, line_outcome-newline}
 use Rattle.mesh_laws.proofs.RunLemmas.{PrintsOn, after_lines-grows, after_reading-prints}
 use Rattle.mesh_run.specs.declared.fault.Fault.{Fault}
 use Rattle.mesh_run.specs.declared.fault.Fault.TheVariants.{Halted, Read, Write, Memory}
-use Rattle.mesh_run.specs.declared.fault.LineFault.{LineFault}
-use Rattle.mesh_run.specs.declared.fault.LineFault.TheVariants.{Stopped}
-use Rattle.mesh_run.specs.declared.fault.LineFault.TheVariants as line_fault
+use Rattle.mesh_scene.specs.declared.fault.LineFault.{LineFault}
+use Rattle.mesh_scene.specs.declared.fault.LineFault.TheVariants.{Stopped}
+use Rattle.mesh_scene.specs.declared.fault.LineFault.TheVariants as line_fault
 use Rattle.mesh_run.specs.declared.runner.Runner.{Runner}
 use Rattle.mesh_run.proofs.FrontLemmas.{front-before, front-more, less-more}
 use Rattle.mesh_run.proofs.ProgressLemmas.{HaltsFrom-after}

@@ -9,7 +9,8 @@ use Rattle.mesh_model.specs.Run.Generated.{generated_input, generated_run, gener
 use Rattle.mesh_model.specs.Run.PlainRun.{Run, after_lines, output, plain_run, start}
 use Rattle.mesh_model.specs.Scenario.Lines.{newline}
 use Rattle.mesh_model.specs.Text.PacketLines.{line_of}
-use Rattle.mesh_run.specs.Inner.Generation.{HasCounts, HasGeneratedCause, Summarizes, kept_fault}
+use Rattle.mesh_scene.specs.Counts.{HasCounts}
+use Rattle.mesh_run.specs.Inner.Generation.{HasGeneratedCause, Summarizes, kept_fault}
 use Rattle.mesh_run.specs.Inner.Progress.{FailsIn, HaltsFrom, Stands}
 use Rattle.mesh_run.specs.declared.fault.Fault.{Fault}
 use Rattle.mesh_run.specs.declared.fault.Fault.TheVariants.{Halted, Read, Write, Memory}

@@ -1,4 +1,5 @@
 -- What the proofs rest on.
+pub mod UnfinishedLemmas
 pub mod FrontLemmas
 pub mod ProgressLemmas
 pub mod FaultLemmas
@@ -6,14 +7,8 @@ pub mod PieceLemmas
 pub mod EndLemmas
 pub mod ReadLemmas
 pub mod InputLemmas
-pub mod RowLemmas
-pub mod KnownLemmas
-pub mod NetLemmas
-pub mod PlaceLemmas
-pub mod StepLemmas
-pub mod SessionLemmas
-pub mod PassLemmas
+pub mod TimeLemmas
 pub mod SliceLemmas
 pub mod Right
-pub mod CountLemmas
 pub mod GeneratedLemmas
+pub mod RightlyLemmas

@@ -18,12 +18,12 @@ use Rattle.mesh_run.specs.Inner.Progress.{Fails, FailsIn, HaltsFrom, Stands}
 use Rattle.mesh_laws.proofs.CutLemmas.{IsCut-more, IsCut-newline}
 use Rattle.mesh_laws.proofs.HaltLemmas.{HaltsAfter, plain_run-cut}
 use Rattle.mesh_run.proofs.FrontLemmas.{front-appends}
-use Rattle.mesh_laws.proofs.UnfinishedLemmas.{after_lines-newline, cut-length, halts_long, line_outcome-newline}
+use Rattle.mesh_run.proofs.UnfinishedLemmas.{after_lines-newline, cut-length, halts_long, line_outcome-newline}
 use Rattle.mesh_laws.proofs.RunLemmas.{after_lines-grows}
 use Rattle.mesh_run.specs.declared.fault.Fault.{Fault}
 use Rattle.mesh_run.specs.declared.fault.Fault.TheVariants.{Halted, Read, Write, Memory}
 use Rattle.mesh_run.specs.declared.runner.Runner.{Runner}
-use Rattle.mesh_run.specs.declared.scene.Scene.{Scene}
+use Rattle.mesh_scene.specs.declared.scene.Scene.{Scene}
 
 -- a run that halts after these lines, whose text out took
 pub HaltsFrom-after : (choice : FrameChoice) (base now : Option (List ℕ)) (least number : ℕ) (input : List ℕ) (lines : List (List ℕ)) (line : List ℕ) (reached : State) (stop : Stop)

@@ -9,17 +9,17 @@ use Rattle.mesh_model.specs.Run.Passing.{run_until}
 use Rattle.mesh_model.specs.Run.Rules.{iv_setup}
 use Rattle.mesh_model.specs.Run.State.{State, text_of}
 use Rattle.mesh_run.specs.Inner.Lines.{Carried, CarryFails, Sliced, StandsAt}
-use Rattle.mesh_run.specs.Inner.Scene.{Passes}
+use Rattle.mesh_scene.specs.Slices.{Passes}
 use Rattle.mesh_run.specs.Outcome.{AppendsLess}
 use Rattle.mesh_run.specs.declared.fault.Fault.{Fault}
 use Rattle.mesh_run.specs.declared.fault.Fault.TheVariants.{Halted}
-use Rattle.mesh_run.specs.declared.passage.Passage.{Passage}
-use Rattle.mesh_run.specs.declared.passage.Passage.TheVariants.{Going, Ended}
-use Rattle.mesh_run.specs.declared.passage.Passage.TheVariants.{Stopped as StoppedAt}
+use Rattle.mesh_scene.specs.declared.slice.Passage.{Passage}
+use Rattle.mesh_scene.specs.declared.slice.Passage.TheVariants.{Going, Ended}
+use Rattle.mesh_scene.specs.declared.slice.Passage.TheVariants.{Stopped as StoppedAt}
 use Rattle.mesh_laws.proofs.Lines.Printing.{Grows, course_grows}
 use Rattle.mesh_laws.proofs.RunLemmas.{text-grows}
 use Rattle.mesh_run.proofs.FrontLemmas.{appends-after, less-after, less-more}
-use Rattle.mesh_run.specs.declared.scene.Scene.{Scene}
+use Rattle.mesh_scene.specs.declared.scene.Scene.{Scene}
 
 -- a run in its middle: where it stands, and from where it goes on
 pub record MidRun (t : ℕ) (from : State) (base now : Option (List ℕ)) (scene : Scene) : Type 0 where

@@ -1,9 +1,6 @@
 -- Words of the functions behind `batmesh`, from one line to the whole input. No public clause cites
 -- this room.
 pub mod Faults
-pub mod Passages
-pub mod Scene
-pub mod Shown
 pub mod Lines
 pub mod Progress
 pub mod Reading

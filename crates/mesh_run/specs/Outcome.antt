@@ -1,8 +1,9 @@
 -- What a run of the program leaves, by its status: what out took since the call, and what was read
 -- from the intake. The main words are `Finishes`, `IsRefused`, `IsLimited`, `PrintsTaken`,
--- `PrintsLessOf` and `PrintsFrontOf`, each over the choice of frames and
--- the bytes of the input, `PrintsSummary` for lines that are generated, and `TellsStatus`.
-use Rattle.std.specs.Prelude.{◌≡◌, ◌≢◌, ℕ, ◌+◌, ◌<◌, ◌≤◌, ◌⊎◌, List, length, take, Option, Some, None, IfSome, option_and_then}
+-- `PrintsLessOf` and `PrintsFrontOf`, each over the choice of frames and the bytes of the input,
+-- `PrintsSummary` for lines that are generated, `TellsStatus`, and `PrintsRightly`, which holds at
+-- every status.
+use Rattle.std.specs.Prelude.{◌≡◌, ◌≢◌, ℕ, ◌+◌, ◌<◌, ◌≤◌, ◌⊎◌, List, ◌++◌, length, take, Option, Some, None, IfSome, option_and_then}
 use Rattle.std.specs.Io.KnownBytes.{Appends, Consumes, Keeps}
 use Rattle.mesh_base.specs.Writes.{AppendsFront}
 use Rattle.mesh_model.specs.declared.ending.LimitName.{LimitName}
@@ -10,13 +11,15 @@ use Rattle.mesh_model.specs.declared.ending.Refusal.{Refusal}
 use Rattle.mesh_model.specs.declared.ending.Stop.TheVariants.{Refused, Limit}
 use Rattle.mesh_model.specs.declared.frame_choice.FrameChoice.{FrameChoice}
 use Rattle.mesh_model.specs.Scenario.Halt.{Halt}
-use Rattle.mesh_model.specs.Scenario.Lines.{complete_lines}
+use Rattle.mesh_model.specs.Scenario.Lines.{complete_lines, lines_of}
 use Rattle.mesh_model.specs.Text.Messages.{halt_text, memory_text, read_fault_text, usage_text, write_fault_text}
-use Rattle.mesh_model.specs.Run.CommandLine.{Call, Source, FromInput, FromFile, Generated}
+use Rattle.mesh_model.specs.Run.CommandLine.{Invocation, Source, FromInput, FromFile, Generated}
 use Rattle.mesh_model.specs.Run.Generated.{generated_input, generated_text}
 use Rattle.mesh_model.specs.Run.Halting.{GoesOn, halting_byte}
 use Rattle.mesh_model.specs.Run.PlainRun.{start, after_lines, plain_run, output}
 use Rattle.mesh_model.specs.Run.Statuses.{finished_status, limited_status, memory_status, read_fault_status, refused_status, stop_status, usage_status, write_fault_status}
+use Rattle.mesh_tie.specs.LinesByTable.{PrintsRightFrames}
+use Rattle.mesh_tie.specs.ShownTables.{PrintsCommits}
 
 -- ---- the lines that words ask for
 
@@ -43,15 +46,15 @@ nodes_from (FromFile name) = None
 nodes_from (Generated nodes) = Some nodes
 
 -- the lines that are read for words, where these are taken and the lines are told
-abbrev pub read_input : Names → Option Call → Option (List ℕ)
+abbrev pub read_input : Names → Option Invocation → Option (List ℕ)
 read_input named call = option_and_then (λ asked. read_from named asked.source) call
 
 -- the lines that words ask for, read or generated, where the words are taken and the lines are told
-abbrev pub told_input : Names → Option Call → Option (List ℕ)
+abbrev pub told_input : Names → Option Invocation → Option (List ℕ)
 told_input named call = option_and_then (λ asked. told_from named asked.source) call
 
 -- how many nodes words have generated
-abbrev pub nodes_asked : Option Call → Option ℕ
+abbrev pub nodes_asked : Option Invocation → Option ℕ
 nodes_asked call = option_and_then (λ asked. nodes_from asked.source) call
 
 -- ---- the end of a run
@@ -154,3 +157,17 @@ pub record TellsStatus (choice : FrameChoice) (status : ℕ) (named old new : Op
   pub write_fault : status ≡ write_fault_status → Appends old new write_fault_text
   pub memory : status ≡ memory_status → Appends old new memory_text
   pub limited : status ≡ limited_status → TellsHalt choice status named old new
+
+-- ---- tables and frames
+
+-- whatever the status: what out took since the call is what the first lines of the input print, or a
+-- front of that; and of what these lines print, each table that is shown as `ok` and each frame that
+-- is sent by table is right
+pub record PrintsRightly (choice : FrameChoice) (old new : Option (List ℕ)) (input : List ℕ)
+    : Type 0 where
+  pub lines : List (List ℕ)
+  pub later : List (List ℕ)
+  pub of_input : lines_of input ≡ lines ++ later
+  pub printed : AppendsFront old new (output (after_lines (start choice) lines))
+  pub tables : PrintsCommits choice lines
+  pub frames : PrintsRightFrames choice lines

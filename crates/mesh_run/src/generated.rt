@@ -8,7 +8,7 @@ ghost use Rattle.mesh_run.specs.Inner.Lines.{CountsWrites};
 use crate::fault::Fault;
 use crate::input::new_runner;
 use crate::kept_text::KeptText;
-use crate::putting::put_text;
+use crate::output::put_text;
 use mesh_base::{Failed, Sink};
 use mesh_generate::{generated_input, summary_line};
 use mesh_model::FrameChoice;

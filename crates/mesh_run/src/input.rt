@@ -1,17 +1,19 @@
-ghost use Rattle.std.specs.Prelude.{ℕ, List, [], Option, IfSome, OnOk, IfErr};
+//! The input of a run: it is opened, and read piece by piece to its end.
+
+ghost use Rattle.std.specs.Prelude.{◌≡◌, ℕ, List, [], Option, IfSome, OnOk, IfErr};
 ghost use Rattle.std.specs.Option.{option_copied};
 ghost use Rattle.std.specs.Io.KnownBytes.{IsAtEnd};
-ghost use Rattle.mesh_run.specs.Inner.Scene.{IsSomewhere};
+ghost use Rattle.mesh_model.specs.declared.frame_choice.FrameChoice.{FrameChoice};
+ghost use Rattle.mesh_scene.specs.SceneStands.{IsSomewhere};
 ghost use Rattle.mesh_run.specs.Inner.Progress.{Stands};
-ghost use Rattle.mesh_run.specs.Inner.Reading.{CountsFaults, RunFails};
+ghost use Rattle.mesh_run.specs.Inner.Reading.{CountsFaults, ReadFails, ReadsAll, RunFails};
 ghost use Rattle.mesh_run.specs.Outcome.{Finishes};
 
 use crate::fault::Fault;
-use crate::reader::read_all;
 use crate::runner::Runner;
-use crate::scene::Scene;
-use mesh_base::{Intake, OpenErr, Sink};
+use mesh_base::{Failed, Intake, OpenErr, PIECE_LIMIT, Sink};
 use mesh_model::FrameChoice;
+use mesh_scene::Scene;
 use std::alloc::Global;
 
 /// A run before its first line.
@@ -26,6 +28,37 @@ pub fn new_runner(alloc: Global, choice: FrameChoice) -> Runner
         lines: 0,
         taken: 0,
     }
+}
+
+/// Reads an open intake to its end, and carries each line out before the next read.
+pub fn read_all<I: Intake, K: Sink>(
+    intake: &mut I,
+    out: &mut K,
+    mut runner: Runner,
+) -> Result<(), Fault>
+    requires somewhere { IsSomewhere runner.scene }
+    ensures ok { (choice : FrameChoice) (base : Option (List ℕ)) →
+        Stands choice base (K.taken out.old) runner [] → OnOk result
+        (ReadsAll choice (I.left intake.old) (I.left intake.new) base (K.taken out.new)) }
+    ensures failed { (choice : FrameChoice) (base : Option (List ℕ)) →
+        Stands choice base (K.taken out.old) runner [] → IfErr result
+        (ReadFails choice (I.left intake.old) (I.left intake.new) base (K.taken out.new)) }
+    ensures faults { CountsFaults (I.faults intake.old) (I.faults intake.new)
+        (K.faults out.old) (K.faults out.new) result }
+{
+    let mut buffer = [0; PIECE_LIMIT];
+    'pieces: loop {
+        let count = match intake.read(&mut buffer) {
+            Ok(count) => count,
+            Err(Failed) => return Err(Fault::Read),
+        };
+        if count == 0 {
+            break 'pieces;
+        }
+        runner.take_piece(out, &buffer[..count])?;
+    }
+    runner.finish(out)?;
+    Ok(())
 }
 
 /// Opens the input of this name, or standard input, and carries it out with this choice of frames.

@@ -1,3 +1,5 @@
+//! An output that is kept in memory.
+
 ghost use Rattle.std.specs.Prelude.{◌≡◌, ◌≤◌, [], Some};
 
 use mesh_base::{Failed, Sink};

@@ -2,37 +2,18 @@
 
 #![tactic(auto)]
 
-mod carrying;
-mod command;
-mod counting;
-mod ends;
-mod event_text;
 mod fault;
 mod generated;
-mod giving;
-mod global_table;
 mod input;
-mod joining;
 mod kept_text;
-mod line_fault;
-mod local_table;
-mod passage;
-mod passing;
+mod line;
+mod output;
+mod pieces;
 mod program;
-mod putting;
-mod reader;
-mod reading;
 mod report;
-mod route_table;
 mod runner;
-mod running;
-mod scene;
-mod sessions;
-mod showing;
+mod time;
 
 pub use program::{
     FINISHED, LIMITED, OUT_OF_MEMORY, READ_FAULT, REFUSED, USAGE, WRITE_FAULT, batmesh,
 };
-
-#[cfg(test)]
-mod tests;

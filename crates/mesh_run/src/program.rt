@@ -1,3 +1,5 @@
+//! The program: the words of the call, the lines that they ask for, and the status at its end.
+
 ghost use Rattle.std.specs.Prelude.{◌≡◌, ◌≢◌, ◌<◌, ◌≤◌, ◌⊎◌, ℕ, List, None, Some, IfNone, IfSome, IsSome};
 ghost use Rattle.std.specs.Io.KnownBytes.{Appends, IsAtEnd};
 ghost use Rattle.std.specs.Option.{option_copied};
@@ -10,7 +12,7 @@ ghost use Rattle.mesh_model.specs.Run.Statuses.{IsStatus, finished_status, limit
 ghost use Rattle.mesh_run.specs.Inner.Reading.{fault_status, fault_text};
 ghost use Rattle.mesh_tie.specs.LinesByTable.{PrintsRightFrames};
 ghost use Rattle.mesh_tie.specs.ShownTables.{PrintsCommits};
-ghost use Rattle.mesh_run.specs.Outcome.{Finishes, IsLimited, IsRefused, IsStatusOr, PrintsFrontOf, PrintsLessOf, PrintsSummary, PrintsTaken, TellsStatus, nodes_asked, read_input, told_input};
+ghost use Rattle.mesh_run.specs.Outcome.{Finishes, IsLimited, IsRefused, IsStatusOr, PrintsFrontOf, PrintsLessOf, PrintsRightly, PrintsSummary, PrintsTaken, TellsStatus, nodes_asked, read_input, told_input};
 ghost use Rattle.mesh_words.specs.Words.{texts};
 
 use crate::fault::Fault;
@@ -104,6 +106,8 @@ fn carry_input<I: Intake, K: Sink, E: Sink>(
     ensures told { (Rose (E.faults err.old) (E.faults err.new) → ⊥) →
         TellsStatus choice result (I.named intake.old (option_copied name.entry))
         (E.taken err.old) (E.taken err.new) }
+    ensures right { IfSome (I.named intake.old (option_copied name.entry))
+        (PrintsRightly choice (K.taken out.old) (K.taken out.new)) }
     ensures silent { result ≡ finished_status → err.new ≡ err.old }
 {
     let fault = match run_input(alloc, choice, name, intake, out) {
@@ -212,6 +216,13 @@ pub fn batmesh<I: Intake, K: Sink, E: Sink>(
         (told_input (I.named intake.old) (words_of (texts words.now)))
         (E.taken err.old) (E.taken err.new) }
     ensures silent { result ≡ finished_status → err.new ≡ err.old }
+
+    // Whatever the status, out took what the first lines of the input print, or a front of that; and
+    // what is printed there as `ok` of an originator was committed by it for the message that the
+    // shown node accepted last, and a frame that is printed there as sent by table goes to a node
+    // whose table names its client, each unless an alias of that node was printed before.
+    ensures right { IfSome (read_input (I.named intake.old) (words_of (texts words.now)))
+        (PrintsRightly (choice_of (texts words.now)) (K.taken out.old) (K.taken out.new)) }
 
     // Whatever lines are carried out, those of the input or those that came before a fault: what is
     // printed as `ok` of an originator was committed by it for the message that the shown node

@@ -1,3 +1,5 @@
+//! What the error output is told of a fault.
+
 ghost use Rattle.std.specs.Prelude.{◌≡◌, ◌≤◌, OnOk, OnErr};
 ghost use Rattle.std.specs.Io.KnownBytes.{Appends};
 ghost use Rattle.mesh_base.specs.Faults.{Rose};

@@ -1,6 +1,8 @@
+//! The runner: a scene, and what came of the line that is not finished.
+
 ghost use Rattle.std.specs.Prelude.{◌+◌, ◌≤◌, vec_len};
 
-use crate::scene::Scene;
+use mesh_scene::Scene;
 
 /// The most bytes before a line's newline.
 pub const LINE_LIMIT: usize = 4096;

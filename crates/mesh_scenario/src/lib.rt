@@ -22,6 +22,3 @@ mod words;
 
 pub use line::read_line;
 pub use line_err::LineErr;
-
-#[cfg(test)]
-mod tests;

@@ -14,11 +14,11 @@ use Rattle.mesh_model.specs.Acts.OwnContainers.{own_containers}
 use Rattle.mesh_model.specs.Acts.ProbeRows.{IcmpMessage}
 use Rattle.mesh_model.specs.Acts.Rows.{Own, alias_acts, alias_event, commit_acts, head_acts, icmp_acts, message_acts, own_by, packet_acts, packets_acts, place_at, taken_acts, tick_acts}
 use Rattle.mesh_model.specs.Acts.TableRows.{other_containers, own_answer}
-use Rattle.mesh_model.specs.Clients.Log.{Given, Tick, LinkFrame, Frame, Gone, Join, Leave, Arp, Dhcp, Wifi, Ping, Trace, Log}
+use Rattle.mesh_model.specs.Clients.Log.{LinkFrame, Frame, Gone, Join, Leave, Arp, Dhcp, Ping, Trace, Log, Line, LineGiven, Attach, Sets, Put, Get}
 use Rattle.mesh_model.specs.Clients.Mentions.{Mention, key_of, mentions, next_mentions}
 use Rattle.mesh_model.specs.Commits.Aliases.{alias_before, last_alias}
 use Rattle.mesh_model.specs.Commits.Announcements.{announcement}
-use Rattle.mesh_model.specs.Commits.History.{History, announced, committed, is_commit_tick, present_table}
+use Rattle.mesh_model.specs.Commits.History.{History, with_message, committed, is_commit_tick, present_table}
 use Rattle.mesh_model.specs.Knowledge.Known.{Knowledge}
 use Rattle.mesh_model.specs.Knowledge.Steps.{Coming, advertised, after_packet, after_sighting, knowledge}
 use Rattle.mesh_model.specs.Knowledge.Told.{Message, message_in, message_of, message_with}
@@ -33,7 +33,6 @@ use Rattle.mesh_model.specs.Routes.Queries.{Queries}
 use Rattle.mesh_model.specs.Routes.RouteLog.{RouteLog}
 use Rattle.mesh_model.specs.Tables.Versions.{Version}
 use Rattle.mesh_laws.proofs.Schedule.Members.{has_either, has_left}
-use Rattle.mesh_tie.specs.Steps.{IsOfLine}
 use Rattle.mesh_tie.proofs.CalmRows.{calm_frame, calm_here, calm_session}
 use Rattle.mesh_tie.proofs.CommitLemmas.{Committed, as_before, committed_is, one_more}
 use Rattle.mesh_tie.proofs.EntryLemmas.{each_appended}
@@ -111,25 +110,26 @@ packets_quiet q me own came known (packet ∷ rest) = each_appended IsQuiet (pac
 pub frame_quiet : (q : Queries) (me : Mac) (mine : Log) (now number : ℕ) (from : Mac) (throughput : ℕ) (bytes : List ℕ) → AreQuiet (acts_of q me mine now (LinkFrame number from throughput bytes))
 frame_quiet q me mine now number from throughput bytes = packets_quiet q me (own_by me mine) (record { now = now; from = from; throughput = throughput; number = number }) (knowledge q me mine) (link_frame bytes).packets
 
-pub line_quiet : (q : Queries) (me : Mac) (mine : Log) (now : ℕ) (given : Given) → IsOfLine given → AreQuiet (acts_of q me mine now given)
-line_quiet q me mine now (Tick index) of = absurd of
-line_quiet q me mine now (LinkFrame number from throughput bytes) of = absurd of
-line_quiet q me mine now (Frame src dst vid text) of =
+pub line_quiet : (q : Queries) (me : Mac) (mine : Log) (now : ℕ) (line : LineGiven) → AreQuiet (acts_of q me mine now (Line line))
+line_quiet q me mine now (Attach lan gateways) = tt
+line_quiet q me mine now (Frame src dst vid text) =
     let client : ClientFrame = record { dst = dst; src = src; vid = vid; text = text } in
     let key = key_of src vid in
     let known = knowledge q me mine in
-    let ms = next_mentions me mine (mentions me mine) now (Frame src dst vid text) in
+    let ms = next_mentions me mine (mentions me mine) now (Line (Frame src dst vid text)) in
     each_appended IsQuiet (sighting_acts q me mine now key) (client_acts q me mine now client)
     (plain_quiet (sighting_acts q me mine now key) (plain_advert me key (advertised q me mine known now key)))
     (calm_quiet (client_acts q me mine now client) (calm_frame q (after_sighting q me mine now key known) ms (record { me = me; now = now }) client))
-line_quiet q me mine now (Gone key) of = tt
-line_quiet q me mine now (Join key) of = tt
-line_quiet q me mine now (Leave key) of = tt
-line_quiet q me mine now (Arp mac own_ip asked_ip vid) of = plain_quiet (sighting_acts q me mine now (key_of mac vid)) (plain_advert me (key_of mac vid) (advertised q me mine (knowledge q me mine) now (key_of mac vid)))
-line_quiet q me mine now (Dhcp key text) of = plain_quiet (sighting_acts q me mine now key) (plain_advert me key (advertised q me mine (knowledge q me mine) now key))
-line_quiet q me mine now (Wifi on) of = tt
-line_quiet q me mine now (Ping target) of = calm_quiet (probing_acts q me mine now target false) (calm_session q (knowledge q me mine) (record { me = me; now = now }) target false)
-line_quiet q me mine now (Trace target) of = calm_quiet (probing_acts q me mine now target true) (calm_session q (knowledge q me mine) (record { me = me; now = now }) target true)
+line_quiet q me mine now (Gone key) = tt
+line_quiet q me mine now (Join key) = tt
+line_quiet q me mine now (Leave key) = tt
+line_quiet q me mine now (Arp mac own_ip asked_ip vid) = plain_quiet (sighting_acts q me mine now (key_of mac vid)) (plain_advert me (key_of mac vid) (advertised q me mine (knowledge q me mine) now (key_of mac vid)))
+line_quiet q me mine now (Dhcp key text) = plain_quiet (sighting_acts q me mine now key) (plain_advert me key (advertised q me mine (knowledge q me mine) now key))
+line_quiet q me mine now (Sets setting) = tt
+line_quiet q me mine now (Put type_no version text) = tt
+line_quiet q me mine now (Get type_no) = tt
+line_quiet q me mine now (Ping target) = calm_quiet (probing_acts q me mine now target false) (calm_session q (knowledge q me mine) (record { me = me; now = now }) target false)
+line_quiet q me mine now (Trace target) = calm_quiet (probing_acts q me mine now target true) (calm_session q (knowledge q me mine) (record { me = me; now = now }) target true)
 
 -- ---- ticks
 -- acts tell of the aliases that commits gain, and of no others
@@ -192,10 +192,10 @@ commit_gains q me routes index before after (one_more version byte order same) =
         (subst (λ acts. Has acts (Print (Alias me (length before.commits) earlier))) (sym events_are) (event_tells me (length before.commits) (alias_before version before.commits) earlier is))
 
 pub tick_gains : (q : Queries) (me : Mac) (routes : RouteLog) (ms : List Mention) (before : History) (now index : ℕ)
-    → Gains me before.commits (cond (is_commit_tick index) (announced (committed (present_table ms now) before)) before).commits (tick_acts q me routes ms before now index)
+    → Gains me before.commits (cond (is_commit_tick index) (with_message (committed (present_table ms now) before)) before).commits (tick_acts q me routes ms before now index)
 unfolding tick_acts
 tick_gains q me routes ms before now index = go (is_commit_tick index)
   where
-    go : (b : Bool) → Gains me before.commits (cond b (announced (committed (present_table ms now) before)) before).commits (cond b (commit_acts q me routes index before (committed (present_table ms now) before)) [])
+    go : (b : Bool) → Gains me before.commits (cond b (with_message (committed (present_table ms now) before)) before).commits (cond b (commit_acts q me routes index before (committed (present_table ms now) before)) [])
     go true = commit_gains q me routes index before (committed (present_table ms now) before) (committed_is ms now before)
     go false = gains_none [] tt

@@ -8,11 +8,11 @@ use Rattle.mesh_base.specs.declared.client.Entry.{Entry}
 use Rattle.mesh_model.specs.declared.table_change.Change.{Change}
 use Rattle.mesh_model.specs.declared.table_row.LocalRow.{LocalRow}
 use Rattle.mesh_model.specs.Acts.Packing.{table_told}
-use Rattle.mesh_model.specs.Clients.Log.{Given, Tick, LinkFrame, Frame, Gone, Join, Leave, Arp, Dhcp, Wifi, Ping, Trace, Log, LogEntry}
+use Rattle.mesh_model.specs.Clients.Log.{Given, Tick, LinkFrame, Log, LogEntry, LanFrame, Line}
 use Rattle.mesh_model.specs.Clients.Mentions.{Mention, mentions}
 use Rattle.mesh_model.specs.Clients.Present.{present_clients}
 use Rattle.mesh_model.specs.Commits.Announcements.{announced_changes, announcement, commit_at_root, is_tick, log_until, told_changes}
-use Rattle.mesh_model.specs.Commits.History.{History, announced, commits, committed, history, is_commit_tick, next_history, present_table, with_commit}
+use Rattle.mesh_model.specs.Commits.History.{History, with_message, commits, committed, history, is_commit_tick, next_history, present_table, with_commit}
 use Rattle.mesh_model.specs.Commits.Versions.{first_commit, last_changes, last_commit, same_table, commit_numbered}
 use Rattle.mesh_model.specs.Net.Due.{ticks_in}
 use Rattle.mesh_model.specs.Packets.Numbers.{ogm_diff_flag}
@@ -61,19 +61,12 @@ chain_committed before after (one_more version byte order is) c = subst (λ (h :
 chain_next : (ms : List Mention) (before : History) (now : ℕ) (given : Given) → Chain before.commits → Chain (next_history ms before now given).commits
 chain_next ms before now (Tick index) c = go (is_commit_tick index)
   where
-    go : (b : Bool) → Chain (cond b (announced (committed (present_table ms now) before)) before).commits
+    go : (b : Bool) → Chain (cond b (with_message (committed (present_table ms now) before)) before).commits
     go true = chain_committed before (committed (present_table ms now) before) (committed_is ms now before) c
     go false = c
 chain_next ms before now (LinkFrame number from throughput bytes) c = c
-chain_next ms before now (Frame src dst vid text) c = c
-chain_next ms before now (Gone key) c = c
-chain_next ms before now (Join key) c = c
-chain_next ms before now (Leave key) c = c
-chain_next ms before now (Arp mac own_ip asked_ip vid) c = c
-chain_next ms before now (Dhcp key text) c = c
-chain_next ms before now (Wifi on) c = c
-chain_next ms before now (Ping target) c = c
-chain_next ms before now (Trace target) c = c
+chain_next ms before now (LanFrame bytes) c = c
+chain_next ms before now (Line line) c = c
 
 pub chain : (me : Mac) (log : Log) → Chain (history me log).commits
 chain me [] = refl
@@ -127,28 +120,14 @@ last_and_older (last ∷ older) c = (older, refl, refl)
 abbrev pub Follows : Log → Given → Type 0
 Follows log (Tick index) = index ≡ suc (ticks_in log)
 Follows log (LinkFrame number from throughput bytes) = Unit {0}
-Follows log (Frame src dst vid text) = Unit {0}
-Follows log (Gone key) = Unit {0}
-Follows log (Join key) = Unit {0}
-Follows log (Leave key) = Unit {0}
-Follows log (Arp mac own_ip asked_ip vid) = Unit {0}
-Follows log (Dhcp key text) = Unit {0}
-Follows log (Wifi on) = Unit {0}
-Follows log (Ping target) = Unit {0}
-Follows log (Trace target) = Unit {0}
+Follows log (LanFrame bytes) = Unit {0}
+Follows log (Line line) = Unit {0}
 
 no_tick : (root : ℕ) (log : Log) (given : Given) → root ≤ ticks_in log → Follows log given → is_tick root given ≡ false
 no_tick root log (Tick index) past next = ne_eqb index root (λ same. omega (arith, past, next, same))
 no_tick root log (LinkFrame number from throughput bytes) past next = refl
-no_tick root log (Frame src dst vid text) past next = refl
-no_tick root log (Gone key) past next = refl
-no_tick root log (Join key) past next = refl
-no_tick root log (Leave key) past next = refl
-no_tick root log (Arp mac own_ip asked_ip vid) past next = refl
-no_tick root log (Dhcp key text) past next = refl
-no_tick root log (Wifi on) past next = refl
-no_tick root log (Ping target) past next = refl
-no_tick root log (Trace target) past next = refl
+no_tick root log (LanFrame bytes) past next = refl
+no_tick root log (Line line) past next = refl
 
 -- a root that is past has its commit for good
 pub number_stays : (me : Mac) (log : Log) (entry : LogEntry) (root : ℕ) → root ≤ ticks_in log → Follows log entry.given → number_at_root me (entry ∷ log) root ≡ number_at_root me log root
@@ -173,19 +152,12 @@ numbered_committed before after n v (one_more version byte order is) found = ap 
 pub numbered_next : (ms : List Mention) (before : History) (now : ℕ) (given : Given) (n : ℕ) (v : Version) → commit_numbered n before.commits ≡ Some v → commit_numbered n (next_history ms before now given).commits ≡ Some v
 numbered_next ms before now (Tick index) n v found = go (is_commit_tick index)
   where
-    go : (b : Bool) → commit_numbered n (cond b (announced (committed (present_table ms now) before)) before).commits ≡ Some v
+    go : (b : Bool) → commit_numbered n (cond b (with_message (committed (present_table ms now) before)) before).commits ≡ Some v
     go true = numbered_committed before (committed (present_table ms now) before) n v (committed_is ms now before) found
     go false = found
 numbered_next ms before now (LinkFrame number from throughput bytes) n v found = found
-numbered_next ms before now (Frame src dst vid text) n v found = found
-numbered_next ms before now (Gone key) n v found = found
-numbered_next ms before now (Join key) n v found = found
-numbered_next ms before now (Leave key) n v found = found
-numbered_next ms before now (Arp mac own_ip asked_ip vid) n v found = found
-numbered_next ms before now (Dhcp key text) n v found = found
-numbered_next ms before now (Wifi on) n v found = found
-numbered_next ms before now (Ping target) n v found = found
-numbered_next ms before now (Trace target) n v found = found
+numbered_next ms before now (LanFrame bytes) n v found = found
+numbered_next ms before now (Line line) n v found = found
 
 -- the commit of a root is the one of its number
 pub at_root : (me : Mac) (log : Log) (root : ℕ) → commit_numbered (number_at_root me log root) (commits me log) ≡ Some (commit_at_root me log root)

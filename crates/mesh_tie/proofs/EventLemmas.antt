@@ -8,7 +8,7 @@ use Rattle.mesh_base.specs.declared.event.Reason.TheVariants.{Table}
 use Rattle.mesh_model.specs.declared.act.Act.{Act}
 use Rattle.mesh_model.specs.declared.act.Act.TheVariants.{Link, Print}
 use Rattle.mesh_model.specs.declared.happening.Happening.{Happening}
-use Rattle.mesh_model.specs.Clients.Log.{Given, Tick, LinkFrame, Log, LogEntry}
+use Rattle.mesh_model.specs.Clients.Log.{Given, Tick, LinkFrame, Log, LogEntry, Line}
 use Rattle.mesh_model.specs.Commits.History.{commits}
 use Rattle.mesh_model.specs.Net.Due.{ticks_in}
 use Rattle.mesh_model.specs.Net.Inputs.{entry_of, given_to, noted_at, noting}
@@ -29,8 +29,8 @@ use Rattle.mesh_tie.specs.TieLaws.{AllKeep}
 use Rattle.mesh_tie.proofs.CommitLemmas.{Follows}
 use Rattle.mesh_tie.proofs.FitLemmas.{commits_always_fit}
 use Rattle.mesh_tie.proofs.LogLemmas.{Grows, grows_same}
-use Rattle.mesh_tie.proofs.MeshSteps.{LogAfter, Reached, follows_line, got_noted, grows_after, log_after, log_joined, reached}
-use Rattle.mesh_tie.proofs.NameSteps.{AllName, EntryNames, act_of, frame_acts_name, line_acts, sent_grows, tick_names}
+use Rattle.mesh_tie.proofs.MeshSteps.{LogAfter, Reached, got_noted, grows_after, log_after, log_joined, reached}
+use Rattle.mesh_tie.proofs.NameSteps.{AllName, EntryNames, act_of, frame_acts_name, line_acts_name, sent_grows, tick_names}
 use Rattle.mesh_tie.proofs.NamesRows.{ActNames}
 use Rattle.mesh_tie.proofs.Sayable.{one_or_two}
 use Rattle.mesh_tie.proofs.SeenLemmas.{aliases_are_seen, calm_commits, line_calm}
@@ -268,10 +268,10 @@ unlinked_right queries orig mesh links last right before back number moment me t
 step_right : (queries : Mac → Queries) (mesh after : Mesh) → AllKeep queries → IsReachable queries mesh → Reached queries mesh → CommitsFit after → Steps queries mesh after → (orig : Mac) → AllRight queries orig mesh → AllRight queries orig after
 step_right queries mesh _ keep r h fit (node_joins _ node empty whole fresh) orig right = joined_right queries orig mesh node empty right
 step_right queries mesh _ keep r h fit (link_joins _ link) orig right = unlinked_right queries orig mesh (mesh.links ++ link ∷ []) mesh.last right
-step_right queries mesh after keep r h fit (line_gives _ _ place now node given found may of is) orig right =
-    let l = log_after queries orig mesh place node (entry_of (scenario_setup queries) node now given) h.holds.orderly found in
-    given_right queries orig mesh after place now 0 node given found (follows_line node.log given of) l is
-    (λ none. line_acts queries mesh place now node given orig h found of (calm_clear queries orig mesh place now node given r l (line_calm given of) none)) right
+step_right queries mesh after keep r h fit (line_gives _ _ place now node line found may of is) orig right =
+    let l = log_after queries orig mesh place node (entry_of (scenario_setup queries) node now (Line line)) h.holds.orderly found in
+    given_right queries orig mesh after place now 0 node (Line line) found tt l is
+    (λ none. line_acts_name queries mesh place now node line orig h found (calm_clear queries orig mesh place now node (Line line) r l (line_calm line) none)) right
 step_right queries mesh after keep r h fit (node_ticks _ _ place now node found may is) orig right =
     let index = suc (ticks_in node.log) in
     let entry = entry_of (scenario_setup queries) node now (Tick index) in

@@ -12,12 +12,12 @@ use Rattle.mesh_model.specs.declared.packet.Head.{Head}
 use Rattle.mesh_model.specs.declared.packet.Head.TheVariants.{IvOgm, Bcast, Elp, Ogm2, Unicast, Frag, Unicast4, Icmp, Utvlv}
 use Rattle.mesh_model.specs.declared.table_row.LocalRow.{LocalRow}
 use Rattle.mesh_model.specs.Clients.Limits.{clients_limit, limit_of_mention, passed_limit}
-use Rattle.mesh_model.specs.Clients.Log.{Given, Tick, LinkFrame, Frame, Gone, Join, Leave, Arp, Dhcp, Wifi, Ping, Trace, Log, LogEntry}
+use Rattle.mesh_model.specs.Clients.Log.{Given, Tick, LinkFrame, Frame, Gone, Join, Leave, Arp, Dhcp, Ping, Trace, Log, LogEntry, LanFrame, Line, LineGiven, Attach, Sets, Put, Get}
 use Rattle.mesh_model.specs.Clients.Mentions.{Mention, News, Sighted, Departed, Roamed, Joined, Left, is_wifi_on, key_of, mentions, roamed, roamed_by, roamed_in, sighted_after}
-use Rattle.mesh_model.specs.Clients.Present.{entry_of, is_membership, last_membership, last_mention, mentioned_keys, present_clients, present_row, row_after, row_by, same_key, sighting_age}
-use Rattle.mesh_model.specs.Commits.History.{History, announced, commits, committed, history, is_commit_tick, present_table, with_commit}
+use Rattle.mesh_model.specs.Clients.Present.{entry_with, is_membership, last_membership, last_mention, mentioned_keys, present_clients, present_row, row_after, row_by, same_key, sighting_age}
+use Rattle.mesh_model.specs.Commits.History.{History, with_message, commits, committed, history, is_commit_tick, present_table, with_commit}
 use Rattle.mesh_model.specs.Commits.Versions.{commit_numbered, first_commit, last_commit, same_table}
-use Rattle.mesh_model.specs.Net.Inputs.{entry_of as log_entry, given_node, given_to, noting, unless_passed, with_entry}
+use Rattle.mesh_model.specs.Net.Inputs.{entry_of as log_entry, given_node, given_to, noting, unless_passed, after_entry}
 use Rattle.mesh_model.specs.Net.Limits.{scenario_setup}
 use Rattle.mesh_model.specs.Net.Mesh.{NodeLog, Mesh, Setup}
 use Rattle.mesh_model.specs.Net.Due.{ticks_in}
@@ -35,7 +35,7 @@ use Rattle.mesh_model.specs.Tables.Versions.{Version, next_byte}
 use Rattle.mesh_laws.proofs.MachineInvariant.{newest_or_older}
 use Rattle.mesh_laws.proofs.Schedule.Members.{one_some}
 use Rattle.mesh_tie.specs.NetTables.{NamesClients}
-use Rattle.mesh_tie.specs.Steps.{IsClient, IsOfLine, IsReachable, MayBeGiven, Steps, begins, frame_comes, goes_on, line_gives, link_joins, newest_moment, node_joins, node_ticks, time_passes}
+use Rattle.mesh_tie.specs.Steps.{IsClient, IsReachable, MayBeGiven, Steps, begins, frame_comes, goes_on, line_gives, link_joins, newest_moment, node_joins, node_ticks, time_passes, TellsClient}
 use Rattle.mesh_tie.specs.Tie.{FitsAnswer, FitsEntry}
 use Rattle.mesh_tie.specs.TieLaws.{CommitsAlwaysFit}
 use Rattle.mesh_tie.proofs.EntryLemmas.{each_appended}
@@ -72,7 +72,7 @@ crc_small : (bytes : List ℕ) → EachByte bytes → crc32c bytes < 2 ^ 32
 unfolding crc32c
 crc_small bytes each = xor_of_32 (fold after_byte all_ones bytes) all_ones (register_small bytes all_ones (omega arith) each) (omega arith)
 
-sum_small : (key : Key) (flags : ℕ) → IsClient key → entry_sum (entry_of key flags) < 2 ^ 32
+sum_small : (key : Key) (flags : ℕ) → IsClient key → entry_sum (entry_with key flags) < 2 ^ 32
 unfolding entry_sum
 sum_small key flags client =
     let low : client_flags flags ≤ 48 = and_le_r flags 48 in
@@ -81,22 +81,22 @@ sum_small key flags client =
 -- ---- mentions
 -- what news say of a key gives an entry that fits
 abbrev NewsFit : Key → News → Type 0
-NewsFit key (Sighted flags) = FitsEntry (entry_of key flags)
+NewsFit key (Sighted flags) = FitsEntry (entry_with key flags)
 NewsFit key Departed = Unit {0}
 NewsFit key Roamed = Unit {0}
-NewsFit key Joined = FitsEntry (entry_of key 0)
+NewsFit key Joined = FitsEntry (entry_with key 0)
 NewsFit key Left = Unit {0}
 
 abbrev MentionFits : Mention → Type 0
 MentionFits m = NewsFit m.key m.news
 
-joined_fits : (key : Key) → IsClient key → FitsEntry (entry_of key 0)
+joined_fits : (key : Key) → IsClient key → FitsEntry (entry_with key 0)
 joined_fits key client = record { key = client.fits; flags = refl; sum = sum_small key 0 client }
 
 sighted_fits : (older : Log) (key : Key) → IsClient key → NewsFit key (sighted_after older)
 sighted_fits older key client = go (is_wifi_on older)
   where
-    go : (b : Bool) → FitsEntry (entry_of key (cond b 16 0))
+    go : (b : Bool) → FitsEntry (entry_with key (cond b 16 0))
     go true = record { key = client.fits; flags = refl; sum = sum_small key 16 client }
     go false = joined_fits key client
 
@@ -107,12 +107,12 @@ IfRow o = (row : LocalRow) → o ≡ Some row → FitsEntry row.entry
 row_fits : (key : Key) (age : ℕ) (news : News) → NewsFit key news → IfRow (row_after key age news)
 row_fits key age (Sighted flags) fits = go (nat_lt age sighting_age)
   where
-    go : (b : Bool) → IfRow (cond b (Some (record { entry = entry_of key flags; age = Some age })) None)
-    go true row is = let same : record { entry = entry_of key flags; age = Some age } ≡ row = cc in subst (λ (r : LocalRow). FitsEntry r.entry) same fits
+    go : (b : Bool) → IfRow (cond b (Some (record { entry = entry_with key flags; age = Some age })) None)
+    go true row is = let same : record { entry = entry_with key flags; age = Some age } ≡ row = cc in subst (λ (r : LocalRow). FitsEntry r.entry) same fits
     go false row is = cc
 row_fits key age Departed fits = λ row is. cc
 row_fits key age Roamed fits = λ row is. cc
-row_fits key age Joined fits = λ row is. let same : record { entry = entry_of key 0; age = None } ≡ row = cc in subst (λ (r : LocalRow). FitsEntry r.entry) same fits
+row_fits key age Joined fits = λ row is. let same : record { entry = entry_with key 0; age = None } ≡ row = cc in subst (λ (r : LocalRow). FitsEntry r.entry) same fits
 row_fits key age Left fits = λ row is. cc
 
 found_fits : (test : Mention → Bool) (ms : List Mention) (now : ℕ) → AllByRecursion MentionFits ms → IfRow (option_and_then (row_by now) (find test ms))
@@ -164,19 +164,6 @@ first_fits = newest_or_older (λ v. FitsAnswer v.table) first_commit [] (record 
 
 log_begins : (me : Mac) → LogFits me []
 log_begins me = record { few = λ now late. omega arith; mentioned = tt; made = first_fits }
-
-line_names : (given : Given) → IsOfLine given → NamesClients given
-line_names (Tick index) of = absurd of
-line_names (LinkFrame number from throughput bytes) of = absurd of
-line_names (Frame src dst vid text) of = of
-line_names (Gone key) of = of
-line_names (Join key) of = of
-line_names (Leave key) of = of
-line_names (Arp mac own_ip asked_ip vid) of = of
-line_names (Dhcp key text) of = of
-line_names (Wifi on) of = tt
-line_names (Ping target) of = tt
-line_names (Trace target) of = tt
 
 few_since : (ms : List Mention) (since now : ℕ) → HasFew ms since → since ≤ now → HasFew ms now
 few_since ms since now few late = λ at later. few at (omega (arith, late, later))
@@ -245,6 +232,38 @@ committed_fits ms now before table made = go (same_table (last_commit before.com
     go true = made
     go false = newest_or_older (λ v. FitsAnswer v.table) (record { byte = next_byte (last_commit before.commits).byte; table = present_table ms now }) before.commits table made
 
+-- a log with one input more that mentions no client and commits nothing
+log_stays : (me : Mac) (log : Log) (now : ℕ) (given : Given) (acts : List Act) → LogFits me log → newest_moment log ≤ now
+    → mentions me (record { moment = now; given = given; acts = acts } ∷ log) ≡ mentions me log → commits me (record { moment = now; given = given; acts = acts } ∷ log) ≡ commits me log
+    → LogFits me (record { moment = now; given = given; acts = acts } ∷ log)
+log_stays me log now given acts fits late same made = record {
+  few = subst (λ ms. HasFew ms now) (sym same) (few_since (mentions me log) (newest_moment log) now fits.few late);
+  mentioned = subst (AllByRecursion MentionFits) (sym same) fits.mentioned;
+  made = subst EachFits (sym made) fits.made;
+}
+
+-- a log with one line more
+line_next : (me : Mac) (log : Log) (now : ℕ) (line : LineGiven) (acts : List Act) → LogFits me log → newest_moment log ≤ now → TellsClient line → passed_limit me log now (Line line) ≡ None
+    → LogFits me (record { moment = now; given = Line line; acts = acts } ∷ log)
+line_next me log now (Attach lan gateways) acts fits late names none = log_stays me log now (Line (Attach lan gateways)) acts fits late refl refl
+line_next me log now (Frame src dst vid text) acts fits late names none =
+    one_mention me log (record { moment = now; given = Line (Frame src dst vid text); acts = acts }) (record { moment = now; key = key_of src vid; news = sighted_after log }) fits late refl (sighted_fits log (key_of src vid) names) refl refl none
+line_next me log now (Gone key) acts fits late names none =
+    one_mention me log (record { moment = now; given = Line (Gone key); acts = acts }) (record { moment = now; key = key; news = Departed }) fits late refl tt refl refl none
+line_next me log now (Join key) acts fits late names none =
+    one_mention me log (record { moment = now; given = Line (Join key); acts = acts }) (record { moment = now; key = key; news = Joined }) fits late refl (joined_fits key names) refl refl none
+line_next me log now (Leave key) acts fits late names none =
+    one_mention me log (record { moment = now; given = Line (Leave key); acts = acts }) (record { moment = now; key = key; news = Left }) fits late refl tt refl refl none
+line_next me log now (Arp mac own_ip asked_ip vid) acts fits late names none =
+    one_mention me log (record { moment = now; given = Line (Arp mac own_ip asked_ip vid); acts = acts }) (record { moment = now; key = key_of mac vid; news = sighted_after log }) fits late refl (sighted_fits log (key_of mac vid) names) refl refl none
+line_next me log now (Dhcp key text) acts fits late names none =
+    one_mention me log (record { moment = now; given = Line (Dhcp key text); acts = acts }) (record { moment = now; key = key; news = sighted_after log }) fits late refl (sighted_fits log key names) refl refl none
+line_next me log now (Sets setting) acts fits late names none = log_stays me log now (Line (Sets setting)) acts fits late refl refl
+line_next me log now (Put type_no version text) acts fits late names none = log_stays me log now (Line (Put type_no version text)) acts fits late refl refl
+line_next me log now (Get type_no) acts fits late names none = log_stays me log now (Line (Get type_no)) acts fits late refl refl
+line_next me log now (Ping target) acts fits late names none = log_stays me log now (Line (Ping target)) acts fits late refl refl
+line_next me log now (Trace target) acts fits late names none = log_stays me log now (Line (Trace target)) acts fits late refl refl
+
 log_next : (me : Mac) (log : Log) (now : ℕ) (given : Given) (acts : List Act) → LogFits me log → newest_moment log ≤ now → NamesClients given → passed_limit me log now given ≡ None
     → LogFits me (record { moment = now; given = given; acts = acts } ∷ log)
 log_next me log now (Tick index) acts fits late names none = record {
@@ -253,7 +272,7 @@ log_next me log now (Tick index) acts fits late names none = record {
   made = go (is_commit_tick index);
 }
   where
-    go : (b : Bool) → EachFits (cond b (announced (committed (present_table (mentions me log) now) (history me log))) (history me log)).commits
+    go : (b : Bool) → EachFits (cond b (with_message (committed (present_table (mentions me log) now) (history me log))) (history me log)).commits
     go true = committed_fits (mentions me log) now (history me log) (table_fits (mentions me log) now fits.mentioned (fits.few now late)) fits.made
     go false = fits.made
 log_next me log now (LinkFrame number from throughput bytes) acts fits late names none = record {
@@ -261,17 +280,8 @@ log_next me log now (LinkFrame number from throughput bytes) acts fits late name
   mentioned = each_appended MentionFits (filter_map (roamed_by me now) (link_frame bytes).packets) (mentions me log) (frame_mentions me now (link_frame bytes).packets) fits.mentioned;
   made = fits.made;
 }
-log_next me log now (Frame src dst vid text) acts fits late names none =
-    one_mention me log (record { moment = now; given = Frame src dst vid text; acts = acts }) (record { moment = now; key = key_of src vid; news = sighted_after log }) fits late refl (sighted_fits log (key_of src vid) names) refl refl none
-log_next me log now (Gone key) acts fits late names none = one_mention me log (record { moment = now; given = Gone key; acts = acts }) (record { moment = now; key = key; news = Departed }) fits late refl tt refl refl none
-log_next me log now (Join key) acts fits late names none = one_mention me log (record { moment = now; given = Join key; acts = acts }) (record { moment = now; key = key; news = Joined }) fits late refl (joined_fits key names) refl refl none
-log_next me log now (Leave key) acts fits late names none = one_mention me log (record { moment = now; given = Leave key; acts = acts }) (record { moment = now; key = key; news = Left }) fits late refl tt refl refl none
-log_next me log now (Arp mac own_ip asked_ip vid) acts fits late names none =
-    one_mention me log (record { moment = now; given = Arp mac own_ip asked_ip vid; acts = acts }) (record { moment = now; key = key_of mac vid; news = sighted_after log }) fits late refl (sighted_fits log (key_of mac vid) names) refl refl none
-log_next me log now (Dhcp key text) acts fits late names none = one_mention me log (record { moment = now; given = Dhcp key text; acts = acts }) (record { moment = now; key = key; news = sighted_after log }) fits late refl (sighted_fits log key names) refl refl none
-log_next me log now (Wifi on) acts fits late names none = record { few = few_since (mentions me log) (newest_moment log) now fits.few late; mentioned = fits.mentioned; made = fits.made }
-log_next me log now (Ping target) acts fits late names none = record { few = few_since (mentions me log) (newest_moment log) now fits.few late; mentioned = fits.mentioned; made = fits.made }
-log_next me log now (Trace target) acts fits late names none = record { few = few_since (mentions me log) (newest_moment log) now fits.few late; mentioned = fits.mentioned; made = fits.made }
+log_next me log now (LanFrame bytes) acts fits late names none = log_stays me log now (LanFrame bytes) acts fits late refl refl
+log_next me log now (Line line) acts fits late names none = line_next me log now line acts fits late names none
 
 -- ---- meshes
 abbrev LogsFit : Mesh → Type 0
@@ -292,7 +302,7 @@ given_fits queries mesh after place now root node given fits found may names is 
     entry = log_entry (scenario_setup queries) node now given
 
     none : passed_limit node.mac node.log now given ≡ None
-    none = limit_free (passed_limit node.mac node.log now given) (with_entry (scenario_setup queries) (record { place = place; mac = node.mac; now = now; root = root }) (log_entry (scenario_setup queries) node now given) mesh) after
+    none = limit_free (passed_limit node.mac node.log now given) (after_entry (scenario_setup queries) (record { place = place; mac = node.mac; now = now; root = root }) (log_entry (scenario_setup queries) node now given) mesh) after
         (ap (λ (o : Option NodeLog). given_node (scenario_setup queries) place now root given o mesh) (sym found) ∙ is)
 
     go : Renewed place entry mesh.nodes at n → LogFits n.mac n.log
@@ -308,7 +318,7 @@ step_fits queries mesh _ fits (node_joins _ node empty whole fresh) = λ at n go
     go at n (inl old) = fits at n old
     go at n (inr is) = subst (LogFits n.mac) (sym (ap (λ (x : NodeLog). x.log) is.0 ∙ empty)) (log_begins n.mac)
 step_fits queries mesh _ fits (link_joins _ link) = fits
-step_fits queries mesh after fits (line_gives _ _ place now node given found may of is) = given_fits queries mesh after place now 0 node given fits found may (line_names given of) is
+step_fits queries mesh after fits (line_gives _ _ place now node line found may of is) = given_fits queries mesh after place now 0 node (Line line) fits found may of is
 step_fits queries mesh after fits (node_ticks _ _ place now node found may is) = given_fits queries mesh after place now (suc (ticks_in node.log)) node (Tick (suc (ticks_in node.log))) fits found may tt is
 step_fits queries mesh after fits (frame_comes _ _ place now number throughput from node frame found may sent whole is) =
     given_fits queries mesh after place now frame.root node (LinkFrame (suc number) from throughput frame.bytes) fits found may tt is

@@ -15,7 +15,7 @@ use Rattle.mesh_model.specs.Clients.Log.{Log}
 use Rattle.mesh_model.specs.Clients.Present.{same_key}
 use Rattle.mesh_model.specs.Knowledge.Addressee.{Way, addressee, best_holder, marked_way, table_reason, table_way, way_to}
 use Rattle.mesh_model.specs.Knowledge.Known.{Knowledge, agreed_byte, is_new_broadcast}
-use Rattle.mesh_model.specs.Knowledge.Steps.{Coming, advertised, after_announcement, after_answer, after_containers, after_head, after_packet, after_reply, after_roaming, after_sighting, after_taken, announcement, asked_by_request, before_announcement, released_under, request_out, sighting_calls, with_announcement, with_head, with_life}
+use Rattle.mesh_model.specs.Knowledge.Steps.{Coming, advertised, after_announcement, after_answer, after_containers, after_head, after_packet, after_reply, after_roaming, after_sighting, after_taken, announced_table, asked_by_request, before_announcement, released_under, request_out, sighting_calls, with_announcement, with_head, with_life}
 use Rattle.mesh_model.specs.Knowledge.Told.{Message, TableMessage, Asks, Answers, Neither, message_in, message_of, message_with}
 use Rattle.mesh_model.specs.Marks.Calls.{Call, Calls, Marked, Released, Unmarked, Advised, Asked, Forgotten}
 use Rattle.mesh_model.specs.Marks.RoamingMarks.{is_ended, is_young, mark_by, mark_of, mark_to, next_mark, target_by}
@@ -54,8 +54,8 @@ with_life_knows orig false known k = k
 announcement_knows : (came : Coming) (message : Message) (request : Option Request) (known : Knowledge) → IsWhole message.orig → KnowsWhole known → KnowsWhole (with_announcement came message request known)
 announcement_knows came message request known whole k = record {
   tables = (whole, k.tables);
-  marks = asked_whole came.now message.orig request (released_under message.orig (agreed_byte (known_by (announcement came message ∷ known.tables) message.orig)) known.marks)
-      (released_whole message.orig (agreed_byte (known_by (announcement came message ∷ known.tables) message.orig)) known.marks k.marks);
+  marks = asked_whole came.now message.orig request (released_under message.orig (agreed_byte (known_by (announced_table came message ∷ known.tables) message.orig)) known.marks)
+      (released_whole message.orig (agreed_byte (known_by (announced_table came message ∷ known.tables) message.orig)) known.marks k.marks);
 }
 
 taken_knows : (q : Queries) (came : Coming) (head : Head) (source : Mac) (o : Option TtData) (known : Knowledge) → IsWhole source → KnowsWhole known → KnowsWhole (after_taken q came head (message_with source o) known)
@@ -64,7 +64,7 @@ taken_knows q came head source (Some table) known whole k =
     let message : Message = record { orig = source; table = table } in
     let before : Knowledge = before_announcement q came head source known in
     knows_if (q.hear known.routes came.now came.from came.throughput head).accepted (after_announcement q came message before) (with_head came head known)
-    (announcement_knows came message (request_out q before came.now message) before whole (with_life_knows source (not (q.live known.routes came.now source)) (with_head came head known) (with_head_knows came head known k)))
+    (announcement_knows came message (request_out q before came.now message) before whole (with_life_knows source (q.hear known.routes came.now came.from came.throughput head).began (with_head came head known) (with_head_knows came head known k)))
     (with_head_knows came head known k)
 
 answer_knows : (q : Queries) (now : ℕ) (src : Mac) (message : TableMessage) (known : Knowledge) → KnowsWhole known → KnowsWhole (after_answer q now src message known)

@@ -3,7 +3,7 @@ use Rattle.std.proofs.Common.{◌≡◌, ◌⊎◌, ℕ, List, [], map, Option, 
 use Rattle.mesh_base.specs.declared.address.Mac.{Mac}
 use Rattle.mesh_model.specs.declared.table_change.Change.{Change}
 use Rattle.mesh_model.specs.Commits.Announcements.{commit_at_root}
-use Rattle.mesh_model.specs.Knowledge.Told.{changes_told, stamp_told}
+use Rattle.mesh_model.specs.Knowledge.Told.{message_changes, stamp_told}
 use Rattle.mesh_model.specs.Net.Mesh.{Mesh}
 use Rattle.mesh_model.specs.Packets.Bodies.{VlanSum}
 use Rattle.mesh_model.specs.Routes.Queries.{Queries}
@@ -66,8 +66,8 @@ messages_announce queries orig mesh is place frame packet sent has word =
       a.found,
       record {
         stamp = stamp_from (stamp_told a.table) agrees.0 agrees.2 ∙ ap stamp_of_commit one;
-        changes = subst (λ made. (changes_told a.table ≡ []) ⊎ LeadTo made number (commit_at_root orig log frame.root) (changes_told a.table)) h.tied.commits
-            (subst (λ c. (changes_told a.table ≡ []) ⊎ LeadTo h.world.commits number c (changes_told a.table)) one agrees.3);
+        changes = subst (λ made. (message_changes a.table ≡ []) ⊎ LeadTo made number (commit_at_root orig log frame.root) (message_changes a.table)) h.tied.commits
+            (subst (λ c. (message_changes a.table ≡ []) ⊎ LeadTo h.world.commits number c (message_changes a.table)) one agrees.3);
       },
     )
 

@@ -29,5 +29,4 @@ pub mod EventLemmas
 pub mod PrintLemmas
 pub mod TablePrints
 pub mod LawLemmas
-pub mod NetLemmas
 pub mod RepairLemmas

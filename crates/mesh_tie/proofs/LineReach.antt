@@ -14,8 +14,9 @@ use Rattle.mesh_model.specs.declared.frame_choice.FrameChoice.{FrameChoice}
 use Rattle.mesh_model.specs.declared.line_form.Algorithm.TheVariants.{Iv, V}
 use Rattle.mesh_model.specs.declared.line_form.Command.{Command}
 use Rattle.mesh_model.specs.declared.line_form.Command.TheVariants.{Nothing, Algo, Node, Link, Lan, Frame, Gone, Join, Leave, Arp, Dhcp, Wifi, GwOff, GwServer, GwClient, Mcast, Dat, Alfred, Put, Get, Ping, Trace, Run as RunFor, Deliver, Show, Decode}
-use Rattle.mesh_model.specs.Clients.Log.{Given}
-use Rattle.mesh_model.specs.Clients.Log.{Frame as FrameGiven, Gone as GoneGiven, Join as JoinGiven, Leave as LeaveGiven, Wifi as WifiGiven, Ping as PingGiven, Trace as TraceGiven}
+use Rattle.mesh_model.specs.Clients.Log.{Line, LineGiven, Sets}
+use Rattle.mesh_model.specs.Clients.Settings.{Wifi as WifiSet}
+use Rattle.mesh_model.specs.Clients.Log.{Frame as FrameGiven, Gone as GoneGiven, Join as JoinGiven, Leave as LeaveGiven, Ping as PingGiven, Trace as TraceGiven}
 use Rattle.mesh_model.specs.Net.Inputs.{given_to}
 use Rattle.mesh_model.specs.Net.Limits.{clock_limit, links_limit, nodes_limit}
 use Rattle.mesh_model.specs.Net.Mesh.{NodeLog, NetLink, Mesh, empty_mesh, has_address, address_at}
@@ -44,7 +45,7 @@ use Rattle.mesh_laws.proofs.Lines.Ways.{led}
 use Rattle.mesh_laws.proofs.MacLemmas.{same_self}
 use Rattle.mesh_tie.specs.PlainRuns.{CommandsAreSteps, IsBetweenLines, IsTellable, NoneIsLater, PlainRunsAreReachable}
 use Rattle.mesh_tie.specs.Sources.{IsWhole}
-use Rattle.mesh_tie.specs.Steps.{IsNew, IsOfLine, IsReachable, begins, goes_on, line_gives, link_joins, newest_moment, node_joins}
+use Rattle.mesh_tie.specs.Steps.{IsNew, IsReachable, begins, goes_on, line_gives, link_joins, newest_moment, node_joins, TellsClient}
 use Rattle.mesh_tie.proofs.IvLemmas.{iv_keeps}
 use Rattle.mesh_tie.proofs.MeshSteps.{got_front}
 use Rattle.mesh_tie.proofs.RunReach.{Comes, Runs, begun_runs, delivered_comes, given_comes, run_runs}
@@ -99,18 +100,18 @@ attempt_leads : (state : State) (attempt : Attempt) → IsBetweenLines state →
 attempt_leads state (Ok after) b comes = let c = comes after refl in goes_leads (gone_on state state.clock after) c.reachable c.settled
 attempt_leads state (Err limit) b comes = ends_leads state (Limit limit) b.reachable
 
-input_leads : (state : State) (given : Given) (place : ℕ) → IsBetweenLines state → IsOfLine given → Leads (input_step iv_setup given place state)
-input_leads state given place b of = attempt_leads state (given_to iv_setup place state.clock 0 given state.mesh) b (λ after is.
-    given_comes iv_queries state.mesh after place state.clock 0 given b.reachable b.settled (λ node found may got. line_gives state.mesh after place state.clock node given found may of got) is)
+input_leads : (state : State) (line : LineGiven) (place : ℕ) → IsBetweenLines state → TellsClient line → Leads (input_step iv_setup line place state)
+input_leads state line place b of = attempt_leads state (given_to iv_setup place state.clock 0 (Line line) state.mesh) b (λ after is.
+    given_comes iv_queries state.mesh after place state.clock 0 (Line line) b.reachable b.settled (λ node found may got. line_gives state.mesh after place state.clock node line found may of got) is)
 
-line_leads : (state : State) (name : List ℕ) (given : Given) → IsBetweenLines state → IsOfLine given → Leads (at_node name (input_step iv_setup given) state)
-line_leads state name given b of = at_leads state (input_step iv_setup given) (place_of state name) b (λ place. input_leads state given place b of)
+line_leads : (state : State) (name : List ℕ) (line : LineGiven) → IsBetweenLines state → TellsClient line → Leads (at_node name (input_step iv_setup line) state)
+line_leads state name line b of = at_leads state (input_step iv_setup line) (place_of state name) b (λ place. input_leads state line place b of)
 
-session_leads : (state : State) (given : Mac → Given) → ((mac : Mac) → IsOfLine (given mac)) → (node target : List ℕ) → IsBetweenLines state → Leads (session_step iv_setup given node target state)
-session_leads state given of node target b =
-    let to : ℕ → ℕ → Step = λ place end s. input_step iv_setup (given (address_at end s.mesh.nodes)) place s in
+session_leads : (state : State) (line : Mac → LineGiven) → ((mac : Mac) → TellsClient (line mac)) → (node target : List ℕ) → IsBetweenLines state → Leads (session_step iv_setup line node target state)
+session_leads state line of node target b =
+    let to : ℕ → ℕ → Step = λ place end s. input_step iv_setup (line (address_at end s.mesh.nodes)) place s in
     at_leads state (λ place. at_node target (to place)) (place_of state node) b (λ place.
-    at_leads state (to place) (place_of state target) b (λ end. input_leads state (given (address_at end state.mesh.nodes)) place b (of (address_at end state.mesh.nodes))))
+    at_leads state (to place) (place_of state target) b (λ end. input_leads state (line (address_at end state.mesh.nodes)) place b (of (address_at end state.mesh.nodes))))
 
 again_leads : (state : State) (place : ℕ) → IsBetweenLines state → Leads (after_attempt state (delivered iv_setup place state.clock state.mesh))
 again_leads state place b = attempt_leads state (delivered iv_setup place state.clock state.mesh) b (λ after is. delivered_comes iv_queries state.mesh after place state.clock iv_keeps b.reachable b.settled is)
@@ -135,9 +136,9 @@ shown_leads : (state : State) (name : List ℕ) (o : Option (ℕ → NodeLog →
 shown_leads state name None b = stays_leads state b
 shown_leads state name (Some print) b = show_leads state print (node_named state name) b
 
-frame_leads : (state : State) (name : List ℕ) (given : Given) (group : Bool) → IsBetweenLines state → IsOfLine given → Leads (after_step state (cond group None (Some (at_node name (input_step iv_setup given)))))
-frame_leads state name given true b of = stays_leads state b
-frame_leads state name given false b of = line_leads state name given b of
+frame_leads : (state : State) (name : List ℕ) (line : LineGiven) (group : Bool) → IsBetweenLines state → TellsClient line → Leads (after_step state (cond group None (Some (at_node name (input_step iv_setup line)))))
+frame_leads state name line true b of = stays_leads state b
+frame_leads state name line false b of = line_leads state name line b of
 
 -- ---- the rules on a new node
 second_none : (o p : Option Refusal) → option_or o p ≡ None → p ≡ None
@@ -182,7 +183,7 @@ step_leads state (Join node key) b tell none = line_leads state node (JoinGiven 
 step_leads state (Leave node key) b tell none = line_leads state node (LeaveGiven key) b tell
 step_leads state (Arp node mac own asked vid) b tell none = stays_leads state b
 step_leads state (Dhcp node key text) b tell none = stays_leads state b
-step_leads state (Wifi node on) b tell none = line_leads state node (WifiGiven on) b tt
+step_leads state (Wifi node on) b tell none = line_leads state node (Sets (WifiSet on)) b tt
 step_leads state (GwOff node) b tell none = stays_leads state b
 step_leads state (GwServer node down up) b tell none = stays_leads state b
 step_leads state (GwClient node policy) b tell none = stays_leads state b

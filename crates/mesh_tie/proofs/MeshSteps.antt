@@ -8,13 +8,13 @@ use Rattle.mesh_model.specs.declared.act.Act.TheVariants.{Link}
 use Rattle.mesh_model.specs.declared.table_change.Change.{Change}
 use Rattle.mesh_model.specs.Acts.Choosing.{acts_of}
 use Rattle.mesh_model.specs.Acts.Rows.{own_by, tick_acts}
-use Rattle.mesh_model.specs.Clients.Log.{Given, Tick, LinkFrame, Frame, Gone, Join, Leave, Arp, Dhcp, Wifi, Ping, Trace, Log, LogEntry}
+use Rattle.mesh_model.specs.Clients.Log.{Given, Tick, LinkFrame, Log, LogEntry, LanFrame, Line, LineGiven}
 use Rattle.mesh_model.specs.Clients.Mentions.{Mention, mentions}
 use Rattle.mesh_model.specs.Commits.Announcements.{announced_changes, told_changes}
-use Rattle.mesh_model.specs.Commits.History.{History, announced, commits, committed, history, is_commit_tick, next_history, present_table}
+use Rattle.mesh_model.specs.Commits.History.{History, with_message, commits, committed, history, is_commit_tick, next_history, present_table}
 use Rattle.mesh_model.specs.Commits.Versions.{last_commit}
 use Rattle.mesh_model.specs.Knowledge.Known.{Knowledge}
-use Rattle.mesh_model.specs.Knowledge.Steps.{knowledge, next_knowledge}
+use Rattle.mesh_model.specs.Knowledge.Steps.{line_knowledge, knowledge, next_knowledge}
 use Rattle.mesh_model.specs.Net.Due.{ticks_in}
 use Rattle.mesh_model.specs.Net.Inputs.{entry_of, given_to, noted_at, noting}
 use Rattle.mesh_model.specs.Net.Limits.{scenario_setup}
@@ -31,7 +31,7 @@ use Rattle.mesh_laws.proofs.Schedule.Steps.{get_front}
 use Rattle.mesh_tie.specs.Originators.{last_number, log_of, number_at_root}
 use Rattle.mesh_tie.specs.Sayings.{FrameSays}
 use Rattle.mesh_tie.specs.Sources.{IsWhole, KeepsOriginators}
-use Rattle.mesh_tie.specs.Steps.{IsNew, IsOfLine, IsReachable, Steps, begins, frame_comes, goes_on, line_gives, link_joins, node_joins, node_ticks, time_passes}
+use Rattle.mesh_tie.specs.Steps.{IsNew, IsReachable, Steps, begins, frame_comes, goes_on, line_gives, link_joins, node_joins, node_ticks, time_passes, TellsClient}
 use Rattle.mesh_tie.specs.Tie.{CommitsFit, FitsAnswer, FitsEntry, IsOrderly, IsTied, KnowsWhole, NodeIsTied, known_at_node}
 use Rattle.mesh_tie.specs.TieLaws.{AllKeep}
 use Rattle.mesh_tie.proofs.CommitLemmas.{Chain, Committed, Follows, announced_are, as_before, chain, chain_committed, committed_is, last_and_older, last_at, number_now, one_more, told_are}
@@ -69,19 +69,12 @@ commits_more w before after is (one_more version byte order same) = record {
 commits_next : (w : World) (ms : List Mention) (before : History) (now : ℕ) (given : Given) → w.commits ≡ before.commits → Committing w (next_history ms before now given).commits
 commits_next w ms before now (Tick index) is = go (is_commit_tick index)
   where
-    go : (b : Bool) → Committing w (cond b (announced (committed (present_table ms now) before)) before).commits
+    go : (b : Bool) → Committing w (cond b (with_message (committed (present_table ms now) before)) before).commits
     go true = commits_more w before (committed (present_table ms now) before) is (committed_is ms now before)
     go false = commits_stay w before.commits is
 commits_next w ms before now (LinkFrame number from throughput bytes) is = commits_stay w before.commits is
-commits_next w ms before now (Frame src dst vid text) is = commits_stay w before.commits is
-commits_next w ms before now (Gone key) is = commits_stay w before.commits is
-commits_next w ms before now (Join key) is = commits_stay w before.commits is
-commits_next w ms before now (Leave key) is = commits_stay w before.commits is
-commits_next w ms before now (Arp mac own_ip asked_ip vid) is = commits_stay w before.commits is
-commits_next w ms before now (Dhcp key text) is = commits_stay w before.commits is
-commits_next w ms before now (Wifi on) is = commits_stay w before.commits is
-commits_next w ms before now (Ping target) is = commits_stay w before.commits is
-commits_next w ms before now (Trace target) is = commits_stay w before.commits is
+commits_next w ms before now (LanFrame bytes) is = commits_stay w before.commits is
+commits_next w ms before now (Line line) is = commits_stay w before.commits is
 
 -- ---- nodes
 -- the node at a place after one noted an entry
@@ -272,14 +265,14 @@ fits_among (first ∷ rest) fit orig = go (one_or_two first.mac orig) (fits_amon
         (subst (λ m. OfCommits FitsEntry (commits m first.log)) same (λ n version is. (fit 0 first refl version (n, is)).each))
     go (inr other) more = subst (λ l. OfCommits FitsEntry (commits orig l)) (sym (log_rest orig first rest other)) more
 
-line_does : (queries : Mac → Queries) (orig : Mac) (mesh : Mesh) (place now : ℕ) (node : NodeLog) (given : Given) (log : Log) → IsOrderly queries mesh → slice_get mesh.nodes place ≡ Some node → IsOfLine given
-    → DoesIt queries orig mesh place node (entry_of (scenario_setup queries) node now given) 0 log
-line_does queries orig mesh place now node given log o found of v midway =
+line_does : (queries : Mac → Queries) (orig : Mac) (mesh : Mesh) (place now : ℕ) (node : NodeLog) (line : LineGiven) (log : Log) → IsOrderly queries mesh → slice_get mesh.nodes place ≡ Some node → TellsClient line
+    → DoesIt queries orig mesh place node (entry_of (scenario_setup queries) node now (Line line)) 0 log
+line_does queries orig mesh place now node line log o found of v midway =
     let q = queries node.mac in
     let known = known_at_node queries node in
-    goes_by orig log mesh.frames 0 v place (acts_of q node.mac node.log now given) (next_knowledge q node.mac node.log known now given).tables
-    (line_row orig log 0 v q node.mac node.log now given of (o.whole place node found) (o.knows place node found))
-    (λ u later. subst (λ calls. Comes orig log mesh.frames u place (known_by calls orig)) (sym (line_same q node.mac node.log known now given of)) (stays_tied orig log mesh.frames v place known.tables (midway.nodes place node found) u later))
+    goes_by orig log mesh.frames 0 v place (acts_of q node.mac node.log now (Line line)) (line_knowledge q node.mac node.log known now line).tables
+    (line_row orig log 0 v q node.mac node.log now line of (o.whole place node found) (o.knows place node found))
+    (λ u later. subst (λ calls. Comes orig log mesh.frames u place (known_by calls orig)) (sym (line_same q node.mac node.log known now line)) (stays_tied orig log mesh.frames v place known.tables (midway.nodes place node found) u later))
 
 -- what a tick commits fits
 abbrev FitsLog : NodeLog → LogEntry → Type 0
@@ -318,7 +311,7 @@ tick_does queries orig mesh place now node before log keeps o found l fit v midw
     linked = chain_committed old after (committed_is ms now old) (chain node.mac node.log)
 
     made : is_commit_tick index ≡ true → commits node.mac (entry ∷ node.log) ≡ after.commits
-    made is = ap (λ b. (cond b (announced after) old).commits) is
+    made is = ap (λ b. (cond b (with_message after) old).commits) is
 
     all_fit : is_commit_tick index ≡ true → (n : ℕ) (version : Version) → commit_numbered n after.commits ≡ Some version → FitsAnswer version.table
     all_fit is n version found_at = fit version (n, ap (commit_numbered n) (made is) ∙ found_at)
@@ -492,20 +485,6 @@ joined_tied queries orig mesh new w empty tied = record {
     node_at at n (inr is) = subst (λ l. NodeIsTied orig (log_of orig mesh.nodes) mesh.frames (known_by (knowledge (queries n.mac) n.mac l).tables orig) (w.nodes at)) (sym (ap (λ (x : NodeLog). x.log) is.0 ∙ empty))
         (subst (NodeIsTied orig (log_of orig mesh.nodes) mesh.frames Rattle.mesh_model.specs.Tables.Known.nothing) (sym (tied.absent at is.1)) (record { held = refl; told = refl }))
 
--- a line is no tick
-pub follows_line : (log : Log) (given : Given) → IsOfLine given → Follows log given
-follows_line log (Tick index) of = absurd of
-follows_line log (LinkFrame number from throughput bytes) of = absurd of
-follows_line log (Frame src dst vid text) of = tt
-follows_line log (Gone key) of = tt
-follows_line log (Join key) of = tt
-follows_line log (Leave key) of = tt
-follows_line log (Arp mac own_ip asked_ip vid) of = tt
-follows_line log (Dhcp key text) of = tt
-follows_line log (Wifi on) of = tt
-follows_line log (Ping target) of = tt
-follows_line log (Trace target) of = tt
-
 pub got_noted : (nodes : List NodeLog) (place : ℕ) (node : NodeLog) (entry : LogEntry) → slice_get nodes place ≡ Some node → slice_get (noted_at place entry nodes) place ≡ Some (noting entry node)
 got_noted [] place node entry found = cc
 got_noted (first ∷ rest) zero node entry found = ap (λ n. Some (noting entry n)) (one_some first node found)
@@ -528,9 +507,9 @@ pub step_tied : (queries : Mac → Queries) (mesh after : Mesh) → AllKeep quer
 unfolding joined
 step_tied queries mesh _ keep h fit (node_joins _ node empty whole fresh) orig w base tied = record { world = w; path = no_move w; tied = joined_tied queries orig mesh node w empty tied }
 step_tied queries mesh _ keep h fit (link_joins _ link) orig w base tied = record { world = w; path = no_move w; tied = record { commits = tied.commits; frames = tied.frames; nodes = tied.nodes; absent = tied.absent } }
-step_tied queries mesh after keep h fit (line_gives _ _ place now node given found may of is) orig w base tied =
-    given_step queries orig mesh after place now 0 node given w h.orderly found (follows_line node.log given of) is
-    (line_does queries orig mesh place now node given (log_of orig (noted_at place (entry_of (scenario_setup queries) node now given) mesh.nodes)) h.orderly found of) base tied
+step_tied queries mesh after keep h fit (line_gives _ _ place now node line found may of is) orig w base tied =
+    given_step queries orig mesh after place now 0 node (Line line) w h.orderly found tt is
+    (line_does queries orig mesh place now node line (log_of orig (noted_at place (entry_of (scenario_setup queries) node now (Line line)) mesh.nodes)) h.orderly found of) base tied
 step_tied queries mesh after keep h fit (node_ticks _ _ place now node found may is) orig w base tied =
     let entry = entry_of (scenario_setup queries) node now (Tick (suc (ticks_in node.log))) in
     given_step queries orig mesh after place now (suc (ticks_in node.log)) node (Tick (suc (ticks_in node.log))) w h.orderly found refl is
@@ -550,8 +529,8 @@ pub step_orderly : (queries : Mac → Queries) (mesh after : Mesh) → Holds que
 unfolding joined
 step_orderly queries mesh _ h all (node_joins _ node empty whole fresh) = joined_orderly queries mesh node empty whole fresh h.orderly
 step_orderly queries mesh _ h all (link_joins _ link) = record { whole = h.orderly.whole; distinct = h.orderly.distinct; knows = h.orderly.knows }
-step_orderly queries mesh after h all (line_gives _ _ place now node given found may of is) =
-    knows_after queries node.mac mesh after place now 0 node given h.orderly found is (line_knows (queries node.mac) node.mac node.log (known_at_node queries node) now given of (h.orderly.knows place node found))
+step_orderly queries mesh after h all (line_gives _ _ place now node line found may of is) =
+    knows_after queries node.mac mesh after place now 0 node (Line line) h.orderly found is (line_knows (queries node.mac) node.mac node.log (known_at_node queries node) now line (h.orderly.knows place node found))
 step_orderly queries mesh after h all (node_ticks _ _ place now node found may is) =
     let k = h.orderly.knows place node found in
     knows_after queries node.mac mesh after place now (suc (ticks_in node.log)) node (Tick (suc (ticks_in node.log))) h.orderly found is (record { tables = k.tables; marks = k.marks })

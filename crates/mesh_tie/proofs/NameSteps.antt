@@ -10,11 +10,11 @@ use Rattle.mesh_model.specs.declared.packet.Head.{Head}
 use Rattle.mesh_model.specs.declared.packet.Head.TheVariants.{IvOgm, Bcast, Elp, Ogm2, Unicast, Frag, Unicast4, Icmp, Utvlv}
 use Rattle.mesh_model.specs.Acts.Choosing.{acts_of, client_acts, probing_acts, sighting_acts}
 use Rattle.mesh_model.specs.Acts.Rows.{Own, own_by, packet_acts, packets_acts}
-use Rattle.mesh_model.specs.Clients.Log.{Given, Tick, LinkFrame, Frame, Gone, Join, Leave, Arp, Dhcp, Wifi, Ping, Trace, Log, LogEntry}
+use Rattle.mesh_model.specs.Clients.Log.{Given, Tick, LinkFrame, Frame, Gone, Join, Leave, Arp, Dhcp, Ping, Trace, Log, LogEntry, LanFrame, Line, LineGiven, Attach, Sets, Put, Get}
 use Rattle.mesh_model.specs.Clients.Mentions.{key_of, mentions, next_mentions}
 use Rattle.mesh_model.specs.Commits.History.{commits, history}
 use Rattle.mesh_model.specs.Knowledge.Known.{Knowledge, agreed_byte, is_new_broadcast}
-use Rattle.mesh_model.specs.Knowledge.Steps.{Coming, advertised, after_announcement, after_answer, after_broadcast, after_containers, after_head, after_message, after_packet, after_packets, after_reply, after_roaming, after_sighting, after_taken, before_announcement, knowledge, next_knowledge, released_under, with_head, with_life}
+use Rattle.mesh_model.specs.Knowledge.Steps.{Coming, advertised, after_announcement, after_answer, after_containers, after_head, line_knowledge, after_packet, after_packets, after_reply, after_roaming, after_sighting, after_taken, before_announcement, knowledge, next_knowledge, released_under, with_head, with_life}
 use Rattle.mesh_model.specs.Knowledge.Told.{Message, TableMessage, Asks, Answers, Neither, message_in, message_of, message_with}
 use Rattle.mesh_model.specs.Net.Due.{ticks_in}
 use Rattle.mesh_model.specs.Net.Inputs.{entry_of, given_to, noted_at, noting}
@@ -40,7 +40,7 @@ use Rattle.mesh_tie.specs.ByTable.{FramesByTable, HadCome, IsSentByTable, told_i
 use Rattle.mesh_tie.specs.Originators.{commits_of, log_of}
 use Rattle.mesh_tie.specs.Sayings.{PacketSays}
 use Rattle.mesh_tie.specs.Sources.{IsWhole, KeepsOriginators}
-use Rattle.mesh_tie.specs.Steps.{IsOfLine, IsReachable, Steps, begins, frame_comes, goes_on, line_gives, link_joins, node_joins, node_ticks, time_passes}
+use Rattle.mesh_tie.specs.Steps.{IsReachable, Steps, begins, frame_comes, goes_on, line_gives, link_joins, node_joins, node_ticks, time_passes}
 use Rattle.mesh_tie.specs.Tie.{CommitsFit, IsTied, KnowsWhole, NodeIsTied, known_at_node}
 use Rattle.mesh_tie.specs.TieLaws.{AllKeep}
 use Rattle.mesh_tie.proofs.CommitLemmas.{Follows, numbered_next}
@@ -48,7 +48,7 @@ use Rattle.mesh_tie.proofs.EntryLemmas.{each_appended}
 use Rattle.mesh_tie.proofs.FitLemmas.{commits_always_fit}
 use Rattle.mesh_tie.proofs.KnowsLemmas.{packet_knows, sighting_knows}
 use Rattle.mesh_tie.proofs.LogLemmas.{Grows, grows_same}
-use Rattle.mesh_tie.proofs.MeshSteps.{LogAfter, Reached, Renewed, another, came_in, fits_among, follows_line, frame_ready, got_front, grows_after, itself, log_after, log_joined, midway_of, reached, renewed}
+use Rattle.mesh_tie.proofs.MeshSteps.{LogAfter, Reached, Renewed, another, came_in, fits_among, frame_ready, got_front, grows_after, itself, log_after, log_joined, midway_of, reached, renewed}
 use Rattle.mesh_tie.proofs.NamesRows.{ActNames, CanName, IsClear, found_told, frame_names, names_tick, packet_names, plain_advert, plain_names, plain_session}
 use Rattle.mesh_tie.proofs.NodeSteps.{Ready, line_same, packet_goes, ready_later}
 use Rattle.mesh_tie.proofs.PacketSteps.{CameIn}
@@ -78,7 +78,7 @@ taken_more q came head source (Some table) known = go (q.hear known.routes came.
 
     go : (b : Bool) → More known.tables (cond b (after_announcement q came message (before_announcement q came head source known)) (with_head came head known)).tables
     go true = more_then known.tables (before_announcement q came head source known).tables (after_announcement q came message (before_announcement q came head source known)).tables
-        (life (not (q.live known.routes came.now source))) (Rattle.mesh_model.specs.Knowledge.Steps.announcement came message ∷ [], refl)
+        (life (q.hear known.routes came.now came.from came.throughput head).began) (Rattle.mesh_model.specs.Knowledge.Steps.announced_table came message ∷ [], refl)
     go false = ([], refl)
 
 answer_more : (q : Queries) (now : ℕ) (src : Mac) (message : TableMessage) (known : Knowledge) → More known.tables (after_answer q now src message known).tables
@@ -125,25 +125,14 @@ packets_calls q me came (packet ∷ rest) known =
     more_then known.tables (after_packet q me came known packet).tables (after_packets q me came (after_packet q me came known packet) rest).tables
     (packet_calls q me came packet known) (packets_calls q me came rest (after_packet q me came known packet))
 
+line_calls : (q : Queries) (me : Mac) (older : Log) (known : Knowledge) (now : ℕ) (line : LineGiven) → More known.tables (line_knowledge q me older known now line).tables
+line_calls q me older known now line = more_same known.tables (line_knowledge q me older known now line).tables (line_same q me older known now line)
+
 pub next_calls : (q : Queries) (me : Mac) (older : Log) (known : Knowledge) (now : ℕ) (given : Given) → More known.tables (next_knowledge q me older known now given).tables
 next_calls q me older known now (Tick index) = ([], refl)
 next_calls q me older known now (LinkFrame number from throughput bytes) = packets_calls q me (record { now = now; from = from; throughput = throughput; number = number }) (link_frame bytes).packets known
-next_calls q me older known now (Frame src dst vid text) = more_same known.tables (next_knowledge q me older known now (Frame src dst vid text)).tables (go (Rattle.mesh_base.specs.Address.is_broadcast dst))
-  where
-    then : Knowledge
-    then = after_sighting q me older now (key_of src vid) known
-
-    go : (b : Bool) → (cond b (record then { sent = suc then.sent }) then).tables ≡ known.tables
-    go true = refl
-    go false = refl
-next_calls q me older known now (Gone key) = ([], refl)
-next_calls q me older known now (Join key) = ([], refl)
-next_calls q me older known now (Leave key) = ([], refl)
-next_calls q me older known now (Arp mac own_ip asked_ip vid) = ([], refl)
-next_calls q me older known now (Dhcp key text) = ([], refl)
-next_calls q me older known now (Wifi on) = ([], refl)
-next_calls q me older known now (Ping target) = ([], refl)
-next_calls q me older known now (Trace target) = ([], refl)
+next_calls q me older known now (LanFrame bytes) = ([], refl)
+next_calls q me older known now (Line line) = line_calls q me older known now line
 
 -- ---- packets
 can_name : (had all : TableCalls) (orig : Mac) (log : Log) (frames : List SentFrame) (w : World) (m : ℕ) (known : Knowledge) → More had known.tables → More known.tables all → KnowsWhole known → IsClear orig log w → NodeIsTied orig log frames (known_by known.tables orig) (w.nodes m) → CanName had all orig log frames known
@@ -175,32 +164,33 @@ packets_name had all orig log frames root w m q me own came (packet ∷ rest) kn
 
 -- ---- one input
 -- the acts of an input, from the world midway
-line_names : (orig : Mac) (log : Log) (frames : List SentFrame) (v : World) (m : ℕ) (q : Queries) (me : Mac) (mine : Log) (now : ℕ) (given : Given) → IsOfLine given → KnowsWhole (knowledge q me mine) → IsClear orig log v
-    → NodeIsTied orig log frames (known_by (knowledge q me mine).tables orig) (v.nodes m) → AllByRecursion (ActNames (knowledge q me mine).tables (knowledge q me mine).tables orig log frames) (acts_of q me mine now given)
-line_names orig log frames v m q me mine now (Tick index) of k clear tied = absurd of
-line_names orig log frames v m q me mine now (LinkFrame number from throughput bytes) of k clear tied = absurd of
-line_names orig log frames v m q me mine now (Frame src dst vid text) of k clear tied =
+line_names : (orig : Mac) (log : Log) (frames : List SentFrame) (v : World) (m : ℕ) (q : Queries) (me : Mac) (mine : Log) (now : ℕ) (line : LineGiven) → KnowsWhole (knowledge q me mine) → IsClear orig log v
+    → NodeIsTied orig log frames (known_by (knowledge q me mine).tables orig) (v.nodes m) → AllByRecursion (ActNames (knowledge q me mine).tables (knowledge q me mine).tables orig log frames) (acts_of q me mine now (Line line))
+line_names orig log frames v m q me mine now (Attach lan gateways) k clear tied = tt
+line_names orig log frames v m q me mine now (Frame src dst vid text) k clear tied =
     let client : ClientFrame = record { dst = dst; src = src; vid = vid; text = text } in
     let key = key_of src vid in
     let known = knowledge q me mine in
     let seen = after_sighting q me mine now key known in
-    let ms = next_mentions me mine (mentions me mine) now (Frame src dst vid text) in
+    let ms = next_mentions me mine (mentions me mine) now (Line (Frame src dst vid text)) in
     each_appended (ActNames known.tables known.tables orig log frames) (sighting_acts q me mine now key) (client_acts q me mine now client)
     (plain_names known.tables known.tables orig log frames (sighting_acts q me mine now key) (plain_advert me key (advertised q me mine known now key)))
     (frame_names known.tables known.tables orig log frames q seen ms (record { me = me; now = now }) client
     (can_name known.tables known.tables orig log frames v m seen ([], refl) ([], refl) (sighting_knows q me mine now key known k) clear tied))
-line_names orig log frames v m q me mine now (Gone key) of k clear tied = tt
-line_names orig log frames v m q me mine now (Join key) of k clear tied = tt
-line_names orig log frames v m q me mine now (Leave key) of k clear tied = tt
-line_names orig log frames v m q me mine now (Arp mac own_ip asked_ip vid) of k clear tied =
+line_names orig log frames v m q me mine now (Gone key) k clear tied = tt
+line_names orig log frames v m q me mine now (Join key) k clear tied = tt
+line_names orig log frames v m q me mine now (Leave key) k clear tied = tt
+line_names orig log frames v m q me mine now (Arp mac own_ip asked_ip vid) k clear tied =
     plain_names (knowledge q me mine).tables (knowledge q me mine).tables orig log frames (sighting_acts q me mine now (key_of mac vid)) (plain_advert me (key_of mac vid) (advertised q me mine (knowledge q me mine) now (key_of mac vid)))
-line_names orig log frames v m q me mine now (Dhcp key text) of k clear tied =
+line_names orig log frames v m q me mine now (Dhcp key text) k clear tied =
     plain_names (knowledge q me mine).tables (knowledge q me mine).tables orig log frames (sighting_acts q me mine now key) (plain_advert me key (advertised q me mine (knowledge q me mine) now key))
-line_names orig log frames v m q me mine now (Wifi on) of k clear tied = tt
-line_names orig log frames v m q me mine now (Ping target) of k clear tied =
+line_names orig log frames v m q me mine now (Sets setting) k clear tied = tt
+line_names orig log frames v m q me mine now (Put type_no version text) k clear tied = tt
+line_names orig log frames v m q me mine now (Get type_no) k clear tied = tt
+line_names orig log frames v m q me mine now (Ping target) k clear tied =
     let known = knowledge q me mine in
     plain_names known.tables known.tables orig log frames (probing_acts q me mine now target false) (plain_session q known (record { me = me; now = now }) target false)
-line_names orig log frames v m q me mine now (Trace target) of k clear tied =
+line_names orig log frames v m q me mine now (Trace target) k clear tied =
     let known = knowledge q me mine in
     plain_names known.tables known.tables orig log frames (probing_acts q me mine now target true) (plain_session q known (record { me = me; now = now }) target true)
 
@@ -334,17 +324,17 @@ abbrev NamedIf : (Mac → Queries) → Mac → Mesh → Type 0
 NamedIf queries orig mesh = HasNoAlias (commits_of orig mesh) → Named queries orig mesh
 
 -- what the acts of a step's input name, where no two commits behind it are an alias
-pub line_acts : (queries : Mac → Queries) (mesh : Mesh) (place now : ℕ) (node : NodeLog) (given : Given) (orig : Mac) → Reached queries mesh → slice_get mesh.nodes place ≡ Some node → IsOfLine given
-    → HasNoAlias (commits orig (log_of orig (noted_at place (entry_of (scenario_setup queries) node now given) mesh.nodes)))
-    → EntryNames queries orig node.mac (log_of orig (noted_at place (entry_of (scenario_setup queries) node now given) mesh.nodes)) mesh.frames node.log (entry_of (scenario_setup queries) node now given)
-line_acts queries mesh place now node given orig h found of clear =
-    let entry = entry_of (scenario_setup queries) node now given in
+pub line_acts_name : (queries : Mac → Queries) (mesh : Mesh) (place now : ℕ) (node : NodeLog) (line : LineGiven) (orig : Mac) → Reached queries mesh → slice_get mesh.nodes place ≡ Some node
+    → HasNoAlias (commits orig (log_of orig (noted_at place (entry_of (scenario_setup queries) node now (Line line)) mesh.nodes)))
+    → EntryNames queries orig node.mac (log_of orig (noted_at place (entry_of (scenario_setup queries) node now (Line line)) mesh.nodes)) mesh.frames node.log (entry_of (scenario_setup queries) node now (Line line))
+line_acts_name queries mesh place now node line orig h found clear =
+    let entry = entry_of (scenario_setup queries) node now (Line line) in
     let log = log_of orig (noted_at place entry mesh.nodes) in
     let l = log_after queries orig mesh place node entry h.holds.orderly found in
     let tie = h.ties orig in
-    let v = midway_of queries orig mesh node entry log tie.0 l (follows_line node.log given of) tie.1 tie.2 in
-    subst (λ all. AllName (known_at_node queries node).tables all orig log mesh.frames entry.acts) (sym (line_same (queries node.mac) node.mac node.log (known_at_node queries node) now given of))
-    (line_names orig log mesh.frames v.0 place (queries node.mac) node.mac node.log now given of (h.holds.orderly.knows place node found)
+    let v = midway_of queries orig mesh node entry log tie.0 l tt tie.1 tie.2 in
+    subst (λ all. AllName (known_at_node queries node).tables all orig log mesh.frames entry.acts) (sym (line_same (queries node.mac) node.mac node.log (known_at_node queries node) now line))
+    (line_names orig log mesh.frames v.0 place (queries node.mac) node.mac node.log now line (h.holds.orderly.knows place node found)
     (record { base = v.1.base; none = subst HasNoAlias (sym v.1.commits) clear; commits = v.1.commits }) (v.1.nodes place node found))
 
 pub tick_names : (queries : Mac → Queries) (mesh : Mesh) (place now : ℕ) (node : NodeLog) (orig : Mac) (log : Log)
@@ -378,14 +368,14 @@ frame_acts_name queries mesh after place now number throughput from node frame o
 step_named : (queries : Mac → Queries) (mesh after : Mesh) → AllKeep queries → Reached queries mesh → CommitsFit after → Steps queries mesh after → (orig : Mac) → NamedIf queries orig mesh → NamedIf queries orig after
 step_named queries mesh _ keep h fit (node_joins _ node empty whole fresh) orig named none = joined_named queries orig mesh node empty (named (subst (λ l. HasNoAlias (commits orig l)) (log_joined orig mesh.nodes node empty) none))
 step_named queries mesh _ keep h fit (link_joins _ link) orig named none = named none
-step_named queries mesh after keep h fit (line_gives _ _ place now node given found may of is) orig named none =
-    let entry = entry_of (scenario_setup queries) node now given in
+step_named queries mesh after keep h fit (line_gives _ _ place now node line found may of is) orig named none =
+    let entry = entry_of (scenario_setup queries) node now (Line line) in
     let log = log_of orig (noted_at place entry mesh.nodes) in
-    let has = given_is (scenario_setup queries) place now 0 node given mesh after found is in
+    let has = given_is (scenario_setup queries) place now 0 node (Line line) mesh after found is in
     let l = log_after queries orig mesh place node entry h.holds.orderly found in
     let clear : HasNoAlias (commits orig log) = subst (λ ns. HasNoAlias (commits orig (log_of orig ns))) (has.nodes) none in
-    given_named queries orig mesh after place now 0 node given (named (none_before (commits orig (log_of orig mesh.nodes)) (commits orig log) (commits_kept orig node entry (log_of orig mesh.nodes) log l) clear)) found (follows_line node.log given of) l is
-    (line_acts queries mesh place now node given orig h found of clear)
+    given_named queries orig mesh after place now 0 node (Line line) (named (none_before (commits orig (log_of orig mesh.nodes)) (commits orig log) (commits_kept orig node entry (log_of orig mesh.nodes) log l) clear)) found tt l is
+    (line_acts_name queries mesh place now node line orig h found clear)
 step_named queries mesh after keep h fit (node_ticks _ _ place now node found may is) orig named none =
     let index = suc (ticks_in node.log) in
     let entry = entry_of (scenario_setup queries) node now (Tick index) in

@@ -12,7 +12,7 @@ use Rattle.mesh_model.specs.Acts.FrameRows.{advert_acts}
 use Rattle.mesh_model.specs.Acts.OwnContainers.{own_containers}
 use Rattle.mesh_model.specs.Acts.Packing.{roaming_container, sent_to_all}
 use Rattle.mesh_model.specs.Acts.Rows.{Own, alias_acts, alias_event, commit_acts, message_acts, packet_acts, packets_acts, tick_acts}
-use Rattle.mesh_model.specs.Clients.Log.{Given, Tick, LinkFrame, Frame, Gone, Join, Leave, Arp, Dhcp, Wifi, Ping, Trace, Log}
+use Rattle.mesh_model.specs.Clients.Log.{Frame, Gone, Join, Leave, Arp, Dhcp, Ping, Trace, Log, Line, LineGiven, Attach, Sets, Put, Get}
 use Rattle.mesh_model.specs.Clients.Mentions.{Mention, key_of, mentions, next_mentions}
 use Rattle.mesh_model.specs.Commits.Announcements.{announced_changes, announcement}
 use Rattle.mesh_model.specs.Commits.History.{History, committed, is_commit_tick, present_table}
@@ -20,7 +20,7 @@ use Rattle.mesh_model.specs.Commits.Aliases.{last_alias}
 use Rattle.mesh_model.specs.Commits.Versions.{last_commit}
 use Rattle.mesh_model.specs.Knowledge.Addressee.{Way}
 use Rattle.mesh_model.specs.Knowledge.Known.{Knowledge}
-use Rattle.mesh_model.specs.Knowledge.Steps.{Coming, advertised, after_frame, after_packet, after_packets, after_sighting, knowledge, next_knowledge}
+use Rattle.mesh_model.specs.Knowledge.Steps.{Coming, advertised, after_frame, line_knowledge, after_packet, after_packets, after_sighting, knowledge}
 use Rattle.mesh_model.specs.Knowledge.Told.{stamp_told}
 use Rattle.mesh_model.specs.Net.Due.{ticks_in}
 use Rattle.mesh_model.specs.Net.Mesh.{SentFrame}
@@ -40,7 +40,7 @@ use Rattle.mesh_tvlv.specs.Laws.{FitsKey}
 use Rattle.mesh_tie.specs.Originators.{last_number, number_at_root}
 use Rattle.mesh_tie.specs.Sayings.{FrameSays, IsAnnounced, PacketSays}
 use Rattle.mesh_tie.specs.Sources.{IsWhole, KeepsOriginators}
-use Rattle.mesh_tie.specs.Steps.{IsOfLine}
+use Rattle.mesh_tie.specs.Steps.{TellsClient}
 use Rattle.mesh_tie.specs.Tie.{FitsAnswer, FitsEntry, KnowsWhole, NodeIsTied}
 use Rattle.mesh_tie.proofs.CalmRows.{calm_frame, calm_session}
 use Rattle.mesh_tie.proofs.CommitLemmas.{Chain, announced_are, last_and_older}
@@ -254,14 +254,13 @@ sighting_row : (orig : Mac) (log : Log) (root : ℕ) (w : World) (q : Queries) (
     → AllByRecursion (Sayable orig log root w) (sighting_acts q me mine now key)
 sighting_row orig log root w q me mine now key whole k fits = advert_row orig log root w me key (advertised q me mine (knowledge q me mine) now key) whole fits (advertised_whole q me mine (knowledge q me mine) now key k)
 
-pub line_row : (orig : Mac) (log : Log) (root : ℕ) (w : World) (q : Queries) (me : Mac) (mine : Log) (now : ℕ) (given : Given) → IsOfLine given → IsWhole me → KnowsWhole (knowledge q me mine)
-    → AllByRecursion (Sayable orig log root w) (acts_of q me mine now given)
-line_row orig log root w q me mine now (Tick index) of whole k = absurd of
-line_row orig log root w q me mine now (LinkFrame number from throughput bytes) of whole k = absurd of
+pub line_row : (orig : Mac) (log : Log) (root : ℕ) (w : World) (q : Queries) (me : Mac) (mine : Log) (now : ℕ) (line : LineGiven) → TellsClient line → IsWhole me → KnowsWhole (knowledge q me mine)
+    → AllByRecursion (Sayable orig log root w) (acts_of q me mine now (Line line))
+line_row orig log root w q me mine now (Attach lan gateways) of whole k = tt
 line_row orig log root w q me mine now (Frame src dst vid text) of whole k =
     let frame : ClientFrame = record { dst = dst; src = src; vid = vid; text = text } in
     let known = after_sighting q me mine now (key_of src vid) (knowledge q me mine) in
-    let ms = next_mentions me mine (mentions me mine) now (Frame src dst vid text) in
+    let ms = next_mentions me mine (mentions me mine) now (Line (Frame src dst vid text)) in
     each_appended (Sayable orig log root w) (sighting_acts q me mine now (key_of src vid)) (client_acts q me mine now frame) (sighting_row orig log root w q me mine now (key_of src vid) whole k of.fits)
     (calm_row orig log root w (client_acts q me mine now frame) (calm_frame q known ms (record { me = me; now = now }) frame))
 line_row orig log root w q me mine now (Gone key) of whole k = tt
@@ -269,7 +268,9 @@ line_row orig log root w q me mine now (Join key) of whole k = tt
 line_row orig log root w q me mine now (Leave key) of whole k = tt
 line_row orig log root w q me mine now (Arp mac own_ip asked_ip vid) of whole k = sighting_row orig log root w q me mine now (key_of mac vid) whole k of.fits
 line_row orig log root w q me mine now (Dhcp key text) of whole k = sighting_row orig log root w q me mine now key whole k of.fits
-line_row orig log root w q me mine now (Wifi on) of whole k = tt
+line_row orig log root w q me mine now (Sets setting) of whole k = tt
+line_row orig log root w q me mine now (Put type_no version text) of whole k = tt
+line_row orig log root w q me mine now (Get type_no) of whole k = tt
 line_row orig log root w q me mine now (Ping target) of whole k = calm_row orig log root w (probing_acts q me mine now target false) (calm_session q (knowledge q me mine) (record { me = me; now = now }) target false)
 line_row orig log root w q me mine now (Trace target) of whole k = calm_row orig log root w (probing_acts q me mine now target true) (calm_session q (knowledge q me mine) (record { me = me; now = now }) target true)
 
@@ -288,28 +289,30 @@ frame_same dst known = go (Rattle.mesh_base.specs.Address.is_broadcast dst)
     go false = refl
 
 -- a line leaves what is known of tables as it is
-pub line_same : (q : Queries) (me : Mac) (mine : Log) (known : Knowledge) (now : ℕ) (given : Given) → IsOfLine given → (next_knowledge q me mine known now given).tables ≡ known.tables
-line_same q me mine known now (Tick index) of = absurd of
-line_same q me mine known now (LinkFrame number from throughput bytes) of = absurd of
-line_same q me mine known now (Frame src dst vid text) of = frame_same dst (after_sighting q me mine now (key_of src vid) known)
-line_same q me mine known now (Gone key) of = refl
-line_same q me mine known now (Join key) of = refl
-line_same q me mine known now (Leave key) of = refl
-line_same q me mine known now (Arp mac own_ip asked_ip vid) of = refl
-line_same q me mine known now (Dhcp key text) of = refl
-line_same q me mine known now (Wifi on) of = refl
-line_same q me mine known now (Ping target) of = refl
-line_same q me mine known now (Trace target) of = refl
+pub line_same : (q : Queries) (me : Mac) (mine : Log) (known : Knowledge) (now : ℕ) (line : LineGiven) → (line_knowledge q me mine known now line).tables ≡ known.tables
+line_same q me mine known now (Attach lan gateways) = refl
+line_same q me mine known now (Frame src dst vid text) = frame_same dst (after_sighting q me mine now (key_of src vid) known)
+line_same q me mine known now (Gone key) = refl
+line_same q me mine known now (Join key) = refl
+line_same q me mine known now (Leave key) = refl
+line_same q me mine known now (Arp mac own_ip asked_ip vid) = refl
+line_same q me mine known now (Dhcp key text) = refl
+line_same q me mine known now (Sets setting) = refl
+line_same q me mine known now (Put type_no version text) = refl
+line_same q me mine known now (Get type_no) = refl
+line_same q me mine known now (Ping target) = refl
+line_same q me mine known now (Trace target) = refl
 
-pub line_knows : (q : Queries) (me : Mac) (mine : Log) (known : Knowledge) (now : ℕ) (given : Given) → IsOfLine given → KnowsWhole known → KnowsWhole (next_knowledge q me mine known now given)
-line_knows q me mine known now (Tick index) of k = absurd of
-line_knows q me mine known now (LinkFrame number from throughput bytes) of k = absurd of
-line_knows q me mine known now (Frame src dst vid text) of k = frame_knows dst (after_sighting q me mine now (key_of src vid) known) (sighting_knows q me mine now (key_of src vid) known k)
-line_knows q me mine known now (Gone key) of k = k
-line_knows q me mine known now (Join key) of k = k
-line_knows q me mine known now (Leave key) of k = k
-line_knows q me mine known now (Arp mac own_ip asked_ip vid) of k = sighting_knows q me mine now (key_of mac vid) known k
-line_knows q me mine known now (Dhcp key text) of k = sighting_knows q me mine now key known k
-line_knows q me mine known now (Wifi on) of k = k
-line_knows q me mine known now (Ping target) of k = record { tables = k.tables; marks = k.marks }
-line_knows q me mine known now (Trace target) of k = record { tables = k.tables; marks = k.marks }
+pub line_knows : (q : Queries) (me : Mac) (mine : Log) (known : Knowledge) (now : ℕ) (line : LineGiven) → KnowsWhole known → KnowsWhole (line_knowledge q me mine known now line)
+line_knows q me mine known now (Attach lan gateways) k = k
+line_knows q me mine known now (Frame src dst vid text) k = frame_knows dst (after_sighting q me mine now (key_of src vid) known) (sighting_knows q me mine now (key_of src vid) known k)
+line_knows q me mine known now (Gone key) k = k
+line_knows q me mine known now (Join key) k = k
+line_knows q me mine known now (Leave key) k = k
+line_knows q me mine known now (Arp mac own_ip asked_ip vid) k = sighting_knows q me mine now (key_of mac vid) known k
+line_knows q me mine known now (Dhcp key text) k = sighting_knows q me mine now key known k
+line_knows q me mine known now (Sets setting) k = k
+line_knows q me mine known now (Put type_no version text) k = k
+line_knows q me mine known now (Get type_no) k = k
+line_knows q me mine known now (Ping target) k = record { tables = k.tables; marks = k.marks }
+line_knows q me mine known now (Trace target) k = record { tables = k.tables; marks = k.marks }

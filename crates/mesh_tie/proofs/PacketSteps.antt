@@ -12,8 +12,8 @@ use Rattle.mesh_model.specs.Acts.Rows.{Own, head_acts, icmp_acts, packet_acts, p
 use Rattle.mesh_model.specs.Acts.TableRows.{other_containers, own_answer}
 use Rattle.mesh_model.specs.Clients.Log.{Log}
 use Rattle.mesh_model.specs.Knowledge.Known.{Broadcast, Knowledge, is_new_broadcast}
-use Rattle.mesh_model.specs.Knowledge.Steps.{Coming, after_announcement, after_answer, after_broadcast, after_containers, after_head, after_message, after_packet, after_reply, after_roaming, after_taken, announcement, before_announcement, request_out, with_announcement, with_head, with_life}
-use Rattle.mesh_model.specs.Knowledge.Told.{Message, TableMessage, Asks, Answers, Neither, changes_told, message_in, message_of, message_with, stamp_told}
+use Rattle.mesh_model.specs.Knowledge.Steps.{Coming, after_announcement, after_answer, after_broadcast, after_containers, after_head, after_message, after_packet, after_reply, after_roaming, after_taken, announced_table, before_announcement, request_out, with_announcement, with_head, with_life}
+use Rattle.mesh_model.specs.Knowledge.Told.{Message, TableMessage, Asks, Answers, Neither, message_changes, message_in, message_of, message_with, stamp_told}
 use Rattle.mesh_model.specs.Net.Mesh.{SentFrame}
 use Rattle.mesh_model.specs.Packets.Bodies.{TtData}
 use Rattle.mesh_model.specs.Packets.Containers.{containers_of}
@@ -69,7 +69,7 @@ answered_call orig log frames w m source stamp carried calls c was = go (same_ma
     go false is = c
 
 brought_by : (orig : Mac) (log : Log) (frames : List SentFrame) (said : List Saying) (root number : ℕ) (head : Head) (message : Message) (tail : List ℕ) → CameIn frames root number → IsTaken orig log said root head message tail
-    → message.orig ≡ orig → IsBrought orig log frames said number (stamp_told message.table) (changes_told message.table)
+    → message.orig ≡ orig → IsBrought orig log frames said number (stamp_told message.table) (message_changes message.table)
 brought_by orig log frames said root number head message tail f t same =
     let a = t.says same in
     let table : a.table ≡ message.table = let both : Some a.table ≡ Some message.table = sym a.found ∙ t.found in cc in
@@ -91,8 +91,8 @@ message_comes orig log frames w m q root came head message tail known f t c = go
     begun false = c
 
     go : (b : Bool) → Tied orig log frames w m (cond b (after_announcement q came message (before_announcement q came head message.orig known)) (with_head came head known)).tables
-    go true = announced_call orig log frames w m message.orig came.number (stamp_told message.table) (changes_told message.table) (before_announcement q came head message.orig known).tables
-        (begun (not (q.live known.routes came.now message.orig))) (brought_by orig log frames w.said root came.number head message tail f t)
+    go true = announced_call orig log frames w m message.orig came.number (stamp_told message.table) (message_changes message.table) (before_announcement q came head message.orig known).tables
+        (begun (q.hear known.routes came.now came.from came.throughput head).began) (brought_by orig log frames w.said root came.number head message tail f t)
     go false = c
 
 taken_comes : (orig : Mac) (log : Log) (frames : List SentFrame) (w : World) (m : ℕ) (q : Queries) (root : ℕ) (came : Coming) (head : Head) (message : Option Message) (tail : List ℕ) (known : Knowledge)

@@ -16,8 +16,9 @@ use Rattle.mesh_model.specs.declared.line_form.Command.{Command}
 use Rattle.mesh_model.specs.declared.line_form.Command.TheVariants.{Nothing, Algo, Node, Link, Lan, Frame, Gone, Join, Leave, Arp, Dhcp, Wifi, GwOff, GwServer, GwClient, Mcast, Dat, Alfred, Put, Get, Ping, Trace, Run as RunFor, Deliver, Show, Decode}
 use Rattle.mesh_model.specs.declared.line_form.Table.{Table}
 use Rattle.mesh_model.specs.declared.line_form.Table.TheVariants.{Originators, Neighbors, Locals, Globals, Claims, Gateways, Groups, Addresses, Facts}
-use Rattle.mesh_model.specs.Clients.Log.{Given}
-use Rattle.mesh_model.specs.Clients.Log.{Frame as FrameGiven, Gone as GoneGiven, Join as JoinGiven, Leave as LeaveGiven, Wifi as WifiGiven, Ping as PingGiven, Trace as TraceGiven}
+use Rattle.mesh_model.specs.Clients.Log.{Line, LineGiven, Sets}
+use Rattle.mesh_model.specs.Clients.Settings.{Wifi as WifiSet}
+use Rattle.mesh_model.specs.Clients.Log.{Frame as FrameGiven, Gone as GoneGiven, Join as JoinGiven, Leave as LeaveGiven, Ping as PingGiven, Trace as TraceGiven}
 use Rattle.mesh_model.specs.Net.Due.{ticks_by}
 use Rattle.mesh_model.specs.Net.Inputs.{given_to}
 use Rattle.mesh_model.specs.Net.Limits.{clock_limit, links_limit, nodes_limit}
@@ -106,23 +107,22 @@ at_same : (state : State) (step : ℕ → Step) (o : Option ℕ) → SameEvents 
 at_same state step None same all = same
 at_same state step (Some place) same all = all place
 
-given_same : (state : State) (place : ℕ) (given : Given) → SameEvents state → ticks_by given ≡ 0 → GivesItsBytes state.mesh.frames given → SameOutcome (input_step iv_setup given place state)
-given_same state place given same none gives =
-    attempt_same state (given_to iv_setup place state.clock 0 given state.mesh) same (λ after is. effect_follows state.clock state.mesh after (tickless iv_setup state.mesh place state.clock 0 given after none gives is))
+given_same : (state : State) (place : ℕ) (line : LineGiven) → SameEvents state → SameOutcome (input_step iv_setup line place state)
+given_same state place line same =
+    attempt_same state (given_to iv_setup place state.clock 0 (Line line) state.mesh) same (λ after is. effect_follows state.clock state.mesh after (tickless iv_setup state.mesh place state.clock 0 (Line line) after refl tt is))
 
-session_same : (state : State) (given : Mac → Given) → ((mac : Mac) → ticks_by (given mac) ≡ 0) → ((mac : Mac) → GivesItsBytes state.mesh.frames (given mac)) → (node target : List ℕ) → SameEvents state → SameOutcome (session_step iv_setup given node target state)
-session_same state given none gives node target same =
-    let to : ℕ → ℕ → Step = λ place end s. input_step iv_setup (given (address_at end s.mesh.nodes)) place s in
+session_same : (state : State) (line : Mac → LineGiven) (node target : List ℕ) → SameEvents state → SameOutcome (session_step iv_setup line node target state)
+session_same state line node target same =
+    let to : ℕ → ℕ → Step = λ place end s. input_step iv_setup (line (address_at end s.mesh.nodes)) place s in
     at_same state (λ place. at_node target (to place)) (place_of state node) same (λ place.
-    at_same state (to place) (place_of state target) same (λ end.
-    let mac = address_at end state.mesh.nodes in given_same state place (given mac) same (none mac) (gives mac)))
+    at_same state (to place) (place_of state target) same (λ end. given_same state place (line (address_at end state.mesh.nodes)) same))
 
-line_same : (state : State) (name : List ℕ) (given : Given) → SameEvents state → ticks_by given ≡ 0 → GivesItsBytes state.mesh.frames given → SameOutcome (at_node name (input_step iv_setup given) state)
-line_same state name given same none gives = at_same state (input_step iv_setup given) (place_of state name) same (λ place. given_same state place given same none gives)
+line_same : (state : State) (name : List ℕ) (line : LineGiven) → SameEvents state → SameOutcome (at_node name (input_step iv_setup line) state)
+line_same state name line same = at_same state (input_step iv_setup line) (place_of state name) same (λ place. given_same state place line same)
 
-frame_same : (state : State) (name : List ℕ) (given : Given) (group : Bool) → SameEvents state → ticks_by given ≡ 0 → GivesItsBytes state.mesh.frames given → SameOutcome (after_step state (cond group None (Some (at_node name (input_step iv_setup given)))))
-frame_same state name given true same none gives = same
-frame_same state name given false same none gives = line_same state name given same none gives
+frame_same : (state : State) (name : List ℕ) (line : LineGiven) (group : Bool) → SameEvents state → SameOutcome (after_step state (cond group None (Some (at_node name (input_step iv_setup line)))))
+frame_same state name line true same = same
+frame_same state name line false same = line_same state name line same
 
 full_same : (b : Bool) (stopped : Outcome) (state : State) → SameOutcome stopped → SameEvents state → SameOutcome (cond b stopped (Goes state))
 full_same true stopped state a b = a
@@ -197,13 +197,13 @@ command_same state (Link from to delay pattern throughput) same =
     at_same state (λ end. link_step (link start end)) (place_of state to) same (λ end.
     full_same (nat_le links_limit (length state.mesh.links)) (Ends state (Limit Links)) (with_link state (link start end)) same (with_link_same state (link start end) same)))
 command_same state (Lan name gateways) same = same
-command_same state (Frame place src dst vid text) same = frame_same state place (FrameGiven src dst vid text) (is_group dst && not (is_broadcast dst)) same refl tt
-command_same state (Gone place key) same = line_same state place (GoneGiven key) same refl tt
-command_same state (Join node key) same = line_same state node (JoinGiven key) same refl tt
-command_same state (Leave node key) same = line_same state node (LeaveGiven key) same refl tt
+command_same state (Frame place src dst vid text) same = frame_same state place (FrameGiven src dst vid text) (is_group dst && not (is_broadcast dst)) same
+command_same state (Gone place key) same = line_same state place (GoneGiven key) same
+command_same state (Join node key) same = line_same state node (JoinGiven key) same
+command_same state (Leave node key) same = line_same state node (LeaveGiven key) same
 command_same state (Arp node mac own asked vid) same = same
 command_same state (Dhcp node key text) same = same
-command_same state (Wifi node on) same = line_same state node (WifiGiven on) same refl tt
+command_same state (Wifi node on) same = line_same state node (Sets (WifiSet on)) same
 command_same state (GwOff node) same = same
 command_same state (GwServer node down up) same = same
 command_same state (GwClient node policy) same = same
@@ -212,8 +212,8 @@ command_same state (Dat node on) same = same
 command_same state (Alfred node mode) same = same
 command_same state (Put node type_no version text) same = same
 command_same state (Get node type_no) same = same
-command_same state (Ping node target) same = session_same state PingGiven (λ mac. refl) (λ mac. tt) node target same
-command_same state (Trace node target) same = session_same state TraceGiven (λ mac. refl) (λ mac. tt) node target same
+command_same state (Ping node target) same = session_same state PingGiven node target same
+command_same state (Trace node target) same = session_same state TraceGiven node target same
 command_same state (RunFor time) same = time_same state (state.clock + time) (nat_lt clock_limit (state.clock + time)) same
 command_same state (Deliver number) same = attempt_same state (delivered iv_setup (number - 1) state.clock state.mesh) same (λ after is. effect_follows state.clock state.mesh after (delivered_effect iv_setup state.mesh (number - 1) state.clock after is))
 command_same state (Show node table) same = shown_same state node (shown table) (λ print is. tables_same table state.clock print is) same

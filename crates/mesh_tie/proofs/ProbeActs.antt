@@ -14,11 +14,11 @@ use Rattle.mesh_model.specs.declared.probe.Probe.{Probe}
 use Rattle.mesh_model.specs.declared.probe.Told.{Told}
 use Rattle.mesh_model.specs.declared.probe.Told.TheVariants.{Unknown, Done, Next}
 use Rattle.mesh_model.specs.Acts.FrameRows.{Place}
-use Rattle.mesh_model.specs.Acts.Packing.{first_ttl, sent_over, sent_to}
-use Rattle.mesh_model.specs.Acts.ProbeRows.{IcmpMessage, answer_acts, answered, answered_by, icmp_head, icmp_here, icmp_on_route, next_acts, passed_icmp, ping_result, probe_acts, request_of, session_acts, trace_result}
+use Rattle.mesh_model.specs.Acts.Packing.{sent_over, sent_to}
+use Rattle.mesh_model.specs.Acts.ProbeRows.{IcmpMessage, answered_acts, answer_event, answered_by, icmp_head, icmp_here, icmp_on_route, next_acts, passed_icmp, ping_result, probe_acts, request_of, session_acts, trace_result}
 use Rattle.mesh_model.specs.Acts.Rows.{icmp_acts}
 use Rattle.mesh_model.specs.Knowledge.Known.{Knowledge}
-use Rattle.mesh_model.specs.Packets.Numbers.{destination_unreachable, echo_reply, echo_request, ttl_exceeded}
+use Rattle.mesh_model.specs.Packets.Numbers.{destination_unreachable, echo_reply, echo_request, ttl_exceeded, first_ttl}
 use Rattle.mesh_model.specs.Probes.OpenProbes.{first_probe, is_answer, probes_by, told}
 use Rattle.mesh_model.specs.Routes.Addresses.{same_mac}
 use Rattle.mesh_model.specs.Routes.Queries.{Queries}
@@ -51,7 +51,7 @@ unfolding session_acts
 session_puts q known at target trace = probe_puts at.me trace (first_probe target trace (probes_by known.probes)) (q.route known.routes at.now target)
 
 -- ---- messages
-answered_puts : (at : Place) (m : IcmpMessage) (asked : OpenProbe) → IsProbing (Print (answered at m asked))
+answered_puts : (at : Place) (m : IcmpMessage) (asked : OpenProbe) → IsProbing (Print (answer_event at m asked))
 answered_puts at m asked = go asked.trace
   where
     go : (b : Bool) → IsProbing (Print (cond b (Traced at.me asked.probe.target (trace_result m asked.probe.ttl (at.now - asked.sent))) (Pinged at.me asked.probe.target asked.probe.seq (ping_result m (at.now - asked.sent)))))
@@ -63,7 +63,7 @@ next_puts q routes at Unknown = tt
 next_puts q routes at (Done target sent hop) = tt
 next_puts q routes at (Next hop sent probe) = probe_puts at.me true probe (q.route routes at.now probe.target)
 
-answer_puts : (q : Queries) (known : Knowledge) (at : Place) (m : IcmpMessage) (o : Option OpenProbe) → AreProbing (answer_acts q known at m o)
+answer_puts : (q : Queries) (known : Knowledge) (at : Place) (m : IcmpMessage) (o : Option OpenProbe) → AreProbing (answered_acts q known at m o)
 answer_puts q known at m None = tt
 answer_puts q known at m (Some asked) = (answered_puts at m asked, next_puts q known.routes at (told m.seq m.kind (probes_by known.probes)))
 
@@ -76,7 +76,7 @@ here_puts : (q : Queries) (known : Knowledge) (at : Place) (m : IcmpMessage) →
 unfolding icmp_here
 here_puts q known at m =
     let asked = (probes_by known.probes).waiting m.seq in
-    probing_if (is_answer m.kind) (answer_acts q known at m asked) (answered_by q known at echo_reply m) (answer_puts q known at m asked) (reply_puts q known at echo_reply m)
+    probing_if (is_answer m.kind) (answered_acts q known at m asked) (answered_by q known at echo_reply m) (answer_puts q known at m asked) (reply_puts q known at echo_reply m)
 
 route_puts : (q : Queries) (known : Knowledge) (at : Place) (m : IcmpMessage) (o : Option Mac) → AreProbing (icmp_on_route q known at m o)
 route_puts q known at m None = reply_puts q known at destination_unreachable m

@@ -7,10 +7,10 @@ use Rattle.mesh_base.specs.declared.client.Entry.{Entry}
 use Rattle.mesh_base.specs.declared.event.Event.TheVariants.{Alias}
 use Rattle.mesh_model.specs.declared.act.Act.{Act}
 use Rattle.mesh_model.specs.declared.act.Act.TheVariants.{Print}
-use Rattle.mesh_model.specs.Clients.Log.{Given, Tick, LinkFrame, Frame, Gone, Join, Leave, Arp, Dhcp, Wifi, Ping, Trace, Log, LogEntry}
+use Rattle.mesh_model.specs.Clients.Log.{Given, Tick, LinkFrame, Log, LogEntry, LanFrame, Line, LineGiven}
 use Rattle.mesh_model.specs.Clients.Mentions.{mentions}
 use Rattle.mesh_model.specs.Commits.Aliases.{alias_before, are_aliases, last_alias}
-use Rattle.mesh_model.specs.Commits.History.{History, announced, commits, committed, history, is_commit_tick, present_table}
+use Rattle.mesh_model.specs.Commits.History.{History, with_message, commits, committed, history, is_commit_tick, present_table}
 use Rattle.mesh_model.specs.Commits.Versions.{commit_numbered, first_commit, same_table}
 use Rattle.mesh_model.specs.Net.Due.{ticks_in}
 use Rattle.mesh_model.specs.Net.Inputs.{entry_of, given_to, noted_at}
@@ -31,7 +31,7 @@ use Rattle.mesh_laws.proofs.MachineInvariant.{newest_or_older}
 use Rattle.mesh_laws.proofs.Schedule.Members.{has_either}
 use Rattle.mesh_tie.specs.AliasesSeen.{AliasesAreSeen, AliasesAreTold, HasAlias}
 use Rattle.mesh_tie.specs.Originators.{commits_of, log_of}
-use Rattle.mesh_tie.specs.Steps.{IsOfLine, IsReachable, Steps, begins, frame_comes, goes_on, line_gives, link_joins, node_joins, node_ticks, time_passes}
+use Rattle.mesh_tie.specs.Steps.{IsReachable, Steps, begins, frame_comes, goes_on, line_gives, link_joins, node_joins, node_ticks, time_passes}
 use Rattle.mesh_tie.proofs.AliasRows.{AreQuiet, Gains, frame_quiet, gains_none, gains_one, line_quiet, quiet_none, tick_gains}
 use Rattle.mesh_tie.proofs.LogLemmas.{AreDistinct, log_found, log_itself, log_other}
 use Rattle.mesh_tie.proofs.MeshSteps.{Renewed, another, got_front, itself, log_joined, no_length, renewed}
@@ -103,28 +103,11 @@ calm_commits me log entry calm = go entry.given calm
     go : (given : Given) → ((index : ℕ) → given ≡ Tick index → ⊥) → (Rattle.mesh_model.specs.Commits.History.next_history (mentions me log) (history me log) entry.moment given).commits ≡ commits me log
     go (Tick index) calm = absurd (calm index refl)
     go (LinkFrame number from throughput bytes) calm = refl
-    go (Frame src dst vid text) calm = refl
-    go (Gone key) calm = refl
-    go (Join key) calm = refl
-    go (Leave key) calm = refl
-    go (Arp mac own_ip asked_ip vid) calm = refl
-    go (Dhcp key text) calm = refl
-    go (Wifi on) calm = refl
-    go (Ping target) calm = refl
-    go (Trace target) calm = refl
+    go (LanFrame bytes) calm = refl
+    go (Line line) calm = refl
 
-pub line_calm : (given : Given) → IsOfLine given → (index : ℕ) → given ≡ Tick index → ⊥
-line_calm (Tick index) of other is = of
-line_calm (LinkFrame number from throughput bytes) of other is = of
-line_calm (Frame src dst vid text) of other is = cc
-line_calm (Gone key) of other is = cc
-line_calm (Join key) of other is = cc
-line_calm (Leave key) of other is = cc
-line_calm (Arp mac own_ip asked_ip vid) of other is = cc
-line_calm (Dhcp key text) of other is = cc
-line_calm (Wifi on) of other is = cc
-line_calm (Ping target) of other is = cc
-line_calm (Trace target) of other is = cc
+pub line_calm : (line : LineGiven) (index : ℕ) → Line line ≡ Tick index → ⊥
+line_calm line index is = cc
 
 -- ---- events tell of them
 -- an event tells of an alias exactly where these commits have it
@@ -233,8 +216,8 @@ calm_gains queries node now given calm quiet =
 step_told : (queries : Mac → Queries) (mesh after : Mesh) → AreDistinct mesh.nodes → Steps queries mesh after → (orig : Mac) → AreTold orig mesh (commits_of orig mesh) → AreTold orig after (commits_of orig after)
 step_told queries mesh _ distinct (node_joins _ node empty whole fresh) orig told = subst (λ l. AreTold orig mesh (commits orig l)) (sym (log_joined orig mesh.nodes node empty)) told
 step_told queries mesh _ distinct (link_joins _ link) orig told = told
-step_told queries mesh after distinct (line_gives _ _ place now node given found may of is) orig told =
-    given_told queries orig mesh after place now 0 node given distinct found is (calm_gains queries node now given (line_calm given of) (line_quiet (queries node.mac) node.mac node.log now given of)) told
+step_told queries mesh after distinct (line_gives _ _ place now node line found may of is) orig told =
+    given_told queries orig mesh after place now 0 node (Line line) distinct found is (calm_gains queries node now (Line line) (line_calm line) (line_quiet (queries node.mac) node.mac node.log now line)) told
 step_told queries mesh after distinct (node_ticks _ _ place now node found may is) orig told =
     let index = suc (ticks_in node.log) in
     given_told queries orig mesh after place now index node (Tick index) distinct found is
@@ -272,7 +255,7 @@ step_distinct queries mesh _ d (node_joins _ new empty whole fresh) = λ place o
     go place other n second got more same (inr is) (inl old) = absurd (fresh other second old (sym same ∙ ap (λ (x : NodeLog). x.mac) is.0))
     go place other n second got more same (inr is) (inr also) = no_length mesh.nodes place other new (got ∙ ap Some is.0) is.1 (more ∙ ap Some also.0) also.1
 step_distinct queries mesh _ d (link_joins _ link) = d
-step_distinct queries mesh after d (line_gives _ _ place now node given found may of is) = given_distinct queries mesh after place now 0 node given d found is
+step_distinct queries mesh after d (line_gives _ _ place now node line found may of is) = given_distinct queries mesh after place now 0 node (Line line) d found is
 step_distinct queries mesh after d (node_ticks _ _ place now node found may is) = given_distinct queries mesh after place now (suc (ticks_in node.log)) node (Tick (suc (ticks_in node.log))) d found is
 step_distinct queries mesh after d (frame_comes _ _ place now number throughput from node frame found may sent whole is) =
     given_distinct queries mesh after place now frame.root node (LinkFrame (suc number) from throughput frame.bytes) d found is

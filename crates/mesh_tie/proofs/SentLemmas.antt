@@ -9,12 +9,13 @@ use Rattle.mesh_model.specs.declared.act.Act.TheVariants.{Link, Lan, Print}
 use Rattle.mesh_model.specs.declared.ending.LimitName.{LimitName}
 use Rattle.mesh_model.specs.declared.ending.LimitName.TheVariants.{Frames, FrameBytes}
 use Rattle.mesh_model.specs.Clients.Log.{Given}
-use Rattle.mesh_model.specs.Net.Inputs.{entry_of, given_node, given_to, noted, noted_at, unless_passed, with_entry}
+use Rattle.mesh_model.specs.Net.Inputs.{entry_of, given_node, given_to, noted, noted_at, after_entry}
 use Rattle.mesh_model.specs.Net.Mesh.{NodeLog, SentFrame, Mesh, Setup, address_at}
 use Rattle.mesh_model.specs.Net.Next.{Has}
 use Rattle.mesh_model.specs.Net.Sending.{Actor, Attempt, after_act, after_acts, end_of, frames_of, frames_over, sent_events, total_bytes, ways}
 use Rattle.mesh_laws.proofs.Schedule.Members.{has_either, has_left, has_right}
 use Rattle.mesh_laws.proofs.Schedule.Sends.{ok_one, on_ok_ok}
+use Rattle.mesh_laws.proofs.Schedule.Steps.{not_passed}
 
 -- a frame that an act made
 pub record IsFromActs (acts : List Act) (root : ℕ) (frame : SentFrame) : Type 0 where
@@ -213,10 +214,6 @@ pub record HasGiven (setup : Setup) (place now root : ℕ) (node : NodeLog) (giv
   pub events : after.events ≡ mesh.events ++ more_events
   pub came : (event : Event) → Has more_events event → Has (entry_of setup node now given).acts (Print event) ⊎ IsSending (entry_of setup node now given).acts node.mac now event
 
-unless_ok : (o : Option LimitName) (step : Attempt) (after : Mesh) → unless_passed o step ≡ Ok after → step ≡ Ok after
-unless_ok None step after e = e
-unless_ok (Some limit) step after e = cc
-
 noted_given : (setup : Setup) (place now root : ℕ) (node : NodeLog) (given : Given) (mesh mid after : Mesh) → HasSent (entry_of setup node now given).acts node.mac now root mesh mid → after.nodes ≡ noted_at place (entry_of setup node now given) mid.nodes → after.frames ≡ mid.frames → after.events ≡ mid.events
     → HasGiven setup place now root node given mesh after
 noted_given setup place now root node given mesh mid after s nodes frames events = record {
@@ -244,8 +241,8 @@ pub given_is : (setup : Setup) (place now root : ℕ) (node : NodeLog) (given : 
 given_is setup place now root node given mesh after found e =
     let entry = entry_of setup node now given in
     let actor : Actor = record { place = place; mac = node.mac; now = now; root = root } in
-    let step : with_entry setup actor entry mesh ≡ Ok after =
-    unless_ok (setup.client_limit node.mac node.log now given) (with_entry setup actor entry mesh) after (ap (λ (o : Option NodeLog). given_node setup place now root given o mesh) (sym found) ∙ e) in
+    let step : after_entry setup actor entry mesh ≡ Ok after =
+    not_passed (setup.client_limit node.mac node.log now given) (after_entry setup actor entry mesh) after (ap (λ (o : Option NodeLog). given_node setup place now root given o mesh) (sym found) ∙ e) in
     let p = on_ok_ok (noted place entry) (after_acts setup actor entry.acts mesh) after step in
     let s = acts_sent setup actor entry.acts mesh p.0 p.1 in
     let made : Mesh = record p.0 { nodes = noted_at place entry p.0.nodes } in

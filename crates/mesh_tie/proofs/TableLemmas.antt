@@ -11,7 +11,7 @@ use Rattle.mesh_model.specs.declared.table_outcome.Request.TheVariants.{Full, Ch
 use Rattle.mesh_model.specs.Acts.OwnContainers.{arp_table_container, own_containers}
 use Rattle.mesh_model.specs.Acts.Packing.{request_containers, request_flags, roaming_container, table_container, table_told, with_full}
 use Rattle.mesh_model.specs.Commits.Announcements.{record_of_change}
-use Rattle.mesh_model.specs.Knowledge.Told.{Answers, Neither, carried_told, change_told, changes_told, message_in, stamp_told, table_message}
+use Rattle.mesh_model.specs.Knowledge.Told.{Answers, Neither, carried_told, change_told, message_changes, message_in, stamp_told, table_message}
 use Rattle.mesh_model.specs.Packets.Bodies.{TtChange, TtData, VlanSum, change_of, entry_of_change, tt_data, vlans_size}
 use Rattle.mesh_model.specs.Packets.BodySpellings.{change_spelling, tt_spelling, vlan_spelling}
 use Rattle.mesh_model.specs.Packets.Containers.{Container, FitsLength, container_spelling, containers_of, containers_spelling}
@@ -74,7 +74,7 @@ pub record IsToldAgain (flags : ℕ) (version : Version) (records : List Change)
   pub small : length tail < 65536
   pub found : first_table (containers_of tail) ≡ Some (table_told flags (stamp_of_commit version) records)
   pub stamp : stamp_told (table_told flags (stamp_of_commit version) records) ≡ stamp_of_commit version
-  pub changes : changes_told (table_told flags (stamp_of_commit version) records) ≡ records
+  pub changes : message_changes (table_told flags (stamp_of_commit version) records) ≡ records
 
 length_mapped : {X Y : Type 0} (f : X → Y) (xs : List X) → length (map f xs) ≡ length xs
 length_mapped f [] = refl

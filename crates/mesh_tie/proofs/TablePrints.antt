@@ -13,8 +13,9 @@ use Rattle.mesh_model.specs.declared.line_form.Command.{Command}
 use Rattle.mesh_model.specs.declared.line_form.Command.TheVariants.{Nothing, Algo, Node, Link, Lan, Frame, Gone, Join, Leave, Arp, Dhcp, Wifi, GwOff, GwServer, GwClient, Mcast, Dat, Alfred, Put, Get, Ping, Trace, Run as RunFor, Deliver, Show, Decode}
 use Rattle.mesh_model.specs.declared.line_form.Table.{Table}
 use Rattle.mesh_model.specs.declared.line_form.Table.TheVariants.{Originators, Neighbors, Locals, Globals, Claims, Gateways, Groups, Addresses, Facts}
-use Rattle.mesh_model.specs.Clients.Log.{Given}
-use Rattle.mesh_model.specs.Clients.Log.{Frame as FrameGiven, Gone as GoneGiven, Join as JoinGiven, Leave as LeaveGiven, Wifi as WifiGiven, Ping as PingGiven, Trace as TraceGiven}
+use Rattle.mesh_model.specs.Clients.Log.{Line, LineGiven, Sets}
+use Rattle.mesh_model.specs.Clients.Settings.{Wifi as WifiSet}
+use Rattle.mesh_model.specs.Clients.Log.{Frame as FrameGiven, Gone as GoneGiven, Join as JoinGiven, Leave as LeaveGiven, Ping as PingGiven, Trace as TraceGiven}
 use Rattle.mesh_model.specs.Net.Inputs.{given_to}
 use Rattle.mesh_model.specs.Net.Limits.{clock_limit, links_limit, nodes_limit}
 use Rattle.mesh_model.specs.Net.Mesh.{NodeLog, NetLink, Mesh, address_at}
@@ -82,18 +83,18 @@ adds_at : (state : State) (step : ℕ → Step) (o : Option ℕ) → ((place : �
 adds_at state step None all = adds_none state state refl
 adds_at state step (Some place) all = all place
 
-adds_line : (state : State) (name : List ℕ) (given : Given) → AddsTo state (at_node name (input_step iv_setup given) state)
-adds_line state name given = adds_at state (input_step iv_setup given) (place_of state name) (λ place. adds_attempt state (given_to iv_setup place state.clock 0 given state.mesh))
+adds_line : (state : State) (name : List ℕ) (line : LineGiven) → AddsTo state (at_node name (input_step iv_setup line) state)
+adds_line state name line = adds_at state (input_step iv_setup line) (place_of state name) (λ place. adds_attempt state (given_to iv_setup place state.clock 0 (Line line) state.mesh))
 
-adds_session : (state : State) (given : Mac → Given) (node target : List ℕ) → AddsTo state (session_step iv_setup given node target state)
-adds_session state given node target =
-    let to : ℕ → ℕ → Step = λ place end s. input_step iv_setup (given (address_at end s.mesh.nodes)) place s in
+adds_session : (state : State) (line : Mac → LineGiven) (node target : List ℕ) → AddsTo state (session_step iv_setup line node target state)
+adds_session state line node target =
+    let to : ℕ → ℕ → Step = λ place end s. input_step iv_setup (line (address_at end s.mesh.nodes)) place s in
     adds_at state (λ place. at_node target (to place)) (place_of state node) (λ place.
-    adds_at state (to place) (place_of state target) (λ end. adds_attempt state (given_to iv_setup place state.clock 0 (given (address_at end state.mesh.nodes)) state.mesh)))
+    adds_at state (to place) (place_of state target) (λ end. adds_attempt state (given_to iv_setup place state.clock 0 (Line (line (address_at end state.mesh.nodes))) state.mesh)))
 
-adds_frame : (state : State) (name : List ℕ) (given : Given) (group : Bool) → AddsTo state (after_step state (cond group None (Some (at_node name (input_step iv_setup given)))))
-adds_frame state name given true = adds_none state state refl
-adds_frame state name given false = adds_line state name given
+adds_frame : (state : State) (name : List ℕ) (line : LineGiven) (group : Bool) → AddsTo state (after_step state (cond group None (Some (at_node name (input_step iv_setup line)))))
+adds_frame state name line true = adds_none state state refl
+adds_frame state name line false = adds_line state name line
 
 adds_full : (b : Bool) (state : State) (stopped : Outcome) (after : State) → AddsTo state stopped → Added state after → AddsTo state (cond b stopped (Goes after))
 adds_full true state stopped after a b = a
@@ -160,7 +161,7 @@ adds_command state (Join node key) = adds_line state node (JoinGiven key)
 adds_command state (Leave node key) = adds_line state node (LeaveGiven key)
 adds_command state (Arp node mac own asked vid) = adds_none state state refl
 adds_command state (Dhcp node key text) = adds_none state state refl
-adds_command state (Wifi node on) = adds_line state node (WifiGiven on)
+adds_command state (Wifi node on) = adds_line state node (Sets (WifiSet on))
 adds_command state (GwOff node) = adds_none state state refl
 adds_command state (GwServer node down up) = adds_none state state refl
 adds_command state (GwClient node policy) = adds_none state state refl

@@ -6,8 +6,7 @@ use Rattle.mesh_base.specs.declared.address.Mac.{Mac}
 use Rattle.mesh_base.specs.declared.event.Event.{Event}
 use Rattle.mesh_base.specs.declared.event.Event.TheVariants.{FrameSent}
 use Rattle.mesh_base.specs.declared.event.Reason.TheVariants.{Table}
-use Rattle.mesh_model.specs.Clients.Log.{Given, Tick, LinkFrame, Frame, Gone, Join, Leave, Arp, Dhcp, Wifi, Ping, Trace, LogEntry}
-use Rattle.mesh_model.specs.Clients.Mentions.{key_of}
+use Rattle.mesh_model.specs.Clients.Log.{Given, Tick, LinkFrame, LanFrame, Line, LogEntry}
 use Rattle.mesh_model.specs.Net.Mesh.{NodeLog, Mesh}
 use Rattle.mesh_model.specs.Net.Next.{Has}
 use Rattle.mesh_model.specs.Routes.Queries.{Queries}
@@ -18,23 +17,16 @@ use Rattle.mesh_tie.specs.AliasesSeen.{ToldNone}
 use Rattle.mesh_tie.specs.LinesByTable.{SentRightly, ToldNoneOf}
 use Rattle.mesh_tie.specs.Originators.{commits_of}
 use Rattle.mesh_tie.specs.Sources.{IsWhole}
-use Rattle.mesh_tie.specs.Steps.{IsClient}
+use Rattle.mesh_tie.specs.Steps.{TellsClient}
 use Rattle.mesh_tie.specs.Tie.{known_at_node}
 use Rattle.mesh_tie.specs.TieLaws.{HoldsTheTold}
 
--- the clients that an input names are such as records can tell
+-- the client that an input names, where it names one, is such as records can tell
 abbrev pub NamesClients : Given → Type 0
 NamesClients (Tick index) = ⊤
 NamesClients (LinkFrame number from throughput bytes) = ⊤
-NamesClients (Frame src dst vid text) = IsClient (key_of src vid)
-NamesClients (Gone key) = IsClient key
-NamesClients (Join key) = IsClient key
-NamesClients (Leave key) = IsClient key
-NamesClients (Arp mac own_ip asked_ip vid) = IsClient (key_of mac vid)
-NamesClients (Dhcp key text) = IsClient key
-NamesClients (Wifi on) = ⊤
-NamesClients (Ping target) = ⊤
-NamesClients (Trace target) = ⊤
+NamesClients (LanFrame bytes) = ⊤
+NamesClients (Line line) = TellsClient line
 
 -- nodes have whole addresses, each its own, and were given clients that records can tell
 pub record IsTellable (mesh : Mesh) : Type 0 where

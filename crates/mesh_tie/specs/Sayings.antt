@@ -4,7 +4,7 @@
 use Rattle.std.specs.Prelude.{◌≡◌, ◌≤◌, ◌<◌, ℕ, List, length, Some, ⊤}
 use Rattle.mesh_base.specs.declared.address.Mac.{Mac}
 use Rattle.mesh_model.specs.Clients.Log.{Log}
-use Rattle.mesh_model.specs.Knowledge.Told.{Answers, changes_told, message_in, stamp_told}
+use Rattle.mesh_model.specs.Knowledge.Told.{Answers, message_changes, message_in, stamp_told}
 use Rattle.mesh_model.specs.Net.Due.{ticks_in}
 use Rattle.mesh_model.specs.Net.Next.{Has}
 use Rattle.mesh_model.specs.Packets.Bodies.{TtData}
@@ -30,7 +30,7 @@ saying_of stamp (InChanges records) = Differences stamp.byte stamp.sums records
 -- the saying that a translation table is, in a message that announces the commit of a number
 abbrev pub announcement_by : ℕ → TtData → Saying
 announcement_by number table = Announcement number (stamp_told table).byte (stamp_told table).sums
-    (changes_told table)
+    (message_changes table)
 
 -- containers hold an announcement, by an originator with this log, of the commit of a root
 pub record IsAnnounced (orig : Mac) (log : Log) (said : List Saying) (root : ℕ) (tail : List ℕ)

@@ -2,13 +2,13 @@
 -- frame that was sent comes to a node. A frame may come to any node, at any later moment, over and
 -- over or never, so whatever a network loses, repeats, holds or delivers late is a list of these
 -- steps. The main words are `Steps` and `IsReachable`.
-use Rattle.std.specs.Prelude.{◌≡◌, ◌≤◌, ◌<◌, ◌^◌, ℕ, suc, List, [], ◌∷◌, ◌++◌, slice_get, Some, Ok, ⊤}
+use Rattle.std.specs.Prelude.{◌≡◌, ◌≤◌, ◌<◌, ◌^◌, ℕ, suc, List, [], ◌∷◌, ◌++◌, slice_get, Some, Ok, IfSome}
 use Rattle.std.specs.List.{AllByRecursion}
 use Rattle.mesh_base.specs.declared.address.Mac.{Mac}
 use Rattle.mesh_base.specs.declared.client.Key.{Key}
 use Rattle.mesh_model.specs.declared.happening.Happening.{Happening}
-use Rattle.mesh_model.specs.Clients.Log.{Given, Tick, LinkFrame, Frame, Gone, Join, Leave, Arp, Dhcp, Wifi, Ping, Trace, Log}
-use Rattle.mesh_model.specs.Clients.Mentions.{key_of}
+use Rattle.mesh_model.specs.Clients.Log.{Tick, LinkFrame, Line, LineGiven, Log}
+use Rattle.mesh_model.specs.Clients.Mentions.{client_of}
 use Rattle.mesh_model.specs.Net.Due.{ticks_in}
 use Rattle.mesh_model.specs.Net.Inputs.{given_to}
 use Rattle.mesh_model.specs.Net.Limits.{scenario_setup}
@@ -22,19 +22,9 @@ pub record IsClient (key : Key) : Type 0 where
   pub fits : FitsKey key
   pub bytes : AllByRecursion (λ byte. byte < 2 ^ 8) key.mac.0
 
--- what a line gives a node: no tick and no frame, and clients that records can tell
-abbrev pub IsOfLine : Given → Type 0
-IsOfLine (Tick index) = ⊥
-IsOfLine (LinkFrame number from throughput bytes) = ⊥
-IsOfLine (Frame src dst vid text) = IsClient (key_of src vid)
-IsOfLine (Gone key) = IsClient key
-IsOfLine (Join key) = IsClient key
-IsOfLine (Leave key) = IsClient key
-IsOfLine (Arp mac own_ip asked_ip vid) = IsClient (key_of mac vid)
-IsOfLine (Dhcp key text) = IsClient key
-IsOfLine (Wifi on) = ⊤
-IsOfLine (Ping target) = ⊤
-IsOfLine (Trace target) = ⊤
+-- the client that a line names, where it names one, is such as records can tell
+abbrev pub TellsClient : LineGiven → Type 0
+TellsClient line = IfSome (client_of line) IsClient
 
 -- the moment of the newest entry of a log, 0 where there is none
 abbrev pub newest_moment : Log → ℕ
@@ -57,9 +47,9 @@ pub data Steps (queries : Mac → Queries) : Mesh → Mesh → Type 0 where
       Steps queries mesh (record mesh { nodes = mesh.nodes ++ node ∷ [] })
   link_joins : (mesh : Mesh) (link : NetLink) →
       Steps queries mesh (record mesh { links = mesh.links ++ link ∷ [] })
-  line_gives : (mesh after : Mesh) (place now : ℕ) (node : NodeLog) (given : Given) →
-      slice_get mesh.nodes place ≡ Some node → MayBeGiven node now → IsOfLine given →
-      given_to (scenario_setup queries) place now 0 given mesh ≡ Ok after →
+  line_gives : (mesh after : Mesh) (place now : ℕ) (node : NodeLog) (line : LineGiven) →
+      slice_get mesh.nodes place ≡ Some node → MayBeGiven node now → TellsClient line →
+      given_to (scenario_setup queries) place now 0 (Line line) mesh ≡ Ok after →
       Steps queries mesh after
   node_ticks : (mesh after : Mesh) (place now : ℕ) (node : NodeLog) →
       slice_get mesh.nodes place ≡ Some node → MayBeGiven node now →

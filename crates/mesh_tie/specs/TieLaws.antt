@@ -8,7 +8,7 @@ use Rattle.mesh_base.specs.declared.address.Mac.{Mac}
 use Rattle.mesh_model.specs.Clients.Log.{Log}
 use Rattle.mesh_model.specs.Commits.Announcements.{commit_at_root}
 use Rattle.mesh_model.specs.Commits.History.{commits}
-use Rattle.mesh_model.specs.Knowledge.Told.{Answers, changes_told, message_in, stamp_told}
+use Rattle.mesh_model.specs.Knowledge.Told.{Answers, message_changes, message_in, stamp_told}
 use Rattle.mesh_model.specs.Net.Mesh.{NodeLog, SentFrame, Mesh}
 use Rattle.mesh_model.specs.Net.Next.{Has}
 use Rattle.mesh_model.specs.Packets.Bodies.{TtData}
@@ -67,8 +67,8 @@ pub record IsWithoutAlias (queries : Mac → Queries) (orig : Mac) (mesh : Mesh)
 -- a translation table announces the commit of a root: its byte, its sums, and its changes or none
 pub record AnnouncesCommit (orig : Mac) (log : Log) (root : ℕ) (table : TtData) : Type 0 where
   pub stamp : stamp_told table ≡ stamp_of_commit (commit_at_root orig log root)
-  pub changes : (changes_told table ≡ []) ⊎ LeadTo (commits orig log)
-      (number_at_root orig log root) (commit_at_root orig log root) (changes_told table)
+  pub changes : (message_changes table ≡ []) ⊎ LeadTo (commits orig log)
+      (number_at_root orig log root) (commit_at_root orig log root) (message_changes table)
 
 -- every originator message of an originator that was ever sent announces the commit of its root
 abbrev pub MessagesAnnounce : Type 0

@@ -23,6 +23,3 @@ pub use soundness::{first_flaw, is_long_enough};
 pub use translation::{TtView, read_tt};
 pub use walk::{Container, TvlvIter};
 pub use writing::{key_bytes, write_change, write_container, write_tt_head, write_vlan};
-
-#[cfg(test)]
-mod tests;

@@ -1,6 +1,6 @@
 -- The words and what they ask for, as the definitions have them.
 use Rattle.std.specs.Prelude.{ℕ, ◌≤◌, List, map, String, string_bytes}
-use Rattle.mesh_model.specs.Run.CommandLine.{Call, Source, FromInput, FromFile, Generated, least_nodes, most_nodes}
+use Rattle.mesh_model.specs.Run.CommandLine.{Invocation, Source, FromInput, FromFile, Generated, least_nodes, most_nodes}
 use Rattle.mesh_words.specs.declared.call.Call.{Call as ReadCall}
 use Rattle.mesh_words.specs.declared.call.Source.{Source as ReadSource}
 use Rattle.mesh_words.specs.declared.call.Source.TheVariants as read
@@ -16,7 +16,7 @@ source_of (read.File name) = FromFile name.now
 source_of (read.Generated nodes) = Generated nodes
 
 -- what words ask for
-abbrev pub call_of : ReadCall → Call
+abbrev pub call_of : ReadCall → Invocation
 call_of call = record { choice = call.choice; source = source_of call.source }
 
 -- a mesh that is generated has 3 to 64 nodes

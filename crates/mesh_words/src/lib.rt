@@ -12,6 +12,3 @@ mod words_err;
 pub use call::{Call, Source};
 pub use words::read_words;
 pub use words_err::WordsErr;
-
-#[cfg(test)]
-mod tests;

@@ -11,7 +11,7 @@ use Rattle.mesh_base.specs.declared.client.Key.{Key}
 use Rattle.mesh_model.specs.declared.table_row.GlobalRow.{GlobalRow}
 use Rattle.mesh_model.specs.Packets.Bodies.{VlanSum}
 use Rattle.mesh_model.specs.Routes.Addresses.{mac_order, same_mac}
-use Rattle.mesh_model.specs.Tables.Known.{TableCalls, agrees, holders_by, known_by, names, originators_by, row_by}
+use Rattle.mesh_model.specs.Tables.Known.{TableCalls, agrees, holders_by, known_by, names, originators_by, global_row}
 use Rattle.mesh_model.specs.Tables.Versions.{Stamp, Version}
 use Rattle.mesh_laws.proofs.MacLemmas.{other_by_order, same_self}
 use Rattle.tt_global.specs.Globals.{GlobalsStand, Kept}
@@ -62,11 +62,11 @@ row_kept orig known = ap (λ byte. Some (record { orig = orig; held = byte; told
 
 -- the row at a place
 pub row_placed : (kept : Kept) (calls : TableCalls) → GlobalsStand kept calls → (i : ℕ) (orig : Mac) (known : KnownTable) → slice_get kept i ≡ Some (orig, known) → at orig kept ≡ Some known
-    → Some (kept_row orig known) ≡ option_and_then (λ o. row_by o (known_by calls o)) (slice_get (originators_by calls) i)
+    → Some (kept_row orig known) ≡ option_and_then (λ o. global_row o (known_by calls o)) (slice_get (originators_by calls) i)
 row_placed kept calls stands i orig known entry found =
     row_kept orig known
     ∙ ap₂ (row_from orig) (ap told_in (sym found) ∙ stands.told orig) (ap held_in (sym found) ∙ stands.held orig)
-    ∙ ap (option_and_then (λ o. row_by o (known_by calls o))) (sym (ap (λ l. slice_get l i) (sym stands.originators) ∙ key_placed kept i orig known entry))
+    ∙ ap (option_and_then (λ o. global_row o (known_by calls o))) (sym (ap (λ l. slice_get l i) (sym stands.originators) ∙ key_placed kept i orig known entry))
 
 -- ---- holders
 -- the originator of what is kept, where the table that is held has a client

@@ -3,7 +3,7 @@ ghost use Rattle.std.specs.Map.{lookup};
 ghost use Rattle.mesh_base.specs.declared.address.Mac.{Mac};
 ghost use Rattle.mesh_model.specs.Routes.Addresses.{same_mac};
 ghost use Rattle.mesh_model.specs.Tables.Judging.{InChanges, InFull, announcement_row, answer_row};
-ghost use Rattle.mesh_model.specs.Tables.Known.{Announced, Answered, Dropped, TableCalls, holders_by, is_agreed, known_by, originators_by, row_by, stamp_of};
+ghost use Rattle.mesh_model.specs.Tables.Known.{Announced, Answered, Dropped, TableCalls, holders_by, is_agreed, known_by, originators_by, global_row, stamp_of};
 ghost use Rattle.mesh_model.specs.Tables.Versions.{Version};
 ghost use Rattle.mesh_model.specs.declared.table_outcome.Taken.TheVariants.{Taken as IsTaken};
 ghost use Rattle.mesh_laws.specs.HeldLaws.{CameFrom, HoldsTold};
@@ -222,7 +222,7 @@ impl Globals {
     /// what is known of its table.
     pub fn row_at(&self, i: usize) -> Option<GlobalRow>
         ensures at_place { (calls : TableCalls) → GlobalsStand self.now calls →
-            result ≡ option_and_then (λ orig. row_by orig (known_by calls orig))
+            result ≡ option_and_then (λ orig. global_row orig (known_by calls orig))
             (slice_get (originators_by calls) i) }
         ensures past_end { (calls : TableCalls) → GlobalsStand self.now calls →
             IsNone result ↔ (length (originators_by calls) ≤ i) }

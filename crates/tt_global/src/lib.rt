@@ -10,6 +10,3 @@ mod known;
 pub use globals::Globals;
 pub use judging::wanted_request;
 pub use mesh_model::{GlobalRow, Heard, Request, Taken};
-
-#[cfg(test)]
-mod tests;

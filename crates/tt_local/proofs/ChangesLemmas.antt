@@ -9,7 +9,7 @@ use Rattle.mesh_base.specs.KeyOrder.{key_order}
 use Rattle.mesh_base.specs.declared.client.Entry.{Entry}
 use Rattle.mesh_base.specs.declared.client.Key.{Key}
 use Rattle.mesh_model.specs.declared.table_row.LocalRow.{LocalRow}
-use Rattle.mesh_model.specs.Clients.Present.{same_key, entry_of}
+use Rattle.mesh_model.specs.Clients.Present.{same_key, entry_with}
 use Rattle.mesh_model.specs.Tables.Changes.{IsInKeyOrder, flags_at, has_entry, missing_from, deletion, addition, changeset}
 use Rattle.mesh_laws.proofs.KeyLists.{found_passes, item_at, item_at_filter, same_items, sorted_filter}
 use Rattle.mesh_laws.proofs.KeyTables.{none_below, ordered_filter, IsBelow}
@@ -53,7 +53,7 @@ keeps_key : (key : Key) (flags others : Option ℕ) → IfSome (differing_entry 
 keeps_key key None others = tt
 keeps_key key (Some flags) others = go (are_flags flags others)
   where
-    go : (b : Bool) → IfSome (cond b None (Some (entry_of key flags))) (λ e. e.key ≡ key)
+    go : (b : Bool) → IfSome (cond b None (Some (entry_with key flags))) (λ e. e.key ≡ key)
     go true = tt
     go false = refl
 
@@ -68,9 +68,9 @@ module _ (one other : List Entry) (keys : List Key) (ordered : IsInKeyOrder one)
   abbrev stays : Entry → Option Entry
   stays e = cond (not (has_entry other e)) (Some e) None
 
-  differing_is : (q : Key) (e : Entry) (b : Bool) → has_entry other e ≡ b → are_flags e.flags (flags_at other q) ≡ b → e.key ≡ q → cond (not (has_entry other e)) (Some e) None ≡ cond (are_flags e.flags (flags_at other q)) None (Some (entry_of q e.flags))
-  differing_is q e true has flags is = ap (λ b. cond (not b) (Some e) None) has ∙ sym (ap (λ b. cond b None (Some (entry_of q e.flags))) flags)
-  differing_is q e false has flags is = ap (λ b. cond (not b) (Some e) None) has ∙ ap (λ k. Some (entry_of k e.flags)) is ∙ sym (ap (λ b. cond b None (Some (entry_of q e.flags))) flags)
+  differing_is : (q : Key) (e : Entry) (b : Bool) → has_entry other e ≡ b → are_flags e.flags (flags_at other q) ≡ b → e.key ≡ q → cond (not (has_entry other e)) (Some e) None ≡ cond (are_flags e.flags (flags_at other q)) None (Some (entry_with q e.flags))
+  differing_is q e true has flags is = ap (λ b. cond (not b) (Some e) None) has ∙ sym (ap (λ b. cond b None (Some (entry_with q e.flags))) flags)
+  differing_is q e false has flags is = ap (λ b. cond (not b) (Some e) None) has ∙ ap (λ k. Some (entry_with k e.flags)) is ∙ sym (ap (λ b. cond b None (Some (entry_with q e.flags))) flags)
 
   own_flags : (flags : ℕ) (o : Option ℕ) → Some flags ≡ o → are_flags flags o ≡ true
   own_flags flags o is = subst (λ p. are_flags flags p ≡ true) is (eq-eqb flags flags refl)

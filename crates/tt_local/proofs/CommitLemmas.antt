@@ -8,7 +8,7 @@ use Rattle.mesh_base.specs.declared.client.Key.{Key}
 use Rattle.mesh_model.specs.declared.table_change.Change.{Change}
 use Rattle.mesh_model.specs.declared.table_row.LocalRow.{LocalRow}
 use Rattle.mesh_model.specs.Clients.Mentions.{Mention}
-use Rattle.mesh_model.specs.Clients.Present.{sighting_age, entry_of}
+use Rattle.mesh_model.specs.Clients.Present.{sighting_age, entry_with}
 use Rattle.mesh_model.specs.Commits.History.{committed, History, present_table, with_commit}
 use Rattle.mesh_model.specs.Commits.Versions.{last_changes, last_commit, same_table}
 use Rattle.mesh_model.specs.Tables.Versions.{Version, next_byte}
@@ -34,9 +34,9 @@ aged_sighting : (now then : ℕ) (q : Key) (o : Option Sighting) → is_none (op
 aged_sighting now then q None absent late = refl
 aged_sighting now then q (Some s) absent late = go (nat_lt (now - s.moment) sighting_age) refl absent
   where
-    go : (b : Bool) → nat_lt (now - s.moment) sighting_age ≡ b → is_none {T = LocalRow} (cond b (Some (record { entry = entry_of q s.flags; age = Some (now - s.moment) })) None) ≡ true → cond {A = Option LocalRow} (nat_lt (then - s.moment) sighting_age) (Some (record { entry = entry_of q s.flags; age = Some (then - s.moment) })) None ≡ None
+    go : (b : Bool) → nat_lt (now - s.moment) sighting_age ≡ b → is_none {T = LocalRow} (cond b (Some (record { entry = entry_with q s.flags; age = Some (now - s.moment) })) None) ≡ true → cond {A = Option LocalRow} (nat_lt (then - s.moment) sighting_age) (Some (record { entry = entry_with q s.flags; age = Some (then - s.moment) })) None ≡ None
     go true t h = absurd (false≢true h)
-    go false t h = ap (λ b. cond b (Some (record { entry = entry_of q s.flags; age = Some (then - s.moment) })) None) (older_counts_not now then s.moment late t)
+    go false t h = ap (λ b. cond b (Some (record { entry = entry_with q s.flags; age = Some (then - s.moment) })) None) (older_counts_not now then s.moment late t)
 
 absent_client : (now then : ℕ) (q : Key) (o : Option Sighting) (joined : Bool) → is_none (client_row now q (record { sighting = o; joined = joined })) ≡ true → now ≤ then → (sighted_row then q (record { sighting = o; joined = joined }) ≡ None) × (group_row q (record { sighting = o; joined = joined }) ≡ None)
 absent_client now then q o true absent late = absurd (false≢true absent)
@@ -51,9 +51,9 @@ aged_then : (now then : ℕ) (q : Key) (o : Option Sighting) → is_aged_sightin
 aged_then now then q None aged late = refl
 aged_then now then q (Some s) aged late = go (nat_lt (now - s.moment) sighting_age) refl aged
   where
-    go : (b : Bool) → nat_lt (now - s.moment) sighting_age ≡ b → not b ≡ true → cond {A = Option LocalRow} (nat_lt (then - s.moment) sighting_age) (Some (record { entry = entry_of q s.flags; age = Some (then - s.moment) })) None ≡ None
+    go : (b : Bool) → nat_lt (now - s.moment) sighting_age ≡ b → not b ≡ true → cond {A = Option LocalRow} (nat_lt (then - s.moment) sighting_age) (Some (record { entry = entry_with q s.flags; age = Some (then - s.moment) })) None ≡ None
     go true t h = absurd (false≢true h)
-    go false t h = ap (λ b. cond b (Some (record { entry = entry_of q s.flags; age = Some (then - s.moment) })) None) (older_counts_not now then s.moment late t)
+    go false t h = ap (λ b. cond b (Some (record { entry = entry_with q s.flags; age = Some (then - s.moment) })) None) (older_counts_not now then s.moment late t)
 
 -- a client has the same row by its sighting later without one that counts no longer
 counting_row : (now then : ℕ) (q : Key) (client : Client) → now ≤ then → sighted_row then q (counting now client) ≡ sighted_row then q client
@@ -109,7 +109,7 @@ counting_sighting : (now : ℕ) (q : Key) (o : Option Sighting) → is_none (opt
 counting_sighting now q None there = refl
 counting_sighting now q (Some s) there = go (nat_lt (now - s.moment) sighting_age) there
   where
-    go : (b : Bool) → is_none {T = LocalRow} (cond b (Some (record { entry = entry_of q s.flags; age = Some (now - s.moment) })) None) ≡ false → option_map (λ (row : LocalRow). row.entry.flags) (cond b (Some (record { entry = entry_of q s.flags; age = Some (now - s.moment) })) None) ≡ Some s.flags
+    go : (b : Bool) → is_none {T = LocalRow} (cond b (Some (record { entry = entry_with q s.flags; age = Some (now - s.moment) })) None) ≡ false → option_map (λ (row : LocalRow). row.entry.flags) (cond b (Some (record { entry = entry_with q s.flags; age = Some (now - s.moment) })) None) ≡ Some s.flags
     go true h = refl
     go false h = absurd (true≢false h)
 
@@ -136,7 +136,7 @@ counting_flags now q o true there = go (is_aged_sighting now o)
 counting_flags now q None false there = absurd (true≢false there)
 counting_flags now q (Some s) false there = go (nat_lt (now - s.moment) sighting_age) there
   where
-    go : (b : Bool) → is_none {T = LocalRow} (cond b (Some (record { entry = entry_of q s.flags; age = Some (now - s.moment) })) None) ≡ false → Some s.flags ≡ kept_flags (cond (not b) (record { sighting = None; joined = false }) (record { sighting = Some s; joined = false }))
+    go : (b : Bool) → is_none {T = LocalRow} (cond b (Some (record { entry = entry_with q s.flags; age = Some (now - s.moment) })) None) ≡ false → Some s.flags ≡ kept_flags (cond (not b) (record { sighting = None; joined = false }) (record { sighting = Some s; joined = false }))
     go true h = refl
     go false h = absurd (true≢false h)
 

@@ -8,7 +8,7 @@ use Rattle.std.proofs.lemmas.Option.{get_or_from_slice_get}
 use Rattle.std.proofs.lemmas.Bool.{false≢true, true≢false}
 use Rattle.mesh_base.specs.declared.client.Key.{Key}
 use Rattle.mesh_model.specs.declared.table_row.LocalRow.{LocalRow}
-use Rattle.mesh_model.specs.Clients.Present.{same_key, sighting_age, entry_of}
+use Rattle.mesh_model.specs.Clients.Present.{same_key, sighting_age, entry_with}
 use Rattle.mesh_laws.proofs.PresentLemmas.{equal_from_same}
 use Rattle.std.proofs.lemmas.Cmp.{eq_by_cmp_equiv}
 use Rattle.std.proofs.lemmas.Map.Steps.{length-le_from_keys}
@@ -129,7 +129,7 @@ aged_absent : (now : ℕ) (key : Key) (o : Option Sighting) → is_none (option_
 aged_absent now key None there aged = true≢false there
 aged_absent now key (Some s) there aged = go (nat_lt (now - s.moment) sighting_age) there aged
   where
-    go : (b : Bool) → is_none {T = LocalRow} (cond b (Some (record { entry = entry_of key s.flags; age = Some (now - s.moment) })) None) ≡ false → not b ≡ true → ⊥
+    go : (b : Bool) → is_none {T = LocalRow} (cond b (Some (record { entry = entry_with key s.flags; age = Some (now - s.moment) })) None) ≡ false → not b ≡ true → ⊥
     go true h a = false≢true a
     go false h a = true≢false h
 
@@ -189,8 +189,8 @@ counting_flags : (now : ℕ) (key : Key) (o : Option Sighting) → is_aged_sight
 counting_flags now key None counts = refl
 counting_flags now key (Some s) counts = go (nat_lt (now - s.moment) sighting_age) refl counts
   where
-    go : (b : Bool) → nat_lt (now - s.moment) sighting_age ≡ b → not b ≡ false → option_map (λ (row : LocalRow). row.entry.flags) (cond (nat_lt (now - s.moment) sighting_age) (Some (record { entry = entry_of key s.flags; age = Some (now - s.moment) })) None) ≡ Some s.flags
-    go true e h = ap (λ b. option_map (λ (row : LocalRow). row.entry.flags) (cond b (Some (record { entry = entry_of key s.flags; age = Some (now - s.moment) })) None)) e
+    go : (b : Bool) → nat_lt (now - s.moment) sighting_age ≡ b → not b ≡ false → option_map (λ (row : LocalRow). row.entry.flags) (cond (nat_lt (now - s.moment) sighting_age) (Some (record { entry = entry_with key s.flags; age = Some (now - s.moment) })) None) ≡ Some s.flags
+    go true e h = ap (λ b. option_map (λ (row : LocalRow). row.entry.flags) (cond b (Some (record { entry = entry_with key s.flags; age = Some (now - s.moment) })) None)) e
     go false e h = absurd (true≢false h)
 
 flags_by_group : (now : ℕ) (key : Key) (o : Option Sighting) (joined : Bool) → is_aged_sighting now o ≡ false → option_map (λ (row : LocalRow). row.entry.flags) (client_row now key (record { sighting = o; joined = joined })) ≡ kept_flags (record { sighting = o; joined = joined })

@@ -7,7 +7,7 @@ use Rattle.std.specs.List.Sorted.{IsStrictlySortedBy}
 use Rattle.mesh_base.specs.KeyOrder.{key_order}
 use Rattle.mesh_base.specs.declared.client.Entry.{Entry}
 use Rattle.mesh_base.specs.declared.client.Key.{Key}
-use Rattle.mesh_model.specs.Clients.Present.{same_key, entry_of, sighting_age}
+use Rattle.mesh_model.specs.Clients.Present.{same_key, entry_with, sighting_age}
 use Rattle.mesh_model.specs.Tables.Changes.{flags_at}
 use Rattle.tt_local.specs.declared.client.Client.{Client}
 use Rattle.tt_local.specs.declared.sighting.Sighting.{Sighting}
@@ -76,7 +76,7 @@ are_flags flags (Some other) = flags == other
 abbrev pub differing_entry : Key → Option ℕ → Option ℕ → Option Entry
 differing_entry key None others = None
 differing_entry key (Some flags) others =
-    if are_flags flags others then None else Some (entry_of key flags)
+    if are_flags flags others then None else Some (entry_with key flags)
 
 -- the entry that a table has of a key and that isn't present at a moment
 abbrev pub gone_entry : ℕ → List (Key × Client) → List Entry → Key → Option Entry

@@ -1,7 +1,7 @@
 ghost use Rattle.std.specs.Prelude.{◌≡◌, ℕ, List, option_map, IfOk, OnErr, OnOk};
 ghost use Rattle.mesh_model.specs.Clients.Mentions.{Mention};
 ghost use Rattle.mesh_model.specs.Commits.Announcements.{told_changes};
-ghost use Rattle.mesh_model.specs.Commits.History.{announced, History};
+ghost use Rattle.mesh_model.specs.Commits.History.{with_message, History};
 ghost use Rattle.mesh_model.specs.Commits.Versions.{last_commit};
 ghost use Rattle.mesh_model.specs.Tables.Sums.{sums_of};
 ghost use Rattle.tt_local.specs.Announcing.{IsAnnouncement};
@@ -56,7 +56,7 @@ impl Locals {
             IsAnnouncement history told) }
         ensures counted { (mentions : List Mention) (history : History) (since : ℕ) →
             LocalsStand self.old mentions history since →
-            OnOk result (LocalsStand self.new mentions (announced history) since) }
+            OnOk result (LocalsStand self.new mentions (with_message history) since) }
         ensures err { OnErr result (self.new ≡ self.old) }
     {
         let sums = self.journal.table().sums().copy()?;

@@ -21,6 +21,3 @@ mod vlans;
 pub use failure::LocalErr;
 pub use locals::Locals;
 pub use mesh_model::LocalRow;
-
-#[cfg(test)]
-mod tests;

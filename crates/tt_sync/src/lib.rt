@@ -12,6 +12,3 @@ pub use answers::{Reply, answer_other, answer_own};
 pub use failure::{AdviseErr, AnswerErr, AskErr};
 pub use mesh_model::RoamingMark;
 pub use sync::Sync;
-
-#[cfg(test)]
-mod tests;

@@ -7,7 +7,7 @@ use Rattle.std.proofs.lemmas.List.{length-map}
 use Rattle.std.proofs.lemmas.Bool.Decides.{nat_tests}
 use Rattle.mesh_base.specs.declared.client.Vid.{Vid}
 use Rattle.mesh_model.specs.Packets.Bodies.{VlanSum}
-use Rattle.mesh_model.specs.Tables.Differences.{differ_at, least_passing, lesser, named_vlans, passing}
+use Rattle.mesh_model.specs.Tables.Differences.{differ_at, least_passing, lesser, named_vlans, vlan_if}
 use Rattle.mesh_model.specs.Tables.Sums.{sum_at}
 use Rattle.tt_table.specs.Sums.{AreByVlan, row_key, row_sum}
 use Rattle.tt_table.specs.declared.vlan_total.VlanTotal.{VlanTotal}
@@ -34,7 +34,7 @@ lesser_again (Some a) (Some b) (Some c) = go (nat_lt b.0 a.0) refl (nat_lt c.0 b
 pub least_of_both : (test : Vid → Bool) (xs ys : List Vid) → least_passing test (xs ++ ys) ≡ lesser (least_passing test xs) (least_passing test ys)
 least_of_both test [] ys = refl
 least_of_both test (x ∷ xs) ys =
-    ap (lesser (passing test x)) (least_of_both test xs ys) ∙ sym (lesser_again (passing test x) (least_passing test xs) (least_passing test ys))
+    ap (lesser (vlan_if test x)) (least_of_both test xs ys) ∙ sym (lesser_again (vlan_if test x) (least_passing test xs) (least_passing test ys))
 
 -- ---- rows by wire number
 abbrev AreAbove : Vid → List VlanTotal → Type 0

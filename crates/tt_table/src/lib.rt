@@ -23,6 +23,3 @@ pub use failure::ApplyErr;
 pub use mesh_model::{Change, Difference};
 pub use sums::Sums;
 pub use table::Table;
-
-#[cfg(test)]
-mod tests;

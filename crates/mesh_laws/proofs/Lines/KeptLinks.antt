@@ -1,18 +1,18 @@
 -- What happens leaves the links as they are.
 use Rattle.std.proofs.Common.{◌≡◌, ℕ, zero, suc, slice_get, Option, Some, None, Ok, refl, sym, ◌∙◌, subst}
 use Rattle.std.specs.Fn.{iterate}
-use Rattle.mesh_model.specs.declared.ending.LimitName.{LimitName}
 use Rattle.mesh_model.specs.declared.happening.Class.{Class}
 use Rattle.mesh_model.specs.declared.happening.Class.TheVariants.{LinkDelivery, NodeTick}
 use Rattle.mesh_model.specs.declared.happening.Happening.{Happening}
 use Rattle.mesh_model.specs.Clients.Log.{Given, LogEntry, Tick, LinkFrame}
 use Rattle.mesh_model.specs.Net.Due.{ticks_in}
-use Rattle.mesh_model.specs.Net.Inputs.{noted_at, noted, with_entry, entry_of, unless_passed, given_node, given_to}
+use Rattle.mesh_model.specs.Net.Inputs.{noted_at, noted, after_entry, entry_of, given_node, given_to}
 use Rattle.mesh_model.specs.Net.Mesh.{NodeLog, NetLink, SentFrame, Mesh, Setup, address_at}
 use Rattle.mesh_model.specs.Net.Runs.{Course, effect, after_happening, delivered, frame_given, frame_over, tick_given, throughput_between, turn, with_last}
-use Rattle.mesh_model.specs.Net.Sending.{Actor, Attempt, after_acts}
+use Rattle.mesh_model.specs.Net.Sending.{Actor, after_acts}
 use Rattle.mesh_laws.proofs.Schedule.Runs.{Turned, rests, goes, stops, turned}
 use Rattle.mesh_laws.proofs.Schedule.Sends.{acts_send, as_ok, ok_one, on_ok_ok}
+use Rattle.mesh_laws.proofs.Schedule.Steps.{not_passed}
 
 -- the links are the same after
 abbrev pub KeepsLinks : Mesh → Mesh → Type 0
@@ -24,7 +24,7 @@ keeps_itself mesh = refl
 keeps_both : (a b c : Mesh) → KeepsLinks a b → KeepsLinks b c → KeepsLinks a c
 keeps_both a b c p q = q ∙ p
 
-entry_keeps : (setup : Setup) (mesh : Mesh) (actor : Actor) (entry : LogEntry) (after : Mesh) → with_entry setup actor entry mesh ≡ Ok after → KeepsLinks mesh after
+entry_keeps : (setup : Setup) (mesh : Mesh) (actor : Actor) (entry : LogEntry) (after : Mesh) → after_entry setup actor entry mesh ≡ Ok after → KeepsLinks mesh after
 entry_keeps setup mesh actor entry after e =
     let p = on_ok_ok (noted actor.place entry) (after_acts setup actor entry.acts mesh) after e in
     let sends = acts_send setup actor entry.acts mesh p.0 p.1 in
@@ -33,17 +33,13 @@ entry_keeps setup mesh actor entry after e =
 same_mesh : (mesh after : Mesh) → as_ok mesh ≡ as_ok after → KeepsLinks mesh after
 same_mesh mesh after e = subst (KeepsLinks mesh) (ok_one mesh after e) (keeps_itself mesh)
 
-pub not_passed : (o : Option LimitName) (step : Attempt) (after : Mesh) → unless_passed o step ≡ Ok after → step ≡ Ok after
-not_passed None step after e = e
-not_passed (Some limit) step after e = cc
-
 node_keeps : (setup : Setup) (mesh : Mesh) (place now root : ℕ) (given : Given) (o : Option NodeLog) (after : Mesh) → given_node setup place now root given o mesh ≡ Ok after
     → KeepsLinks mesh after
 node_keeps setup mesh place now root given None after e = same_mesh mesh after e
 node_keeps setup mesh place now root given (Some n) after e =
     let actor : Actor = record { place = place; mac = n.mac; now = now; root = root } in
     let entry : LogEntry = entry_of setup n now given in
-    entry_keeps setup mesh actor entry after (not_passed (setup.client_limit n.mac n.log now given) (with_entry setup actor entry mesh) after e)
+    entry_keeps setup mesh actor entry after (not_passed (setup.client_limit n.mac n.log now given) (after_entry setup actor entry mesh) after e)
 
 pub given_keeps : (setup : Setup) (mesh : Mesh) (place now root : ℕ) (given : Given) (after : Mesh) → given_to setup place now root given mesh ≡ Ok after
     → KeepsLinks mesh after

@@ -7,7 +7,7 @@ use Rattle.mesh_model.specs.Net.Due.{next_due}
 use Rattle.mesh_model.specs.Net.Limits.{clock_limit}
 use Rattle.mesh_model.specs.Net.Runs.{PassedLimit, Course, begin, turn, going_on, run_to}
 use Rattle.mesh_model.specs.Run.State.{Printed, Happened, State, names_of}
-use Rattle.mesh_model.specs.Run.Outcome.{Goes, Ends, and_then}
+use Rattle.mesh_model.specs.Run.Outcome.{Goes, Ends, followed_by}
 use Rattle.mesh_model.specs.Run.Passing.{events_since, gone_on, course_outcome, after_course, run_until, clock_behind, one_happening}
 use Rattle.mesh_laws.specs.LineLaws.{CanPass}
 use Rattle.mesh_laws.proofs.Schedule.Runs.{Fine, slices, done_stays, after_turn}
@@ -33,7 +33,7 @@ outcome_twice state k t b c (Some passed) p q = ap (λ s. Ends s (Limit passed.l
 
 -- a course is cut at another that it goes on from
 pub cut_by : (setup : Setup) (t k : ℕ) (state : State) (o : Course) (stop : Option PassedLimit) → o.stop ≡ stop → Follows state.mesh o.mesh
-    → after_course state t (going_on setup t o) ≡ and_then (course_outcome state k o.mesh stop) (run_until setup t)
+    → after_course state t (going_on setup t o) ≡ followed_by (course_outcome state k o.mesh stop) (run_until setup t)
 cut_by setup t k state o None s f =
     let o_is : o ≡ begin o.mesh = λ i. record { mesh = o.mesh; stop = s i } in
     outcome_twice state k t o.mesh (going_on setup t o).mesh (going_on setup t o).stop f (going_follows setup t o)
@@ -43,7 +43,7 @@ cut_by setup t k state o (Some passed) s f =
     ∙ ap (course_outcome state t o.mesh) s
 
 pub cut : (setup : Setup) (t k : ℕ) (state : State) (o : Course) → Follows state.mesh o.mesh
-    → after_course state t (going_on setup t o) ≡ and_then (after_course state k o) (run_until setup t)
+    → after_course state t (going_on setup t o) ≡ followed_by (after_course state k o) (run_until setup t)
 cut setup t k state o f = cut_by setup t k state o o.stop refl f
 
 pub begun : (setup : Setup) (t : ℕ) (state : State) → CanPass setup t state → Fine t (begin state.mesh)
@@ -52,12 +52,12 @@ begun setup t state can =
     fine_start t state.mesh can.is_reached.sound (omega (arith, p, l))
 
 pub goes_on : (setup : Setup) (first last : ℕ) (state : State) → CanPass setup first state → first ≤ last → last ≤ clock_limit
-    → run_until setup last state ≡ and_then (run_until setup first state) (run_until setup last)
+    → run_until setup last state ≡ followed_by (run_until setup first state) (run_until setup last)
 goes_on setup first last state can later low =
     ap (after_course state last) (sym (slices setup first last (begin state.mesh) can.fits (begun setup first state can) later low))
     ∙ cut setup last first state (run_to setup first state.mesh) (going_follows setup first (begin state.mesh))
 
-pub goes_by_happenings : (setup : Setup) (t : ℕ) (state : State) → CanPass setup t state → run_until setup t state ≡ and_then (one_happening setup t state) (run_until setup t)
+pub goes_by_happenings : (setup : Setup) (t : ℕ) (state : State) → CanPass setup t state → run_until setup t state ≡ followed_by (one_happening setup t state) (run_until setup t)
 goes_by_happenings setup t state can =
     ap (after_course state t) (after_turn setup t (begin state.mesh) can.fits (begun setup t state can) can.ends)
     ∙ cut setup t (clock_behind t (next_due t state.mesh)) state (turn setup t (begin state.mesh)) (turn_follows setup t (begin state.mesh))

@@ -18,7 +18,7 @@ use Rattle.mesh_laws.proofs.Schedule.Kept.{fine_start, none_due}
 use Rattle.mesh_laws.proofs.Schedule.Runs.{Fine, Progress, done_stays, fine_turn, rank_low, rests_on, turn_progress, turned}
 
 -- the events of so many turns follow those before
-turns_follow : (setup : Setup) (t count : ℕ) (o : Course) → Follows o.mesh (iterate (turn setup t) count o).mesh
+pub turns_follow : (setup : Setup) (t count : ℕ) (o : Course) → Follows o.mesh (iterate (turn setup t) count o).mesh
 turns_follow setup t zero o = follows_itself o.mesh
 turns_follow setup t (suc count) o =
     follows_both o.mesh (turn setup t o).mesh (iterate (turn setup t) count (turn setup t o)).mesh (turn_follows setup t o) (turns_follow setup t count (turn setup t o))

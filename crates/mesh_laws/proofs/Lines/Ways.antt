@@ -11,8 +11,9 @@ use Rattle.mesh_base.specs.declared.address.Mac.{Mac}
 use Rattle.mesh_model.specs.declared.line_form.Algorithm.TheVariants.{Iv, V}
 use Rattle.mesh_model.specs.declared.line_form.Command.{Command}
 use Rattle.mesh_model.specs.declared.line_form.Command.TheVariants.{Nothing, Algo, Node, Link, Lan, Frame, Gone, Join, Leave, Arp, Dhcp, Wifi, GwOff, GwServer, GwClient, Mcast, Dat, Alfred, Put, Get, Ping, Trace, Run, Deliver, Show, Decode}
-use Rattle.mesh_model.specs.Clients.Log.{Given}
-use Rattle.mesh_model.specs.Clients.Log.{Frame as FrameGiven, Gone as GoneGiven, Join as JoinGiven, Leave as LeaveGiven, Wifi as WifiGiven, Ping as PingGiven, Trace as TraceGiven}
+use Rattle.mesh_model.specs.Clients.Log.{Given, LineGiven, Line, Sets}
+use Rattle.mesh_model.specs.Clients.Log.{Frame as FrameGiven, Gone as GoneGiven, Join as JoinGiven, Leave as LeaveGiven, Ping as PingGiven, Trace as TraceGiven}
+use Rattle.mesh_model.specs.Clients.Settings.{Wifi as WifiSet}
 use Rattle.mesh_model.specs.Net.Mesh.{NodeLog, NetLink, Mesh, Setup, address_at}
 use Rattle.mesh_model.specs.Net.Sending.{Attempt}
 use Rattle.mesh_model.specs.Net.Inputs.{given_to}
@@ -49,10 +50,10 @@ link_led : (setup : Setup) (state : State) (command : Command) (link : NetLink) 
 link_led setup state command link delay true = ended (Limit Links) refl
 link_led setup state command link delay false = linked link delay refl
 
-input_led : (setup : Setup) (state : State) (command : Command) (place : ℕ) (input : Given) → ticks_by input ≡ 0 → GivesItsBytes state.mesh.frames input → (attempt : Attempt) → given_to setup place state.clock 0 input state.mesh ≡ attempt
+input_led : (setup : Setup) (state : State) (command : Command) (place : ℕ) (line : LineGiven) → (attempt : Attempt) → given_to setup place state.clock 0 (Line line) state.mesh ≡ attempt
     → Led setup state command (after_attempt state attempt)
-input_led setup state command place input none gives (Ok after) e = given place input after none gives e refl
-input_led setup state command place input none gives (Err limit) e = ended (Limit limit) refl
+input_led setup state command place line (Ok after) e = given place (Line line) after refl tt e refl
+input_led setup state command place line (Err limit) e = ended (Limit limit) refl
 
 again_led : (setup : Setup) (state : State) (command : Command) (place : ℕ) (attempt : Attempt) → delivered setup place state.clock state.mesh ≡ attempt → Led setup state command (after_attempt state attempt)
 again_led setup state command place (Ok after) e = again place after e refl
@@ -78,26 +79,25 @@ shown_led : (setup : Setup) (state : State) (command : Command) (name : List ℕ
 shown_led setup state command name None = stayed refl
 shown_led setup state command name (Some print) = show_led setup state command print (node_named state name)
 
--- an input of a line at the node of a name
-line_led : (setup : Setup) (state : State) (command : Command) (place : List ℕ) (input : Given) → ticks_by input ≡ 0 → GivesItsBytes state.mesh.frames input
-    → Led setup state command (at_node place (input_step setup input) state)
-line_led setup state command place input none gives = at_led setup state command (input_step setup input) (place_of state place)
-    (λ p. input_led setup state command p input none gives (given_to setup p state.clock 0 input state.mesh) refl)
+-- what a line gives at the node of a name
+line_led : (setup : Setup) (state : State) (command : Command) (place : List ℕ) (line : LineGiven)
+    → Led setup state command (at_node place (input_step setup line) state)
+line_led setup state command place line = at_led setup state command (input_step setup line) (place_of state place)
+    (λ p. input_led setup state command p line (given_to setup p state.clock 0 (Line line) state.mesh) refl)
 
 -- a ping or a traceroute at the node of a name to that of another
-session_led : (setup : Setup) (state : State) (command : Command) (input : Mac → Given) → ((mac : Mac) → ticks_by (input mac) ≡ 0) → ((mac : Mac) → GivesItsBytes state.mesh.frames (input mac))
-    → (node target : List ℕ) → Led setup state command (session_step setup input node target state)
-session_led setup state command input none gives node target =
-    let to : ℕ → ℕ → Step = λ place end s. input_step setup (input (address_at end s.mesh.nodes)) place s in
+session_led : (setup : Setup) (state : State) (command : Command) (line : Mac → LineGiven) (node target : List ℕ) → Led setup state command (session_step setup line node target state)
+session_led setup state command line node target =
+    let to : ℕ → ℕ → Step = λ place end s. input_step setup (line (address_at end s.mesh.nodes)) place s in
     at_led setup state command (λ place. at_node target (to place)) (place_of state node) (λ place.
     at_led setup state command (to place) (place_of state target) (λ end.
     let mac = address_at end state.mesh.nodes in
-    input_led setup state command place (input mac) (none mac) (gives mac) (given_to setup place state.clock 0 (input mac) state.mesh) refl))
+    input_led setup state command place (line mac) (given_to setup place state.clock 0 (Line (line mac)) state.mesh) refl))
 
-frame_led : (setup : Setup) (state : State) (command : Command) (place : List ℕ) (input : Given) → ticks_by input ≡ 0 → GivesItsBytes state.mesh.frames input → (other_group : Bool)
-    → Led setup state command (after_step state (cond other_group None (Some (at_node place (input_step setup input)))))
-frame_led setup state command place input none gives true = stayed refl
-frame_led setup state command place input none gives false = line_led setup state command place input none gives
+frame_led : (setup : Setup) (state : State) (command : Command) (place : List ℕ) (line : LineGiven) (other_group : Bool)
+    → Led setup state command (after_step state (cond other_group None (Some (at_node place (input_step setup line)))))
+frame_led setup state command place line true = stayed refl
+frame_led setup state command place line false = line_led setup state command place line
 
 pub command_led : (setup : Setup) (state : State) (command : Command) → Led setup state command (after_step state (step_of setup command))
 command_led setup state Nothing = stayed refl
@@ -110,13 +110,13 @@ command_led setup state (Link from to delay pattern throughput) =
     at_led setup state (Link from to delay pattern throughput) (λ end. link_step (link start end)) (place_of state to) (λ end.
     link_led setup state (Link from to delay pattern throughput) (link start end) (λ has. has from to pattern delay throughput refl) (nat_le links_limit (length state.mesh.links))))
 command_led setup state (Lan name gateways) = stayed refl
-command_led setup state (Frame place src dst vid text) = frame_led setup state (Frame place src dst vid text) place (FrameGiven src dst vid text) refl tt (is_group dst && not (is_broadcast dst))
-command_led setup state (Gone place key) = line_led setup state (Gone place key) place (GoneGiven key) refl tt
-command_led setup state (Join node key) = line_led setup state (Join node key) node (JoinGiven key) refl tt
-command_led setup state (Leave node key) = line_led setup state (Leave node key) node (LeaveGiven key) refl tt
+command_led setup state (Frame place src dst vid text) = frame_led setup state (Frame place src dst vid text) place (FrameGiven src dst vid text) (is_group dst && not (is_broadcast dst))
+command_led setup state (Gone place key) = line_led setup state (Gone place key) place (GoneGiven key)
+command_led setup state (Join node key) = line_led setup state (Join node key) node (JoinGiven key)
+command_led setup state (Leave node key) = line_led setup state (Leave node key) node (LeaveGiven key)
 command_led setup state (Arp node mac own asked vid) = stayed refl
 command_led setup state (Dhcp node key text) = stayed refl
-command_led setup state (Wifi node on) = line_led setup state (Wifi node on) node (WifiGiven on) refl tt
+command_led setup state (Wifi node on) = line_led setup state (Wifi node on) node (Sets (WifiSet on))
 command_led setup state (GwOff node) = stayed refl
 command_led setup state (GwServer node down up) = stayed refl
 command_led setup state (GwClient node policy) = stayed refl
@@ -125,8 +125,8 @@ command_led setup state (Dat node on) = stayed refl
 command_led setup state (Alfred node mode) = stayed refl
 command_led setup state (Put node type_no version text) = stayed refl
 command_led setup state (Get node type_no) = stayed refl
-command_led setup state (Ping node target) = session_led setup state (Ping node target) PingGiven (λ mac. refl) (λ mac. tt) node target
-command_led setup state (Trace node target) = session_led setup state (Trace node target) TraceGiven (λ mac. refl) (λ mac. tt) node target
+command_led setup state (Ping node target) = session_led setup state (Ping node target) PingGiven node target
+command_led setup state (Trace node target) = session_led setup state (Trace node target) TraceGiven node target
 command_led setup state (Run time) = time_led setup state time (nat_lt clock_limit (state.clock + time)) refl
 command_led setup state (Deliver number) = again_led setup state (Deliver number) (number - 1) (delivered setup (number - 1) state.clock state.mesh) refl
 command_led setup state (Show node table) = shown_led setup state (Show node table) node (shown table)

@@ -21,7 +21,7 @@ use Rattle.mesh_laws.proofs.Schedule.Kept.{runs_end_quiet}
 
 -- ---- what is added comes later
 -- a frame arrives after it was sent
-later_of : (fate : Fate) (sent delay moment : ℕ) → 1 ≤ delay → Has (arrivals_by fate sent delay) moment → sent < moment
+pub later_of : (fate : Fate) (sent delay moment : ℕ) → 1 ≤ delay → Has (arrivals_by fate sent delay) moment → sent < moment
 later_of Once sent delay moment l (inl e) = omega (arith, l, e)
 later_of Once sent delay moment l (inr h) = absurd h
 later_of Never sent delay moment l h = absurd h

@@ -5,10 +5,10 @@ use Rattle.mesh_model.specs.declared.ending.LimitName.{LimitName}
 use Rattle.mesh_model.specs.declared.happening.Class.{Class}
 use Rattle.mesh_model.specs.declared.happening.Class.TheVariants.{LinkDelivery, NodeTick}
 use Rattle.mesh_model.specs.declared.happening.Happening.{Happening}
-use Rattle.mesh_model.specs.Clients.Log.{Given, Tick, LinkFrame, Frame, Gone, Join, Leave, Arp, Dhcp, Wifi, Ping, Trace, LogEntry}
+use Rattle.mesh_model.specs.Clients.Log.{Given, Tick, LinkFrame, LanFrame, Line, LogEntry}
 use Rattle.mesh_model.specs.Net.Mesh.{NetLink, SentFrame, NodeLog, Mesh, Setup, address_at}
 use Rattle.mesh_model.specs.Net.Sending.{Attempt, Actor, after_acts}
-use Rattle.mesh_model.specs.Net.Inputs.{noting, noted_at, noted, with_entry, entry_of, unless_passed, given_node, given_to}
+use Rattle.mesh_model.specs.Net.Inputs.{noting, noted_at, noted, after_entry, entry_of, unless_passed, given_node, given_to}
 use Rattle.mesh_model.specs.Net.Due.{ticks_by, ticks_in}
 use Rattle.mesh_model.specs.Net.Next.{Has}
 use Rattle.mesh_model.specs.Net.Runs.{throughput_between, frame_over, frame_given, delivered, tick_given, effect, with_last, after_happening}
@@ -26,15 +26,8 @@ get_front (z ∷ zs) ys (suc i) x e = get_front zs ys i x e
 pub gave_later : (before more : List SentFrame) (given : Given) → GivesItsBytes before given → GivesItsBytes (before ++ more) given
 gave_later before more (Tick index) g = tt
 gave_later before more (LinkFrame number from throughput bytes) g = (g.0, get_front before more (number - 1) g.0 g.1, g.2)
-gave_later before more (Frame src dst vid text) g = tt
-gave_later before more (Gone key) g = tt
-gave_later before more (Join key) g = tt
-gave_later before more (Leave key) g = tt
-gave_later before more (Arp mac own_ip asked_ip vid) g = tt
-gave_later before more (Dhcp key text) g = tt
-gave_later before more (Wifi on) g = tt
-gave_later before more (Ping target) g = tt
-gave_later before more (Trace target) g = tt
+gave_later before more (LanFrame bytes) g = tt
+gave_later before more (Line line) g = tt
 
 -- a node after it had so many more ticks, and was given frames with the bytes of these
 pub record Grew (frames : List SentFrame) (extra : ℕ) (node after : NodeLog) : Type 0 where
@@ -118,7 +111,7 @@ grew_from frames at entry place node after g (itself p e) = record {
     either x (inl same) = inr (subst (λ (y : LogEntry). GivesItsBytes frames y.given) (sym same) g)
     either x (inr h) = inl h
 
-entry_effect : (setup : Setup) (mesh : Mesh) (actor : Actor) (entry : LogEntry) (after : Mesh) → GivesItsBytes mesh.frames entry.given → with_entry setup actor entry mesh ≡ Ok after → Effect setup (at_place actor.place (ticks_by entry.given)) actor.now mesh after
+entry_effect : (setup : Setup) (mesh : Mesh) (actor : Actor) (entry : LogEntry) (after : Mesh) → GivesItsBytes mesh.frames entry.given → after_entry setup actor entry mesh ≡ Ok after → Effect setup (at_place actor.place (ticks_by entry.given)) actor.now mesh after
 entry_effect setup mesh actor entry after g e =
     let p = on_ok_ok (noted actor.place entry) (after_acts setup actor entry.acts mesh) after e in
     let sends = acts_send setup actor entry.acts mesh p.0 p.1 in
@@ -134,7 +127,7 @@ entry_effect setup mesh actor entry after g e =
     })
 
 -- a step after which there is a mesh passed no limit before it
-not_passed : (o : Option LimitName) (step : Attempt) (after : Mesh) → unless_passed o step ≡ Ok after → step ≡ Ok after
+pub not_passed : (o : Option LimitName) (step : Attempt) (after : Mesh) → unless_passed o step ≡ Ok after → step ≡ Ok after
 not_passed None step after e = e
 not_passed (Some limit) step after e = cc
 
@@ -152,7 +145,7 @@ node_effect setup mesh node now root given None after found g e = no_effect setu
 node_effect setup mesh node now root given (Some n) after found g e =
     let actor : Actor = record { place = node; mac = n.mac; now = now; root = root } in
     let entry : LogEntry = entry_of setup n now given in
-    entry_effect setup mesh actor entry after g (not_passed (setup.client_limit n.mac n.log now given) (with_entry setup actor entry mesh) after e)
+    entry_effect setup mesh actor entry after g (not_passed (setup.client_limit n.mac n.log now given) (after_entry setup actor entry mesh) after e)
 
 pub given_effect : (setup : Setup) (mesh : Mesh) (node now root : ℕ) (given : Given) (after : Mesh) → GivesItsBytes mesh.frames given → given_to setup node now root given mesh ≡ Ok after → Effect setup (at_place node (ticks_by given)) now mesh after
 given_effect setup mesh node now root given after g e = node_effect setup mesh node now root given (slice_get mesh.nodes node) after refl g e

@@ -4,6 +4,7 @@
 -- the client is known to be, or is lost. What is carried may be no client frame: then nothing is
 -- printed of it, and a broadcast of it is sent on all the same. The main words are `frame_acts`,
 -- `broadcast_acts`, `here_acts` and `passed_frame`.
+use Rattle.mesh_model.specs.Packets.Numbers.{first_ttl}
 use Rattle.std.specs.Prelude.{ℕ, suc, ◌-◌, ◌||◌, nat_le, Bool, List, [], ◌∷◌, ◌++◌, Option, Some, None, is_some, if◌then◌else◌}
 use Rattle.std.specs.Option.{unwrap_or}
 use Rattle.mesh_base.specs.Address.{is_broadcast, is_group}
@@ -16,7 +17,7 @@ use Rattle.mesh_base.specs.declared.event.Reason.TheVariants.{Fwd}
 use Rattle.mesh_model.specs.declared.act.Act.{Act}
 use Rattle.mesh_model.specs.declared.act.Act.TheVariants.{Print}
 use Rattle.mesh_model.specs.declared.packet.Head.TheVariants.{Bcast, Unicast, Utvlv}
-use Rattle.mesh_model.specs.Acts.Packing.{first_ttl, roaming_container, sent_to, sent_to_all}
+use Rattle.mesh_model.specs.Acts.Packing.{roaming_container, sent_to, sent_to_all}
 use Rattle.mesh_model.specs.Clients.Mentions.{Mention, key_of}
 use Rattle.mesh_model.specs.Clients.Present.{present_row}
 use Rattle.mesh_model.specs.Knowledge.Addressee.{Way, addressee}

@@ -20,10 +20,6 @@ use Rattle.mesh_model.specs.Packets.Numbers.{full_table_flag, request_flag, resp
 use Rattle.mesh_model.specs.Tables.Answers.{Reply}
 use Rattle.mesh_model.specs.Tables.Versions.{Stamp}
 
--- how many hops are before a packet that a node begins
-abbrev pub first_ttl : ℕ
-first_ttl = 50
-
 -- a packet to a neighbour
 abbrev pub sent_to : Mac → Option Reason → Head → List ℕ → Act
 sent_to next reason head tail = Link (Some next) reason (spelling head tail)

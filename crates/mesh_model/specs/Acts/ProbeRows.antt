@@ -20,9 +20,9 @@ use Rattle.mesh_model.specs.declared.probe.Probe.{Probe}
 use Rattle.mesh_model.specs.declared.probe.Told.{Told}
 use Rattle.mesh_model.specs.declared.probe.Told.TheVariants.{Unknown, Done, Next}
 use Rattle.mesh_model.specs.Acts.FrameRows.{Place}
-use Rattle.mesh_model.specs.Acts.Packing.{first_ttl, sent_over, sent_to}
+use Rattle.mesh_model.specs.Acts.Packing.{sent_over, sent_to}
 use Rattle.mesh_model.specs.Knowledge.Known.{Knowledge}
-use Rattle.mesh_model.specs.Packets.Numbers.{destination_unreachable, echo_reply, echo_request, ttl_exceeded}
+use Rattle.mesh_model.specs.Packets.Numbers.{destination_unreachable, echo_reply, echo_request, ttl_exceeded, first_ttl}
 use Rattle.mesh_model.specs.Probes.OpenProbes.{first_probe, is_answer, probes_by, told}
 use Rattle.mesh_model.specs.Routes.Queries.{Queries}
 use Rattle.mesh_model.specs.Routes.RouteLog.{RouteLog}
@@ -92,8 +92,8 @@ trace_result m hop rtt =
     else traces.Passed hop m.orig rtt
 
 -- an answer to an open probe
-abbrev pub answered : Place → IcmpMessage → OpenProbe → Event
-answered at m asked =
+abbrev pub answer_event : Place → IcmpMessage → OpenProbe → Event
+answer_event at m asked =
     if asked.trace
     then Traced at.me asked.probe.target (trace_result m asked.probe.ttl (at.now - asked.sent))
     else Pinged at.me asked.probe.target asked.probe.seq (ping_result m (at.now - asked.sent))
@@ -106,9 +106,9 @@ next_acts q routes at (Next hop sent probe) =
     probe_acts at.me true probe (q.route routes at.now probe.target)
 
 -- an answer to the open probe of its number, where there is one, and what follows
-abbrev pub answer_acts : Queries → Knowledge → Place → IcmpMessage → Option OpenProbe → List Act
-answer_acts q known at m None = []
-answer_acts q known at m (Some asked) = Print (answered at m asked)
+abbrev pub answered_acts : Queries → Knowledge → Place → IcmpMessage → Option OpenProbe → List Act
+answered_acts q known at m None = []
+answered_acts q known at m (Some asked) = Print (answer_event at m asked)
     ∷ next_acts q known.routes at (told m.seq m.kind (probes_by known.probes))
 
 -- ---- messages
@@ -123,7 +123,7 @@ answered_by q known at kind m =
 -- a message for this node
 unfoldable pub icmp_here : Queries → Knowledge → Place → IcmpMessage → List Act
 icmp_here q known at m =
-    if is_answer m.kind then answer_acts q known at m ((probes_by known.probes).waiting m.seq)
+    if is_answer m.kind then answered_acts q known at m ((probes_by known.probes).waiting m.seq)
     else answered_by q known at echo_reply m
 
 -- a message that goes on to a neighbour, where there is one

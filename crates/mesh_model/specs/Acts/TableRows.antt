@@ -3,13 +3,14 @@
 -- originator, or on the way by a node that holds the table; else it is passed on, as all containers
 -- for another node are, while hops are left and a route leads there. Without a route to the asker
 -- nothing is sent. The main words are `request_acts`, `own_answer` and `passed_containers`.
+use Rattle.mesh_model.specs.Packets.Numbers.{first_ttl}
 use Rattle.std.specs.Prelude.{ℕ, ◌-◌, ◌&&◌, nat_le, Bool, List, [], length, Option, Some, None, if◌then◌else◌}
 use Rattle.mesh_base.specs.declared.address.Mac.{Mac}
 use Rattle.mesh_model.specs.declared.act.Act.{Act}
 use Rattle.mesh_model.specs.declared.packet.Head.TheVariants.{Utvlv}
 use Rattle.mesh_model.specs.declared.table_change.Change.{Change}
 use Rattle.mesh_model.specs.declared.table_outcome.Request.{Request}
-use Rattle.mesh_model.specs.Acts.Packing.{first_ttl, reply_containers, request_containers, sent_over}
+use Rattle.mesh_model.specs.Acts.Packing.{reply_containers, request_containers, sent_over}
 use Rattle.mesh_model.specs.Clients.Limits.{clients_limit, vlans_limit}
 use Rattle.mesh_model.specs.Knowledge.Known.{Knowledge, known_at}
 use Rattle.mesh_model.specs.Knowledge.Told.{Message, TableMessage, Asks, Answers, Neither, message_in, stamp_told}

@@ -1,8 +1,8 @@
 -- The mentions of clients in a node's log, newest first: sightings with their flags, departures,
 -- roaming advertisements taken, and the joining and leaving of groups. A client frame, an ARP
 -- question and a call for a gateway are sightings of their source. A sighting's flags are WIFI
--- where the last `set wifi` before it was on, else 0. The main word is `mentions`.
-use Rattle.std.specs.Prelude.{ℕ, Bool, false, List, [], ◌∷◌, ◌++◌, filter_map, Option, None, option_map, if◌then◌else◌}
+-- where the node's clients were set to be wireless before it, else 0. The main word is `mentions`.
+use Rattle.std.specs.Prelude.{ℕ, Bool, List, [], ◌∷◌, ◌++◌, filter_map, Option, Some, None, option_map, if◌then◌else◌}
 use Rattle.mesh_base.specs.declared.address.Mac.{Mac}
 use Rattle.mesh_base.specs.declared.client.Key.{Key}
 use Rattle.mesh_base.specs.declared.client.Vid.{Vid}
@@ -14,7 +14,7 @@ use Rattle.mesh_model.specs.Packets.FirstPacket.{Packet}
 use Rattle.mesh_model.specs.Packets.LinkFrame.{link_frame}
 use Rattle.mesh_model.specs.Packets.Numbers.{wifi_flag}
 use Rattle.mesh_model.specs.Routes.Addresses.{same_mac}
-use Rattle.mesh_model.specs.Clients.Log.{Given, Tick, LinkFrame, Frame, Gone, Join, Leave, Arp, Dhcp, Wifi, Ping, Trace, Log}
+use Rattle.mesh_model.specs.Clients.Log.{Given, Tick, LinkFrame, LanFrame, Line, LineGiven, Attach, Frame, Gone, Join, Leave, Arp, Dhcp, Sets, Put, Get, Ping, Trace, Log, settings}
 
 -- what a mention says of its key
 pub data News : Type 0 where
@@ -30,24 +30,9 @@ pub record Mention : Type 0 where
   pub key : Key
   pub news : News
 
--- the marking of sightings after an input, from the marking before it
-abbrev pub wifi_after : Given → Bool → Bool
-wifi_after (Tick index) before = before
-wifi_after (LinkFrame number from throughput bytes) before = before
-wifi_after (Frame src dst vid text) before = before
-wifi_after (Gone key) before = before
-wifi_after (Join key) before = before
-wifi_after (Leave key) before = before
-wifi_after (Arp mac own_ip asked_ip vid) before = before
-wifi_after (Dhcp key text) before = before
-wifi_after (Wifi on) before = on
-wifi_after (Ping target) before = before
-wifi_after (Trace target) before = before
-
--- whether the last setting of a log marks sightings as wireless
+-- whether a node's clients are wireless, by its log
 abbrev pub is_wifi_on : Log → Bool
-is_wifi_on [] = false
-is_wifi_on (entry ∷ older) = wifi_after entry.given (is_wifi_on older)
+is_wifi_on log = (settings log).wifi
 
 -- what a sighting right after a log says
 abbrev pub sighted_after : Log → News
@@ -56,6 +41,21 @@ sighted_after older = Sighted (if is_wifi_on older then wifi_flag else 0)
 -- the key of an address in a VLAN
 abbrev pub key_of : Mac → Vid → Key
 key_of mac vid = record { mac = mac; vid = vid }
+
+-- the client that a line names, where it names one
+abbrev pub client_of : LineGiven → Option Key
+client_of (Attach lan gateways) = None
+client_of (Frame src dst vid text) = Some (key_of src vid)
+client_of (Gone key) = Some key
+client_of (Join key) = Some key
+client_of (Leave key) = Some key
+client_of (Arp mac own_ip asked_ip vid) = Some (key_of mac vid)
+client_of (Dhcp key text) = Some key
+client_of (Sets setting) = None
+client_of (Put type_no version text) = None
+client_of (Get type_no) = None
+client_of (Ping target) = None
+client_of (Trace target) = None
 
 -- the mention that containers for a node make of a client that roamed from it
 abbrev pub roamed : ℕ → Key → Mention
@@ -78,23 +78,33 @@ roamed_in me moment tail (Utvlv ttl dst src) = if same_mac dst me
 abbrev pub roamed_by : Mac → ℕ → Packet → Option Mention
 roamed_by me moment packet = roamed_in me moment packet.tail packet.head
 
+-- a mention alone
+abbrev pub mention : ℕ → Key → News → List Mention
+mention moment key news = record { moment = moment; key = key; news = news } ∷ []
+
+-- the mention that a line makes at a moment, where a sighting says this
+abbrev pub line_mentions : News → ℕ → LineGiven → List Mention
+line_mentions sighted moment (Attach lan gateways) = []
+line_mentions sighted moment (Frame src dst vid text) = mention moment (key_of src vid) sighted
+line_mentions sighted moment (Gone key) = mention moment key Departed
+line_mentions sighted moment (Join key) = mention moment key Joined
+line_mentions sighted moment (Leave key) = mention moment key Left
+line_mentions sighted moment (Arp mac own_ip asked_ip vid) =
+    mention moment (key_of mac vid) sighted
+line_mentions sighted moment (Dhcp key text) = mention moment key sighted
+line_mentions sighted moment (Sets setting) = []
+line_mentions sighted moment (Put type_no version text) = []
+line_mentions sighted moment (Get type_no) = []
+line_mentions sighted moment (Ping target) = []
+line_mentions sighted moment (Trace target) = []
+
 -- the mentions that an input right after a log makes at the node of an address, with their news
 abbrev pub mentions_by : Mac → Log → ℕ → Given → List Mention
 mentions_by me older moment (Tick index) = []
 mentions_by me older moment (LinkFrame number from throughput bytes) =
     filter_map (roamed_by me moment) (link_frame bytes).packets
-mentions_by me older moment (Frame src dst vid text) =
-    record { moment = moment; key = key_of src vid; news = sighted_after older } ∷ []
-mentions_by me older moment (Gone key) = record { moment = moment; key = key; news = Departed } ∷ []
-mentions_by me older moment (Join key) = record { moment = moment; key = key; news = Joined } ∷ []
-mentions_by me older moment (Leave key) = record { moment = moment; key = key; news = Left } ∷ []
-mentions_by me older moment (Arp mac own_ip asked_ip vid) =
-    record { moment = moment; key = key_of mac vid; news = sighted_after older } ∷ []
-mentions_by me older moment (Dhcp key text) =
-    record { moment = moment; key = key; news = sighted_after older } ∷ []
-mentions_by me older moment (Wifi on) = []
-mentions_by me older moment (Ping target) = []
-mentions_by me older moment (Trace target) = []
+mentions_by me older moment (LanFrame bytes) = []
+mentions_by me older moment (Line line) = line_mentions (sighted_after older) moment line
 
 -- the mentions after an input, from the log and the mentions before it
 abbrev pub next_mentions : Mac → Log → List Mention → ℕ → Given → List Mention

@@ -36,18 +36,18 @@ abbrev pub last_membership : List Mention → Key → Option Mention
 last_membership mentions key = find (λ m. same_key key m.key && is_membership m.news) mentions
 
 -- the entry of a key with its flags
-abbrev pub entry_of : Key → ℕ → Entry
-entry_of key flags = record { key = key; flags = flags }
+abbrev pub entry_with : Key → ℕ → Entry
+entry_with key flags = record { key = key; flags = flags }
 
 -- the row of a key of which this was said so many milliseconds ago: a sighting that still counts,
 -- or a joining
 abbrev pub row_after : Key → ℕ → News → Option LocalRow
 row_after key age (Sighted flags) =
-    if nat_lt age sighting_age then Some (record { entry = entry_of key flags; age = Some age })
+    if nat_lt age sighting_age then Some (record { entry = entry_with key flags; age = Some age })
     else None
 row_after key age Departed = None
 row_after key age Roamed = None
-row_after key age Joined = Some (record { entry = entry_of key 0; age = None })
+row_after key age Joined = Some (record { entry = entry_with key 0; age = None })
 row_after key age Left = None
 
 -- the row that a last mention gives at a moment

@@ -3,10 +3,11 @@
 -- at most 120. A message's root is the own tick at which its originator sent it; the message is of
 -- the last commit at its root. The main words are `announcement` and `commit_at_root`.
 use Rattle.std.specs.Prelude.{ℕ, ◌==◌, ◌&&◌, nat_lt, nat_le, Bool, false, List, [], ◌∷◌, length, map, Option, Some, None, if◌then◌else◌}
+use Rattle.std.specs.Option.{option_map_or}
 use Rattle.mesh_base.specs.declared.address.Mac.{Mac}
 use Rattle.mesh_model.specs.Packets.Numbers.{ogm_diff_flag}
 use Rattle.mesh_model.specs.Packets.Bodies.{TtData, TtChange, change_of}
-use Rattle.mesh_model.specs.Clients.Log.{Given, Tick, LinkFrame, Frame, Gone, Join, Leave, Arp, Dhcp, Wifi, Ping, Trace, Log}
+use Rattle.mesh_model.specs.Clients.Log.{Given, Log, tick_of}
 use Rattle.mesh_model.specs.Tables.Sums.{sums_of}
 use Rattle.mesh_model.specs.Tables.Versions.{Version}
 use Rattle.mesh_model.specs.Commits.Versions.{last_commit, last_changes}
@@ -21,9 +22,13 @@ carrying_messages = 3
 abbrev pub carried_changes : ℕ
 carried_changes = 120
 
+-- whether changes are few enough for a message
+abbrev pub are_few : List Change → Bool
+are_few changes = nat_le (length changes) carried_changes
+
 -- changes, where they are few enough for a message
 abbrev pub if_few : List Change → Option (List Change)
-if_few changes = if nat_le (length changes) carried_changes then Some changes else None
+if_few changes = if are_few changes then Some changes else None
 
 -- the changes of the last commit, where it isn't the first and they are few enough for a message
 abbrev pub told_changes : List Version → Option (List Change)
@@ -34,8 +39,7 @@ told_changes (last ∷ before ∷ older) = if_few (last_changes (last ∷ before
 -- the changes that the next message carries
 abbrev pub announced_changes : History → List Change
 announced_changes history =
-    if nat_lt history.sent carrying_messages
-    && nat_le (length (last_changes history.commits)) carried_changes
+    if nat_lt history.sent carrying_messages && are_few (last_changes history.commits)
     then last_changes history.commits else []
 
 -- the record of a change
@@ -53,17 +57,7 @@ announcement history = record {
 
 -- whether an input is the tick of this index
 abbrev pub is_tick : ℕ → Given → Bool
-is_tick root (Tick index) = index == root
-is_tick root (LinkFrame number from throughput bytes) = false
-is_tick root (Frame src dst vid text) = false
-is_tick root (Gone key) = false
-is_tick root (Join key) = false
-is_tick root (Leave key) = false
-is_tick root (Arp mac own_ip asked_ip vid) = false
-is_tick root (Dhcp key text) = false
-is_tick root (Wifi on) = false
-is_tick root (Ping target) = false
-is_tick root (Trace target) = false
+is_tick root given = option_map_or (λ index. index == root) (tick_of given) false
 
 -- a log up to an own tick, itself included
 abbrev pub log_until : ℕ → Log → Log

@@ -2,10 +2,11 @@
 -- under the next byte, if it differs from the last commit's; then an originator message announces
 -- the last commit. A message counts among those of its commit also where no link takes it. The main
 -- word is `commits`.
-use Rattle.std.specs.Prelude.{ℕ, ◌+◌, ◌%◌, ◌==◌, Bool, List, [], ◌∷◌, map, if◌then◌else◌}
+use Rattle.mesh_model.specs.Routes.RouteLog.{is_ogm_tick}
+use Rattle.std.specs.Prelude.{ℕ, ◌+◌, ◌%◌, ◌==◌, Bool, List, [], ◌∷◌, map, Option, Some, None, if◌then◌else◌}
 use Rattle.mesh_base.specs.declared.address.Mac.{Mac}
 use Rattle.mesh_base.specs.declared.client.Entry.{Entry}
-use Rattle.mesh_model.specs.Clients.Log.{Given, Tick, LinkFrame, Frame, Gone, Join, Leave, Arp, Dhcp, Wifi, Ping, Trace, Log}
+use Rattle.mesh_model.specs.Clients.Log.{Given, Log, tick_of}
 use Rattle.mesh_model.specs.Clients.Mentions.{Mention, mentions}
 use Rattle.mesh_model.specs.Clients.Present.{present_clients}
 use Rattle.mesh_model.specs.Commits.Versions.{first_commit, last_commit, same_table}
@@ -39,32 +40,28 @@ committed table history =
     else with_commit table history
 
 -- a history after one more message
-abbrev pub announced : History → History
-announced history = record { commits = history.commits; sent = history.sent + 1 }
+abbrev pub with_message : History → History
+with_message history = record { commits = history.commits; sent = history.sent + 1 }
 
 -- whether a node commits at the tick of this index: at each second one
 abbrev pub is_commit_tick : ℕ → Bool
-is_commit_tick index = index % 2 == 0
+is_commit_tick index = is_ogm_tick index
 
 -- the history after a tick, from the table that is then present and the history before
 abbrev pub after_tick : ℕ → List Entry → History → History
 after_tick index table before =
-    if is_commit_tick index then announced (committed table before) else before
+    if is_commit_tick index then with_message (committed table before) else before
+
+-- the history after the tick of an index at a moment, where there is one, from the mentions and the
+-- history before
+abbrev pub after_ticking : List Mention → History → ℕ → Option ℕ → History
+after_ticking older before moment None = before
+after_ticking older before moment (Some index) =
+    after_tick index (present_table older moment) before
 
 -- the history after an input, from the mentions and the history before
 abbrev pub next_history : List Mention → History → ℕ → Given → History
-next_history older before moment (Tick index) =
-    after_tick index (present_table older moment) before
-next_history older before moment (LinkFrame number from throughput bytes) = before
-next_history older before moment (Frame src dst vid text) = before
-next_history older before moment (Gone key) = before
-next_history older before moment (Join key) = before
-next_history older before moment (Leave key) = before
-next_history older before moment (Arp mac own_ip asked_ip vid) = before
-next_history older before moment (Dhcp key text) = before
-next_history older before moment (Wifi on) = before
-next_history older before moment (Ping target) = before
-next_history older before moment (Trace target) = before
+next_history older before moment given = after_ticking older before moment (tick_of given)
 
 -- the history in the log of the node of an address
 abbrev pub history : Mac → Log → History

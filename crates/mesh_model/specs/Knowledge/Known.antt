@@ -48,8 +48,8 @@ agreed_byte known =
     if is_agreed known then option_map (λ held. held.byte) known.held else None
 
 -- the numbers of an originator's broadcasts
-abbrev pub numbers_from : Mac → List Broadcast → List ℕ
-numbers_from orig taken =
+abbrev pub broadcast_numbers : Mac → List Broadcast → List ℕ
+broadcast_numbers orig taken =
     map (λ other. other.number) (filter (λ other. same_mac other.orig orig) taken)
 
 -- whether a number is new beside others: it isn't one of them, nor 64 or more below the greatest
@@ -60,4 +60,4 @@ is_new_number number others =
 -- whether a node takes a broadcast after these
 abbrev pub is_new_broadcast : Mac → Broadcast → List Broadcast → Bool
 is_new_broadcast me broadcast taken = not (same_mac broadcast.orig me)
-    && is_new_number broadcast.number (numbers_from broadcast.orig taken)
+    && is_new_number broadcast.number (broadcast_numbers broadcast.orig taken)

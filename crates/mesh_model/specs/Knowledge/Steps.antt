@@ -5,7 +5,7 @@
 -- what its new node was told to have. A sighting ends the client's mark, and is advertised where
 -- the client wasn't present just before and was elsewhere. A probe of a ping or a traceroute waits
 -- for its answer where it was sent. The main word is `knowledge`.
-use Rattle.std.specs.Prelude.{ℕ, suc, ◌&&◌, Bool, true, false, not, List, [], ◌∷◌, fold, Option, Some, None, is_none, is_some, if◌then◌else◌}
+use Rattle.std.specs.Prelude.{ℕ, suc, ◌&&◌, Bool, true, false, List, [], ◌∷◌, fold, Option, Some, None, is_none, is_some, if◌then◌else◌}
 use Rattle.mesh_base.specs.Address.{is_broadcast}
 use Rattle.mesh_base.specs.declared.address.Mac.{Mac}
 use Rattle.mesh_base.specs.declared.client.Key.{Key}
@@ -15,12 +15,12 @@ use Rattle.mesh_model.specs.declared.probe.Probe.{Probe}
 use Rattle.mesh_model.specs.declared.probe.Told.{Told}
 use Rattle.mesh_model.specs.declared.probe.Told.TheVariants.{Unknown, Done, Next}
 use Rattle.mesh_model.specs.declared.table_outcome.Request.{Request}
-use Rattle.mesh_model.specs.Clients.Log.{Given, Tick, LinkFrame, Frame, Gone, Join, Leave, Arp, Dhcp, Wifi, Ping, Trace, Log}
+use Rattle.mesh_model.specs.Clients.Log.{Given, Tick, LinkFrame, LanFrame, Line, LineGiven, Attach, Frame, Gone, Join, Leave, Arp, Dhcp, Sets, Put, Get, Ping, Trace, Log}
 use Rattle.mesh_model.specs.Clients.Mentions.{key_of, mentions}
 use Rattle.mesh_model.specs.Clients.Present.{present_row}
 use Rattle.mesh_model.specs.Knowledge.Addressee.{Way, addressee}
 use Rattle.mesh_model.specs.Knowledge.Known.{Broadcast, Knowledge, agreed_byte, is_new_broadcast, no_knowledge, told_at}
-use Rattle.mesh_model.specs.Knowledge.Told.{Message, TableMessage, Asks, Answers, Neither, changes_told, message_in, message_of, stamp_told}
+use Rattle.mesh_model.specs.Knowledge.Told.{Message, TableMessage, Asks, Answers, Neither, message_changes, message_in, message_of, stamp_told}
 use Rattle.mesh_model.specs.Marks.Advertisements.{too_many}
 use Rattle.mesh_model.specs.Marks.Calls.{Calls, Marked, Released, Unmarked, Advised, Asked, Forgotten}
 use Rattle.mesh_model.specs.Marks.Requests.{too_soon}
@@ -82,21 +82,21 @@ may_ask q known now orig =
 abbrev pub request_out : Queries → Knowledge → ℕ → Message → Option Request
 request_out q known now message = if may_ask q known now message.orig
     then wanted_request (announcement_row (known_by known.tables message.orig).held
-    (stamp_told message.table) (changes_told message.table)).outcome
+    (stamp_told message.table) (message_changes message.table)).outcome
     else None
 
 -- what came for the table of an originator with an announcement
-abbrev pub announcement : Coming → Message → TableCall
-announcement came message = Announced message.orig came.number (stamp_told message.table)
-    (changes_told message.table)
+abbrev pub announced_table : Coming → Message → TableCall
+announced_table came message = Announced message.orig came.number (stamp_told message.table)
+    (message_changes message.table)
 
 -- what is known after an announcement, with the request that goes out
 abbrev pub with_announcement : Coming → Message → Option Request → Knowledge → Knowledge
 with_announcement came message request known = record known {
-  tables = announcement came message ∷ known.tables;
+  tables = announced_table came message ∷ known.tables;
   marks = asked_by_request came.now message.orig request
       (released_under message.orig
-      (agreed_byte (known_by (announcement came message ∷ known.tables) message.orig))
+      (agreed_byte (known_by (announced_table came message ∷ known.tables) message.orig))
       known.marks);
 }
 
@@ -104,7 +104,8 @@ with_announcement came message request known = record known {
 -- begins drops what was known
 abbrev pub before_announcement : Queries → Coming → Head → Mac → Knowledge → Knowledge
 before_announcement q came head orig known =
-    with_life orig (not (q.live known.routes came.now orig)) (with_head came head known)
+    with_life orig (q.hear known.routes came.now came.from came.throughput head).began
+    (with_head came head known)
 
 -- the same after it
 abbrev pub after_announcement : Queries → Coming → Message → Knowledge → Knowledge
@@ -241,6 +242,23 @@ after_frame dst known =
 
 -- ---- the log
 
+-- what is known after what a line gives right after a log, from what was known before it
+abbrev pub line_knowledge : Queries → Mac → Log → Knowledge → ℕ → LineGiven → Knowledge
+line_knowledge q me older known now (Attach lan gateways) = known
+line_knowledge q me older known now (Frame src dst vid text) =
+    after_frame dst (after_sighting q me older now (key_of src vid) known)
+line_knowledge q me older known now (Gone key) = known
+line_knowledge q me older known now (Join key) = known
+line_knowledge q me older known now (Leave key) = known
+line_knowledge q me older known now (Arp mac own_ip asked_ip vid) =
+    after_sighting q me older now (key_of mac vid) known
+line_knowledge q me older known now (Dhcp key text) = after_sighting q me older now key known
+line_knowledge q me older known now (Sets setting) = known
+line_knowledge q me older known now (Put type_no version text) = known
+line_knowledge q me older known now (Get type_no) = known
+line_knowledge q me older known now (Ping target) = after_start q now target false known
+line_knowledge q me older known now (Trace target) = after_start q now target true known
+
 -- what is known after an input right after a log, from what was known before it
 abbrev pub next_knowledge : Queries → Mac → Log → Knowledge → ℕ → Given → Knowledge
 next_knowledge q me older known now (Tick index) =
@@ -248,17 +266,8 @@ next_knowledge q me older known now (Tick index) =
 next_knowledge q me older known now (LinkFrame number from throughput bytes) = after_packets q me
     (record { now = now; from = from; throughput = throughput; number = number }) known
     (link_frame bytes).packets
-next_knowledge q me older known now (Frame src dst vid text) =
-    after_frame dst (after_sighting q me older now (key_of src vid) known)
-next_knowledge q me older known now (Gone key) = known
-next_knowledge q me older known now (Join key) = known
-next_knowledge q me older known now (Leave key) = known
-next_knowledge q me older known now (Arp mac own_ip asked_ip vid) =
-    after_sighting q me older now (key_of mac vid) known
-next_knowledge q me older known now (Dhcp key text) = after_sighting q me older now key known
-next_knowledge q me older known now (Wifi on) = known
-next_knowledge q me older known now (Ping target) = after_start q now target false known
-next_knowledge q me older known now (Trace target) = after_start q now target true known
+next_knowledge q me older known now (LanFrame bytes) = known
+next_knowledge q me older known now (Line line) = line_knowledge q me older known now line
 
 -- what a node of this address knows by its log
 abbrev pub knowledge : Queries → Mac → Log → Knowledge

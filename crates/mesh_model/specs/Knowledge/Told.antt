@@ -29,8 +29,8 @@ abbrev pub change_told : TtChange → Change
 change_told change = record { entry = entry_of_change change; del = is_deletion change }
 
 -- the changes of a translation table
-abbrev pub changes_told : TtData → List Change
-changes_told table = map change_told table.changes
+abbrev pub message_changes : TtData → List Change
+message_changes table = map change_told table.changes
 
 -- an originator message that a node takes: its originator and its translation table
 pub record Message : Type 0 where
@@ -75,7 +75,7 @@ table_message table =
     then Asks (has_flag full_table_flag table.flags) (stamp_told table)
     else if has_flag response_flag table.flags
     then Answers (stamp_told table)
-    (carried_told (has_flag full_table_flag table.flags) (changes_told table))
+    (carried_told (has_flag full_table_flag table.flags) (message_changes table))
     else Neither
 
 -- the same, where there is a table

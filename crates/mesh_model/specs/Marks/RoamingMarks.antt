@@ -77,9 +77,9 @@ abbrev pub mark_of : ℕ → Calls → Key → Option Mac
 mark_of now calls key = option_and_then (target_by now) (mark_by calls key)
 
 -- a client and its target, while its mark stands
-abbrev pub row_by : ℕ → Key × RoamingMark → Option (Key × Mac)
-row_by now e = option_map (λ target. (e.0, target)) (target_by now e.1)
+abbrev pub mark_row : ℕ → Key × RoamingMark → Option (Key × Mac)
+mark_row now e = option_map (λ target. (e.0, target)) (target_by now e.1)
 
 -- the marks that stand at a moment, in key order: each client with its target
 abbrev pub marks_at : ℕ → Calls → List (Key × Mac)
-marks_at now calls = filter_map (row_by now) (marks_by calls)
+marks_at now calls = filter_map (mark_row now) (marks_by calls)

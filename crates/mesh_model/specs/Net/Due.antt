@@ -5,10 +5,11 @@
 -- the last one, of the deliveries of all frames that were ever sent and the first tick to come of
 -- each node. The main words are `next_happening` and `next_due`.
 use Rattle.std.specs.Prelude.{ℕ, suc, ◌+◌, ◌*◌, ◌%◌, ◌==◌, nat_le, List, [], ◌∷◌, ◌++◌, map, filter, length, slice_get, slice_index_or, Option, Some, None, option_and_then, if◌then◌else◌}
+use Rattle.std.specs.Option.{option_map_or}
 use Rattle.mesh_model.specs.declared.happening.Class.TheVariants.{LinkDelivery, NodeTick}
 use Rattle.mesh_model.specs.declared.happening.Happening.{Happening}
 use Rattle.mesh_model.specs.Scenario.Terms.{once_mark, lost_mark, twice_mark, held_mark}
-use Rattle.mesh_model.specs.Clients.Log.{Given, Tick, LinkFrame, Frame, Gone, Join, Leave, Arp, Dhcp, Wifi, Ping, Trace, Log}
+use Rattle.mesh_model.specs.Clients.Log.{Given, Log, tick_of}
 use Rattle.mesh_model.specs.Net.Happenings.{is_before, earliest}
 use Rattle.mesh_model.specs.Net.Mesh.{NodeLog, NetLink, SentFrame, Mesh}
 
@@ -62,17 +63,7 @@ deliveries links place (frame ∷ rest) =
 
 -- how many ticks an input is
 abbrev pub ticks_by : Given → ℕ
-ticks_by (Tick index) = 1
-ticks_by (LinkFrame number from throughput bytes) = 0
-ticks_by (Frame src dst vid text) = 0
-ticks_by (Gone key) = 0
-ticks_by (Join key) = 0
-ticks_by (Leave key) = 0
-ticks_by (Arp mac own_ip asked_ip vid) = 0
-ticks_by (Dhcp key text) = 0
-ticks_by (Wifi on) = 0
-ticks_by (Ping target) = 0
-ticks_by (Trace target) = 0
+ticks_by given = option_map_or (λ index. 1) (tick_of given) 0
 
 -- how many ticks a node has had
 abbrev pub ticks_in : Log → ℕ

@@ -21,8 +21,8 @@ abbrev pub noted : ℕ → LogEntry → Mesh → Attempt
 noted place entry mesh = Ok (record mesh { nodes = noted_at place entry mesh.nodes })
 
 -- the mesh after a node's acts, and with its entry
-abbrev pub with_entry : Setup → Actor → LogEntry → Mesh → Attempt
-with_entry setup actor entry mesh =
+abbrev pub after_entry : Setup → Actor → LogEntry → Mesh → Attempt
+after_entry setup actor entry mesh =
     on_ok (noted actor.place entry) (after_acts setup actor entry.acts mesh)
 
 -- the entry of an input at a node
@@ -40,7 +40,7 @@ abbrev pub given_node : Setup → ℕ → ℕ → ℕ → Given → Option NodeL
 given_node setup place now root given None mesh = Ok mesh
 given_node setup place now root given (Some node) mesh =
     unless_passed (setup.client_limit node.mac node.log now given)
-    (with_entry setup (record { place = place; mac = node.mac; now = now; root = root })
+    (after_entry setup (record { place = place; mac = node.mac; now = now; root = root })
     (entry_of setup node now given) mesh)
 
 -- the mesh after the node at a place is given something at a moment; what it sends has this root

@@ -7,6 +7,7 @@ use Rattle.mesh_model.specs.Acts.Choosing.{acts_of}
 use Rattle.mesh_model.specs.Clients.Limits.{passed_limit}
 use Rattle.mesh_model.specs.Net.Mesh.{Setup}
 use Rattle.mesh_model.specs.Routes.Queries.{Queries}
+use Rattle.mesh_model.specs.Scenario.NetForms.{time_limit}
 
 -- the most nodes
 abbrev pub nodes_limit : ℕ
@@ -26,7 +27,7 @@ frame_bytes_limit = 536870912
 
 -- the last moment, in milliseconds
 abbrev pub clock_limit : ℕ
-clock_limit = 1099511627776
+clock_limit = time_limit
 
 -- what a scenario's mesh is run with, by the algorithm at the node of each address
 abbrev pub scenario_setup : (Mac → Queries) → Setup

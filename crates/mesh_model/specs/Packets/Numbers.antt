@@ -63,10 +63,6 @@ ttl_exceeded = 11
 abbrev pub not_best_next_hop_flag : ℕ
 not_best_next_hop_flag = 1
 
--- flag of an originator message of algorithm IV: the first hop of a primary interface
-abbrev pub primaries_first_hop_flag : ℕ
-primaries_first_hop_flag = 2
-
 -- flag of an originator message of algorithm IV: it came back over the link that it was sent on
 abbrev pub directlink_flag : ℕ
 directlink_flag = 4
@@ -131,10 +127,6 @@ wifi_flag = 16
 abbrev pub isolated_flag : ℕ
 isolated_flag = 32
 
--- the type of an Ethernet frame that carries a link frame: 0x4305
-abbrev pub mesh_ethertype : ℕ
-mesh_ethertype = 17157
-
 -- the type that says that a VLAN's number follows: 0x8100
 abbrev pub vlan_ethertype : ℕ
 vlan_ethertype = 33024
@@ -154,3 +146,7 @@ arp_ethertype = 2054
 -- the type of a message of the fact store: 0x4242
 abbrev pub alfred_ethertype : ℕ
 alfred_ethertype = 16962
+
+-- how many hops a packet may go that a node makes
+abbrev pub first_ttl : ℕ
+first_ttl = 50

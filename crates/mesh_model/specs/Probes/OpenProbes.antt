@@ -10,7 +10,7 @@ use Rattle.mesh_model.specs.declared.probe.Probe.{Probe}
 use Rattle.mesh_model.specs.declared.probe.OpenProbe.{OpenProbe}
 use Rattle.mesh_model.specs.declared.probe.Told.{Told}
 use Rattle.mesh_model.specs.declared.probe.Told.TheVariants.{Unknown, Done, Next}
-use Rattle.mesh_model.specs.Packets.Numbers.{echo_reply, destination_unreachable, ttl_exceeded}
+use Rattle.mesh_model.specs.Packets.Numbers.{first_ttl, echo_reply, destination_unreachable, ttl_exceeded}
 
 -- a session is started, which for `trace` is a traceroute; an answer of this message type names a
 -- probe by its number; the probe of a number is closed
@@ -30,16 +30,16 @@ numbers = 65536
 
 -- the ttl of a ping, and the greatest of a traceroute
 abbrev pub last_hop : ℕ
-last_hop = 50
+last_hop = first_ttl
 
 -- whether a message of this type answers an echo request
 abbrev pub is_answer : ℕ → Bool
 is_answer msg = msg == echo_reply || msg == destination_unreachable || msg == ttl_exceeded
 
 -- the ttl of a session's first probe
-abbrev pub first_ttl : Bool → ℕ
-first_ttl true = 1
-first_ttl false = last_hop
+abbrev pub session_ttl : Bool → ℕ
+session_ttl true = 1
+session_ttl false = last_hop
 
 -- the number of the probe that comes after so many
 abbrev pub next_number : ℕ → ℕ
@@ -70,8 +70,8 @@ without_probe number before = record {
 }
 
 -- whether a further probe follows an answer of this type to an open one
-abbrev pub is_followed : ℕ → OpenProbe → Bool
-is_followed msg asked = asked.trace && (nat_lt asked.probe.ttl last_hop && msg == ttl_exceeded)
+abbrev pub leads_on : ℕ → OpenProbe → Bool
+leads_on msg asked = asked.trace && (nat_lt asked.probe.ttl last_hop && msg == ttl_exceeded)
 
 -- the probes with the one that follows an open one
 abbrev pub with_next : ℕ → OpenProbe → Probes → Probes
@@ -79,16 +79,16 @@ with_next now asked before =
     with_probe now asked.probe.target asked.trace (asked.probe.ttl + 1) before
 
 -- the probes after an answer to the open one of a number, where there is one
-abbrev pub after_answer : ℕ → ℕ → ℕ → Probes → Option OpenProbe → Probes
-after_answer now seq msg before None = before
-after_answer now seq msg before (Some asked) =
-    if is_followed msg asked then with_next now asked (without_probe seq before)
+abbrev pub answered_probes : ℕ → ℕ → ℕ → Probes → Option OpenProbe → Probes
+answered_probes now seq msg before None = before
+answered_probes now seq msg before (Some asked) =
+    if leads_on msg asked then with_next now asked (without_probe seq before)
     else without_probe seq before
 
 -- the probes after a call, from those before
 abbrev pub next_probes : ProbeCall → Probes → Probes
-next_probes (Started now target trace) before = with_probe now target trace (first_ttl trace) before
-next_probes (Answered now seq msg) before = after_answer now seq msg before (before.waiting seq)
+next_probes (Started now target trace) before = with_probe now target trace (session_ttl trace) before
+next_probes (Answered now seq msg) before = answered_probes now seq msg before (before.waiting seq)
 next_probes (Closed seq) before = without_probe seq before
 
 -- the probes after calls, newest first, of which none was refused
@@ -98,12 +98,12 @@ probes_by (call ∷ older) = next_probes call (probes_by older)
 
 -- what a session that was started gives first, after these probes
 abbrev pub first_probe : Mac → Bool → Probes → Probe
-first_probe target trace before = probe_after before.given target (first_ttl trace)
+first_probe target trace before = probe_after before.given target (session_ttl trace)
 
 -- what an answer of this type says of an open probe, where so many were given
 abbrev pub told_of : ℕ → ℕ → OpenProbe → Told
 told_of given msg asked =
-    if is_followed msg asked then
+    if leads_on msg asked then
     Next asked.probe.ttl asked.sent (probe_after given asked.probe.target (asked.probe.ttl + 1))
     else Done asked.probe.target asked.sent asked.probe.ttl
 

@@ -2,7 +2,7 @@
 -- that is sent on has one hop less to live, its neighbour as previous sender, and its value, less a
 -- part of 30 in 255, as quality; it is marked DIRECTLINK where it came from the originator itself,
 -- and then NOT_BEST_NEXT_HOP too where the best route is another. The main word is `iv_queries`.
-use Rattle.std.specs.Prelude.{ℕ, ◌+◌, ◌-◌, ◌*◌, ◌/◌, ◌%◌, ◌==◌, nat_lt, List, ◌∷◌, filter_map, Option, Some, None, if◌then◌else◌}
+use Rattle.std.specs.Prelude.{ℕ, ◌+◌, ◌-◌, ◌*◌, ◌/◌, ◌%◌, ◌==◌, nat_lt, not, List, ◌∷◌, filter_map, Option, Some, None, if◌then◌else◌}
 use Rattle.mesh_base.specs.declared.address.Mac.{Mac}
 use Rattle.mesh_model.specs.declared.packet.Head.{Head}
 use Rattle.mesh_model.specs.declared.packet.Head.TheVariants.{IvOgm}
@@ -15,14 +15,10 @@ use Rattle.mesh_model.specs.Routes.BestRoute.{best_route, route_metric, is_over,
 use Rattle.mesh_model.specs.Routes.Hearings.{before, hearing, heard}
 use Rattle.mesh_model.specs.Routes.Life.{HeardOgm, of, life, is_live, is_accepted, heard_originators}
 use Rattle.mesh_model.specs.Routes.Ogm.{Ogm, ogm_of_head, passes}
-use Rattle.mesh_model.specs.Packets.Numbers.{not_best_next_hop_flag, directlink_flag}
+use Rattle.mesh_model.specs.Packets.Numbers.{first_ttl, not_best_next_hop_flag, directlink_flag}
 use Rattle.mesh_model.specs.Routes.Quality.{average_quality, receive_quality, echo_quality, full_quality, own_ogms}
 use Rattle.mesh_model.specs.Routes.Queries.{Queries, unheard}
-use Rattle.mesh_model.specs.Routes.RouteLog.{RouteLog}
-
--- how many hops an own OGM may go
-abbrev pub first_ttl : ℕ
-first_ttl = 50
+use Rattle.mesh_model.specs.Routes.RouteLog.{RouteLog, is_ogm_tick}
 
 -- the own OGM of a number
 abbrev pub own_ogm : Mac → ℕ → Head
@@ -32,7 +28,7 @@ own_ogm me number = IvOgm first_ttl 0 number me me full_quality
 abbrev pub iv_beats : Mac → RouteLog → ℕ → Beats
 iv_beats me log index = record {
   elp = None;
-  ogm = if index % 2 == 0 then Some (own_ogm me (own_ogms log + 1)) else None;
+  ogm = if is_ogm_tick index then Some (own_ogm me (own_ogms log + 1)) else None;
 }
 
 -- the flags of a hearing that is sent on, by its life up to and with it
@@ -56,6 +52,7 @@ forward_head h alive =
 abbrev pub answer_to : HeardOgm → List HeardOgm → Hearing
 answer_to h alive = record {
   accepted = is_accepted h alive;
+  began = not (is_live alive);
   forward = if h.sent_on then Some (forward_head h (h ∷ alive)) else None;
 }
 

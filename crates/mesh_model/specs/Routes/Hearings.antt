@@ -1,14 +1,15 @@
--- What a node heard under algorithm IV, with what it decided at each hearing: whether it is late,
--- its value, and whether it was sent on. It is sent on where it is the first of its number from its
--- neighbour in the life, isn't late, may live longer, and either came from the originator itself,
--- or has a value and came over the best route as it then is, and the number wasn't sent on in the
--- life. The main word is `heard`.
-use Rattle.std.specs.Prelude.{ℕ, ◌+◌, ◌&&◌, ◌||◌, nat_le, nat_lt, Bool, false, not, List, [], ◌∷◌, Option, Some, None, if◌then◌else◌}
+-- What a node heard under algorithm IV, with what it decided at each hearing: how its number met
+-- the originator's life, its value, and whether it was sent on. It is sent on where it is the first
+-- of its number from its neighbour in the life, isn't late, may live longer, and either came from
+-- the originator itself, or has a value and came over the best route as it then is, and the number
+-- wasn't sent on in the life. The main word is `heard`.
+use Rattle.std.specs.Prelude.{ℕ, ◌&&◌, ◌||◌, nat_lt, Bool, false, not, List, [], ◌∷◌, Option, Some, None, if◌then◌else◌}
 use Rattle.mesh_base.specs.declared.address.Mac.{Mac}
+use Rattle.mesh_model.specs.declared.route.Meeting.{Meeting}
 use Rattle.mesh_model.specs.Routes.Addresses.{same_mac}
 use Rattle.mesh_model.specs.Routes.BestRoute.{best_route, is_over}
-use Rattle.mesh_model.specs.Routes.Life.{HeardOgm, of, since, life, newest, is_first, forwarded}
-use Rattle.mesh_model.specs.Routes.Numbers.{has, window_length}
+use Rattle.mesh_model.specs.Routes.Life.{HeardOgm, of, since, life, meeting, is_first, forwarded}
+use Rattle.mesh_model.specs.Routes.Numbers.{has}
 use Rattle.mesh_model.specs.Routes.Ogm.{Ogm, ogm_of_head, passes}
 use Rattle.mesh_model.specs.Routes.Quality.{echo_quality, receive_quality, transmit_quality, average_quality}
 use Rattle.mesh_model.specs.Routes.RouteLog.{RouteLog, OwnTick, HeadCame}
@@ -17,18 +18,21 @@ use Rattle.mesh_model.specs.Routes.RouteLog.{RouteLog, OwnTick, HeadCame}
 abbrev pub before : HeardOgm → List HeardOgm → List HeardOgm
 before h older = since h (of h.orig older)
 
--- an OGM as a hearing after others: whether it is late
+-- an OGM as a hearing after others: how its number meets the life that the originator then has
 abbrev pub in_time : ℕ → Mac → Ogm → List HeardOgm → HeardOgm
-in_time moment from m older = record {
-  moment = moment;
-  orig = m.orig;
-  from = from;
-  seq = m.seq;
-  ttl = m.ttl;
-  late = nat_le (m.seq + window_length) (newest (life moment (of m.orig older)));
-  value = 0;
-  sent_on = false;
-}
+in_time moment from m older =
+    let met : Meeting = meeting moment m.seq (life moment (of m.orig older)) in
+    record {
+      moment = moment;
+      orig = m.orig;
+      from = from;
+      seq = m.seq;
+      ttl = m.ttl;
+      late = met.late;
+      restart = met.restart;
+      value = 0;
+      sent_on = false;
+    }
 
 -- the same with its value, by the echo quality; the receive quality counts this hearing
 abbrev pub valued : ℕ → Mac → Ogm → List HeardOgm → ℕ → HeardOgm

@@ -1,12 +1,14 @@
 -- What a node knows of an originator, by the OGMs of it that it heard. A life is the longest run of
--- hearings in which each follows the one before by less than 200,000 ms; an originator is live
--- while its last hearing is younger than that. A hearing that is late, since its number is 64 or
--- more below the newest, counts for the life and for nothing else. Each list of hearings is newest
--- first. The main word is `life`.
-use Rattle.std.specs.Prelude.{ℕ, ◌-◌, ◌&&◌, nat_eq, nat_lt, max, Bool, true, false, not, List, [], ◌∷◌, filter, if◌then◌else◌}
+-- hearings in which each follows the one before by less than 200,000 ms, and none but the first is
+-- a restart; an originator is live while its last hearing is younger than that. How a number meets
+-- the life that it comes in is said by `meeting` alone: it is late where it is 64 or more below the
+-- newest, and no number is a restart. A late hearing counts for the life and for nothing else. Each
+-- list of hearings is newest first. The main word is `life`.
+use Rattle.std.specs.Prelude.{ℕ, ◌+◌, ◌-◌, ◌&&◌, nat_eq, nat_le, nat_lt, max, Bool, true, false, not, List, [], ◌∷◌, filter, if◌then◌else◌}
 use Rattle.mesh_base.specs.declared.address.Mac.{Mac}
+use Rattle.mesh_model.specs.declared.route.Meeting.{Meeting}
 use Rattle.mesh_model.specs.Routes.Addresses.{same_mac, insert_mac}
-use Rattle.mesh_model.specs.Routes.Numbers.{has}
+use Rattle.mesh_model.specs.Routes.Numbers.{has, window_length}
 
 -- the hearing of an OGM, with what was decided when it came
 pub record HeardOgm : Type 0 where
@@ -18,8 +20,9 @@ pub record HeardOgm : Type 0 where
   -- its number and its time to live
   pub seq : ℕ
   pub ttl : ℕ
-  -- whether it is late
+  -- whether it is late, and whether it is a restart, with which a life begins
   pub late : Bool
+  pub restart : Bool
   -- what the path over the neighbour is worth by it
   pub value : ℕ
   -- whether it was sent on
@@ -38,15 +41,16 @@ abbrev pub heard_originators : List HeardOgm → List Mac
 heard_originators [] = []
 heard_originators (h ∷ older) = insert_mac h.orig (heard_originators older)
 
--- of the hearings before one, those of its life
-abbrev pub since : HeardOgm → List HeardOgm → List HeardOgm
-since h [] = []
-since h (g ∷ older) = if nat_lt (h.moment - g.moment) life_span then g ∷ since g older else []
-
 -- of an originator's hearings, those of the life that it has at a moment
 abbrev pub life : ℕ → List HeardOgm → List HeardOgm
 life moment [] = []
-life moment (h ∷ older) = if nat_lt (moment - h.moment) life_span then h ∷ since h older else []
+life moment (h ∷ older) =
+    if nat_lt (moment - h.moment) life_span
+    then h ∷ (if h.restart then [] else life h.moment older) else []
+
+-- of the hearings before one, those of its life: none where it is a restart
+abbrev pub since : HeardOgm → List HeardOgm → List HeardOgm
+since h older = if h.restart then [] else life h.moment older
 
 -- whether there is a life
 abbrev pub is_live : List HeardOgm → Bool
@@ -57,6 +61,13 @@ is_live (h ∷ older) = true
 abbrev pub newest : List HeardOgm → ℕ
 newest [] = 0
 newest (h ∷ older) = if h.late then newest older else max h.seq (newest older)
+
+-- how a number that comes at a moment meets the life at that moment
+unfoldable pub meeting : (moment number : ℕ) → (alive : List HeardOgm) → Meeting
+meeting moment number alive = record {
+  late = nat_le (number + window_length) (newest alive);
+  restart = false;
+}
 
 -- the numbers heard from a neighbour, late hearings apart
 abbrev pub numbers_from : Mac → List HeardOgm → List ℕ

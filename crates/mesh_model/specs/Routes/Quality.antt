@@ -11,7 +11,7 @@ use Rattle.mesh_model.specs.Routes.Addresses.{same_mac}
 use Rattle.mesh_model.specs.Routes.Life.{HeardOgm, of, life, newest, numbers_from, value_at}
 use Rattle.mesh_model.specs.Routes.Numbers.{seen_among, window_length}
 use Rattle.mesh_model.specs.Routes.Ogm.{Ogm, ogm_of_head, is_echo}
-use Rattle.mesh_model.specs.Routes.RouteLog.{RouteLog, OwnTick, HeadCame}
+use Rattle.mesh_model.specs.Routes.RouteLog.{RouteLog, OwnTick, HeadCame, is_ogm_tick}
 
 -- how many numbers of a neighbour count in a life of it
 abbrev pub received_in : Mac → List HeardOgm → ℕ
@@ -25,7 +25,7 @@ receive_quality moment k hearings = received_in k (life moment (of k hearings))
 abbrev pub own_ogms : RouteLog → ℕ
 own_ogms [] = 0
 own_ogms (OwnTick moment index ∷ older) =
-    if index % 2 == 0 then suc (own_ogms older) else own_ogms older
+    if is_ogm_tick index then suc (own_ogms older) else own_ogms older
 own_ogms (HeadCame moment from throughput head ∷ older) = own_ogms older
 
 -- the numbers that came back from a neighbour, with one more where an OGM from `from` is an echo

@@ -29,7 +29,7 @@ pub record Queries : Type 0 where
 
 -- what is made of a head that isn't heard: nothing
 abbrev pub unheard : Hearing
-unheard = record { accepted = false; forward = None }
+unheard = record { accepted = false; began = false; forward = None }
 
 -- whether a head is that of an originator message, of either algorithm
 abbrev pub is_ogm : Head → Bool

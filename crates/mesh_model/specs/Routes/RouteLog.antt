@@ -1,6 +1,6 @@
 -- The log of a routing algorithm: all that it was given, newest first. That is its node's ticks,
 -- and the heads of the packets that came from neighbours. The main word is `RouteLog`.
-use Rattle.std.specs.Prelude.{◌≡◌, ℕ, suc, ◌+◌, ◌^◌, ◌<◌, List, [], ◌∷◌, Option, Some, None}
+use Rattle.std.specs.Prelude.{◌≡◌, ℕ, suc, ◌+◌, ◌%◌, ◌==◌, ◌^◌, ◌<◌, Bool, List, [], ◌∷◌, Option, Some, None}
 use Rattle.mesh_base.specs.declared.address.Mac.{Mac}
 use Rattle.mesh_model.specs.declared.packet.Head.{Head}
 
@@ -37,3 +37,7 @@ FollowsIndex (Some last) index = index ≡ last + 1
 pub record MayTick (log : RouteLog) (index : ℕ) : Type 0 where
   pub follows : FollowsIndex (last_index log) index
   pub few : own_ticks log + 1 < 2 ^ 32
+
+-- whether a node sends its originator message at the tick of this index: at each second one
+abbrev pub is_ogm_tick : ℕ → Bool
+is_ogm_tick index = index % 2 == 0

@@ -25,7 +25,7 @@ pub data Source : Type 0 where
   Generated : ℕ → Source
 
 -- what words ask for: the link frames that are printed, and the lines that are carried out
-pub record Call : Type 0 where
+pub record Invocation : Type 0 where
   pub choice : FrameChoice
   pub source : Source
 
@@ -95,11 +95,11 @@ source_given (Some word) None = option_map Generated (nodes_of_word word)
 source_given (Some word) (Some name) = None
 
 -- the call of a choice and a source
-abbrev pub call_of_parts : FrameChoice → Source → Call
+abbrev pub call_of_parts : FrameChoice → Source → Invocation
 call_of_parts choice source = record { choice = choice; source = source }
 
 -- the call of the values that clap found, by the names of their arguments
-abbrev pub call_of_values : List Row → Option Call
+abbrev pub call_of_values : List Row → Option Invocation
 call_of_values values = option_both call_of_parts
     (choice_given (first_of (codes "frames") values))
     (source_given (first_of (codes "generate") values) (first_of (codes "file") values))
@@ -107,12 +107,12 @@ call_of_values values = option_both call_of_parts
 -- ---- the words
 
 -- what clap lets through: where it finds no fault
-abbrev pub unless_faulty : Kinds → Option Call → Option Call
+abbrev pub unless_faulty : Kinds → Option Invocation → Option Invocation
 unless_faulty [] call = call
 unless_faulty (fault ∷ more) call = None
 
 -- the call of words, where they are taken
-unfoldable pub words_of : List (List ℕ) → Option Call
+unfoldable pub words_of : List (List ℕ) → Option Invocation
 words_of words =
     unless_faulty (fault_of the_command words) (call_of_values (matches_of the_command words))
 

@@ -5,7 +5,7 @@ use Rattle.mesh_base.specs.declared.address.Mac.{Mac}
 use Rattle.mesh_base.specs.declared.client.Entry.{Entry}
 use Rattle.mesh_model.specs.Knowledge.Known.{Knowledge, known_at}
 use Rattle.mesh_model.specs.Routes.Queries.{Queries}
-use Rattle.mesh_model.specs.Tables.Known.{Known, originators_by, row_by}
+use Rattle.mesh_model.specs.Tables.Known.{Known, originators_by, global_row}
 use Rattle.mesh_model.specs.Tables.Versions.{Version}
 use Rattle.mesh_model.specs.Text.GlobalTables.{GlobalPart}
 
@@ -17,7 +17,7 @@ held_entries (Some held) = held.table
 -- the part of an originator, where something was told
 abbrev pub part_of : Mac → Known → Option GlobalPart
 part_of orig known = option_map
-    (λ row. record { row = row; entries = held_entries known.held }) (row_by orig known)
+    (λ row. record { row = row; entries = held_entries known.held }) (global_row orig known)
 
 -- the parts of a node's table at a moment
 abbrev pub parts_at : Queries → Knowledge → ℕ → List GlobalPart

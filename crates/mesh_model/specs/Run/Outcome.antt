@@ -15,6 +15,6 @@ reached (Goes state) = state
 reached (Ends state stop) = state
 
 -- an outcome, and what follows it where it goes on
-abbrev pub and_then : Outcome → (State → Outcome) → Outcome
-and_then (Goes state) next = next state
-and_then (Ends state stop) next = Ends state stop
+abbrev pub followed_by : Outcome → (State → Outcome) → Outcome
+followed_by (Goes state) next = next state
+followed_by (Ends state stop) next = Ends state stop

@@ -14,8 +14,9 @@ use Rattle.mesh_model.specs.declared.ending.Stop.TheVariants.{Limit}
 use Rattle.mesh_model.specs.declared.line_form.Algorithm.TheVariants.{Iv, V}
 use Rattle.mesh_model.specs.declared.line_form.Command.{Command}
 use Rattle.mesh_model.specs.declared.line_form.Command.TheVariants.{Nothing, Algo, Node, Link, Lan, Frame, Gone, Join, Leave, Arp, Dhcp, Wifi, GwOff, GwServer, GwClient, Mcast, Dat, Alfred, Put, Get, Ping, Trace, Run, Deliver, Show, Decode}
-use Rattle.mesh_model.specs.Clients.Log.{Given}
-use Rattle.mesh_model.specs.Clients.Log.{Frame as GivenFrame, Gone as GivenGone, Join as GivenJoin, Leave as GivenLeave, Wifi as GivenWifi, Ping as GivenPing, Trace as GivenTrace}
+use Rattle.mesh_model.specs.Clients.Log.{LineGiven, Line, Sets}
+use Rattle.mesh_model.specs.Clients.Log.{Frame as GivenFrame, Gone as GivenGone, Join as GivenJoin, Leave as GivenLeave, Ping as GivenPing, Trace as GivenTrace}
+use Rattle.mesh_model.specs.Clients.Settings.{Wifi as SetsWifi}
 use Rattle.mesh_model.specs.Net.Mesh.{NodeLog, NetLink, Setup, address_at}
 use Rattle.mesh_model.specs.Net.Inputs.{given_to}
 use Rattle.mesh_model.specs.Net.Runs.{delivered}
@@ -72,15 +73,15 @@ link_between from to link =
 
 -- ---- inputs and time
 
--- a node is given something, now; what it sends has the root 0
-abbrev pub input_step : Setup → Given → ℕ → Step
-input_step setup given place state =
-    after_attempt state (given_to setup place state.clock 0 given state.mesh)
+-- a line gives a node something, now; what it sends has the root 0
+abbrev pub input_step : Setup → LineGiven → ℕ → Step
+input_step setup line place state =
+    after_attempt state (given_to setup place state.clock 0 (Line line) state.mesh)
 
 -- the node of one name begins a session with the node of another
-abbrev pub session_step : Setup → (Mac → Given) → List ℕ → List ℕ → Step
-session_step setup given node target = at_node node (λ place. at_node target (λ end state.
-    input_step setup (given (address_at end state.mesh.nodes)) place state))
+abbrev pub session_step : Setup → (Mac → LineGiven) → List ℕ → List ℕ → Step
+session_step setup line node target = at_node node (λ place. at_node target (λ end state.
+    input_step setup (line (address_at end state.mesh.nodes)) place state))
 
 -- the link frame of a number is delivered, now
 abbrev pub again_step : Setup → ℕ → Step
@@ -117,7 +118,7 @@ step_of setup (Join node key) = Some (at_node node (input_step setup (GivenJoin 
 step_of setup (Leave node key) = Some (at_node node (input_step setup (GivenLeave key)))
 step_of setup (Arp node mac own asked vid) = None
 step_of setup (Dhcp node key text) = None
-step_of setup (Wifi node on) = Some (at_node node (input_step setup (GivenWifi on)))
+step_of setup (Wifi node on) = Some (at_node node (input_step setup (Sets (SetsWifi on))))
 step_of setup (GwOff node) = None
 step_of setup (GwServer node down up) = None
 step_of setup (GwClient node policy) = None

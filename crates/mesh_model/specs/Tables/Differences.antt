@@ -18,13 +18,13 @@ lesser (Some vid) None = Some vid
 lesser (Some vid) (Some other) = if nat_lt other.0 vid.0 then Some other else Some vid
 
 -- a VLAN that passes a test
-abbrev pub passing : (Vid → Bool) → Vid → Option Vid
-passing test vid = if test vid then Some vid else None
+abbrev pub vlan_if : (Vid → Bool) → Vid → Option Vid
+vlan_if test vid = if test vid then Some vid else None
 
 -- the least of those VLANs that pass a test
 abbrev pub least_passing : (Vid → Bool) → List Vid → Option Vid
 least_passing test [] = None
-least_passing test (vid ∷ vids) = lesser (passing test vid) (least_passing test vids)
+least_passing test (vid ∷ vids) = lesser (vlan_if test vid) (least_passing test vids)
 
 -- the VLANs that sums name
 abbrev pub named_vlans : List VlanSum → List Vid

@@ -109,8 +109,8 @@ abbrev pub holders_by : TableCalls → Key → List Mac
 holders_by calls key = filter (λ orig. names key (known_by calls orig).held) (originators_by calls)
 
 -- an originator's row, where something was told
-abbrev pub row_by : Mac → Known → Option GlobalRow
-row_by orig known = option_map (λ stamp. record {
+abbrev pub global_row : Mac → Known → Option GlobalRow
+global_row orig known = option_map (λ stamp. record {
   orig = orig;
   held = option_map (λ held. held.byte) known.held;
   told = stamp.byte;

@@ -116,11 +116,11 @@ orig_line row = line_of
     ∷ named_number (codes " metric=") row.metric ∷ [])
 
 -- the line of a neighbour
-unfoldable pub link_line : LinkRow → List ℕ
-link_line (IvLink neigh rq eq) = line_of
+unfoldable pub neighbor_line : LinkRow → List ℕ
+neighbor_line (IvLink neigh rq eq) = line_of
     (named_address (codes "n ") neigh ∷ named_number (codes " rq=") rq
     ∷ named_number (codes " eq=") eq ∷ [])
-link_line (VLink neigh tp seen) = line_of
+neighbor_line (VLink neigh tp seen) = line_of
     (named_address (codes "n ") neigh ∷ named_number (codes " tp=") tp
     ∷ named_number (codes " seen=") seen ∷ [])
 
@@ -134,4 +134,4 @@ orig_table_text table =
 abbrev pub link_table_text : LinkTable → List ℕ
 link_table_text table =
     route_header (codes "n") table.name table.algorithm (length table.rows)
-    ++ flat_map link_line table.rows
+    ++ flat_map neighbor_line table.rows

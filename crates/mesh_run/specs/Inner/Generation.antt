@@ -1,21 +1,11 @@
--- What the run of generated lines leaves: its counts, and the causes of the faults that end it. The
+-- What the run of generated lines leaves: its line, and the causes of the faults that end it. The
 -- main words are `Summarizes` and `GenerationFails`.
-use Rattle.std.specs.Prelude.{◌≡◌, ℕ, List, length, map, sum, Option, Some, None}
+use Rattle.std.specs.Prelude.{◌≡◌, ℕ, List, Option, Some, None}
 use Rattle.std.specs.Io.KnownBytes.{Appends, Keeps}
-use Rattle.mesh_generate.specs.declared.summary.Counts.{Counts}
-use Rattle.mesh_model.specs.Run.Generated.{generated_run, generated_text, later_commits, ok_tables, received_lines}
-use Rattle.mesh_model.specs.Run.State.{State}
+use Rattle.mesh_model.specs.Run.Generated.{generated_run, generated_text}
 use Rattle.mesh_run.specs.Outcome.{AppendsLess}
 use Rattle.mesh_run.specs.declared.fault.Fault.{Fault}
 use Rattle.mesh_run.specs.declared.fault.Fault.TheVariants.{Halted, Read, Write, Memory}
-
--- the counts of a state of so many nodes after which this text was printed
-pub record HasCounts (nodes : ℕ) (state : State) (text : List ℕ) (counts : Counts) : Type 0 where
-  pub nodes_are : counts.nodes ≡ nodes
-  pub frames_are : counts.frames ≡ length state.mesh.frames
-  pub received_are : counts.received ≡ received_lines text
-  pub commits_are : counts.commits ≡ sum (map later_commits state.mesh.nodes)
-  pub ok_are : counts.ok ≡ sum (map (ok_tables state.clock) state.mesh.nodes)
 
 -- the run of generated lines comes to its end, and this is its line
 pub record Summarizes (nodes : ℕ) (line : List ℕ) : Type 0 where

@@ -10,11 +10,11 @@ use Rattle.mesh_model.specs.Run.Outcome.{Outcome, Goes, Ends, reached}
 use Rattle.mesh_model.specs.Run.Passing.{run_until}
 use Rattle.mesh_model.specs.Run.Rules.{iv_setup}
 use Rattle.mesh_model.specs.Run.State.{State, text_of}
-use Rattle.mesh_run.specs.Inner.Scene.{SceneStands}
+use Rattle.mesh_scene.specs.SceneStands.{SceneStands}
 use Rattle.mesh_run.specs.Outcome.{AppendsLess}
 use Rattle.mesh_run.specs.declared.fault.Fault.{Fault}
 use Rattle.mesh_run.specs.declared.fault.Fault.TheVariants.{Halted, Read, Write, Memory}
-use Rattle.mesh_run.specs.declared.scene.Scene.{Scene}
+use Rattle.mesh_scene.specs.declared.scene.Scene.{Scene}
 
 -- ---- one line
 

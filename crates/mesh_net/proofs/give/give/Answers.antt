@@ -1,6 +1,6 @@
 use Rattle.std.proofs.Common.{sym, subst}
 use Rattle.mesh_node.specs.NodeStands.{given_by, is_dead}
-use Rattle.mesh_net.specs.Sent.{Grew}
+use Rattle.mesh_post.specs.Sent.{Grew}
 use Rattle.mesh_net.proofs.GiveLemmas.{by_bool, gave, given_ok, given_err, leaves_kept, same_kept}
 use Rattle.mesh_net.proofs.give.give.Goals as goal
 

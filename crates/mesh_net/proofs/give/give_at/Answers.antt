@@ -2,7 +2,7 @@ use Rattle.std.proofs.Common.{ap, ◌∙◌}
 use Rattle.std.proofs.lemmas.Option.{slice_get_past}
 use Rattle.mesh_node.specs.NodeStands.{given_by}
 use Rattle.mesh_net.specs.Steps.{ticks_with}
-use Rattle.mesh_net.proofs.LookUps.{got}
+use Rattle.mesh_post.proofs.LookUps.{got}
 use Rattle.mesh_net.proofs.MomentLemmas.{past_at}
 use Rattle.mesh_net.proofs.SeatLemmas.{seat_at}
 use Rattle.mesh_net.proofs.StepLemmas.{tried_none, tried_if_given, may_send}

@@ -1,8 +1,8 @@
 use Rattle.std.proofs.Common.{Err}
 use Rattle.std.proofs.lemmas.Result.{err_from_is_err_and}
 use Rattle.mesh_codec.specs.Frames.{seen}
-use Rattle.mesh_node.specs.KnowledgeStands.{coming}
-use Rattle.mesh_node.proofs.OgmLemmas.{ogm_row}
+use Rattle.node_ground.specs.KnowledgeStands.{coming}
+use Rattle.mesh_node.proofs.OgmRow.{ogm_row}
 use Rattle.mesh_node.proofs.rows.packet.Goals as goal
 
 pub returns-in_err-ogm-in-IvOgm-clause-puts : goal.returns-in_err-ogm-in-IvOgm-clause-puts

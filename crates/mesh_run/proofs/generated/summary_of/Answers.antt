@@ -2,7 +2,7 @@ use Rattle.std.proofs.Common.{◌∙◌, ℕ, List, [], ◌++◌, Some, sym, ap,
 use Rattle.mesh_model.specs.declared.frame_choice.FrameChoice.TheVariants.{Hidden}
 use Rattle.mesh_model.specs.Run.Generated.{summary_line}
 use Rattle.mesh_model.specs.Run.PlainRun.{after_lines, start}
-use Rattle.mesh_run.specs.Inner.Generation.{HasCounts}
+use Rattle.mesh_scene.specs.Counts.{HasCounts}
 use Rattle.mesh_run.specs.Inner.Progress.{Stands}
 use Rattle.mesh_run.proofs.GeneratedLemmas.{generated-cause, summarized}
 use Rattle.mesh_run.proofs.generated.summary_of.Goals as goal

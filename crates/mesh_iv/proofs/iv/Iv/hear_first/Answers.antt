@@ -7,6 +7,7 @@ use Rattle.mesh_iv.specs.Tables.{Tables}
 use Rattle.mesh_iv.specs.Walk.{pair_order}
 use Rattle.mesh_iv.specs.Writing.{IsWritten}
 use Rattle.mesh_iv.proofs.FirstLemmas.{first_stands, first_answer}
+use Rattle.mesh_iv.proofs.PutLemmas.{none_test}
 use Rattle.mesh_iv.proofs.iv.Iv.hear_first.Goals as goal
 
 pub returns-clause-noted : goal.returns-clause-noted
@@ -38,5 +39,5 @@ returns-clause-heard c =
     = subst (λ t. IsWritten came row (path_with c.args.path.now came.seq c.value-value.result) c.value-value.result (t.lives, t.paths) (new.lives, new.paths)) c.self.view_is
     (subst (λ r. IsWritten came row r c.value-value.result (c.self.inside.lives.entries, c.self.inside.paths.entries) (new.lives, new.paths)) c.with-row.ensures c.in_ok-forward.ensures.written) in
     let sorted = subst (λ t. IsStrictlySortedBy pair_order (keys_of t.paths)) (sym c.self.view_is) is.stands.paths_stand.rise in
-    first_answer me log came f.first row c.args.path.now c.value-value.result old new is f.path_is value_is written c.is_accepted-accepted.result c.in_ok-forward.forward
-    c.is_accepted-accepted.ensures (c.in_ok-forward.ensures.answer sorted)
+    first_answer me log came f.first row c.args.path.now c.value-value.result old new is f.path_is value_is written c.is_accepted.result c.is_none.result c.in_ok-forward.forward
+    c.is_accepted.ensures (none_test row c.is_none.result c.is_none.ensures) (c.in_ok-forward.ensures.answer sorted)

@@ -1,11 +1,18 @@
-use Rattle.std.proofs.Common.{◌≡◌, ◌∙◌, ap, sym, subst, cond, Some}
+use Rattle.std.proofs.Common.{◌≡◌, ◌∙◌, ap, sym, subst, cond, Some, None, rules}
 use Rattle.std.specs.List.Sorted.{IsStrictlySortedBy}
 use Rattle.std.specs.Map.{keys_of, lookup}
 use Rattle.mesh_model.specs.Routes.Addresses.{mac_order, same_mac}
 use Rattle.mesh_iv.specs.Hears.{IsHeard}
 use Rattle.mesh_iv.specs.Tables.{Tables}
 use Rattle.mesh_iv.proofs.StepLemmas.{touch_stands, touched}
+use Rattle.mesh_iv.proofs.ValueLemmas.{touches_life}
 use Rattle.mesh_iv.proofs.iv.Iv.touch.Goals as goal
+
+pub returns-in_default-clause-noted : goal.returns-in_default-clause-noted
+returns-in_default-clause-noted c =
+    λ me log tp is first.
+    let none : c.args.life.now ≡ None = search rules in
+    absurd (touches_life me log c.args.ogm.now (sym is.row_is ∙ none) first)
 
 pub returns-clause-noted : goal.returns-clause-noted
 returns-clause-noted c =

@@ -3,7 +3,7 @@ use Rattle.mesh_model.specs.Clients.Log.{LinkFrame}
 use Rattle.mesh_model.specs.Net.Inputs.{given_to}
 use Rattle.mesh_model.specs.Net.Limits.{scenario_setup}
 use Rattle.mesh_model.specs.Net.Runs.{delivered}
-use Rattle.mesh_net.proofs.LookUps.{got}
+use Rattle.mesh_post.proofs.LookUps.{got}
 use Rattle.mesh_net.proofs.InputLemmas.{may_take, comes, link_is}
 use Rattle.mesh_net.proofs.StepLemmas.{tried_as, told_as}
 use Rattle.mesh_net.proofs.net.Net.deliver_at.Goals as goal

@@ -4,9 +4,11 @@ use Rattle.mesh_model.specs.Net.Due.{first_ticks, tick_at, tick_time}
 use Rattle.mesh_model.specs.Net.Limits.{nodes_limit}
 use Rattle.mesh_model.specs.Net.Mesh.{NodeLog}
 use Rattle.mesh_model.specs.Run.Steps.{new_node}
-use Rattle.mesh_net.specs.Reached.{joins, with_node}
+use Rattle.mesh_net.specs.Reached.{joins}
+use Rattle.mesh_post.specs.Joining.{with_node}
 use Rattle.mesh_net.specs.Steps.{tick_now}
-use Rattle.mesh_net.proofs.JoinLemmas.{awaits_tick, node_memory, step_ticks, ticks_more}
+use Rattle.mesh_post.proofs.JoinLemmas.{awaits_tick, step_ticks, ticks_more}
+use Rattle.mesh_net.proofs.JoinCalls.{node_memory}
 use Rattle.mesh_net.proofs.SeatLemmas.{seat_joined, seats_length}
 use Rattle.mesh_net.proofs.net.Net.join.Goals as goal
 

@@ -2,7 +2,7 @@ use Rattle.std.proofs.Common.{◌≡◌, replicate, length, slice_get, Some, sym
 use Rattle.std.specs.Option.{option_map_or}
 use Rattle.mesh_base.specs.declared.address.Mac.{Mac}
 use Rattle.mesh_model.specs.Net.Mesh.{NodeLog}
-use Rattle.mesh_net.proofs.LookUps.{got}
+use Rattle.mesh_post.proofs.LookUps.{got}
 use Rattle.mesh_net.proofs.SeatLemmas.{seat_at, no_seat_at}
 use Rattle.mesh_net.proofs.net.Net.mac_at.Goals as goal
 

@@ -1,7 +1,7 @@
 use Rattle.std.proofs.Common.{sym, ◌∙◌, subst, arith}
 use Rattle.mesh_model.specs.Net.Mesh.{NodeLog}
 use Rattle.mesh_node.specs.NodeStands.{NodeStands}
-use Rattle.mesh_net.proofs.LookUps.{got, some_one}
+use Rattle.mesh_post.proofs.LookUps.{got, some_one}
 use Rattle.mesh_net.proofs.SeatLemmas.{seat_at, seats_length}
 use Rattle.mesh_net.proofs.net.Net.node.Goals as goal
 

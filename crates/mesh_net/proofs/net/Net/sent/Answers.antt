@@ -1,5 +1,5 @@
 use Rattle.std.proofs.Common.{length, ap, arith}
-use Rattle.mesh_net.proofs.PostLemmas.{frames_length}
+use Rattle.mesh_post.proofs.PostLemmas.{frames_length}
 use Rattle.mesh_net.proofs.net.Net.sent.Goals as goal
 
 pub returns-in-Ok : goal.returns-in-Ok

@@ -1,10 +1,10 @@
 use Rattle.std.proofs.Common.{Err, Ok, subst}
 use Rattle.std.proofs.lemmas.Result.{err_from_is_err_and}
 use Rattle.mesh_model.specs.Clients.Limits.{passed_limit}
-use Rattle.mesh_model.specs.Clients.Log.{Join}
+use Rattle.mesh_model.specs.Clients.Log.{Join, Line}
 use Rattle.mesh_model.specs.Knowledge.Steps.{knowledge}
 use Rattle.mesh_node.specs.NodeStands.{MayFollow}
-use Rattle.mesh_node.proofs.SightLemmas.{answered_leaves}
+use Rattle.node_ground.proofs.LeavesLemmas.{answered_leaves}
 use Rattle.mesh_node.proofs.node.Node.carry_out.Goals as goal
 
 -- ---- ticks
@@ -70,12 +70,12 @@ returns-in_ok-take_frame-in-Frame-clause-noted g c = λ me log number is late.
 pub returns-in_err-join_group-in-Join-clause-puts : goal.returns-in_err-join_group-in-Join-clause-puts
 returns-in_err-join_group-in-Join-clause-puts g c = λ me log number is late.
     let p = err_from_is_err_and c.from_residual-in_err-join_group-in-Join.result c.from_residual-in_err-join_group-in-Join.ensures.1 in
-    rw (p.1, p.2, c.in-Join.is) (answered_leaves g.P.Port.takes g.P.Port.same g.P.Port.over (passed_limit me log c.args.now (Join c.in-Join.key)) c.args.port.now
+    rw (p.1, p.2, c.in-Join.is) (answered_leaves g.P.Port.takes g.P.Port.same g.P.Port.over (passed_limit me log c.args.now (Line (Join c.in-Join.key))) c.args.port.now
     (Err c.in_err-join_group-in-Join.field-0.0) (g.met.P.Port.same_refl c.args.port.now) (c.in_err-join_group-in-Join.ensures.answers me log is late))
 
 pub returns-in_ok-join_group-in-Join-clause-puts : goal.returns-in_ok-join_group-in-Join-clause-puts
 returns-in_ok-join_group-in-Join-clause-puts g c = λ me log number is late.
-    rw c.in-Join.is (answered_leaves g.P.Port.takes g.P.Port.same g.P.Port.over (passed_limit me log c.args.now (Join c.in-Join.key)) c.args.port.now
+    rw c.in-Join.is (answered_leaves g.P.Port.takes g.P.Port.same g.P.Port.over (passed_limit me log c.args.now (Line (Join c.in-Join.key))) c.args.port.now
     (Ok tt) (g.met.P.Port.same_refl c.args.port.now) (c.in_ok-join_group-in-Join.ensures.answers me log is late))
 
 pub returns-in_ok-join_group-in-Join-clause-noted : goal.returns-in_ok-join_group-in-Join-clause-noted

@@ -3,8 +3,10 @@ use Rattle.std.specs.Option.{option_or}
 use Rattle.std.proofs.lemmas.Result.{err_from_is_err_and}
 use Rattle.mesh_model.specs.Commits.History.{history}
 use Rattle.mesh_model.specs.Clients.Mentions.{Joined, mentions}
-use Rattle.mesh_node.proofs.OwnLemmas.{before_now, has_joined}
-use Rattle.mesh_node.proofs.SightLemmas.{limit_by, refused_answer}
+use Rattle.node_ground.proofs.OwnLemmas.{before_now}
+use Rattle.mesh_node.proofs.GivenLemmas.{has_joined}
+use Rattle.node_clients.proofs.SightLemmas.{limit_by}
+use Rattle.node_ground.proofs.LeavesLemmas.{refused_answer}
 use Rattle.mesh_node.proofs.node.Node.join_group.Goals as goal
 
 pub returns-in_err-join-clause-answers : goal.returns-in_err-join-clause-answers

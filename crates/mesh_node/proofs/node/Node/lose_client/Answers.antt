@@ -1,6 +1,6 @@
 use Rattle.mesh_model.specs.Commits.History.{history}
 use Rattle.mesh_model.specs.Clients.Mentions.{mentions}
-use Rattle.mesh_node.proofs.OwnLemmas.{has_departed}
+use Rattle.mesh_node.proofs.GivenLemmas.{has_departed}
 use Rattle.mesh_node.proofs.node.Node.lose_client.Goals as goal
 
 pub returns-clause-noted : goal.returns-clause-noted

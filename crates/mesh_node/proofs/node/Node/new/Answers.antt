@@ -1,5 +1,5 @@
 use Rattle.std.proofs.Common.{refl}
-use Rattle.mesh_node.proofs.OwnLemmas.{has_none}
+use Rattle.mesh_node.proofs.GivenLemmas.{has_none}
 use Rattle.mesh_node.proofs.node.Node.new.Goals as goal
 
 pub returns : goal.returns

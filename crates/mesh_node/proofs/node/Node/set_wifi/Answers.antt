@@ -1,5 +1,5 @@
 use Rattle.std.proofs.Common.{refl}
-use Rattle.mesh_node.proofs.OwnLemmas.{has_set}
+use Rattle.mesh_node.proofs.GivenLemmas.{has_set}
 use Rattle.mesh_node.proofs.node.Node.set_wifi.Goals as goal
 
 pub returns-clause-noted : goal.returns-clause-noted

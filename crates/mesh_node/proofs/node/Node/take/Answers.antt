@@ -1,6 +1,6 @@
 use Rattle.std.proofs.Common.{◌∙◌, sym}
 use Rattle.std.proofs.lemmas.Bool.{true≢false}
-use Rattle.mesh_node.proofs.SightLemmas.{alive_error}
+use Rattle.node_ground.proofs.LeavesLemmas.{alive_error}
 use Rattle.mesh_node.proofs.node.Node.take.Goals as goal
 
 pub returns-in-Err-clause-dead : goal.returns-in-Err-clause-dead

@@ -7,11 +7,11 @@ use Rattle.mesh_model.specs.Clients.Limits.{passed_limit}
 use Rattle.mesh_model.specs.Clients.Mentions.{Sighted}
 use Rattle.mesh_model.specs.Knowledge.Steps.{knowledge, next_knowledge}
 use Rattle.mesh_model.specs.Packets.Numbers.{wifi_flag}
-use Rattle.mesh_node.specs.FrameRows.{Before, given_frame}
-use Rattle.mesh_node.specs.KnowledgeStands.{KnowledgeStands}
-use Rattle.mesh_node.specs.NodeStands.{with_input}
-use Rattle.mesh_node.specs.OwnStands.{HasClients}
-use Rattle.mesh_node.specs.Puts.{Leaves}
+use Rattle.node_clients.specs.FrameRows.{Before, given_frame}
+use Rattle.node_ground.specs.KnowledgeStands.{KnowledgeStands}
+use Rattle.node_ground.specs.OwnStands.{with_input}
+use Rattle.node_ground.specs.OwnStands.{HasClients}
+use Rattle.node_ground.specs.Puts.{Leaves}
 use Rattle.mesh_node.proofs.node.Node.take_frame.Goals as goal
 
 pub frame-requires : goal.frame-requires

@@ -6,9 +6,10 @@ use Rattle.mesh_model.specs.Clients.Mentions.{mentions, roamed_by}
 use Rattle.mesh_model.specs.Commits.History.{history}
 use Rattle.mesh_model.specs.Knowledge.Steps.{after_packets, knowledge}
 use Rattle.mesh_model.specs.Packets.LinkFrame.{link_frame}
-use Rattle.mesh_node.specs.KnowledgeStands.{KnowledgeStands, coming}
-use Rattle.mesh_node.specs.Puts.{Leaves, Puts}
-use Rattle.mesh_node.proofs.OwnLemmas.{has_roamed, owned, roaming_limit}
+use Rattle.node_ground.specs.KnowledgeStands.{KnowledgeStands, coming}
+use Rattle.node_ground.specs.Puts.{Leaves, Puts}
+use Rattle.mesh_node.proofs.GivenLemmas.{has_roamed, roaming_limit}
+use Rattle.node_ground.proofs.OwnLemmas.{owned}
 use Rattle.mesh_node.proofs.node.Node.take_link.Goals as goal
 use Rattle.tt_local.specs.Locals.{LocalsStand}
 

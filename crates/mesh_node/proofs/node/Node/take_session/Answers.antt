@@ -2,9 +2,9 @@ use Rattle.std.proofs.Common.{Err, Ok, subst, sym}
 use Rattle.std.proofs.lemmas.Result.{err_from_is_err_and}
 use Rattle.mesh_model.specs.Acts.ProbeRows.{session_acts}
 use Rattle.mesh_model.specs.Knowledge.Steps.{after_start, knowledge}
-use Rattle.mesh_node.specs.KnowledgeStands.{KnowledgeStands}
-use Rattle.mesh_node.specs.Puts.{Puts}
-use Rattle.mesh_node.proofs.ProbeLemmas.{session_began}
+use Rattle.node_ground.specs.KnowledgeStands.{KnowledgeStands}
+use Rattle.node_ground.specs.Puts.{Puts}
+use Rattle.mesh_node.proofs.SessionLemmas.{session_began}
 use Rattle.mesh_node.proofs.node.Node.take_session.Goals as goal
 
 pub returns-in_err-session-clause-puts : goal.returns-in_err-session-clause-puts

@@ -5,9 +5,9 @@ use Rattle.mesh_model.specs.Clients.Mentions.{mentions}
 use Rattle.mesh_model.specs.Commits.History.{history}
 use Rattle.mesh_model.specs.Knowledge.Steps.{knowledge}
 use Rattle.mesh_model.specs.Routes.RouteLog.{OwnTick}
-use Rattle.mesh_node.specs.KnowledgeStands.{KnowledgeStands}
-use Rattle.mesh_node.specs.Puts.{Puts}
-use Rattle.mesh_node.proofs.OwnLemmas.{has_ticked}
+use Rattle.node_ground.specs.KnowledgeStands.{KnowledgeStands}
+use Rattle.node_ground.specs.Puts.{Puts}
+use Rattle.mesh_node.proofs.GivenLemmas.{has_ticked}
 use Rattle.mesh_node.proofs.node.Node.take_tick.Goals as goal
 
 pub tick-requires-clause-known : goal.tick-requires-clause-known

@@ -1,6 +1,6 @@
 use Rattle.std.proofs.Common.{◌≡◌, ℕ, ◌+◌, ◌≤◌, List, ◌++◌, length, Option}
 use Rattle.mesh_model.specs.declared.frame_choice.FrameChoice.{FrameChoice}
-use Rattle.mesh_run.specs.Inner.Scene.{IsSomewhere}
+use Rattle.mesh_scene.specs.SceneStands.{IsSomewhere}
 use Rattle.mesh_run.specs.Inner.Progress.{Stands}
 use Rattle.mesh_run.proofs.runner.Runner.take_lines.Given as goal
 

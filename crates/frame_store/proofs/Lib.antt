@@ -1,0 +1,4 @@
+-- The lemmas of the crate.
+pub mod ChunksLemmas
+pub mod WritingLemmas
+pub mod StoreLemmas

@@ -1,0 +1,50 @@
+-- The settings of a node: whether its clients are wireless, its part as a gateway, its multicast
+-- flags, its part in the ARP table, and its part in the fact store. Each stands as it was set last;
+-- at first a node has no part as a gateway or in the fact store, has no flags, and takes part in the
+-- ARP table. The main word is `Settings`.
+use Rattle.std.specs.Prelude.{ℕ, Bool, true, false}
+use Rattle.mesh_model.specs.declared.line_form.AlfredMode.{AlfredMode}
+use Rattle.mesh_model.specs.declared.line_form.AlfredMode.TheVariants.{Off}
+use Rattle.mesh_model.specs.declared.line_form.Policy.{Policy}
+use Rattle.mesh_model.specs.Packets.Bodies.{Bandwidth}
+
+-- a node's part as a gateway: none, or it offers throughputs, or its clients choose by a policy
+pub data GatewayPart : Type 0 where
+  NoPart : GatewayPart
+  Serves : Bandwidth → GatewayPart
+  Chooses : Policy → GatewayPart
+
+-- one setting: how later sightings are marked, the part as a gateway, the multicast flags, the part
+-- in the ARP table, the part in the fact store
+pub data Setting : Type 0 where
+  Wifi : (on : Bool) → Setting
+  Gateway : GatewayPart → Setting
+  Multicast : (flags : ℕ) → Setting
+  ArpTable : (on : Bool) → Setting
+  FactStore : AlfredMode → Setting
+
+-- all settings of a node
+pub record Settings : Type 0 where
+  pub wifi : Bool
+  pub gateway : GatewayPart
+  pub multicast : ℕ
+  pub arp_table : Bool
+  pub fact_store : AlfredMode
+
+-- before anything is set
+abbrev pub first_settings : Settings
+first_settings = record {
+  wifi = false;
+  gateway = NoPart;
+  multicast = 0;
+  arp_table = true;
+  fact_store = Off;
+}
+
+-- settings of which one is set
+abbrev pub set_to : Setting → Settings → Settings
+set_to (Wifi on) before = record before { wifi = on }
+set_to (Gateway part) before = record before { gateway = part }
+set_to (Multicast flags) before = record before { multicast = flags }
+set_to (ArpTable on) before = record before { arp_table = on }
+set_to (FactStore mode) before = record before { fact_store = mode }

@@ -1,0 +1,11 @@
+-- What the methods rest on.
+pub mod LookUps
+pub mod RisingLemmas
+pub mod QueueLemmas
+pub mod PostLemmas
+pub mod Chosen
+pub mod Ways
+pub mod Midway
+pub mod ActLemmas
+pub mod Back
+pub mod JoinLemmas

@@ -1,0 +1,7 @@
+-- What the contracts cite, in reading order: what waits, what is kept of a mesh, and what an act on
+-- links does with it.
+pub mod Joining
+pub mod Waiting
+pub mod Kept
+pub mod Lanes
+pub mod Sent

@@ -1,0 +1,89 @@
+ghost use Rattle.std.specs.Prelude.{◌≡◌, ◌++◌, [], ◌∷◌, true, OnOk, OnErr};
+ghost use Rattle.mesh_model.specs.declared.happening.Happening.{Happening};
+ghost use Rattle.mesh_model.specs.Net.Happenings.{Before, is_before};
+ghost use Rattle.mesh_model.specs.Net.Next.{AtMost, Has};
+ghost use Rattle.mesh_post.specs.Waiting.{IsEarliest, IsRising, Leaves};
+
+use mesh_base::NoMemory;
+use mesh_model::Happening;
+use std::alloc::Global;
+use std::collections::VecDeque;
+use std::marker::Model;
+
+/// Happenings that joined in their order: the first that joined is the first to come.
+#[derive(Debug, Drop)]
+pub struct Rising {
+    waiting: VecDeque<Happening>,
+    ghost rising: { IsRising waiting.items },
+}
+
+impl Model for Rising {
+    ghost use Rattle.std.specs.Prelude.{List};
+    ghost use Rattle.mesh_model.specs.declared.happening.Happening.{Happening};
+
+    ghost Value = { List Happening };
+
+    ghost view = { λ r. r.waiting.items };
+}
+
+impl Rising {
+    /// Nothing is to come.
+    pub fn new(alloc: Global) -> Rising
+        ensures { result ≡ [] }
+    {
+        Rising {
+            waiting: VecDeque::new(alloc),
+        }
+    }
+
+    /// Whether a happening comes behind all that wait.
+    pub fn takes(&self, h: Happening) -> bool
+        ensures { result ≡ true → (x : Happening) → Has self.now x → Before x h }
+    {
+        match self.waiting.back() {
+            None => true,
+            Some(last) => is_before(*last, h),
+        }
+    }
+
+    /// Lets a happening wait behind the others.
+    pub fn push(&mut self, h: Happening) -> Result<(), NoMemory>
+        requires { (x : Happening) → Has self.old x → Before x h }
+        ensures ok { OnOk result (self.new ≡ self.old ++ h ∷ []) }
+        ensures err { OnErr result (self.new ≡ self.old) }
+    {
+        self.waiting.push_back(h)?;
+        Ok(())
+    }
+
+    /// The first happening.
+    pub fn earliest(&self) -> Option<Happening>
+        ensures { IsEarliest self.now result }
+    {
+        match self.waiting.front() {
+            None => None,
+            Some(first) => Some(*first),
+        }
+    }
+
+    /// Takes a happening away that is after none of those that wait.
+    pub fn leave(&mut self, h: Happening)
+        requires { (x : Happening) → Has self.old x → AtMost h x }
+        ensures { Leaves h self.old self.new }
+    {
+        let Some(first) = self.earliest() else {
+            return;
+        };
+        if is_before(h, first) {
+            return;
+        }
+        self.waiting.pop_front();
+    }
+}
+
+/// Whether a happening comes before another.
+pub fn is_before(a: Happening, b: Happening) -> bool
+    ensures { result ≡ is_before a b }
+{
+    a.cmp(&b).is_lt()
+}

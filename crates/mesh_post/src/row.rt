@@ -1,0 +1,113 @@
+ghost use Rattle.std.specs.Prelude.{◌≡◌, ◌%◌, length, slice_index_or};
+ghost use Rattle.mesh_model.specs.Scenario.Terms.{held_mark};
+
+use mesh_base::{Bytes, Mac, Millis, Reason};
+use std::marker::Model;
+
+/// The mark of a frame that is delivered once.
+pub(crate) const ONCE: u8 = b'.';
+/// The mark of a frame that is delivered twice.
+pub(crate) const TWICE: u8 = b'2';
+/// The mark of a frame that is held.
+const HELD: u8 = b'h';
+
+/// A link, by the places of its ends and their addresses.
+#[derive(Debug, Drop)]
+pub struct Row {
+    pub from: u32,
+    pub to: u32,
+    pub start: Mac,
+    pub end: Mac,
+    pub delay: Millis,
+    pub pattern: Bytes,
+    pub tp: u32,
+}
+
+/// What a link does with its next frame.
+#[derive(Clone, Copy, Debug)]
+pub struct Lane {
+    pub turn: u32,
+    pub mark: u8,
+    pub delay: Millis,
+    pub end: Mac,
+}
+
+/// What a frame brings, and whom.
+#[derive(Clone, Copy, Debug)]
+pub struct Arrival {
+    pub sending: u32,
+    /// The place of the node at the link's end.
+    pub to: u32,
+    /// The address of the node at its start.
+    pub from: Mac,
+    /// The throughput of the link back, or 0 where there is none.
+    pub tp: u32,
+}
+
+/// Who acts.
+#[derive(Clone, Copy, Debug)]
+pub struct Sender {
+    /// The place of the node.
+    pub place: u32,
+    pub mac: Mac,
+    pub now: Millis,
+    /// What its frames hand on.
+    pub root: u64,
+}
+
+/// What is sent: the place of a sending, and why.
+#[derive(Clone, Copy, Debug)]
+pub struct Parcel {
+    pub sending: u32,
+    pub reason: Option<Reason>,
+}
+
+/// What is told of a frame besides its bytes and who sends it.
+#[derive(Clone, Copy, Debug)]
+pub struct Told {
+    pub number: u32,
+    pub end: Mac,
+    pub reason: Option<Reason>,
+}
+
+/// A frame that was sent, by the places of its link and its sending.
+#[derive(Clone, Copy, Debug)]
+pub struct Posted {
+    pub link: u32,
+    pub sending: u32,
+}
+
+/// The bytes of an act, which its frames share, with the root that they have.
+#[derive(Debug, Drop)]
+pub struct Sending {
+    pub root: u64,
+    pub bytes: Bytes,
+}
+
+/// The places of the links that leave a node, in rising order.
+#[derive(Debug, Drop)]
+pub struct Ways {
+    pub places: Vec<u32>,
+}
+
+impl Model for Ways {
+    ghost use Rattle.std.specs.Prelude.{ℕ, List};
+
+    ghost Value = { List ℕ };
+
+    ghost view = { λ w. w.places.items };
+}
+
+impl Row {
+    // The mark of the frame of a turn.
+    pub(crate) fn mark(&self, turn: u32) -> u8
+        ensures { result
+            ≡ slice_index_or self.now.pattern (turn % length self.now.pattern) held_mark }
+    {
+        let pattern = self.pattern.as_slice();
+        if pattern.is_empty() {
+            return HELD;
+        }
+        pattern[turn as usize % pattern.len()]
+    }
+}

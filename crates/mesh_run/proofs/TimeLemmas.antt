@@ -1,0 +1,16 @@
+-- The outcome of `run`, by the moment at which it ends.
+use Rattle.std.proofs.Common.{◌≡◌, ℕ, ◌+◌, true, false, refl}
+use Rattle.std.specs.Prelude.{nat_lt}
+use Rattle.mesh_model.specs.declared.ending.LimitName.TheVariants.{Clock}
+use Rattle.mesh_model.specs.declared.ending.Stop.TheVariants.{Limit}
+use Rattle.mesh_model.specs.declared.line_form.Command.TheVariants.{Run}
+use Rattle.mesh_model.specs.Run.Outcome.{Ends}
+use Rattle.mesh_model.specs.Run.Passing.{run_until}
+use Rattle.mesh_model.specs.Run.Rules.{carried_out, iv_setup}
+use Rattle.mesh_model.specs.Run.State.{State}
+
+pub time_late : (state : State) (time : ℕ) → nat_lt 1099511627776 (state.clock + time) ≡ true → carried_out iv_setup state (Run time) ≡ Ends state (Limit Clock)
+time_late state time late = rw late refl
+
+pub time_passes : (state : State) (time : ℕ) → nat_lt 1099511627776 (state.clock + time) ≡ false → carried_out iv_setup state (Run time) ≡ run_until iv_setup (state.clock + time) state
+time_passes state time within = rw within refl

@@ -1,0 +1,20 @@
+//! Tests of mesh_run: the program over inputs and outputs in memory, with given lines and texts.
+
+#![tactic(auto)]
+
+#[cfg(test)]
+mod calls;
+#[cfg(test)]
+mod chain;
+#[cfg(test)]
+mod commits;
+#[cfg(test)]
+mod ended;
+#[cfg(test)]
+mod faults;
+#[cfg(test)]
+mod links;
+#[cfg(test)]
+mod order;
+#[cfg(test)]
+mod rows;

@@ -1,0 +1,10 @@
+-- What the proofs rest on.
+pub mod NetLemmas
+pub mod PlaceLemmas
+pub mod PrintLemmas
+pub mod TopologyLemmas
+pub mod GivenLemmas
+pub mod TableLemmas
+pub mod SessionLemmas
+pub mod PassLemmas
+pub mod CountLemmas

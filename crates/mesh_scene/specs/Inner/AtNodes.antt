@@ -1,0 +1,86 @@
+-- What a line does at the node of a name. The main words are `given_at`, `given_of`,
+-- `session_at` and `IsNodeOf`.
+use Rattle.std.specs.Prelude.{◌≡◌, ℕ, ◌&&◌, not, if◌then◌else◌, List, slice_get, Option, Some, None}
+use Rattle.mesh_base.specs.Address.{is_broadcast, is_group}
+use Rattle.mesh_base.specs.declared.address.Mac.{Mac}
+use Rattle.mesh_iv.specs.Tables.{Tables}
+use Rattle.mesh_model.specs.Clients.Log.{Given, LineGiven, Line, Sets}
+use Rattle.mesh_model.specs.Clients.Log.{Frame as GivenFrame, Gone as GivenGone, Join as GivenJoin, Leave as GivenLeave}
+use Rattle.mesh_model.specs.Clients.Settings.{Wifi as WifiSet}
+use Rattle.mesh_model.specs.declared.ending.Refusal.TheVariants.{UnknownName}
+use Rattle.mesh_model.specs.declared.ending.Stop.TheVariants.{Refused}
+use Rattle.mesh_model.specs.declared.line_form.Command.{Command}
+use Rattle.mesh_model.specs.declared.line_form.Command.TheVariants.{Nothing, Algo, Node, Link, Lan, Frame, Gone, Join, Leave, Arp, Dhcp, Wifi, GwOff, GwServer, GwClient, Mcast, Dat, Alfred, Put, Get, Ping, Trace, Run, Deliver, Show, Decode}
+use Rattle.mesh_model.specs.Net.Inputs.{given_to}
+use Rattle.mesh_model.specs.Net.Mesh.{NodeLog}
+use Rattle.mesh_model.specs.Run.Demands.{is_known, refusal_if}
+use Rattle.mesh_model.specs.Run.Outcome.{Outcome}
+use Rattle.mesh_model.specs.Run.Passing.{after_attempt}
+use Rattle.mesh_model.specs.Run.Rules.{first_refused_rule, iv_setup, unless_refused}
+use Rattle.mesh_model.specs.Run.State.{State, place_of}
+use Rattle.mesh_model.specs.Run.Steps.{Step, at_node, session_step}
+use Rattle.mesh_node.specs.declared.node.Node.{Node as NodeValue}
+use Rattle.mesh_scene.specs.declared.fault.LineFault.{LineFault}
+use Rattle.mesh_scene.specs.declared.fault.LineFault.TheVariants.{Stopped}
+use Rattle.mesh_show.specs.Shown.{IsNodeAt}
+
+-- the node at a place is given something, now; what it sends has the root 0
+abbrev pub given_step : Given → ℕ → Step
+given_step given place state =
+    after_attempt state (given_to iv_setup place state.clock 0 given state.mesh)
+
+-- the outcome of a line that gives the node of a name something
+abbrev pub given_at : List ℕ → Given → State → Outcome
+given_at name given state = unless_refused state
+    (refusal_if (not (is_known state name)) UnknownName)
+    (at_node name (given_step given) state)
+
+-- the node of a name that a command gives something, and what it gives; a frame to a group, other
+-- than to all stations, isn't built
+abbrev pub given_of : Command → Option (List ℕ × Given)
+given_of Nothing = None
+given_of (Algo algorithm) = None
+given_of (Node name mac) = None
+given_of (Link from to delay pattern throughput) = None
+given_of (Lan name gateways) = None
+given_of (Frame place src dst vid text) = if is_group dst && not (is_broadcast dst) then None
+    else Some (place, Line (GivenFrame src dst vid text))
+given_of (Gone place key) = Some (place, Line (GivenGone key))
+given_of (Join node key) = Some (node, Line (GivenJoin key))
+given_of (Leave node key) = Some (node, Line (GivenLeave key))
+given_of (Arp node mac own asked vid) = None
+given_of (Dhcp node key text) = None
+given_of (Wifi node on) = Some (node, Line (Sets (WifiSet on)))
+given_of (GwOff node) = None
+given_of (GwServer node down up) = None
+given_of (GwClient node policy) = None
+given_of (Mcast node flags) = None
+given_of (Dat node on) = None
+given_of (Alfred node mode) = None
+given_of (Put node type_no version text) = None
+given_of (Get node type_no) = None
+given_of (Ping node target) = None
+given_of (Trace node target) = None
+given_of (Run time) = None
+given_of (Deliver number) = None
+given_of (Show node table) = None
+given_of (Decode bytes) = None
+
+-- the outcome of a line that begins a session of the node of one name with that of another; its
+-- rules are those of `ping`, whichever session it begins
+abbrev pub session_at : List ℕ → List ℕ → (Mac → LineGiven) → State → Outcome
+session_at node target line state = unless_refused state
+    (first_refused_rule state (Ping node target)) (session_step iv_setup line node target state)
+
+-- the node of a name, as it stands in the mesh and as it is kept
+pub record IsNodeOf (state : State) (name : List ℕ) (node : NodeValue Tables) : Type 0 where
+  pub place : ℕ
+  pub row : NodeLog
+  pub at : place_of state name ≡ Some place
+  pub found : slice_get state.mesh.nodes place ≡ Some row
+  pub kept : IsNodeAt node name state.clock row
+
+-- a fault says that no node has a name, and none has it
+pub record IsUnknown (state : State) (name : List ℕ) (fault : LineFault) : Type 0 where
+  pub fault_is : fault ≡ Stopped (Refused UnknownName)
+  pub nowhere : place_of state name ≡ None

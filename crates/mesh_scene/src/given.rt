@@ -1,0 +1,117 @@
+//! What a line gives a node, and a frame that is delivered again.
+
+ghost use Rattle.std.specs.Prelude.{◌≡◌, [], None, Some, IfSome, IsNone};
+ghost use Rattle.mesh_model.specs.declared.line_form.Command.TheVariants as command;
+ghost use Rattle.mesh_model.specs.Run.Rules.{carried_out, iv_setup};
+ghost use Rattle.mesh_net.specs.Reached.{IsOfLine};
+ghost use Rattle.mesh_node.specs.NodeStands.{given_by};
+ghost use Rattle.mesh_scene.specs.CarriesOut.{CarriesFrom, FailsFrom};
+ghost use Rattle.mesh_scene.specs.SceneStands.{IsSomewhere};
+ghost use Rattle.mesh_scene.specs.Inner.AtNodes.{given_at, given_of};
+
+use crate::fault::{LineFault, refused};
+use crate::scene::Scene;
+use mesh_model::{Command, Refusal};
+use mesh_node::Input;
+use mesh_show::put_events;
+
+/// The name of the node that a command gives something, and what it gives. A frame to a group, other
+/// than to all stations, isn't built.
+pub fn given_of(command: &Command) -> Option<(&[u8], Input<'_>)>
+    ensures some { IfSome result (λ given.
+        given_of command.now ≡ Some (given.0.now, given_by 0 given.1)) }
+    ensures none { IsNone result → given_of command.now ≡ None }
+    ensures line { IfSome result (λ given. IsOfLine (given_by 0 given.1)) }
+{
+    match command {
+        Command::Frame {
+            place,
+            src,
+            dst,
+            vid,
+            text,
+        } => {
+            if dst.is_group() && !dst.is_broadcast() {
+                return None;
+            }
+            let input = Input::Frame {
+                src: *src,
+                dst: *dst,
+                vid: *vid,
+                text: text.as_slice(),
+            };
+            Some((place.as_slice(), input))
+        }
+        Command::Gone { place, key } => Some((place.as_slice(), Input::Gone { key: *key })),
+        Command::Join { node, key } => Some((node.as_slice(), Input::Join { key: *key })),
+        Command::Leave { node, key } => Some((node.as_slice(), Input::Leave { key: *key })),
+        Command::Wifi { node, on } => Some((node.as_slice(), Input::Wifi(*on))),
+        Command::Nothing
+        | Command::Algo(_)
+        | Command::Node { .. }
+        | Command::Link { .. }
+        | Command::Lan { .. }
+        | Command::Arp { .. }
+        | Command::Dhcp { .. }
+        | Command::GwOff { .. }
+        | Command::GwServer { .. }
+        | Command::GwClient { .. }
+        | Command::Mcast { .. }
+        | Command::Dat { .. }
+        | Command::Alfred { .. }
+        | Command::Put { .. }
+        | Command::Get { .. }
+        | Command::Ping { .. }
+        | Command::Trace { .. }
+        | Command::Run { .. }
+        | Command::Deliver { .. }
+        | Command::Show { .. }
+        | Command::Decode { .. } => None,
+    }
+}
+
+impl Scene {
+    /// Gives the node of a name what a line gives it.
+    pub fn give(
+        &mut self,
+        name: &[u8],
+        input: &Input<'_>,
+        text: &mut Vec<u8>,
+    ) -> Result<(), LineFault>
+        requires somewhere { IsSomewhere self.old }
+        requires line { IsOfLine (given_by 0 input.now) }
+        requires empty { text.old.items ≡ [] }
+        ensures ok { CarriesFrom self.old self.new (given_at name.now (given_by 0 input.now))
+            text.new.items result }
+        ensures refused { FailsFrom self.old (given_at name.now (given_by 0 input.now)) result }
+    {
+        let Some(place) = self.place_of(name) else {
+            return Err(refused(Refusal::UnknownName));
+        };
+        self.events.cut(0);
+        self.net.input(place, input, &mut self.events)?;
+        put_events(text, &self.names, &self.events)?;
+        Ok(())
+    }
+
+    /// `deliver N`
+    pub fn deliver(&mut self, number: u64, text: &mut Vec<u8>) -> Result<(), LineFault>
+        requires somewhere { IsSomewhere self.old }
+        requires empty { text.old.items ≡ [] }
+        ensures ok { CarriesFrom self.old self.new
+            (λ state. carried_out iv_setup state (command.Deliver number)) text.new.items result }
+        ensures refused { FailsFrom self.old
+            (λ state. carried_out iv_setup state (command.Deliver number)) result }
+    {
+        if number == 0 {
+            return Err(refused(Refusal::NoSuchFrame));
+        }
+        if number > u64::from(self.net.sent()) {
+            return Err(refused(Refusal::NoSuchFrame));
+        }
+        self.events.cut(0);
+        self.net.deliver(number as u32, &mut self.events)?;
+        put_events(text, &self.names, &self.events)?;
+        Ok(())
+    }
+}

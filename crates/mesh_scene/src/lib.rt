@@ -1,0 +1,18 @@
+//! The mesh of a scenario: its nodes and links by name, and what each command does to it.
+
+#![tactic(auto)]
+
+mod command;
+mod counts;
+mod fault;
+mod given;
+mod link_ends;
+mod scene;
+mod sessions;
+mod slice;
+mod tables;
+mod topology;
+
+pub use fault::{LineFault, refused};
+pub use scene::Scene;
+pub use slice::Passage;

@@ -1,0 +1,50 @@
+//! The table of a node that a line shows.
+
+ghost use Rattle.std.specs.Prelude.{◌≡◌, [], IfErr, IfOk};
+ghost use Rattle.mesh_model.specs.declared.line_form.Command.TheVariants as command;
+ghost use Rattle.mesh_model.specs.Run.Rules.{carried_out, iv_setup};
+ghost use Rattle.mesh_model.specs.Run.State.{State};
+ghost use Rattle.mesh_scene.specs.CarriesOut.{CarriesFrom, FailsFrom};
+ghost use Rattle.mesh_scene.specs.Inner.AtNodes.{IsNodeOf, IsUnknown};
+ghost use Rattle.mesh_scene.specs.SceneStands.{IsSomewhere, SceneStands};
+
+use crate::fault::{LineFault, refused};
+use crate::scene::Scene;
+use mesh_iv::Iv;
+use mesh_model::{Refusal, Table};
+use mesh_node::Node;
+use mesh_show::{is_built, show_table};
+
+impl Scene {
+    /// `show NODE T`
+    pub fn show(&self, name: &[u8], table: Table, text: &mut Vec<u8>) -> Result<(), LineFault>
+        requires somewhere { IsSomewhere self.now }
+        requires empty { text.old.items ≡ [] }
+        ensures ok { CarriesFrom self.now self.now
+            (λ state. carried_out iv_setup state (command.Show name.now table))
+            text.new.items result }
+        ensures refused { FailsFrom self.now
+            (λ state. carried_out iv_setup state (command.Show name.now table)) result }
+    {
+        if !is_built(table) {
+            return Err(refused(Refusal::NotBuilt));
+        }
+        let node = self.node_of(name)?;
+        show_table(self.alloc, node, name, table, self.net.now(), text)?;
+        Ok(())
+    }
+
+    /// The node of a name.
+    fn node_of(&self, name: &[u8]) -> Result<&Node<Iv>, LineFault>
+        requires somewhere { IsSomewhere self.now }
+        ensures found { (state : State) → SceneStands self.now state →
+            IfOk result (λ node. IsNodeOf state name.now node.now) }
+        ensures unknown { (state : State) → SceneStands self.now state →
+            IfErr result (IsUnknown state name.now) }
+    {
+        let Some(place) = self.place_of(name) else {
+            return Err(refused(Refusal::UnknownName));
+        };
+        Ok(self.net.node(place))
+    }
+}

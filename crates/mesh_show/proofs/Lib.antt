@@ -1,0 +1,3 @@
+-- What the proofs rest on.
+pub mod RowLemmas
+pub mod KnownLemmas

@@ -1,0 +1,2 @@
+-- Words of the functions behind the tables. No public clause cites this room.
+pub mod Parts

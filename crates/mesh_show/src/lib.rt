@@ -1,0 +1,13 @@
+//! What a node shows, as text: its tables, and the events of its steps.
+
+#![tactic(auto)]
+
+mod clients;
+mod events;
+mod known;
+mod routes;
+mod tables;
+
+pub use events::put_events;
+pub use known::ok_count;
+pub use tables::{is_built, show_table};

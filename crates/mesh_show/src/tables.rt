@@ -1,0 +1,51 @@
+//! A table of a node, whichever of those that are built.
+
+ghost use Rattle.std.specs.Prelude.{◌≡◌, is_some, true, OnOk};
+ghost use Rattle.mesh_model.specs.Net.Mesh.{NodeLog};
+ghost use Rattle.mesh_model.specs.Run.Shown.{shown};
+ghost use Rattle.mesh_show.specs.Shown.{AppendsTable, IsNodeAt};
+
+use crate::clients::show_locals;
+use crate::known::show_globals;
+use crate::routes::{show_neighbors, show_originators};
+use mesh_base::{Millis, NoMemory};
+use mesh_iv::Iv;
+use mesh_model::Table;
+use mesh_node::Node;
+use std::alloc::Global;
+
+/// Whether a table is built: those of local clients, of what is known of the others', of
+/// originators and of neighbours are.
+pub fn is_built(table: Table) -> bool
+    ensures { result ≡ is_some (shown table) }
+{
+    match table {
+        Table::Locals | Table::Globals | Table::Originators | Table::Neighbors => true,
+        Table::Claims | Table::Gateways | Table::Groups | Table::Addresses | Table::Facts => false,
+    }
+}
+
+/// Appends a table of a node of this name.
+pub fn show_table(
+    alloc: Global,
+    node: &Node<Iv>,
+    name: &[u8],
+    table: Table,
+    now: Millis,
+    out: &mut Vec<u8>,
+) -> Result<(), NoMemory>
+    requires built { is_some (shown table) ≡ true }
+    ensures ok { (row : NodeLog) → IsNodeAt node.now name.now now row →
+        OnOk result (AppendsTable table now row out.old.items out.new.items) }
+{
+    match table {
+        Table::Locals => show_locals(alloc, node.locals(), name, now, out)?,
+        Table::Globals => show_globals(alloc, node, name, now, out)?,
+        Table::Originators => show_originators(alloc, node.algo(), name, now, out)?,
+        Table::Neighbors => show_neighbors(alloc, node.algo(), name, now, out)?,
+        Table::Claims | Table::Gateways | Table::Groups | Table::Addresses | Table::Facts => {
+            unreachable!()
+        }
+    }
+    Ok(())
+}

@@ -1,0 +1,6 @@
+//! Tests of mesh_tvlv: given bytes of containers.
+
+#![tactic(auto)]
+
+#[cfg(test)]
+mod containers;

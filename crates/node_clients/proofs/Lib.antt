@@ -1,0 +1,3 @@
+-- What the rows of client frames rest on.
+pub mod SightLemmas
+pub mod RoamingLemmas

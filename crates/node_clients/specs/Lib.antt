@@ -1,0 +1,3 @@
+-- The words of the contracts, in reading order.
+pub mod FrameRows
+pub mod Sightings

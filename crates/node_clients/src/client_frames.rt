@@ -1,0 +1,197 @@
+//! The row of client frames that lines give a node, behind their sighting.
+
+ghost use Rattle.mesh_model.specs.Packets.Numbers.{first_ttl};
+ghost use Rattle.std.specs.Prelude.{◌≡◌, ◌∷◌, [], suc, OnOk};
+ghost use Rattle.mesh_codec.specs.Payloads.{seen_frame};
+ghost use Rattle.mesh_model.specs.Acts.FrameRows.{frame_acts, on_way};
+ghost use Rattle.mesh_model.specs.Acts.Packing.{sent_to_all};
+ghost use Rattle.mesh_model.specs.Acts.Rows.{Own};
+ghost use Rattle.mesh_model.specs.Acts.Choosing.{acts_of};
+ghost use Rattle.mesh_model.specs.Clients.Limits.{passed_limit};
+ghost use Rattle.mesh_model.specs.Clients.Log.{Log};
+ghost use Rattle.mesh_model.specs.Clients.Mentions.{Sighted, sighted_after};
+ghost use Rattle.mesh_model.specs.Knowledge.Addressee.{addressee};
+ghost use Rattle.mesh_model.specs.Knowledge.Known.{Knowledge};
+ghost use Rattle.mesh_model.specs.Knowledge.Steps.{after_frame, after_sighting, knowledge, next_knowledge};
+ghost use Rattle.mesh_model.specs.Packets.Payload.{payload_spelling};
+ghost use Rattle.mesh_model.specs.declared.packet.Head.TheVariants.{Bcast};
+ghost use Rattle.node_ground.specs.KnowledgeStands.{KnowledgeStands, place};
+ghost use Rattle.node_ground.specs.OwnStands.{with_input};
+ghost use Rattle.node_ground.specs.OwnStands.{HasClients, OwnStands};
+ghost use Rattle.node_clients.specs.FrameRows.{Before, IsNewly, given_frame, key_from, sighted_acts};
+ghost use Rattle.node_ground.specs.Puts.{Leaves, Puts};
+ghost use Rattle.node_clients.specs.FrameRows.{key_to};
+
+use crate::sightings::sighting;
+use mesh_algo::Algo;
+use mesh_base::{Key, LossReason};
+use mesh_codec::{ClientFrame, Head};
+use node_ground::deliveries::{address, hand_out, is_present, lose, payload};
+use node_ground::messages::send;
+use node_ground::packing::FIRST_TTL;
+use node_ground::{NodeErr, NodeKnowledge, Place, Port};
+use tt_local::Locals;
+
+// A client frame for all is sent on all links.
+fn send_broadcast<A: Algo, P: Port>(
+    kept: &mut NodeKnowledge<A>,
+    port: &mut P,
+    at: Place,
+    frame: &ClientFrame<'_>,
+) -> Result<(), NodeErr>
+    ensures puts { (known : Knowledge) → KnowledgeStands A.stands kept.old at.me known →
+        Puts P.takes P.same P.over port.old
+        (sent_to_all (Bcast first_ttl (suc known.sent) at.me)
+        (payload_spelling (seen_frame frame.now)) ∷ []) result port.new }
+    ensures noted { (known : Knowledge) → KnowledgeStands A.stands kept.old at.me known →
+        OnOk result (KnowledgeStands A.stands kept.new at.me
+        (record known { sent = suc known.sent })) }
+{
+    let payload = payload(kept.alloc, frame)?;
+    let number = kept.sent.wrapping_add(1);
+    let head = Head::Bcast {
+        ttl: FIRST_TTL,
+        seq: number,
+        orig: at.me,
+    };
+    send(kept.alloc, port, None, None, &head, payload.as_slice())?;
+    kept.sent = number;
+    Ok(())
+}
+
+// A client frame goes on its way, or is lost where there is none.
+fn send_frame<A: Algo, P: Port>(
+    kept: &NodeKnowledge<A>,
+    port: &mut P,
+    at: Place,
+    frame: &ClientFrame<'_>,
+) -> Result<(), NodeErr>
+    ensures { (known : Knowledge) → KnowledgeStands A.stands kept.now at.me known →
+        let frame = seen_frame frame.now in
+        Puts P.takes P.same P.over port.old
+        (on_way (A.queries at.me) known (place at) frame
+        (addressee (A.queries at.me) known at.now (key_to frame))) result port.new }
+{
+    let key = Key {
+        mac: frame.dst,
+        vid: frame.vid,
+    };
+    let Some(way) = kept.addressee(at.now, key) else {
+        lose(port, at, LossReason::Unknown, frame)?;
+        return Ok(());
+    };
+    let payload = payload(kept.alloc, frame)?;
+    address(kept, port, at, FIRST_TTL, &way, payload.as_slice())?;
+    Ok(())
+}
+
+/// A client frame of this node, by what is known and who is present after its sighting.
+#[tactic(auto, unfolding(mesh_model::specs::Acts::FrameRows::frame_acts))]
+pub(crate) fn client_frame<A: Algo, P: Port>(
+    kept: &mut NodeKnowledge<A>,
+    port: &mut P,
+    locals: &Locals,
+    at: Place,
+    frame: &ClientFrame<'_>,
+) -> Result<(), NodeErr>
+    requires { (known : Knowledge) × KnowledgeStands A.stands kept.old at.me known }
+    ensures puts { (known : Knowledge) (own : Own) →
+        KnowledgeStands A.stands kept.old at.me known → OwnStands locals.now own at.now →
+        Puts P.takes P.same P.over port.old
+        (frame_acts (A.queries at.me) known own.mentions (place at) (seen_frame frame.now))
+        result port.new }
+    ensures noted { (known : Knowledge) → KnowledgeStands A.stands kept.old at.me known →
+        OnOk result (KnowledgeStands A.stands kept.new at.me (after_frame frame.now.dst known)) }
+{
+    if frame.dst.is_broadcast() {
+        send_broadcast(kept, port, at, frame)?;
+        return Ok(());
+    }
+    if frame.dst.is_group() {
+        return Ok(());
+    }
+    let key = Key {
+        mac: frame.dst,
+        vid: frame.vid,
+    };
+    if is_present(locals, at.now, key) {
+        hand_out(kept.alloc, port, at, frame)?;
+        return Ok(());
+    }
+    send_frame(kept, port, at, frame)?;
+    Ok(())
+}
+
+// A client frame whose sighting made its client newly present or not: the sighting, then the frame.
+fn sighted_frame<A: Algo, P: Port>(
+    kept: &mut NodeKnowledge<A>,
+    port: &mut P,
+    locals: &Locals,
+    at: Place,
+    newly: bool,
+    frame: &ClientFrame<'_>,
+) -> Result<(), NodeErr>
+    requires news { (known : Knowledge) × (log : Log)
+        × KnowledgeStands A.stands kept.old at.me known
+        × IsNewly newly at.me log at.now (key_from (seen_frame frame.now)) }
+    ensures puts { (known : Knowledge) (log : Log) (own : Own) →
+        KnowledgeStands A.stands kept.old at.me known → OwnStands locals.now own at.now →
+        IsNewly newly at.me log at.now (key_from (seen_frame frame.now)) →
+        Puts P.takes P.same P.over port.old
+        (sighted_acts (A.queries at.me) known log own.mentions (place at)
+        (seen_frame frame.now)) result port.new }
+    ensures noted { (known : Knowledge) (log : Log) →
+        KnowledgeStands A.stands kept.old at.me known →
+        IsNewly newly at.me log at.now (key_from (seen_frame frame.now)) →
+        let key = key_from (seen_frame frame.now) in
+        OnOk result (KnowledgeStands A.stands kept.new at.me (after_frame frame.now.dst
+        (after_sighting (A.queries at.me) at.me log at.now key known))) }
+{
+    let key = Key {
+        mac: frame.src,
+        vid: frame.vid,
+    };
+    sighting(kept, port, at, key, newly)?;
+    client_frame(kept, port, locals, at, frame)?;
+    Ok(())
+}
+
+/// A client frame that a line gives this node, with the flags of its sighting.
+pub fn frame<A: Algo, P: Port>(
+    kept: &mut NodeKnowledge<A>,
+    port: &mut P,
+    locals: &mut Locals,
+    at: Place,
+    flags: u8,
+    frame: &ClientFrame<'_>,
+) -> Result<(), NodeErr>
+    requires { (log : Log)
+        × Before A.stands A.queries kept.old locals.old at.me log at.now }
+    ensures puts { (log : Log) →
+        Before A.stands A.queries kept.old locals.old at.me log at.now →
+        Sighted flags ≡ sighted_after log →
+        let given = given_frame (seen_frame frame.now) in
+        Leaves P.takes P.same P.over (passed_limit at.me log at.now given) port.old
+        (acts_of (A.queries at.me) at.me log at.now given) result port.new }
+    ensures noted { (log : Log) →
+        Before A.stands A.queries kept.old locals.old at.me log at.now →
+        Sighted flags ≡ sighted_after log →
+        let given = given_frame (seen_frame frame.now) in
+        let before = knowledge (A.queries at.me) at.me log in
+        OnOk result (KnowledgeStands A.stands kept.new at.me
+        (next_knowledge (A.queries at.me) at.me log before at.now given)) }
+    ensures sighted { (log : Log) →
+        Before A.stands A.queries kept.old locals.old at.me log at.now →
+        Sighted flags ≡ sighted_after log →
+        let given = given_frame (seen_frame frame.now) in
+        OnOk result (HasClients locals.new at.me
+        (with_input (A.queries at.me) at.me log at.now given)) }
+{
+    let key = Key {
+        mac: frame.src,
+        vid: frame.vid,
+    };
+    let newly = locals.see(at.now, key, flags)?;
+    sighted_frame(kept, port, locals, at, newly, frame)?;
+    Ok(())
+}

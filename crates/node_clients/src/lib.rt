@@ -1,0 +1,9 @@
+//! The rows of a node for client frames: those of its own clients, with their sightings, those that
+//! come in packets, and what advertisements say of clients that roamed away.
+
+#![tactic(auto)]
+
+pub mod carried;
+pub mod client_frames;
+pub mod roaming;
+mod sightings;

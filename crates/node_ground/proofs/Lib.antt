@@ -1,0 +1,7 @@
+-- What the ground of a node rests on, and what every row cites.
+pub mod PutsLemmas
+pub mod LeavesLemmas
+pub mod BroadcastLemmas
+pub mod ReadingLemmas
+pub mod HolderLemmas
+pub mod OwnLemmas

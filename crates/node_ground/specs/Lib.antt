@@ -1,0 +1,10 @@
+-- The words of the contracts, in reading order.
+pub mod Errors
+pub mod Puts
+pub mod BroadcastsStand
+pub mod KnowledgeStands
+pub mod OwnStands
+pub mod Ways
+pub mod Sending
+pub mod Reading
+pub mod Tables

@@ -1,0 +1,56 @@
+//! What a node knows of the others, in its parts.
+
+ghost use Rattle.std.specs.Prelude.{◌≡◌, []};
+ghost use Rattle.mesh_base.specs.declared.address.Mac.{Mac};
+ghost use Rattle.mesh_model.specs.Knowledge.Known.{Knowledge, no_knowledge, told_at};
+ghost use Rattle.node_ground.specs.KnowledgeStands.{KnowledgeStands};
+
+use crate::broadcasts::Broadcasts;
+use mesh_algo::Algo;
+use mesh_base::{Mac, Millis};
+use mesh_icmp::Sessions;
+use std::alloc::Global;
+use tt_global::Globals;
+use tt_sync::Sync;
+
+/// What a node knows of the others, in its parts.
+#[derive(Drop)]
+pub struct NodeKnowledge<A: Algo> {
+    pub alloc: Global,
+    pub algo: A,
+    pub globals: Globals,
+    pub sync: Sync,
+    pub sessions: Sessions,
+    pub broadcasts: Broadcasts,
+    /// How many broadcasts were sent, modulo 2^32.
+    pub sent: u32,
+}
+
+impl<A: Algo> NodeKnowledge<A> {
+    /// Nothing is known, by an algorithm that was given nothing.
+    pub fn new(alloc: Global, algo: A) -> NodeKnowledge<A>
+        ensures { (me : Mac) → A.stands algo me [] →
+            KnowledgeStands A.stands result me no_knowledge }
+    {
+        NodeKnowledge {
+            alloc,
+            algo,
+            globals: Globals::new(alloc),
+            sync: Sync::new(alloc),
+            sessions: Sessions::new(alloc),
+            broadcasts: Broadcasts::new(alloc),
+            sent: 0,
+        }
+    }
+
+    /// The byte that an originator was told to have, while it is live.
+    pub fn told_at(&self, now: Millis, orig: Mac) -> Option<u8>
+        ensures { (me : Mac) (known : Knowledge) → KnowledgeStands A.stands self.now me known →
+            result ≡ told_at (A.queries me) known now orig }
+    {
+        if !self.algo.live(now, orig) {
+            return None;
+        }
+        self.globals.told(orig)
+    }
+}

@@ -1,0 +1,24 @@
+//! What every row of a node stands on: what a node keeps of the others, the port that takes its
+//! acts, how packets are put, how containers are made and read, and how client frames are handed
+//! out.
+
+#![tactic(auto)]
+
+pub mod addressee;
+pub mod broadcasts;
+pub mod coming;
+pub mod deliveries;
+pub mod failure;
+pub mod knowledge;
+pub mod messages;
+pub mod packing;
+pub mod place;
+pub mod port;
+pub mod reading;
+
+pub use addressee::Way;
+pub use coming::Coming;
+pub use failure::{NodeErr, PortErr};
+pub use knowledge::NodeKnowledge;
+pub use place::Place;
+pub use port::Port;

@@ -1,0 +1,193 @@
+//! The containers that a node makes.
+
+ghost use Rattle.std.specs.Prelude.{◌≡◌, ◌≤◌, ◌+◌, ◌*◌, ◌∷◌, ◌++◌, [], ℕ, length, flat_map, map, IfOk, OnOk};
+ghost use Rattle.mesh_model.specs.Commits.Announcements.{record_of_change};
+ghost use Rattle.mesh_model.specs.Acts.OwnContainers.{own_containers};
+ghost use Rattle.mesh_model.specs.Acts.Packing.{reply_containers, request_containers, request_flags, table_container, table_told, with_full};
+ghost use Rattle.mesh_model.specs.Acts.TableRows.{is_within_limits};
+ghost use Rattle.mesh_model.specs.Packets.BodySpellings.{change_spelling, tt_spelling, vlan_spelling};
+ghost use Rattle.mesh_model.specs.Packets.Containers.{containers_spelling};
+ghost use Rattle.mesh_model.specs.Packets.Numbers.{ogm_diff_flag, response_flag};
+ghost use Rattle.node_ground.specs.Sending.{FitsPacket};
+ghost use Rattle.tt_global.specs.Kept.{stamp, stamp_in};
+ghost use Rattle.tt_sync.specs.Answers.{answer_in};
+ghost use Rattle.tt_table.specs.Sums.{named_sums};
+
+use mesh_base::NoMemory;
+use mesh_model::Request;
+use mesh_tvlv::layout::{DAT, FULL_TABLE, OGM_DIFF, REQUEST, RESPONSE, TT, VERSION};
+use mesh_tvlv::{write_change, write_container, write_tt_head, write_vlan};
+use std::alloc::Global;
+use tt_sync::Reply;
+use tt_table::{Announcement, Changes, Sums, Table};
+
+/// The most clients that a node has.
+const CLIENTS_LIMIT: usize = 1_024;
+
+/// The most VLANs that a node's clients are in.
+const VLANS_LIMIT: usize = 16;
+
+/// How many hops are before a packet that a node begins.
+pub const FIRST_TTL: u8 = 50;
+
+// Appends the VLANs of a translation table.
+fn put_vlans(out: &mut Vec<u8>, sums: &Sums) -> Result<(), NoMemory>
+    ensures ok { OnOk result (out.new.items
+        ≡ out.old.items ++ flat_map vlan_spelling (named_sums sums.now)) }
+    ensures longer { OnOk result (length out.new.items
+        ≡ length out.old.items + 8 * length (named_sums sums.now)) }
+{
+    for i in 0..sums.len() {
+        if let Some((vid, sum)) = sums.at(i) {
+            write_vlan(out, vid, sum)?;
+        }
+    }
+    Ok(())
+}
+
+// Appends the records of a translation table.
+fn put_records(out: &mut Vec<u8>, changes: &Changes) -> Result<(), NoMemory>
+    ensures ok { OnOk result (out.new.items
+        ≡ out.old.items ++ flat_map change_spelling (map record_of_change changes.now)) }
+    ensures longer { OnOk result (length out.new.items
+        ≡ length out.old.items + 12 * length changes.now) }
+{
+    for i in 0..changes.len() {
+        if let Some(change) = changes.at(i) {
+            write_change(out, &change.entry, change.del)?;
+        }
+    }
+    Ok(())
+}
+
+// The body of a translation table.
+fn table_body(
+    alloc: Global,
+    flags: u8,
+    byte: u8,
+    sums: &Sums,
+    records: &Changes,
+) -> Result<Vec<u8>, NoMemory>
+    requires { length (named_sums sums.now) ≤ 65535 }
+    ensures body { IfOk result (λ body. body.items
+        ≡ tt_spelling (table_told flags (stamp byte sums.now) records.now)) }
+    ensures long { IfOk result (λ body. length body.items
+        ≡ 4 + 8 * length (named_sums sums.now) + 12 * length records.now) }
+{
+    let mut body = Vec::new(alloc);
+    write_tt_head(&mut body, flags, byte, sums.len() as u16)?;
+    put_vlans(&mut body, sums)?;
+    put_records(&mut body, records)?;
+    Ok(body)
+}
+
+/// Appends the container of a translation table.
+pub fn put_table(
+    alloc: Global,
+    out: &mut Vec<u8>,
+    flags: u8,
+    byte: u8,
+    sums: &Sums,
+    records: &Changes,
+) -> Result<(), NoMemory>
+    requires { 4 + 8 * length (named_sums sums.now) + 12 * length records.now ≤ 65535 }
+    ensures ok { OnOk result (out.new.items ≡ out.old.items ++ containers_spelling
+        (table_container (table_told flags (stamp byte sums.now) records.now) ∷ [])) }
+    ensures longer { OnOk result (length out.new.items ≡ length out.old.items
+        + (8 + 8 * length (named_sums sums.now) + 12 * length records.now)) }
+{
+    let body = table_body(alloc, flags, byte, sums, records)?;
+    write_container(out, TT, VERSION, body.as_slice())?;
+    Ok(())
+}
+
+// The flags of a request.
+fn request_flags(request: Request) -> u8
+    ensures { result ≡ request_flags request }
+{
+    match request {
+        Request::Full => REQUEST | FULL_TABLE,
+        Request::Changes => REQUEST,
+    }
+}
+
+/// The containers of a request for what was announced.
+pub fn request_containers(
+    alloc: Global,
+    request: Request,
+    announced: &Announcement,
+) -> Result<Vec<u8>, NoMemory>
+    requires { 8 + 8 * length (named_sums announced.now.sums) ≤ 65535 }
+    ensures ok { IfOk result (λ bytes. bytes.items
+        ≡ request_containers request (stamp_in announced.now)) }
+    ensures fits { IfOk result (λ bytes. length bytes.items ≤ 65535) }
+{
+    let mut containers = Vec::new(alloc);
+    let flags = request_flags(request);
+    let Announcement { byte, sums, .. } = announced;
+    put_table(
+        alloc,
+        &mut containers,
+        flags,
+        *byte,
+        sums,
+        &Changes::new(alloc),
+    )?;
+    Ok(containers)
+}
+
+/// The containers of the own originator message, with what it announces.
+pub fn own_containers(alloc: Global, announced: &Announcement) -> Result<Vec<u8>, NoMemory>
+    requires { 12 + 8 * length (named_sums announced.now.sums)
+        + 12 * length announced.now.changes ≤ 65535 }
+    ensures ok { IfOk result (λ bytes. bytes.items ≡ containers_spelling (own_containers
+        (table_told ogm_diff_flag (stamp_in announced.now) announced.now.changes))) }
+    ensures fits { IfOk result (λ bytes. length bytes.items ≤ 65535) }
+{
+    let Announcement {
+        byte,
+        sums,
+        changes,
+    } = announced;
+    let mut containers = Vec::new(alloc);
+    write_container(&mut containers, DAT, VERSION, &[])?;
+    put_table(alloc, &mut containers, OGM_DIFF, *byte, sums, changes)?;
+    Ok(containers)
+}
+
+// The flags of an answer, which has a whole table or not.
+fn reply_flags(full: bool) -> u8
+    ensures { result ≡ with_full response_flag full }
+{
+    if full {
+        RESPONSE | FULL_TABLE
+    } else {
+        RESPONSE
+    }
+}
+
+/// The containers of an answer.
+pub fn reply_containers(alloc: Global, reply: &Reply) -> Result<Vec<u8>, NoMemory>
+    requires { FitsPacket (answer_in reply.now) }
+    ensures ok { IfOk result (λ bytes. bytes.items ≡ reply_containers (answer_in reply.now)) }
+    ensures fits { IfOk result (λ bytes. length bytes.items ≤ 65535) }
+{
+    let Reply {
+        full,
+        byte,
+        sums,
+        records,
+    } = reply;
+    let mut containers = Vec::new(alloc);
+    let flags = reply_flags(*full);
+    put_table(alloc, &mut containers, flags, *byte, sums, records)?;
+    Ok(containers)
+}
+
+/// Whether a table is within what a node may have.
+pub fn is_within_limits(table: &Table) -> bool
+    ensures { (byte : ℕ) → result
+        ≡ is_within_limits (record { byte = byte; table = table.now.entries }) }
+{
+    table.entry_at(CLIENTS_LIMIT).is_none() && table.sums().len() <= VLANS_LIMIT
+}

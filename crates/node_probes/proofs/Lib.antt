@@ -1,0 +1,2 @@
+-- What the rows of probes rest on.
+pub mod ProbeLemmas

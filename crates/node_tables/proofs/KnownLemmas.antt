@@ -1,0 +1,84 @@
+-- What is known once an announcement came.
+use Rattle.std.proofs.Common.{◌≡◌, ℕ, Bool, true, List, ◌∷◌, refl, sym, ap, ◌∙◌, Option, Some, None}
+use Rattle.std.specs.Prelude.{is_some, is_none, ◌&&◌, if◌then◌else◌}
+use Rattle.mesh_base.specs.declared.address.Mac.{Mac}
+use Rattle.mesh_model.specs.declared.table_outcome.Request.{Request}
+use Rattle.mesh_model.specs.declared.table_change.Change.{Change}
+use Rattle.mesh_model.specs.Knowledge.Known.{Knowledge, agreed_byte}
+use Rattle.mesh_model.specs.Knowledge.Steps.{Coming, after_announcement, after_answer, asked_by_request, may_ask, released_under, request_out, with_head}
+use Rattle.mesh_model.specs.Knowledge.Told.{Answers, carried_told, message_changes, stamp_told}
+use Rattle.mesh_model.specs.Marks.Calls.{Calls}
+use Rattle.mesh_model.specs.Marks.Requests.{too_soon}
+use Rattle.mesh_model.specs.Packets.Bodies.{TtData}
+use Rattle.mesh_model.specs.declared.packet.Head.{Head}
+use Rattle.mesh_model.specs.Routes.Queries.{Queries}
+use Rattle.mesh_model.specs.Routes.RouteLog.{RouteLog, HeadCame}
+use Rattle.node_ground.specs.declared.knowledge.NodeKnowledge.{NodeKnowledge}
+use Rattle.node_ground.specs.KnowledgeStands.{KnowledgeStands}
+use Rattle.mesh_model.specs.Tables.Judging.{announcement_row, wanted_request}
+use Rattle.mesh_model.specs.Tables.Known.{Announced, Answered, known_by}
+use Rattle.mesh_model.specs.Tables.Versions.{Stamp}
+use Rattle.node_ground.specs.Reading.{Tells, message}
+use Rattle.tt_global.specs.Kept.{stamp_in}
+use Rattle.tt_table.specs.declared.announcement.Announcement.{Announcement}
+
+-- a release changes no moment of asking
+release_asks : (now : ℕ) (target orig : Mac) (byte : Option ℕ) (calls : Calls) → too_soon now (released_under target byte calls) orig ≡ too_soon now calls orig
+release_asks now target orig None calls = refl
+release_asks now target orig (Some byte) calls = refl
+
+-- what is known once these changes were announced under a byte and sums, before anything is asked
+abbrev pub told_more : Mac → ℕ → Stamp → List Change → Knowledge → Knowledge
+told_more orig number stamp changes known = record known {
+  tables = Announced orig number stamp changes ∷ known.tables;
+}
+
+-- the marks that are answered by what was announced end
+abbrev pub released_more : Mac → Knowledge → Knowledge
+released_more orig known = record known { marks = released_under orig (agreed_byte (known_by known.tables orig)) known.marks }
+
+-- what goes out, where it is wanted by what was announced
+pub asked_out : (q : Queries) (now : ℕ) (orig : Mac) (number : ℕ) (announced : Announcement) (table : TtData) (known : Knowledge) (wanted request : Option Request) → Tells announced table
+    → wanted ≡ wanted_request (announcement_row (known_by known.tables orig).held (stamp_in announced) announced.changes).outcome
+    → request ≡ (if may_ask q (released_more orig (told_more orig number (stamp_in announced) announced.changes known)) now orig then wanted else None)
+    → request ≡ request_out q known now (message orig table)
+asked_out q now orig number announced table known wanted request tells is asked =
+    let soon = release_asks now orig orig (agreed_byte (known_by (Announced orig number (stamp_in announced) announced.changes ∷ known.tables) orig)) known.marks in
+    let may = ap (λ recent. is_some (q.route known.routes now orig) && is_none recent) soon in
+    asked ∙ ap (λ b. if b then wanted else None) may
+    ∙ ap (λ w. if may_ask q known now orig then w else None)
+    (is ∙ ap (λ s. wanted_request (announcement_row (known_by known.tables orig).held s announced.changes).outcome) tells.stamp
+    ∙ ap (λ cs. wanted_request (announcement_row (known_by known.tables orig).held (stamp_told table) cs).outcome) tells.changes)
+
+-- what is known then
+pub announced_is : (q : Queries) (came : Coming) (orig : Mac) (announced : Announcement) (table : TtData) (known : Knowledge) (request : Option Request) → Tells announced table
+    → request ≡ request_out q known came.now (message orig table)
+    → (let told = released_more orig (told_more orig came.number (stamp_in announced) announced.changes known) in
+    record told { marks = asked_by_request came.now orig request told.marks })
+    ≡ after_announcement q came (message orig table) known
+announced_is q came orig announced table known request tells is =
+    let whole : Stamp → List Change → Option Request → Knowledge = λ s cs r.
+    let told = released_more orig (told_more orig came.number s cs known) in record told { marks = asked_by_request came.now orig r told.marks } in
+    ap (λ s. whole s announced.changes request) tells.stamp ∙ ap (λ cs. whole (stamp_told table) cs request) tells.changes ∙ ap (λ r. whole (stamp_told table) (message_changes table) r) is
+
+-- once the algorithm was given a head
+pub head_came : {A : Type 0} (stands : A → Mac → RouteLog → Type 0) (kept : NodeKnowledge A) (algo : A) (me : Mac) (came : Coming) (head : Head) (known : Knowledge) → KnowledgeStands stands kept me known
+    → stands algo me (HeadCame came.now came.from came.throughput head ∷ known.routes) → KnowledgeStands stands (record kept { algo = algo }) me (with_head came head known)
+head_came stands kept algo me came head known is noted = record {
+  routes = noted;
+  tables = is.tables;
+  marks = is.marks;
+  probes = is.probes;
+  taken = is.taken;
+  sent = is.sent;
+}
+
+-- what is known once an answer came, with the byte, the sums and the changes that it tells
+pub answered_is : (q : Queries) (now : ℕ) (orig : Mac) (full told_full : Bool) (answered : Announcement) (table : TtData) (known : Knowledge) → Tells answered table → full ≡ told_full
+    → q.live known.routes now orig ≡ true
+    → released_more orig (record known { tables = Answered orig (stamp_in answered) (carried_told full answered.changes) ∷ known.tables })
+    ≡ after_answer q now orig (Answers (stamp_told table) (carried_told told_full (message_changes table))) known
+answered_is q now orig full told_full answered table known tells flag live =
+    let whole : Bool → Stamp → List Change → Knowledge = λ f s cs. released_more orig (record known { tables = Answered orig s (carried_told f cs) ∷ known.tables }) in
+    ap (λ f. whole f (stamp_in answered) answered.changes) flag ∙ ap (λ s. whole told_full s answered.changes) tells.stamp ∙ ap (λ cs. whole told_full (stamp_told table) cs) tells.changes
+    ∙ sym (ap (λ b. if b then whole told_full (stamp_told table) (message_changes table) else known) live)

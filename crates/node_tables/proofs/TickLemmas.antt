@@ -1,0 +1,134 @@
+-- What a tick tells of its commit: an alias, if the commit is new and has one, and an announcement
+-- that fits a packet.
+use Rattle.std.proofs.Common.{◌≡◌, ◌≤◌, ◌+◌, ◌*◌, ◌%◌, ℕ, suc, Bool, true, false, List, [], length, map, refl, sym, ap, subst, ◌∙◌, arith, Option, Some, None}
+use Rattle.std.specs.Prelude.{◌==◌, ◌&&◌, nat_lt, nat_le, if◌then◌else◌}
+use Rattle.std.proofs.lemmas.Bool.{and_parts, leb-true}
+use Rattle.std.proofs.lemmas.Bool.Decides.{nat_tests}
+use Rattle.std.proofs.lemmas.List.{length-map}
+use Rattle.mesh_base.specs.declared.address.Mac.{Mac}
+use Rattle.mesh_base.specs.declared.client.Entry.{Entry}
+use Rattle.mesh_model.specs.Acts.Packing.{table_told}
+use Rattle.mesh_model.specs.declared.table_row.LocalRow.{LocalRow}
+use Rattle.mesh_model.specs.Acts.Rows.{alias_acts, alias_event, commit_acts, tick_acts}
+use Rattle.mesh_model.specs.Clients.Limits.{clients_limit}
+use Rattle.mesh_model.specs.Clients.Mentions.{Mention}
+use Rattle.mesh_model.specs.Clients.Present.{present_clients}
+use Rattle.mesh_model.specs.Commits.Aliases.{last_alias}
+use Rattle.mesh_model.specs.Commits.Announcements.{announced_changes, announcement, carried_changes, carrying_messages, record_of_change}
+use Rattle.mesh_model.specs.Commits.History.{History, after_tick, with_message, committed, is_commit_tick, present_table, with_commit}
+use Rattle.mesh_model.specs.Commits.Versions.{last_changes, last_commit, same_table}
+use Rattle.mesh_model.specs.Packets.Numbers.{ogm_diff_flag}
+use Rattle.mesh_model.specs.Routes.Queries.{Queries}
+use Rattle.mesh_model.specs.Routes.RouteLog.{RouteLog}
+use Rattle.node_tables.proofs.WayLemmas.{entry_sums_few}
+use Rattle.tt_global.specs.Kept.{stamp_in}
+use Rattle.tt_local.specs.Announcing.{IsAnnouncement}
+use Rattle.tt_local.specs.Journal.{new_number}
+use Rattle.tt_local.specs.Locals.{LocalsStand, LocalsView}
+use Rattle.tt_table.specs.Sums.{named_sums}
+use Rattle.tt_table.specs.declared.announcement.Announcement.{Announcement}
+
+-- ---- the alias of a commit
+
+one_number : (a b : ℕ) → Some a ≡ Some b → a ≡ b
+one_number a b is = cc
+
+same_length : (n : ℕ) → (n == n) ≡ true
+same_length n = grind (arith, nat_tests)
+
+longer : (n : ℕ) → (suc n == n) ≡ false
+longer n = grind (arith, nat_tests)
+
+-- where nothing is committed, no alias is told
+pub no_alias : (me : Mac) (table : List Entry) (history : History) → None ≡ new_number table history → alias_acts me history.commits (committed table history).commits ≡ []
+no_alias me table history none = by_table (same_table (last_commit history.commits).table table) (sym none)
+  where
+    by_table : (same : Bool) → (if same then None else Some (length history.commits)) ≡ None → alias_acts me history.commits (if same then history else with_commit table history).commits ≡ []
+    by_table true is = ap (λ b. if b then [] else alias_event me (length history.commits) (last_alias history.commits)) (same_length (length history.commits))
+    by_table false is = absurd cc
+
+-- where a commit is new, its alias is told
+pub alias_told : (me : Mac) (table : List Entry) (history : History) (number : ℕ) (alias : Option ℕ) → Some number ≡ new_number table history
+    → (number + 1 ≡ length (committed table history).commits → alias ≡ last_alias (committed table history).commits)
+    → alias_event me number alias ≡ alias_acts me history.commits (committed table history).commits
+alias_told me table history number alias some told = by_table (same_table (last_commit history.commits).table table) (sym some) told
+  where
+    by_table : (same : Bool) → (if same then None else Some (length history.commits)) ≡ Some number
+        → (number + 1 ≡ length (if same then history else with_commit table history).commits → alias ≡ last_alias (if same then history else with_commit table history).commits)
+        → alias_event me number alias ≡ alias_acts me history.commits (if same then history else with_commit table history).commits
+    by_table true is told = absurd cc
+    by_table false is told =
+        let all : number ≡ length history.commits = sym (one_number (length history.commits) number is) in
+        let found : alias ≡ last_alias (with_commit table history).commits = told (omega (arith, all)) in
+        ap (λ n. alias_event me n alias) all ∙ ap (alias_event me (length history.commits)) found
+        ∙ sym (ap (λ b. if b then [] else alias_event me (length history.commits) (last_alias (with_commit table history).commits)) (longer (length history.commits)))
+
+-- ---- an announcement
+
+-- what is announced is what the history tells
+pub announced_is : (history : History) (told : Announcement) → IsAnnouncement history told → table_told ogm_diff_flag (stamp_in told) told.changes ≡ announcement history
+announced_is history told is = λ i. record { flags = ogm_diff_flag; ttvn = is.byte i; vlans = is.sums i; changes = map record_of_change (is.changes i) }
+
+few_carried : (history : History) → length (announced_changes history) ≤ carried_changes
+few_carried history = by_tests (nat_lt history.sent carrying_messages && nat_le (length (last_changes history.commits)) carried_changes) refl
+  where
+    by_tests : (b : Bool) → (nat_lt history.sent carrying_messages && nat_le (length (last_changes history.commits)) carried_changes) ≡ b
+        → length (if b then last_changes history.commits else []) ≤ carried_changes
+    by_tests true is = leb-true (length (last_changes history.commits)) carried_changes (and_parts _ _ is).1
+    by_tests false is = omega arith
+
+-- what is announced of few clients fits a packet
+pub announced_fits : (history : History) (told : Announcement) → IsAnnouncement history told → length (last_commit history.commits).table ≤ clients_limit
+    → 12 + 8 * length (named_sums told.sums) + 12 * length told.changes ≤ 65535
+announced_fits history told is few =
+    let sums : length (named_sums told.sums) ≤ length (last_commit history.commits).table = subst (λ sums. length sums ≤ length (last_commit history.commits).table) (sym is.sums) (entry_sums_few (last_commit history.commits).table) in
+    let changes : length told.changes ≤ carried_changes = subst (λ changes. length changes ≤ carried_changes) (sym is.changes) (few_carried history) in
+    omega (arith, few, sums, changes)
+
+-- ---- the acts of a tick
+
+-- an even tick tells of its commit's alias, and then announces
+pub even_acts : (q : Queries) (me : Mac) (routes : RouteLog) (mentions : List Mention) (history : History) (now index : ℕ) → is_commit_tick index ≡ true
+    → commit_acts q me routes index history (committed (present_table mentions now) history) ≡ tick_acts q me routes mentions history now index
+unfolding tick_acts
+even_acts q me routes mentions history now index even =
+    sym (ap (λ b. if b then commit_acts q me routes index history (committed (present_table mentions now) history) else []) even)
+
+-- the table that is present at a moment is no longer than the clients that are present
+pub committed_few : (mentions : List Mention) (history : History) (now : ℕ) → length (present_clients mentions now) ≤ clients_limit → length (last_commit history.commits).table ≤ clients_limit
+    → length (last_commit (committed (present_table mentions now) history).commits).table ≤ clients_limit
+committed_few mentions history now few before = by_table (same_table (last_commit history.commits).table (present_table mentions now))
+  where
+    by_table : (same : Bool) → length (last_commit (if same then history else with_commit (present_table mentions now) history).commits).table ≤ clients_limit
+    by_table true = before
+    by_table false =
+        let long : length (present_table mentions now) ≡ length (present_clients mentions now) = length-map (present_clients mentions now) (λ (row : LocalRow). row.entry) in
+        omega (arith, few, long)
+
+-- an index of which 2 leaves nothing is that of an even tick
+pub is_even : (index : ℕ) → index % 2 ≡ 0 → is_commit_tick index ≡ true
+is_even index even = ap (λ n. n == 0) even
+
+-- ---- clients at a later moment
+
+-- what stands from a moment on stands from each later one on
+pub stands_later : (view : LocalsView) (mentions : List Mention) (history : History) (since now : ℕ) → LocalsStand view mentions history since → since ≤ now
+    → LocalsStand view mentions history now
+stands_later view mentions history since now stands late = record {
+  clients = record {
+    sighted = λ key at later. stands.clients.sighted key at (omega (arith, late, later));
+    joined = stands.clients.joined;
+    ordered = stands.clients.ordered;
+  };
+  journal = stands.journal;
+}
+
+-- an odd tick commits nothing
+pub odd_stands : (view : LocalsView) (mentions : List Mention) (history : History) (since now index : ℕ) → LocalsStand view mentions history since → since ≤ now
+    → (index % 2 ≡ 0 → ⊥) → LocalsStand view mentions (after_tick index (present_table mentions now) history) now
+odd_stands view mentions history since now index stands late odd =
+    subst (λ even. LocalsStand view mentions (if even then with_message (committed (present_table mentions now) history) else history) now) (sym uneven)
+    (stands_later view mentions history since now stands late)
+  where
+    uneven : is_commit_tick index ≡ false
+    uneven = grind (arith, nat_tests)

@@ -1,0 +1,117 @@
+//! The row of containers that are for this node.
+
+ghost use Rattle.std.specs.Prelude.{OnOk};
+ghost use Rattle.mesh_model.specs.Acts.TableRows.{own_answer};
+ghost use Rattle.mesh_model.specs.Acts.Rows.{Own};
+ghost use Rattle.mesh_model.specs.Knowledge.Known.{Knowledge};
+ghost use Rattle.mesh_model.specs.Knowledge.Steps.{after_answer, after_containers};
+ghost use Rattle.mesh_model.specs.Knowledge.Told.{Asks, message_in, stamp_told};
+ghost use Rattle.mesh_model.specs.Packets.Containers.{containers_of};
+ghost use Rattle.mesh_model.specs.Packets.Contents.{first_table};
+ghost use Rattle.mesh_model.specs.Packets.Numbers.{full_table_flag};
+ghost use Rattle.mesh_model.specs.Routes.Ogm.{has_flag};
+ghost use Rattle.node_ground.specs.KnowledgeStands.{KnowledgeStands};
+ghost use Rattle.node_ground.specs.OwnStands.{OwnStands};
+ghost use Rattle.node_ground.specs.Puts.{Puts};
+
+use crate::answers::{mark_roamed, take_answer};
+use mesh_algo::Algo;
+use mesh_base::Mac;
+use mesh_codec::Head;
+use mesh_tvlv::TtView;
+use mesh_tvlv::layout::{FULL_TABLE, REQUEST, RESPONSE};
+use node_ground::messages::send_over;
+use node_ground::packing::{FIRST_TTL, reply_containers};
+use node_ground::reading::{first_table, has_flag};
+use node_ground::{NodeErr, NodeKnowledge, Place, Port};
+use tt_local::Locals;
+use tt_sync::answer_own as own_reply;
+
+// Answers a request for the own table.
+#[tactic(auto, unfolding(mesh_model::specs::Acts::TableRows::own_answer))]
+fn answer_own<A: Algo, P: Port>(
+    kept: &NodeKnowledge<A>,
+    port: &mut P,
+    locals: &Locals,
+    at: Place,
+    asker: Mac,
+    table: &TtView<'_>,
+) -> Result<(), NodeErr>
+    requires { (own : Own) × OwnStands locals.now own at.now }
+    ensures { (known : Knowledge) (own : Own) → KnowledgeStands A.stands kept.now at.me known →
+        OwnStands locals.now own at.now →
+        Puts P.takes P.same P.over port.old
+        (own_answer (A.queries at.me) at.me known at.now own.last own.told asker
+        (Asks (has_flag full_table_flag table.now.flags) (stamp_told table.now)))
+        result port.new }
+{
+    let full = has_flag(table.flags(), FULL_TABLE);
+    let reply = own_reply(locals, full, table.ttvn())?;
+    let containers = reply_containers(kept.alloc, &reply)?;
+    let head = Head::Utvlv {
+        ttl: FIRST_TTL,
+        dst: asker,
+        src: at.me,
+    };
+    let next = kept.algo.route(at.now, asker);
+    send_over(kept.alloc, port, next, &head, containers.as_slice())?;
+    Ok(())
+}
+
+// Answers a request for the own table, or takes an answer, where containers hold one of them.
+#[tactic(auto, unfolding(mesh_model::specs::Acts::TableRows::own_answer))]
+fn table_here<A: Algo, P: Port>(
+    kept: &mut NodeKnowledge<A>,
+    port: &mut P,
+    locals: &Locals,
+    at: Place,
+    src: Mac,
+    tail: &[u8],
+) -> Result<(), NodeErr>
+    requires { (own : Own) × OwnStands locals.now own at.now }
+    ensures puts { (known : Knowledge) (own : Own) →
+        KnowledgeStands A.stands kept.old at.me known → OwnStands locals.now own at.now →
+        Puts P.takes P.same P.over port.old
+        (own_answer (A.queries at.me) at.me known at.now own.last own.told src
+        (message_in (first_table (containers_of tail.now)))) result port.new }
+    ensures noted { (known : Knowledge) → KnowledgeStands A.stands kept.old at.me known →
+        OnOk result (KnowledgeStands A.stands kept.new at.me
+        (after_answer (A.queries at.me) at.now src
+        (message_in (first_table (containers_of tail.now))) known)) }
+{
+    let Some(table) = first_table(tail) else {
+        return Ok(());
+    };
+    if has_flag(table.flags(), REQUEST) {
+        answer_own(kept, port, locals, at, src, &table)?;
+        return Ok(());
+    }
+    if has_flag(table.flags(), RESPONSE) {
+        take_answer(kept, at.now, src, &table)?;
+    }
+    Ok(())
+}
+
+/// Containers that are for this node.
+pub fn containers_here<A: Algo, P: Port>(
+    kept: &mut NodeKnowledge<A>,
+    port: &mut P,
+    locals: &Locals,
+    at: Place,
+    src: Mac,
+    tail: &[u8],
+) -> Result<(), NodeErr>
+    requires { (own : Own) × OwnStands locals.now own at.now }
+    ensures puts { (known : Knowledge) (own : Own) →
+        KnowledgeStands A.stands kept.old at.me known → OwnStands locals.now own at.now →
+        Puts P.takes P.same P.over port.old
+        (own_answer (A.queries at.me) at.me known at.now own.last own.told src
+        (message_in (first_table (containers_of tail.now)))) result port.new }
+    ensures noted { (known : Knowledge) → KnowledgeStands A.stands kept.old at.me known →
+        OnOk result (KnowledgeStands A.stands kept.new at.me
+        (after_containers (A.queries at.me) at.now src tail.now known)) }
+{
+    table_here(kept, port, locals, at, src, tail)?;
+    mark_roamed(kept, at.now, src, tail)?;
+    Ok(())
+}

@@ -1,0 +1,11 @@
+//! The rows of a node for tables: originator messages, requests and answers, here and on the way,
+//! and ticks with their commits.
+
+#![tactic(auto)]
+
+mod announcements;
+mod answers;
+pub mod containers;
+pub mod ogms;
+pub mod on_the_way;
+pub mod ticks;

@@ -1,0 +1,158 @@
+//! The row of ticks.
+
+ghost use Rattle.std.specs.Prelude.{◌≡◌, ◌≤◌, ◌<◌, ◌∷◌, ℕ, List, length, IfOk, IfSome, IsTrue, OnOk};
+ghost use Rattle.mesh_model.specs.Acts.OwnContainers.{own_containers};
+ghost use Rattle.mesh_model.specs.Acts.Rows.{alias_acts, message_acts, tick_acts};
+ghost use Rattle.mesh_model.specs.Clients.Limits.{clients_limit};
+ghost use Rattle.mesh_model.specs.Clients.Mentions.{Mention};
+ghost use Rattle.mesh_model.specs.Commits.Announcements.{announcement};
+ghost use Rattle.mesh_model.specs.Commits.History.{History, after_tick, with_message, committed, present_table};
+ghost use Rattle.mesh_model.specs.Commits.Versions.{last_commit};
+ghost use Rattle.mesh_model.specs.Knowledge.Known.{Knowledge};
+ghost use Rattle.mesh_model.specs.Packets.Containers.{containers_spelling};
+ghost use Rattle.mesh_model.specs.Routes.Queries.{is_ogm};
+ghost use Rattle.mesh_model.specs.Routes.RouteLog.{MayTick, OwnTick};
+ghost use Rattle.node_ground.specs.KnowledgeStands.{KnowledgeStands};
+ghost use Rattle.node_ground.specs.OwnStands.{AreFew};
+ghost use Rattle.node_ground.specs.Puts.{Puts};
+ghost use Rattle.tt_local.specs.Journal.{new_number};
+ghost use Rattle.tt_local.specs.Locals.{LocalsStand};
+
+use mesh_algo::Algo;
+use mesh_base::{Event, Millis, NoMemory, Steps};
+use mesh_codec::Head;
+use mesh_model::Act;
+use node_ground::messages::send_message;
+use node_ground::packing::own_containers;
+use node_ground::{NodeErr, NodeKnowledge, Place, Port};
+use std::alloc::Global;
+use std::marker::Brand;
+use std::sync::ledger::{Blank, Ledger};
+use tt_local::Locals;
+
+// Commits the present clients where they differ, and answers the new commit's number.
+fn new_commit<L: Ledger>(
+    locals: &mut Locals,
+    now: Millis,
+    blank: Blank,
+) -> Result<Option<u64>, NoMemory>
+    requires name { blank.name ≡ L.name }
+    requires parts { blank.parts ≡ L.parts }
+    requires some { 0 < blank.parts }
+    ensures committed { (mentions : List Mention) (history : History) (since : ℕ) →
+        LocalsStand locals.old mentions history since → since ≤ now →
+        OnOk result (LocalsStand locals.new mentions
+        (committed (present_table mentions now) history) now) }
+    ensures number { (mentions : List Mention) (history : History) (since : ℕ) →
+        LocalsStand locals.old mentions history since → since ≤ now →
+        IfOk result (λ number. number ≡ new_number (present_table mentions now) history) }
+{
+    let mut steps = Steps::<L>::new(blank);
+    let number = locals.commit(now, &mut steps)?;
+    Ok(number)
+}
+
+// Commits the present clients where they differ, and tells of the new commit's alias.
+fn commit<P: Port>(port: &mut P, locals: &mut Locals, at: Place) -> Result<(), NodeErr>
+    ensures puts { (mentions : List Mention) (history : History) (since : ℕ) →
+        LocalsStand locals.old mentions history since → since ≤ at.now →
+        Puts P.takes P.same P.over port.old
+        (alias_acts at.me history.commits
+        (committed (present_table mentions at.now) history).commits) result port.new }
+    ensures committed { (mentions : List Mention) (history : History) (since : ℕ) →
+        LocalsStand locals.old mentions history since → since ≤ at.now →
+        OnOk result (LocalsStand locals.new mentions
+        (committed (present_table mentions at.now) history) at.now) }
+{
+    let Some(commit) = new_commit::<Brand>(locals, at.now, Blank::new(1))? else {
+        return Ok(());
+    };
+    let Some(earlier) = locals.alias_of(commit)? else {
+        return Ok(());
+    };
+    port.put(Act::Print(Event::Alias {
+        node: at.me,
+        commit,
+        earlier,
+    }))?;
+    Ok(())
+}
+
+// The containers of the next originator message, which is counted.
+fn next_containers(alloc: Global, locals: &mut Locals) -> Result<Vec<u8>, NoMemory>
+    requires { (mentions : List Mention) × (history : History) × (since : ℕ)
+        × LocalsStand locals.old mentions history since
+        × (length (last_commit history.commits).table ≤ clients_limit) }
+    ensures told { IfOk result (λ bytes. (mentions : List Mention) (history : History)
+        (since : ℕ) → LocalsStand locals.old mentions history since →
+        bytes.items ≡ containers_spelling (own_containers (announcement history))) }
+    ensures fits { IfOk result (λ bytes. length bytes.items ≤ 65535) }
+    ensures counted { (mentions : List Mention) (history : History) (since : ℕ) →
+        LocalsStand locals.old mentions history since →
+        OnOk result (LocalsStand locals.new mentions (with_message history) since) }
+{
+    let announcement = locals.announcement()?;
+    let containers = own_containers(alloc, &announcement)?;
+    Ok(containers)
+}
+
+// Sends an originator message with what it announces of the last commit.
+fn announce<P: Port>(
+    alloc: Global,
+    port: &mut P,
+    locals: &mut Locals,
+    head: Option<Head>,
+) -> Result<(), NodeErr>
+    requires ogm { IfSome head (λ head. IsTrue (is_ogm head)) }
+    requires few { (mentions : List Mention) × (history : History) × (since : ℕ)
+        × LocalsStand locals.old mentions history since
+        × (length (last_commit history.commits).table ≤ clients_limit) }
+    ensures puts { (mentions : List Mention) (history : History) (since : ℕ) →
+        LocalsStand locals.old mentions history since →
+        Puts P.takes P.same P.over port.old (message_acts head
+        (containers_spelling (own_containers (announcement history)))) result port.new }
+    ensures counted { (mentions : List Mention) (history : History) (since : ℕ) →
+        LocalsStand locals.old mentions history since →
+        OnOk result (LocalsStand locals.new mentions (with_message history) since) }
+{
+    let containers = next_containers(alloc, locals)?;
+    send_message(alloc, port, head, containers.as_slice())?;
+    Ok(())
+}
+
+/// A tick: at each second one a commit, its event where it has an alias, and an originator message.
+#[tactic(auto, unfolding(mesh_model::specs::Acts::Rows::tick_acts))]
+pub fn tick<A: Algo, P: Port>(
+    kept: &mut NodeKnowledge<A>,
+    port: &mut P,
+    locals: &mut Locals,
+    at: Place,
+    index: u64,
+) -> Result<(), NodeErr>
+    requires known { (known : Knowledge) × KnowledgeStands A.stands kept.old at.me known
+        × MayTick known.routes index }
+    requires few { (mentions : List Mention) × (history : History) × (since : ℕ)
+        × LocalsStand locals.old mentions history since × (since ≤ at.now)
+        × AreFew mentions history at.now }
+    ensures puts { (known : Knowledge) (mentions : List Mention) (history : History) (since : ℕ) →
+        KnowledgeStands A.stands kept.old at.me known →
+        LocalsStand locals.old mentions history since → since ≤ at.now →
+        Puts P.takes P.same P.over port.old
+        (tick_acts (A.queries at.me) at.me known.routes mentions history at.now index)
+        result port.new }
+    ensures ticked { (known : Knowledge) → KnowledgeStands A.stands kept.old at.me known →
+        OnOk result (KnowledgeStands A.stands kept.new at.me
+        (record known { routes = OwnTick at.now index ∷ known.routes })) }
+    ensures committed { (mentions : List Mention) (history : History) (since : ℕ) →
+        LocalsStand locals.old mentions history since → since ≤ at.now →
+        OnOk result (LocalsStand locals.new mentions
+        (after_tick index (present_table mentions at.now) history) at.now) }
+{
+    let beats = kept.algo.tick(at.now, index);
+    if index % 2 != 0 {
+        return Ok(());
+    }
+    commit(port, locals, at)?;
+    announce(kept.alloc, port, locals, beats.ogm)?;
+    Ok(())
+}

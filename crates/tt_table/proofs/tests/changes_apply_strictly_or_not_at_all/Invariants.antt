@@ -1,4 +1,0 @@
-use Rattle.tt_table.proofs.tests.changes_apply_strictly_or_not_at_all.Given as goal
-
-abbrev pub ghosts-outcomes : goal.ghosts-outcomes
-ghosts-outcomes g a = record { name = a.blank.name; parts = a.blank.parts }
