@@ -9,6 +9,7 @@ pub mod CommitRows
 -- What is said of a worked scenario, of bytes that are decoded, and of a single line.
 pub mod LineRows
 pub mod RouteRows
+pub mod ThroughputRows
 -- What is said of a worked scenario, of bytes that are decoded, and of calls that are written out.
 pub mod CallRows
 pub mod ContainerRows

@@ -18,4 +18,5 @@ pub mod route_rows;
 pub mod rows;
 pub mod session_rows;
 pub mod table_rows;
+pub mod throughput_rows;
 pub mod word_rows;

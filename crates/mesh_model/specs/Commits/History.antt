@@ -3,7 +3,7 @@
 -- the last commit. A message counts among those of its commit also where no link takes it. The main
 -- word is `commits`.
 use Rattle.mesh_model.specs.Routes.RouteLog.{is_ogm_tick}
-use Rattle.std.specs.Prelude.{ℕ, ◌+◌, ◌%◌, ◌==◌, Bool, List, [], ◌∷◌, map, Option, Some, None, if◌then◌else◌}
+use Rattle.std.specs.Prelude.{ℕ, ◌+◌, Bool, List, [], ◌∷◌, map, Option, Some, None, if◌then◌else◌}
 use Rattle.mesh_base.specs.declared.address.Mac.{Mac}
 use Rattle.mesh_base.specs.declared.client.Entry.{Entry}
 use Rattle.mesh_model.specs.Clients.Log.{Given, Log, tick_of}

@@ -2,7 +2,7 @@
 -- that is sent on has one hop less to live, its neighbour as previous sender, and its value, less a
 -- part of 30 in 255, as quality; it is marked DIRECTLINK where it came from the originator itself,
 -- and then NOT_BEST_NEXT_HOP too where the best route is another. The main word is `iv_queries`.
-use Rattle.std.specs.Prelude.{ℕ, ◌+◌, ◌-◌, ◌*◌, ◌/◌, ◌%◌, ◌==◌, nat_lt, not, List, ◌∷◌, filter_map, Option, Some, None, if◌then◌else◌}
+use Rattle.std.specs.Prelude.{ℕ, ◌+◌, ◌-◌, ◌*◌, ◌/◌, nat_lt, not, List, ◌∷◌, filter_map, Option, Some, None, if◌then◌else◌}
 use Rattle.mesh_base.specs.declared.address.Mac.{Mac}
 use Rattle.mesh_model.specs.declared.packet.Head.{Head}
 use Rattle.mesh_model.specs.declared.packet.Head.TheVariants.{IvOgm}

@@ -5,7 +5,7 @@
 -- link * asym / 65025`, each division floored, and 0 where nothing is received. The quality of a
 -- path is the mean of the values above 0 among the originator's newest five numbers. The main words
 -- are `transmit_quality` and `average_quality`.
-use Rattle.std.specs.Prelude.{ℕ, suc, ◌-◌, ◌*◌, ◌/◌, ◌%◌, ◌&&◌, ◌==◌, nat_lt, min, List, [], ◌∷◌, length, map, filter, sum, Option, Some, None, if◌then◌else◌}
+use Rattle.std.specs.Prelude.{ℕ, suc, ◌-◌, ◌*◌, ◌/◌, ◌&&◌, ◌==◌, nat_lt, min, List, [], ◌∷◌, length, map, filter, sum, Option, Some, None, if◌then◌else◌}
 use Rattle.mesh_base.specs.declared.address.Mac.{Mac}
 use Rattle.mesh_model.specs.Routes.Addresses.{same_mac}
 use Rattle.mesh_model.specs.Routes.Life.{HeardOgm, of, life, newest, numbers_from, value_at}

@@ -42,3 +42,15 @@ is_ogm (Frag ttl number priority dst orig seq total) = false
 is_ogm (Unicast4 ttl ttvn dst src subtype) = false
 is_ogm (Icmp ttl msg dst orig uid seq) = false
 is_ogm (Utvlv ttl dst src) = false
+
+-- whether a head is that of an ELP, by which a neighbour says that it is there
+abbrev pub is_elp : Head → Bool
+is_elp (IvOgm ttl flags seq orig prev tq) = false
+is_elp (Bcast ttl seq orig) = false
+is_elp (Elp orig seq interval) = true
+is_elp (Ogm2 ttl flags seq orig throughput) = false
+is_elp (Unicast ttl ttvn dst) = false
+is_elp (Frag ttl number priority dst orig seq total) = false
+is_elp (Unicast4 ttl ttvn dst src subtype) = false
+is_elp (Icmp ttl msg dst orig uid seq) = false
+is_elp (Utvlv ttl dst src) = false
