@@ -47,18 +47,23 @@ abbrev pub alias_acts : Mac → List Version → List Version → List Act
 alias_acts me before after = if length after == length before then []
     else alias_event me (length before) (last_alias after)
 
+-- the ELP at a tick of an index, where the algorithm sends one
+abbrev pub elp_acts : Queries → RouteLog → ℕ → List Act
+elp_acts q routes index = message_acts (q.beats routes index).elp []
+
 -- what is put at an even tick, from the history before and after its commit
 abbrev pub commit_acts : Queries → Mac → RouteLog → ℕ → History → History → List Act
 commit_acts q me routes index before after = alias_acts me before.commits after.commits
     ++ message_acts (q.beats routes index).ogm
     (containers_spelling (own_containers (announcement after)))
 
--- a tick: at each second one the node commits its clients, tells of an alias, and sends its
--- originator message on all links
+-- a tick: the node sends an ELP on all links, if its algorithm has one; at each second tick it then
+-- commits its clients, tells of an alias, and sends its originator message on all links
 unfoldable pub tick_acts : Queries → Mac → RouteLog → List Mention → History → ℕ → ℕ → List Act
-tick_acts q me routes mentions before now index = if is_commit_tick index
+tick_acts q me routes mentions before now index = elp_acts q routes index
+    ++ (if is_commit_tick index
     then commit_acts q me routes index before (committed (present_table mentions now) before)
-    else []
+    else [])
 
 -- ---- packets
 

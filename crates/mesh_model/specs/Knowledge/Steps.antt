@@ -1,6 +1,7 @@
 -- How what a node knows grows: by each tick, by each packet of a link frame, one behind the other,
--- and by what lines give it. An accepted originator message begins what is known of its originator
--- anew where a life begins; it may release marks, and lead to a request. An answer from a live
+-- and by what lines give it. Its algorithm is given each tick, each ELP, and each originator
+-- message that is taken. An accepted originator message begins what is known of its originator anew
+-- where a life begins; it may release marks, and lead to a request. An answer from a live
 -- originator, or for it, is taken and may release marks too. A client that roamed is marked, with
 -- what its new node was told to have. A sighting ends the client's mark, and is advertised where
 -- the client wasn't present just before and was elsewhere. A probe of a ping or a traceroute waits
@@ -194,7 +195,8 @@ after_head q me came message tail (IvOgm ttl flags seq orig prev tq) known =
     after_taken q came (IvOgm ttl flags seq orig prev tq) message known
 after_head q me came message tail (Bcast ttl seq orig) known =
     after_broadcast me (record { orig = orig; number = seq }) known
-after_head q me came message tail (Elp orig seq interval) known = known
+after_head q me came message tail (Elp orig seq interval) known =
+    with_head came (Elp orig seq interval) known
 after_head q me came message tail (Ogm2 ttl flags seq orig throughput) known =
     after_taken q came (Ogm2 ttl flags seq orig throughput) message known
 after_head q me came message tail (Unicast ttl ttvn dst) known = known
