@@ -2,6 +2,7 @@
 pub mod Address
 pub mod Vlan
 pub mod KeyOrder
+pub mod Ordered
 pub mod Names
 pub mod Faults
 pub mod Pieces

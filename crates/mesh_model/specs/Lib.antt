@@ -2,11 +2,13 @@
 pub mod Packets
 pub mod Scenario
 pub mod Routes
+pub mod Bridges
 pub mod Clients
 pub mod Tables
 pub mod Commits
 pub mod Marks
 pub mod Probes
+pub mod Services
 pub mod Knowledge
 pub mod Text
 pub mod Acts

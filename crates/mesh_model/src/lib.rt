@@ -7,6 +7,7 @@
 #![tactic(auto)]
 
 pub mod act;
+pub mod claim;
 pub mod ending;
 pub mod frame_choice;
 pub mod happening;
@@ -17,11 +18,13 @@ pub mod packet;
 pub mod probe;
 pub mod roaming_mark;
 pub mod route;
+pub mod service;
 pub mod table_change;
 pub mod table_outcome;
 pub mod table_row;
 
 pub use act::Act;
+pub use claim::{ClaimRow, Spread, Verdict};
 pub use ending::{LimitName, Refusal, Stop};
 pub use frame_choice::FrameChoice;
 pub use happening::{Class, Happening};
@@ -32,6 +35,7 @@ pub use packet::Head;
 pub use probe::{OpenProbe, Probe, Told};
 pub use roaming_mark::RoamingMark;
 pub use route::{Beats, Hearing, LinkRow, Meeting, OrigRow};
+pub use service::{ArpRow, Fact, Fan, GwRow, Mark, PrimaryRow};
 pub use table_change::Change;
 pub use table_outcome::{Difference, Heard, Request, Taken};
 pub use table_row::{GlobalRow, LocalRow};

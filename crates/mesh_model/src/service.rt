@@ -1,0 +1,60 @@
+use mesh_base::{Bytes, Mac, Millis, Vid};
+
+/// A gateway as a node knows it: its throughputs in units of 100 kbit/s, and the metric of the route
+/// to it.
+#[derive(Clone, Copy, Debug, PartialEq, Eq)]
+pub struct GwRow {
+    pub orig: Mac,
+    pub down: u32,
+    pub up: u32,
+    pub metric: u32,
+}
+
+/// How a frame to a group is sent to so many receivers.
+#[derive(Clone, Copy, Debug, PartialEq, Eq)]
+pub enum Fan {
+    /// There is none.
+    Nobody,
+    /// To each of them.
+    Each,
+    /// To all stations.
+    Flood,
+}
+
+/// A pair of the distributed ARP table: an IP address, as a number, and a VLAN, the address that they
+/// have, and how long ago that was learned.
+#[derive(Clone, Copy, Debug, PartialEq, Eq)]
+pub struct ArpRow {
+    pub ip: u32,
+    pub vid: Vid,
+    pub mac: Mac,
+    pub age: Millis,
+}
+
+/// A primary as a node knows it: when it announced itself last, and the metric of the route to it.
+#[derive(Clone, Copy, Debug, PartialEq, Eq)]
+pub struct PrimaryRow {
+    pub orig: Mac,
+    pub announced: Millis,
+    pub metric: u32,
+}
+
+/// A fact of the fact store.
+#[derive(Debug, Drop)]
+pub struct Fact {
+    pub source: Mac,
+    pub type_no: u8,
+    pub version: u8,
+    pub bytes: Bytes,
+}
+
+/// How a node came by a fact.
+#[derive(Clone, Copy, Debug, PartialEq, Eq)]
+pub enum Mark {
+    /// It was put here.
+    Local,
+    /// Its source sent it.
+    First,
+    /// Another node sent it.
+    Synced,
+}
