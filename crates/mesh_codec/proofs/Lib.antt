@@ -4,4 +4,5 @@ pub mod Written
 pub mod Rewritten
 pub mod Puts
 pub mod Taking
+pub mod EtherLemmas
 pub mod PayloadLemmas

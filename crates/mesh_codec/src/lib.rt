@@ -4,6 +4,7 @@
 
 mod cursor;
 mod decoding;
+mod ether;
 mod failure;
 mod first_packet;
 mod header;
