@@ -4,5 +4,6 @@ pub mod Decoding
 pub mod Encoding
 pub mod Frames
 pub mod Payloads
+pub mod Lans
 pub mod Laws
 pub mod Inner

@@ -64,5 +64,7 @@ pub(crate) const TAG_SIZE: usize = 4;
 pub(crate) const VLAN_ETHERTYPE: u16 = 0x8100;
 /// The type of a client frame.
 pub(crate) const CLIENT_ETHERTYPE: u16 = 0x88b5;
+/// The type of a frame by which gateways claim clients.
+pub(crate) const CLAIM_ETHERTYPE: u16 = 0x88b6;
 /// The greatest number of a tagged VLAN.
 pub(crate) const LAST_VLAN: u16 = 4094;
