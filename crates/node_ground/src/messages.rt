@@ -5,7 +5,7 @@ ghost use Rattle.mesh_model.specs.declared.act.Act.TheVariants.{Link};
 ghost use Rattle.mesh_model.specs.Acts.Packing.{sent_over};
 ghost use Rattle.mesh_model.specs.Acts.Rows.{message_acts};
 ghost use Rattle.mesh_model.specs.Packets.Layout.{spelling};
-ghost use Rattle.mesh_model.specs.Routes.Queries.{is_ogm};
+ghost use Rattle.mesh_model.specs.Routes.Queries.{is_elp, is_ogm};
 ghost use Rattle.node_ground.specs.Puts.{Puts};
 ghost use Rattle.node_ground.specs.Sending.{IsWritable};
 
@@ -82,5 +82,18 @@ pub fn send_message<P: Port>(
         return Ok(());
     };
     send(alloc, port, None, None, &head, tail)?;
+    Ok(())
+}
+
+/// Puts a message of the echo location protocol on all links, where there is a head for it.
+#[tactic(auto, unfolding(mesh_model::specs::Acts::Rows::message_acts))]
+pub fn send_elp<P: Port>(alloc: Global, port: &mut P, head: Option<Head>) -> Result<(), NodeErr>
+    requires { IfSome head (λ head. IsTrue (is_elp head)) }
+    ensures { Puts P.takes P.same P.over port.old (message_acts head []) result port.new }
+{
+    let Some(head) = head else {
+        return Ok(());
+    };
+    send(alloc, port, None, None, &head, &[])?;
     Ok(())
 }

@@ -1,6 +1,6 @@
 -- What a tick tells of its commit: an alias, if the commit is new and has one, and an announcement
 -- that fits a packet.
-use Rattle.std.proofs.Common.{◌≡◌, ◌≤◌, ◌+◌, ◌*◌, ◌%◌, ℕ, suc, Bool, true, false, List, [], length, map, refl, sym, ap, subst, ◌∙◌, arith, Option, Some, None}
+use Rattle.std.proofs.Common.{◌≡◌, ◌≤◌, ◌+◌, ◌*◌, ◌%◌, ℕ, suc, Bool, true, false, List, [], ◌++◌, length, map, refl, sym, ap, subst, ◌∙◌, arith, Option, Some, None}
 use Rattle.std.specs.Prelude.{◌==◌, ◌&&◌, nat_lt, nat_le, if◌then◌else◌}
 use Rattle.std.proofs.lemmas.Bool.{and_parts, leb-true}
 use Rattle.std.proofs.lemmas.Bool.Decides.{nat_tests}
@@ -9,7 +9,7 @@ use Rattle.mesh_base.specs.declared.address.Mac.{Mac}
 use Rattle.mesh_base.specs.declared.client.Entry.{Entry}
 use Rattle.mesh_model.specs.Acts.Packing.{table_told}
 use Rattle.mesh_model.specs.declared.table_row.LocalRow.{LocalRow}
-use Rattle.mesh_model.specs.Acts.Rows.{alias_acts, alias_event, commit_acts, tick_acts}
+use Rattle.mesh_model.specs.Acts.Rows.{alias_acts, alias_event, commit_acts, elp_acts, tick_acts}
 use Rattle.mesh_model.specs.Clients.Limits.{clients_limit}
 use Rattle.mesh_model.specs.Clients.Mentions.{Mention}
 use Rattle.mesh_model.specs.Clients.Present.{present_clients}
@@ -87,12 +87,30 @@ announced_fits history told is few =
 
 -- ---- the acts of a tick
 
--- an even tick tells of its commit's alias, and then announces
-pub even_acts : (q : Queries) (me : Mac) (routes : RouteLog) (mentions : List Mention) (history : History) (now index : ℕ) → is_commit_tick index ≡ true
-    → commit_acts q me routes index history (committed (present_table mentions now) history) ≡ tick_acts q me routes mentions history now index
+-- an index of which 2 leaves nothing is that of an even tick
+pub is_even : (index : ℕ) → index % 2 ≡ 0 → is_commit_tick index ≡ true
+is_even index even = ap (λ n. n == 0) even
+
+-- another is that of an odd one
+pub is_odd : (index : ℕ) → (index % 2 ≡ 0 → ⊥) → is_commit_tick index ≡ false
+is_odd index odd = grind (arith, nat_tests)
+
+-- a tick whose index is that of an even one, or of an odd one
+tick_by : (q : Queries) (me : Mac) (routes : RouteLog) (mentions : List Mention) (history : History) (now index : ℕ) (even : Bool) → is_commit_tick index ≡ even
+    → elp_acts q routes index ++ (if even then commit_acts q me routes index history (committed (present_table mentions now) history) else []) ≡ tick_acts q me routes mentions history now index
 unfolding tick_acts
-even_acts q me routes mentions history now index even =
-    sym (ap (λ b. if b then commit_acts q me routes index history (committed (present_table mentions now) history) else []) even)
+tick_by q me routes mentions history now index even is =
+    sym (ap (λ b. elp_acts q routes index ++ (if b then commit_acts q me routes index history (committed (present_table mentions now) history) else [])) is)
+
+-- an even tick tells of its commit's alias behind its ELP, and then announces
+pub even_acts : (q : Queries) (me : Mac) (routes : RouteLog) (mentions : List Mention) (history : History) (now index : ℕ) → index % 2 ≡ 0
+    → elp_acts q routes index ++ commit_acts q me routes index history (committed (present_table mentions now) history) ≡ tick_acts q me routes mentions history now index
+even_acts q me routes mentions history now index even = tick_by q me routes mentions history now index true (is_even index even)
+
+-- an odd tick puts its ELP alone
+pub odd_acts : (q : Queries) (me : Mac) (routes : RouteLog) (mentions : List Mention) (history : History) (now index : ℕ) → (index % 2 ≡ 0 → ⊥)
+    → elp_acts q routes index ++ [] ≡ tick_acts q me routes mentions history now index
+odd_acts q me routes mentions history now index odd = tick_by q me routes mentions history now index false (is_odd index odd)
 
 -- the table that is present at a moment is no longer than the clients that are present
 pub committed_few : (mentions : List Mention) (history : History) (now : ℕ) → length (present_clients mentions now) ≤ clients_limit → length (last_commit history.commits).table ≤ clients_limit
@@ -104,10 +122,6 @@ committed_few mentions history now few before = by_table (same_table (last_commi
     by_table false =
         let long : length (present_table mentions now) ≡ length (present_clients mentions now) = length-map (present_clients mentions now) (λ (row : LocalRow). row.entry) in
         omega (arith, few, long)
-
--- an index of which 2 leaves nothing is that of an even tick
-pub is_even : (index : ℕ) → index % 2 ≡ 0 → is_commit_tick index ≡ true
-is_even index even = ap (λ n. n == 0) even
 
 -- ---- clients at a later moment
 
@@ -127,8 +141,5 @@ stands_later view mentions history since now stands late = record {
 pub odd_stands : (view : LocalsView) (mentions : List Mention) (history : History) (since now index : ℕ) → LocalsStand view mentions history since → since ≤ now
     → (index % 2 ≡ 0 → ⊥) → LocalsStand view mentions (after_tick index (present_table mentions now) history) now
 odd_stands view mentions history since now index stands late odd =
-    subst (λ even. LocalsStand view mentions (if even then with_message (committed (present_table mentions now) history) else history) now) (sym uneven)
+    subst (λ even. LocalsStand view mentions (if even then with_message (committed (present_table mentions now) history) else history) now) (sym (is_odd index odd))
     (stands_later view mentions history since now stands late)
-  where
-    uneven : is_commit_tick index ≡ false
-    uneven = grind (arith, nat_tests)

@@ -1,6 +1,6 @@
 //! The row of ticks.
 
-ghost use Rattle.std.specs.Prelude.{◌≡◌, ◌≤◌, ◌<◌, ◌∷◌, ℕ, List, length, IfOk, IfSome, IsTrue, OnOk};
+ghost use Rattle.std.specs.Prelude.{◌≡◌, ◌≤◌, ◌<◌, ◌++◌, ◌∷◌, ℕ, List, length, IfOk, IfSome, IsTrue, OnOk};
 ghost use Rattle.mesh_model.specs.Acts.OwnContainers.{own_containers};
 ghost use Rattle.mesh_model.specs.Acts.Rows.{alias_acts, message_acts, tick_acts};
 ghost use Rattle.mesh_model.specs.Clients.Limits.{clients_limit};
@@ -22,7 +22,7 @@ use mesh_algo::Algo;
 use mesh_base::{Event, Millis, NoMemory, Steps};
 use mesh_codec::Head;
 use mesh_model::Act;
-use node_ground::messages::send_message;
+use node_ground::messages::{send_elp, send_message};
 use node_ground::packing::own_containers;
 use node_ground::{NodeErr, NodeKnowledge, Place, Port};
 use std::alloc::Global;
@@ -120,7 +120,36 @@ fn announce<P: Port>(
     Ok(())
 }
 
-/// A tick: at each second one a commit, its event where it has an alias, and an originator message.
+// An even tick: a commit, its event where it has an alias, and an originator message.
+fn own_message<P: Port>(
+    alloc: Global,
+    port: &mut P,
+    locals: &mut Locals,
+    at: Place,
+    head: Option<Head>,
+) -> Result<(), NodeErr>
+    requires ogm { IfSome head (λ head. IsTrue (is_ogm head)) }
+    requires few { (mentions : List Mention) × (history : History) × (since : ℕ)
+        × LocalsStand locals.old mentions history since × (since ≤ at.now)
+        × AreFew mentions history at.now }
+    ensures puts { (mentions : List Mention) (history : History) (since : ℕ) →
+        LocalsStand locals.old mentions history since → since ≤ at.now →
+        let after : History = committed (present_table mentions at.now) history in
+        Puts P.takes P.same P.over port.old (alias_acts at.me history.commits after.commits
+        ++ message_acts head (containers_spelling (own_containers (announcement after))))
+        result port.new }
+    ensures committed { (mentions : List Mention) (history : History) (since : ℕ) →
+        LocalsStand locals.old mentions history since → since ≤ at.now →
+        OnOk result (LocalsStand locals.new mentions
+        (with_message (committed (present_table mentions at.now) history)) at.now) }
+{
+    commit(port, locals, at)?;
+    announce(alloc, port, locals, head)?;
+    Ok(())
+}
+
+/// A tick: a message of the echo location protocol, where the algorithm has one, and at each second
+/// tick a commit, its event where it has an alias, and an originator message.
 #[tactic(auto, unfolding(mesh_model::specs::Acts::Rows::tick_acts))]
 pub fn tick<A: Algo, P: Port>(
     kept: &mut NodeKnowledge<A>,
@@ -149,10 +178,10 @@ pub fn tick<A: Algo, P: Port>(
         (after_tick index (present_table mentions at.now) history) at.now) }
 {
     let beats = kept.algo.tick(at.now, index);
+    send_elp(kept.alloc, port, beats.elp)?;
     if index % 2 != 0 {
         return Ok(());
     }
-    commit(port, locals, at)?;
-    announce(kept.alloc, port, locals, beats.ogm)?;
+    own_message(kept.alloc, port, locals, at, beats.ogm)?;
     Ok(())
 }
