@@ -1,5 +1,5 @@
 -- The best of some neighbours: the one than which none is better.
-use Rattle.std.proofs.Common.{◌≡◌, ◌⊎◌, inl, inr, ⊎_elim, ℕ, ◌<◌, ◌≤◌, nat_eq, nat_lt, Bool, true, false, cond, ◌&&◌, ◌||◌, List, [], ◌∷◌, Option, Some, None, is_lt, is_eq, arith, refl, sym, ap, ◌∙◌, subst, Ordering, Less, Equal, Greater}
+use Rattle.std.proofs.Common.{◌≡◌, ◌⊎◌, inl, inr, ⊎_elim, ℕ, ◌<◌, ◌≤◌, nat_eq, nat_lt, Bool, true, false, cond, ◌&&◌, ◌||◌, List, [], ◌∷◌, Option, Some, None, is_lt, arith, refl, sym, ap, ◌∙◌, subst, Ordering, Less, Equal, Greater}
 use Rattle.std.specs.List.{list_any}
 use Rattle.std.specs.Ordering.{ordering_reverse}
 use Rattle.std.proofs.lemmas.Bool.{cases_Bool, cases_lt, ltb-true, ltb-false, eqb-true, or_cases, and_parts, false≢true, true≢false}
@@ -7,7 +7,7 @@ use Rattle.std.proofs.lemmas.Bool.Decides.{nat_tests}
 use Rattle.mesh_base.specs.declared.address.Mac.{Mac}
 use Rattle.mesh_model.specs.Routes.Addresses.{mac_order, same_mac, is_smaller}
 use Rattle.mesh_model.specs.Routes.BestRoute.{better, best}
-use Rattle.mesh_laws.proofs.MacLemmas.{mac_total, mac_exact, same_exact, same_self}
+use Rattle.mesh_laws.proofs.MacLemmas.{mac_total, mac_exact, same_exact}
 
 -- a neighbour of a score isn't better than another: less, or as good and not smaller
 abbrev pub IsUpTo : (Mac → ℕ) → Mac → Mac → Type 0

@@ -5,3 +5,10 @@ pub mod BestLemmas
 pub mod IvLaws
 pub mod OrigLemmas
 pub mod WordLemmas
+pub mod KeyOrders
+pub mod LifeRows
+pub mod HearingLemmas
+pub mod WalkLemmas
+pub mod BestWalk
+pub mod PutLemmas
+pub mod ReaderLemmas

@@ -1,5 +1,5 @@
 -- How numbers meet lives: the three facts on which proofs rest, and nothing else of `meeting`.
-use Rattle.std.proofs.Common.{◌≡◌, ℕ, ◌+◌, ◌<◌, true, false, List, [], arith, refl, ap}
+use Rattle.std.proofs.Common.{◌≡◌, ℕ, ◌+◌, ◌<◌, true, false, List, [], arith, refl}
 use Rattle.std.proofs.lemmas.Bool.{leb-false, lt-leb}
 use Rattle.mesh_model.specs.Routes.Life.{HeardOgm, meeting, newest}
 

@@ -1,9 +1,8 @@
 -- The originators heard stand in the order of their addresses, each once.
-use Rattle.std.proofs.Common.{◌≡◌, ◌⊎◌, ⊎_elim, Bool, true, false, cond, ◌||◌, List, [], ◌∷◌, map, find, Option, Some, None, is_eq, refl, sym, ap, ◌∙◌, subst, map-id, Ordering, Less, Equal, Greater}
+use Rattle.std.proofs.Common.{◌≡◌, Bool, true, false, cond, ◌||◌, List, [], ◌∷◌, find, Some, None, is_eq, refl, sym, ap, ◌∙◌, subst, map-id, Less, Equal, Greater}
 use Rattle.std.specs.List.{AllByRecursion, list_any}
 use Rattle.std.specs.List.Sorted.{IsStrictlySortedBy}
 use Rattle.std.specs.Ordering.{match_ordering, ordering_reverse}
-use Rattle.std.proofs.lemmas.Bool.{cases_Bool}
 use Rattle.mesh_base.specs.declared.address.Mac.{Mac}
 use Rattle.mesh_model.specs.Routes.Addresses.{mac_order, same_mac, insert_mac}
 use Rattle.mesh_model.specs.Routes.Life.{HeardOgm, of, is_live, heard_originators}
@@ -23,7 +22,7 @@ above_first : (k first : Mac) (rest : List Mac) → mac_order k first ≡ Less �
 above_first k first [] below above = tt
 above_first k first (y ∷ rest) below above = (mac_total.trans k first y below above.0, above_first k first rest below above.1)
 
-sorted_insert : (k : Mac) (ks : List Mac) → IsStrictlySortedBy mac_order ks → IsStrictlySortedBy mac_order (insert_mac k ks)
+pub sorted_insert : (k : Mac) (ks : List Mac) → IsStrictlySortedBy mac_order ks → IsStrictlySortedBy mac_order (insert_mac k ks)
 unfolding IsStrictlySortedBy
 sorted_insert k [] sorted = (tt, tt)
 sorted_insert k (first ∷ rest) sorted =
@@ -47,7 +46,7 @@ swapped true true c = refl
 swapped true false c = refl
 swapped false b c = refl
 
-any_inserted : (q k : Mac) (ks : List Mac) → list_any (same_mac q) (insert_mac k ks) ≡ (same_mac q k || list_any (same_mac q) ks)
+pub any_inserted : (q k : Mac) (ks : List Mac) → list_any (same_mac q) (insert_mac k ks) ≡ (same_mac q k || list_any (same_mac q) ks)
 any_inserted q k [] = refl
 any_inserted q k (first ∷ rest) =
     elim (mac_order k first) as (λ r. mac_order k first ≡ r → list_any (same_mac q) (match_ordering r (k ∷ first ∷ rest) (first ∷ rest) (first ∷ insert_mac k rest)) ≡ (same_mac q k || list_any (same_mac q) (first ∷ rest))) [
@@ -76,10 +75,14 @@ found q (k ∷ ks) =
       | false ↦ λ t. found q ks
     ] refl
 
+-- keys in order that are the same are one list
+pub same_keys : (ks js : List Mac) → IsStrictlySortedBy mac_order ks → IsStrictlySortedBy mac_order js → ((q : Mac) → list_any (same_mac q) ks ≡ list_any (same_mac q) js) → ks ≡ js
+same_keys ks js sorted rising there =
+    same_items mac_order (λ (x : Mac). x) mac_total mac_exact ks js
+    (subst (IsStrictlySortedBy mac_order) (sym (map-id ks)) sorted) (subst (IsStrictlySortedBy mac_order) (sym (map-id js)) rising)
+    (λ q. found q ks ∙ ap (λ b. cond b (Some q) None) (there q) ∙ sym (found q js))
+
 -- keys in order that are there exactly where an originator was heard are the originators heard
 pub keys_are_heard : (ks : List Mac) (hearings : List HeardOgm) → IsStrictlySortedBy mac_order ks → ((q : Mac) → list_any (same_mac q) ks ≡ is_live (of q hearings)) → ks ≡ heard_originators hearings
 keys_are_heard ks hearings sorted there =
-    let heard = heard_originators hearings in
-    same_items mac_order (λ (x : Mac). x) mac_total mac_exact ks heard
-    (subst (IsStrictlySortedBy mac_order) (sym (map-id ks)) sorted) (subst (IsStrictlySortedBy mac_order) (sym (map-id heard)) (sorted_heard hearings))
-    (λ q. found q ks ∙ ap (λ b. cond b (Some q) None) (there q ∙ sym (any_heard q hearings)) ∙ sym (found q heard))
+    same_keys ks (heard_originators hearings) sorted (sorted_heard hearings) (λ q. there q ∙ sym (any_heard q hearings))

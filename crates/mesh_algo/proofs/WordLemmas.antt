@@ -1,8 +1,8 @@
 -- How a word changes where a number is seen, and how many numbers it has.
-use Rattle.std.proofs.Common.{◌≡◌, ◌≢◌, ◌⊎◌, inl, inr, ℕ, suc, zero, ◌+◌, ◌-◌, ◌*◌, ◌/◌, ◌%◌, ◌^◌, ◌<◌, ◌≤◌, max, nat_eq, nat_lt, nat_le, bit_and, bit_or, Bool, true, false, cond, ◌&&◌, ◌||◌, List, [], ◌∷◌, length, arith, refl, sym, ap, ap₂, ◌∙◌, subst, ⊎_elim, Option, Some, None, add-zero}
+use Rattle.std.proofs.Common.{◌≡◌, inl, ℕ, suc, zero, ◌+◌, ◌-◌, ◌*◌, ◌/◌, ◌%◌, ◌^◌, ◌<◌, ◌≤◌, max, nat_eq, nat_lt, nat_le, bit_and, bit_or, Bool, true, false, cond, ◌&&◌, ◌||◌, List, [], ◌∷◌, length, arith, refl, sym, ap, ap₂, ◌∙◌, ⊎_elim, Some, None, add-zero}
 use Rattle.std.specs.Int.{bit_at, w64}
 use Rattle.std.specs.Int.RustNames.{count_ones}
-use Rattle.std.proofs.lemmas.Bool.{cases_Bool, cases_eq, cases_lt, le-leb, lt-leb, lt-ltb, le-ltb, ltb-true, ltb-false, eqb-true, eq-eqb, ne_eqb, true≢false}
+use Rattle.std.proofs.lemmas.Bool.{cases_Bool, cases_eq, cases_lt, le-leb, lt-leb, lt-ltb, le-ltb, ltb-false, eq-eqb, ne_eqb, true≢false}
 use Rattle.std.proofs.lemmas.Bool.Decides.{nat_tests}
 use Rattle.std.proofs.lemmas.Nat.{div-add-mod', mod-pow-add, mod_below, or_lt, ones_cat, pow_pos}
 use Rattle.std.proofs.lemmas.Nat.Bits.{bit_at-lt, bit_at-zero, bit_at-pow_other, bit_at_cat_low, bit_at_cat_high, bit_at_or, bit_at_set_same, bit_at_set_other, shr_and_one}

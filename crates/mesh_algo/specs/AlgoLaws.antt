@@ -1,6 +1,6 @@
 -- What is said of a routing algorithm's answers in the laws that each algorithm keeps. The main
 -- words are `HasRouteByMetric` and `IgnoresAllBut`.
-use Rattle.std.specs.Prelude.{◌≡◌, ◌↔◌, ℕ, ◌%◌, ◌<◌, Bool, false, List, ◌∷◌, is_some, IsSome, IfSome, IsTrue}
+use Rattle.std.specs.Prelude.{◌≡◌, ◌↔◌, ℕ, ◌%◌, ◌<◌, Bool, false, ◌∷◌, is_some, IsSome, IfSome, IsTrue}
 use Rattle.mesh_base.specs.declared.address.Mac.{Mac}
 use Rattle.mesh_model.specs.declared.packet.Head.{Head}
 use Rattle.mesh_model.specs.Routes.Queries.{Queries, is_ogm, unheard}

@@ -2,3 +2,6 @@
 pub mod AlgoLaws
 pub mod Words
 pub mod WordBack
+pub mod Pairs
+pub mod LifeRows
+pub mod Walk

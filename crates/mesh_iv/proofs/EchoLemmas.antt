@@ -13,14 +13,15 @@ use Rattle.mesh_model.specs.Routes.Quality.{echoes_from, own_ogms}
 use Rattle.mesh_model.specs.Routes.RouteLog.{RouteLog}
 use Rattle.mesh_laws.proofs.WindowLemmas.{window-cons}
 use Rattle.mesh_laws.proofs.MacLemmas.{same_exact, same_equiv}
+use Rattle.mesh_algo.specs.LifeRows.{latest}
+use Rattle.mesh_algo.specs.Pairs.{pair_order, same_pair}
 use Rattle.mesh_iv.specs.declared.ogm.OgmCame.{OgmCame}
 use Rattle.mesh_iv.specs.declared.path.Path.{Path}
-use Rattle.mesh_iv.specs.declared.row.Pair.{Pair}
+use Rattle.mesh_algo.specs.declared.pair.Pair.{Pair}
 use Rattle.mesh_iv.specs.Came.{ogm_in}
 use Rattle.mesh_iv.specs.Hears.{input_of, hearing_of}
-use Rattle.mesh_iv.specs.Rows.{blank, five, latest, path_row, echo_row}
+use Rattle.mesh_iv.specs.Rows.{blank, five, path_row, echo_row}
 use Rattle.mesh_iv.specs.Tables.{Tables, StandsFor, LivesStand, path_at}
-use Rattle.mesh_iv.specs.Walk.{pair_order, same_pair}
 use Rattle.mesh_iv.proofs.HeardRows.{unwrapped}
 
 module _ (me : Mac) (log : RouteLog) (came : OgmCame) where

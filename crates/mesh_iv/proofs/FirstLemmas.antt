@@ -1,44 +1,42 @@
 -- An OGM that is the first of its number from its neighbour: its value, whether it is sent on, and the
 -- tables after it.
-use Rattle.std.proofs.Common.{◌≡◌, ⊎_elim, ℕ, ◌-◌, max, nat_lt, Bool, true, false, cond, not, ◌&&◌, ◌||◌, List, [], ◌∷◌, is_none, option_map, Option, Some, None, arith, refl, sym, ap, ap₂, ◌∙◌}
+use Rattle.std.proofs.Common.{◌≡◌, ⊎_elim, ℕ, max, nat_lt, Bool, true, false, cond, not, ◌&&◌, ◌||◌, List, ◌∷◌, is_none, Option, Some, None, arith, refl, sym, ap, ap₂, ◌∙◌}
 use Rattle.std.specs.Map.{lookup}
-use Rattle.std.proofs.lemmas.Bool.{cases_Bool, and_parts, lt-ltb, not-true}
+use Rattle.std.proofs.lemmas.Bool.{cases_Bool}
 use Rattle.mesh_base.specs.declared.address.Mac.{Mac}
 use Rattle.mesh_model.specs.Routes.Addresses.{same_mac}
 use Rattle.mesh_model.specs.Routes.AlgorithmIv.{answer_to, iv_route}
 use Rattle.mesh_model.specs.Routes.BestRoute.{best_route, is_over}
-use Rattle.mesh_model.specs.Routes.Life.{HeardOgm, of, is_live, newest, is_first, is_accepted, forwarded}
-use Rattle.mesh_model.specs.Routes.Numbers.{has, greatest, among, window}
+use Rattle.mesh_model.specs.Routes.Life.{HeardOgm, of, is_live, newest, is_first, forwarded}
+use Rattle.mesh_model.specs.Routes.Numbers.{has, among}
 use Rattle.mesh_model.specs.Routes.Quality.{average_quality}
 use Rattle.mesh_model.specs.Routes.RouteLog.{RouteLog}
-use Rattle.mesh_laws.proofs.WindowLemmas.{has-window, window-cons}
-use Rattle.mesh_algo.proofs.LifeLemmas.{forwarded-le, next_newest, next_forwarded, of_same}
+use Rattle.mesh_algo.proofs.LifeLemmas.{next_newest, of_same}
 use Rattle.mesh_laws.proofs.MacLemmas.{same_exact, same_equiv, same_self}
+use Rattle.mesh_algo.specs.LifeRows.{forwarded_by, latest, life_row, newest_by}
+use Rattle.mesh_algo.specs.Pairs.{rows_kept, same_pair}
+use Rattle.mesh_algo.specs.Walk.{best_in, is_best, walk}
+use Rattle.mesh_algo.proofs.BestWalk.{best_is_over}
+use Rattle.mesh_algo.proofs.HearingLemmas.{accepted_is, begun_is, has_sent, next_life, timely_from}
+use Rattle.mesh_algo.proofs.LifeRows.{before_is_latest, forwarded_by_row, newest_by_row, no_life}
+use Rattle.mesh_algo.proofs.PutLemmas.{kept_other, kept_own}
 use Rattle.mesh_iv.specs.declared.ogm.OgmCame.{OgmCame}
 use Rattle.mesh_iv.specs.declared.path.Path.{Path}
-use Rattle.mesh_iv.specs.declared.row.Life.{Life}
-use Rattle.mesh_iv.specs.declared.row.Pair.{Pair}
-use Rattle.mesh_iv.specs.Answers.{best_in}
-use Rattle.mesh_iv.specs.Hears.{IsHeard, input_of, life_before, hearing_of, kept_row, newest_by, forwarded_by, is_best, goes_on, head_on, sent_on_as}
-use Rattle.mesh_iv.specs.Rows.{latest, life_row, path_row, path_with, echo_row}
+use Rattle.mesh_algo.specs.declared.life.Life.{Life}
+use Rattle.mesh_algo.specs.declared.pair.Pair.{Pair}
+use Rattle.mesh_iv.specs.Hears.{IsHeard, input_of, life_before, hearing_of, kept_row, goes_on, head_on, sent_on_as}
+use Rattle.mesh_iv.specs.Rows.{path_row, path_score, path_with, echo_row}
 use Rattle.mesh_iv.specs.Tables.{Tables, StandsFor, PathsStand}
-use Rattle.mesh_iv.specs.Walk.{same_pair, walk}
-use Rattle.mesh_iv.specs.Writing.{IsWritten, is_over_after, life_then, rows_kept}
-use Rattle.mesh_iv.proofs.BestWalk.{walk_best}
-use Rattle.mesh_iv.proofs.HeardRows.{first_row, other_row, newest_by_row, forwarded_by_row}
-use Rattle.mesh_iv.proofs.PutLemmas.{kept_other, kept_own}
-use Rattle.mesh_iv.proofs.StandLemmas.{before_is_latest, no_life}
-use Rattle.mesh_iv.proofs.ValueLemmas.{near}
+use Rattle.mesh_iv.specs.Writing.{IsWritten, is_over_after, life_then}
+use Rattle.mesh_iv.proofs.BestWalk.{walk_finds}
+use Rattle.mesh_iv.proofs.HeardRows.{first_row, other_row}
+use Rattle.mesh_iv.proofs.ValueLemmas.{is_met}
 use Rattle.mesh_iv.proofs.StepLemmas.{hearings, echoes, v, other_orig, lives_step, paths_step, step_stands}
 
 -- the mark of being sent on changes no route
 marked_route : (g : HeardOgm) (b : Bool) (l : List HeardOgm) → iv_route (record g { sent_on = b } ∷ l) ≡ iv_route (g ∷ l)
 unfolding best_route average_quality among
 marked_route g b l = refl
-
-best_is_over : (k : Mac) (score : Mac → ℕ) (route : Option Mac) → is_best k (option_map (λ j. record { from = j; score = score j }) route) ≡ is_over k route
-best_is_over k score None = refl
-best_is_over k score (Some j) = refl
 
 module _ (me : Mac) (log : RouteLog) (came : OgmCame) (first : is_first (hearing_of me log came) (life_before me log came) ≡ true) where
   abbrev own : HeardOgm
@@ -48,24 +46,19 @@ module _ (me : Mac) (log : RouteLog) (came : OgmCame) (first : is_first (hearing
   lived = life_before me log came
 
   on_time : own.late ≡ false
-  on_time = not-true own.late (and_parts (not own.late) _ first).0
+  on_time = timely_from own lived first
 
   newest_then : newest (own ∷ lived) ≡ max came.seq (newest lived)
   newest_then = next_newest came.from own lived on_time
 
   -- ---- whether it is sent on
-  has_sent : has came.seq (window (forwarded lived)) ≡ has came.seq (forwarded lived)
-  has_sent =
-      let le = forwarded-le lived in let low = near me log came on_time in
-      has-window came.seq (forwarded lived) ∙ ap (λ b. b && has came.seq (forwarded lived)) (lt-ltb (greatest (forwarded lived) - came.seq) 64 (omega (arith, le, low)))
-
   pub sent_is : (row : Option Life) → row ≡ life_row lived → own.sent_on ≡ goes_on came own.value (forwarded_by row) (is_over came.from (iv_route (own ∷ lived)))
   sent_is row e =
       let g = v me log came in
       let rest : Option Mac → List HeardOgm → Bool = λ route l. nat_lt 1 came.ttl && (same_mac came.from came.orig || (nat_lt 0 own.value && (is_over came.from route && not (has came.seq (forwarded l))))) in
       ap (λ b. b && rest (iv_route (g ∷ lived)) lived) first
       ∙ ap (λ route. rest route lived) (sym (marked_route g own.sent_on lived))
-      ∙ ap (λ b. nat_lt 1 came.ttl && (same_mac came.from came.orig || (nat_lt 0 own.value && (is_over came.from (iv_route (own ∷ lived)) && not b)))) (sym has_sent ∙ ap (λ l. has came.seq l) (sym (forwarded_by_row lived row e)))
+      ∙ ap (λ b. nat_lt 1 came.ttl && (same_mac came.from came.orig || (nat_lt 0 own.value && (is_over came.from (iv_route (own ∷ lived)) && not b)))) (sym (has_sent own (of came.orig (hearings me log came)) (is_met me log came) on_time) ∙ ap (λ l. has came.seq l) (sym (forwarded_by_row lived row e)))
 
   -- ---- the tables
   module _ (row : Option Life) (path : Path) (value : ℕ) (old new : Tables)
@@ -112,25 +105,16 @@ module _ (me : Mac) (log : RouteLog) (came : OgmCame) (first : is_first (hearing
         = ap (λ l. latest l) (of_same came.orig own (hearings me log came) (same_self came.orig)) in
         let top : max (newest_by row) came.seq ≡ newest (own ∷ lived)
         = (let n = newest_by_row lived row is.row_is in let t = newest_then in omega (arith, n, t)) in
-        ap (λ n. is_best came.from (walk n came.orig None new.paths)) (top ∙ ap (λ l. newest l) (sym last))
-        ∙ ap (λ b. is_best came.from b) (walk_best me (own ∷ hearings me log came) (echoes me log came) new.paths came.orig paths_then (other_orig me log came is.passing))
-        ∙ ap (λ l. is_best came.from (best_in l)) last
-        ∙ best_is_over came.from (λ k. average_quality (own ∷ lived) k) (iv_route (own ∷ lived))
+        ap (λ n. is_best came.from (walk (path_score n) came.orig None new.paths)) (top ∙ ap (λ l. newest l) (sym last))
+        ∙ ap (λ b. is_best came.from b) (walk_finds me (own ∷ hearings me log came) (echoes me log came) new.paths came.orig paths_then (other_orig me log came is.passing))
+        ∙ ap (λ l. is_best came.from (best_in (average_quality l) l)) last
+        ∙ best_is_over came.from (average_quality (own ∷ lived)) (own ∷ lived)
 
     sent_then : goes_on came value (forwarded_by row) (is_over_after came row new.paths) ≡ own.sent_on
     sent_then = ap₂ (λ n b. goes_on came n (forwarded_by row) b) value_is over_then ∙ sym (sent_is row is.row_is)
 
-    forwarded_step : (b : Bool) → (cond b (window (came.seq ∷ forwarded_by row)) (forwarded_by row)) ≡ window (cond b (came.seq ∷ forwarded lived) (forwarded lived))
-    forwarded_step true = ap (λ l. window (came.seq ∷ l)) (forwarded_by_row lived row is.row_is) ∙ window-cons came.seq (forwarded lived)
-    forwarded_step false = forwarded_by_row lived row is.row_is
-
     life_is : Some (life_then came row value new.paths) ≡ life_row (own ∷ lived)
-    life_is =
-        let n = newest_by_row lived row is.row_is in let t = newest_then in
-        let top : max (newest_by row) came.seq ≡ newest (own ∷ lived) = omega (arith, n, t) in
-        ap₂ (λ m f. Some (record { last = came.moment; newest = m; forwarded = f })) top
-        (ap (λ b. cond b (window (came.seq ∷ forwarded_by row)) (forwarded_by row)) sent_then ∙ forwarded_step own.sent_on
-        ∙ ap (λ l. window l) (sym (next_forwarded came.from own lived on_time)))
+    life_is = next_life own lived row _ is.row_is on_time sent_then
 
     pub first_stands : (tp : ℕ) → new.me ≡ old.me → new.sent ≡ old.sent → StandsFor me new (input_of came tp ∷ log)
     first_stands tp same_me same_sent =
@@ -141,17 +125,9 @@ module _ (me : Mac) (log : RouteLog) (came : OgmCame) (first : is_first (hearing
         paths_then
 
     -- ---- the answer
-    accepted_is : (l : List HeardOgm) (r : Option Life) → r ≡ life_row l → (a : Bool) → a ≡ (is_none r || nat_lt (newest_by r) came.seq) → own.late ≡ false → a ≡ is_accepted own l
-    accepted_is [] r e a is_a timely = is_a ∙ ap (λ x. is_none x || nat_lt (newest_by x) came.seq) e
-    accepted_is (g ∷ older) r e a is_a timely = is_a ∙ ap (λ x. is_none x || nat_lt (newest_by x) came.seq) e ∙ sym (ap (λ b. not b && nat_lt (newest (g ∷ older)) came.seq) timely)
-
-    begun_is : (l : List HeardOgm) (r : Option Life) → r ≡ life_row l → is_none r ≡ not (is_live l)
-    begun_is [] r e = ap (λ x. is_none x) e
-    begun_is (g ∷ older) r e = ap (λ x. is_none x) e
-
     pub first_answer : (a b : Bool) (f : Option _) → a ≡ (is_none row || nat_lt (newest_by row) came.seq) → b ≡ is_none row
         → f ≡ sent_on_as came value (forwarded_by row) (is_over_after came row new.paths) → record { accepted = a; began = b; forward = f } ≡ answer_to own lived
     first_answer a b f accepted begun sent =
-        ap (λ x. record { accepted = a; began = x; forward = f }) (begun ∙ begun_is lived row is.row_is)
-        ∙ ap₂ (λ x y. record { accepted = x; began = not (is_live lived); forward = y }) (accepted_is lived row is.row_is a accepted on_time)
+        ap (λ x. record { accepted = a; began = x; forward = f }) (begun ∙ begun_is own lived lived row is.row_is)
+        ∙ ap₂ (λ x y. record { accepted = x; began = not (is_live lived); forward = y }) (accepted_is own lived lived row is.row_is a accepted on_time)
         (sent ∙ ap₂ (λ b o. cond b (Some (head_on came value o)) None) sent_then over_then ∙ ap (λ n. cond own.sent_on (Some (head_on came n (is_over came.from (iv_route (own ∷ lived))))) None) value_is)

@@ -1,40 +1,18 @@
 -- How a hearing changes the row of a neighbour in a life.
-use Rattle.std.proofs.Common.{◌≡◌, ⊎_elim, ℕ, zero, suc, ◌-◌, ◌<◌, ◌≤◌, max, nat_eq, nat_lt, nat_le, ◌==◌, Bool, true, false, cond, not, ◌&&◌, ◌||◌, List, [], ◌∷◌, slice_index, unwrap_or, Option, Some, arith, refl, sym, ap, ap₂, ◌∙◌}
-use Rattle.std.proofs.lemmas.Bool.{cases_Bool, cases_lt, cases_eq, and_parts, not-true, not-false, lt-ltb, le-ltb, le-leb, lt-leb, eqb-true, eq-eqb, ne_eqb, true≢false}
+use Rattle.std.proofs.Common.{◌≡◌, ⊎_elim, ℕ, zero, suc, ◌-◌, ◌<◌, ◌≤◌, max, nat_eq, nat_lt, nat_le, ◌==◌, Bool, true, false, cond, not, ◌&&◌, List, [], ◌∷◌, slice_index, unwrap_or, Option, Some, arith, refl, sym, ap, ap₂, ◌∙◌}
+use Rattle.std.proofs.lemmas.Bool.{cases_Bool, cases_lt, cases_eq, and_parts, not-true, not-false, lt-ltb, le-ltb, le-leb, lt-leb, eq-eqb, ne_eqb, true≢false}
 use Rattle.mesh_base.specs.declared.address.Mac.{Mac}
 use Rattle.mesh_model.specs.Routes.Addresses.{same_mac}
-use Rattle.mesh_model.specs.Routes.Life.{HeardOgm, newest, numbers_from, is_first, value_at, forwarded}
-use Rattle.mesh_model.specs.Routes.Numbers.{has, greatest, among, window}
-use Rattle.mesh_laws.proofs.WindowLemmas.{among-agree, has-le, greatest-window, window-cons}
+use Rattle.mesh_model.specs.Routes.Life.{HeardOgm, numbers_from, is_first, value_at}
+use Rattle.mesh_model.specs.Routes.Numbers.{has, greatest, window}
+use Rattle.mesh_laws.proofs.WindowLemmas.{greatest-window, window-cons}
 use Rattle.mesh_algo.proofs.LifeLemmas.{other_numbers, late_numbers, own_numbers, other_value, again_value, first_value, unheard_value}
 use Rattle.mesh_laws.proofs.MacLemmas.{same_exact}
+use Rattle.mesh_algo.proofs.LifeRows.{greatest_again, window_again, window_nil}
 use Rattle.mesh_iv.specs.declared.path.Path.{Path}
-use Rattle.mesh_iv.specs.declared.row.Life.{Life}
-use Rattle.mesh_iv.specs.Hears.{kept_row, newest_by, forwarded_by}
-use Rattle.mesh_iv.specs.Rows.{five, value_below, value_moved, value_with, path_with, blank, row_of, path_row, life_row}
+use Rattle.mesh_iv.specs.Hears.{kept_row}
+use Rattle.mesh_iv.specs.Rows.{five, value_below, value_moved, value_with, path_with, blank, row_of, path_row}
 use Rattle.mesh_iv.proofs.AverageLemmas.{five-agree, same_side, not_above}
-use Rattle.mesh_iv.proofs.BestWalk.{none_among}
-
--- ---- windows
-pub window_nil : window [] ≡ []
-unfolding window
-window_nil = none_among 0 64
-
-seen_again : (m s : ℕ) (numbers : List ℕ) → has s numbers ≡ true → (nat_eq m s || has m numbers) ≡ has m numbers
-seen_again m s numbers h =
-    elim (nat_eq m s) as (λ b. nat_eq m s ≡ b → (b || has m numbers) ≡ has m numbers) [
-      | true ↦ λ e. sym (ap (λ x. has x numbers) (eqb-true m s e) ∙ h)
-      | false ↦ λ e. refl
-    ] refl
-
-greatest_again : (s : ℕ) (numbers : List ℕ) → has s numbers ≡ true → greatest (s ∷ numbers) ≡ greatest numbers
-greatest_again s numbers h = let le = has-le s numbers h in omega (arith, le)
-
-window_again : (s : ℕ) (numbers : List ℕ) → has s numbers ≡ true → window (s ∷ numbers) ≡ window numbers
-unfolding window
-window_again s numbers h =
-    ap (λ g. among g 64 (λ m. has m (s ∷ numbers))) (greatest_again s numbers h)
-    ∙ among-agree (greatest numbers) 64 (λ m. has m (s ∷ numbers)) (λ m. has m numbers) (λ m low lt. seen_again m s numbers h)
 
 -- ---- a row by its numbers and their values
 abbrev values_by : ℕ → (ℕ → ℕ) → List ℕ
@@ -149,12 +127,3 @@ module _ (k : Mac) (h : HeardOgm) (alive : List HeardOgm) (first : is_first h al
       ap (λ numbers. row_of numbers (values_by (greatest numbers) (λ n. value_at n k (h ∷ alive)))) (own_numbers k h alive timely same)
       ∙ ap₂ (λ w v. Some (record { heard = w; values = v })) (sym (window-cons h.seq (numbers_from k alive)))
       (five-agree _ (value_with (kept_row k alive) h.seq h.value) place)
-
--- ---- the row of a life
-pub newest_by_row : (alive : List HeardOgm) (row : Option Life) → row ≡ life_row alive → newest_by row ≡ newest alive
-newest_by_row [] row e = ap newest_by e
-newest_by_row (h ∷ alive) row e = ap newest_by e
-
-pub forwarded_by_row : (alive : List HeardOgm) (row : Option Life) → row ≡ life_row alive → forwarded_by row ≡ window (forwarded alive)
-forwarded_by_row [] row e = ap forwarded_by e ∙ sym window_nil
-forwarded_by_row (h ∷ alive) row e = ap forwarded_by e

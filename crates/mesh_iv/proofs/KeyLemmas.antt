@@ -10,11 +10,12 @@ use Rattle.mesh_model.specs.Routes.Quality.{echo_quality, echoes_with, echoes_fr
 use Rattle.mesh_model.specs.Routes.RouteLog.{RouteLog, OwnTick, HeadCame}
 use Rattle.mesh_algo.proofs.LifeLemmas.{of_other, of_same, other_numbers}
 use Rattle.mesh_laws.proofs.MacLemmas.{same_equiv, same_exact}
-use Rattle.mesh_iv.specs.declared.row.Pair.{Pair}
+use Rattle.mesh_algo.specs.declared.pair.Pair.{Pair}
+use Rattle.mesh_algo.specs.LifeRows.{latest}
+use Rattle.mesh_algo.proofs.LifeRows.{some_row}
 use Rattle.mesh_iv.specs.KeyLaw.{is_of, names_orig, names_pair, HasKeysOfOgms}
-use Rattle.mesh_iv.specs.Rows.{latest, row_of, path_row, echo_row}
+use Rattle.mesh_iv.specs.Rows.{row_of, path_row, echo_row}
 use Rattle.mesh_iv.specs.Tables.{StandsFor, Tables, path_at}
-use Rattle.mesh_iv.proofs.TableLemmas.{some_row}
 
 or_left : (a b : Bool) → a ≡ true → (a || b) ≡ true
 or_left a b e = ap (λ x. x || b) e

@@ -1,12 +1,9 @@
 -- What the methods rest on.
-pub mod KeyOrders
 pub mod QualityLemmas
-pub mod WalkLemmas
 pub mod AverageLemmas
 pub mod BestWalk
 pub mod StandLemmas
 pub mod HeardRows
-pub mod PutLemmas
 pub mod AskLemmas
 pub mod StepLemmas
 pub mod FirstLemmas

@@ -1,5 +1,5 @@
 -- What tables that stand for a log answer.
-use Rattle.std.proofs.Common.{◌≡◌, ⊎_elim, ℕ, suc, ◌-◌, ◌%◌, ◌==◌, ◌≤◌, max, nat_lt, nat_le, Bool, true, false, cond, not, ◌&&◌, List, [], ◌∷◌, length, Option, Some, None, arith, refl, sym, ap, ◌∙◌, subst}
+use Rattle.std.proofs.Common.{◌≡◌, ⊎_elim, ℕ, suc, ◌%◌, ◌==◌, ◌≤◌, max, nat_lt, nat_le, Bool, true, false, cond, not, ◌&&◌, List, [], ◌∷◌, length, Option, Some, None, arith, refl, sym, ap, ◌∙◌, subst}
 use Rattle.std.specs.List.Sorted.{IsStrictlySortedBy}
 use Rattle.std.specs.Map.{keys_of, lookup}
 use Rattle.std.proofs.lemmas.Bool.{cases_Bool, and_parts, leb-true, not-true}
@@ -8,23 +8,26 @@ use Rattle.mesh_model.specs.Routes.Addresses.{mac_order, same_mac}
 use Rattle.mesh_model.specs.Routes.AlgorithmIv.{iv_life}
 use Rattle.mesh_model.specs.Routes.BestRoute.{best_route}
 use Rattle.mesh_model.specs.Routes.Hearings.{hearing, heard, heard_with}
-use Rattle.mesh_model.specs.Routes.Life.{HeardOgm, life_span, of, since, life, newest, numbers_from}
+use Rattle.mesh_model.specs.Routes.Life.{HeardOgm, of, life, newest, numbers_from}
 use Rattle.mesh_model.specs.Routes.Numbers.{greatest, seen_among, window, window_length}
 use Rattle.mesh_model.specs.Routes.Ogm.{Ogm, ogm_of_head, is_echo, passes, has_flag}
 use Rattle.mesh_model.specs.Packets.Numbers.{directlink_flag}
-use Rattle.mesh_model.specs.Routes.Quality.{own_ogms, echoes_with, echoes_from, echo_quality, receive_quality, received_in}
+use Rattle.mesh_model.specs.Routes.Quality.{average_quality, own_ogms, echoes_with, echoes_from, echo_quality, receive_quality, received_in}
 use Rattle.mesh_model.specs.Routes.RouteLog.{RouteLog, OwnTick, HeadCame}
 use Rattle.mesh_laws.proofs.WindowLemmas.{among-window, greatest-window}
 use Rattle.mesh_algo.proofs.LifeLemmas.{numbers-le, of_other}
 use Rattle.mesh_laws.proofs.MacLemmas.{same_exact, same_self}
+use Rattle.mesh_algo.specs.LifeRows.{latest, life_row}
+use Rattle.mesh_algo.specs.Pairs.{pair_order, same_pair}
+use Rattle.mesh_algo.specs.Walk.{best_in, walk}
+use Rattle.mesh_algo.proofs.LifeRows.{life_is_latest, newest_of_row, no_life, none_among}
 use Rattle.mesh_iv.specs.declared.path.Path.{Path}
-use Rattle.mesh_iv.specs.declared.row.Life.{Life}
-use Rattle.mesh_iv.specs.declared.row.Pair.{Pair}
-use Rattle.mesh_iv.specs.Answers.{best_in, count_of}
-use Rattle.mesh_iv.specs.Rows.{latest, life_row, row_of, path_row, echo_row}
+use Rattle.mesh_algo.specs.declared.life.Life.{Life}
+use Rattle.mesh_algo.specs.declared.pair.Pair.{Pair}
+use Rattle.mesh_iv.specs.Answers.{count_of}
+use Rattle.mesh_iv.specs.Rows.{path_score, row_of, path_row, echo_row}
 use Rattle.mesh_iv.specs.Tables.{StandsFor, Tables, path_at}
-use Rattle.mesh_iv.specs.Walk.{pair_order, same_pair, walk}
-use Rattle.mesh_iv.proofs.BestWalk.{none_among, walk_best}
+use Rattle.mesh_iv.proofs.BestWalk.{walk_finds}
 
 -- ---- own numbers
 own_le : (b : Bool) (n m : ℕ) → m ≤ n → m ≤ cond b (suc n) n
@@ -66,35 +69,6 @@ not_own me (OwnTick moment index ∷ older) = not_own me older
 not_own me (HeadCame moment from throughput head ∷ older) = not_own_with me moment from (ogm_of_head head) (heard me older) (echo_quality me from older) (not_own me older)
 
 -- ---- a life by its row
-pub no_life : (alive : List HeardOgm) → life_row alive ≡ None → alive ≡ []
-no_life [] e = refl
-no_life (h ∷ older) e = cc
-
--- a life that an originator has is its last
-pub life_is_latest : (moment : ℕ) (hearings : List HeardOgm) (row : Life) → life_row (life moment hearings) ≡ Some row → life moment hearings ≡ latest hearings
-life_is_latest moment [] row e = refl
-life_is_latest moment (h ∷ older) row e =
-    elim (nat_lt (moment - h.moment) life_span) as (λ b. life_row (cond b (h ∷ since h older) []) ≡ Some row → cond b (h ∷ since h older) [] ≡ h ∷ since h older) [
-      | true ↦ λ r. refl
-      | false ↦ λ r. cc
-    ] e
-
--- a life that a hearing goes on with is the originator's last
-pub before_is_latest : (h : HeardOgm) (hearings : List HeardOgm) (row : Life) → life_row (since h hearings) ≡ Some row → since h hearings ≡ latest hearings
-before_is_latest h hearings row e =
-    elim h.restart as (λ b. life_row (cond b [] (life h.moment hearings)) ≡ Some row → cond b [] (life h.moment hearings) ≡ latest hearings) [
-      | true ↦ λ r. cc
-      | false ↦ λ r. life_is_latest h.moment hearings row r
-    ] e
-
-pub newest_of_row : (alive : List HeardOgm) (row : Life) → life_row alive ≡ Some row → row.newest ≡ newest alive
-newest_of_row [] row e = cc
-newest_of_row (h ∷ older) row e = sym (ap newest_in e)
-  where
-    newest_in : Option Life → ℕ
-    newest_in None = 0
-    newest_in (Some r) = r.newest
-
 -- an originator that lives is another node
 pub other_lives : (me : Mac) (log : RouteLog) (moment : ℕ) (o : Mac) (row : Life) → life_row (iv_life me log moment o) ≡ Some row → same_mac o me ≡ false
 other_lives me log moment o row e =
@@ -131,18 +105,18 @@ pub echo_some : (me : Mac) (log : RouteLog) (k : Mac) → count_of (own_ogms log
 echo_some me log k = count_row (own_ogms log) (echoes_from me k log) _ (echoes-le me k log)
 
 -- ---- routes
-pub best_none : (alive : List HeardOgm) → life_row alive ≡ None → None ≡ best_in alive
+pub best_none : (score : List HeardOgm → Mac → ℕ) (alive : List HeardOgm) → life_row alive ≡ None → None ≡ best_in (score alive) alive
 unfolding best_route
-best_none alive e = sym (ap (λ l. best_in l) (no_life alive e))
+best_none score alive e = sym (ap (λ l. best_in (score l) l) (no_life alive e))
 
 pub best_some : (me : Mac) (tables : Tables) (log : RouteLog) (moment : ℕ) (o : Mac) (row : Life) → StandsFor me tables log → life_row (iv_life me log moment o) ≡ Some row
-    → walk row.newest o None tables.paths ≡ best_in (iv_life me log moment o)
+    → walk (path_score row.newest) o None tables.paths ≡ best_in (average_quality (iv_life me log moment o)) (iv_life me log moment o)
 best_some me tables log moment o row stands e =
     let alive = iv_life me log moment o in
     let last = life_is_latest moment (of o (heard me log)) row e in
-    ap (λ n. walk n o None tables.paths) (newest_of_row alive row e) ∙ ap (λ l. walk (newest l) o None tables.paths) last
-    ∙ walk_best me (heard me log) (λ k. echoes_from me k log) tables.paths o stands.paths_stand (other_lives me log moment o row e)
-    ∙ ap (λ l. best_in l) (sym last)
+    ap (λ n. walk (path_score n) o None tables.paths) (newest_of_row alive row e) ∙ ap (λ l. walk (path_score (newest l)) o None tables.paths) last
+    ∙ walk_finds me (heard me log) (λ k. echoes_from me k log) tables.paths o stands.paths_stand (other_lives me log moment o row e)
+    ∙ ap (λ l. best_in (average_quality l) l) (sym last)
 
 -- ---- the first tables
 nothing_at : (me : Mac) (pair : Pair) → path_at me [] (λ k. []) pair ≡ None

@@ -1,34 +1,34 @@
 -- The tables after an OGM is heard: what each part has to have, and an OGM that only keeps a life up.
-use Rattle.std.proofs.Common.{◌≡◌, ⊎_elim, ℕ, max, nat_lt, nat_le, true, false, cond, not, ◌&&◌, ◌||◌, List, [], ◌∷◌, Option, Some, None, arith, refl, sym, ap, ap₂, ◌∙◌, subst}
+use Rattle.std.proofs.Common.{◌≡◌, ⊎_elim, ℕ, nat_lt, nat_le, true, false, cond, not, ◌&&◌, ◌||◌, List, ◌∷◌, Some, None, refl, sym, ap, ap₂, ◌∙◌, subst}
 use Rattle.std.specs.List.Sorted.{IsStrictlySortedBy}
 use Rattle.std.specs.Map.{keys_of, lookup}
-use Rattle.std.proofs.lemmas.Bool.{cases_Bool, and_parts, le-ltb, not-false, not-true}
+use Rattle.std.proofs.lemmas.Bool.{cases_Bool, and_parts, not-true}
 use Rattle.mesh_base.specs.declared.address.Mac.{Mac}
 use Rattle.mesh_model.specs.Routes.Addresses.{mac_order, same_mac}
 use Rattle.mesh_model.specs.Routes.AlgorithmIv.{answer_to, forward_head}
 use Rattle.mesh_model.specs.Routes.BestRoute.{best_route, is_over}
 use Rattle.mesh_model.specs.Routes.Hearings.{before, heard, sends_on, valued}
-use Rattle.mesh_model.specs.Routes.Life.{HeardOgm, of, since, is_live, newest, numbers_from, is_first, is_accepted, forwarded}
-use Rattle.mesh_model.specs.Routes.Numbers.{has, window}
+use Rattle.mesh_model.specs.Routes.Life.{HeardOgm, of, since, is_live, is_first, forwarded}
+use Rattle.mesh_model.specs.Routes.Numbers.{has}
 use Rattle.mesh_model.specs.Routes.Ogm.{passes, has_flag}
 use Rattle.mesh_model.specs.Packets.Numbers.{directlink_flag}
 use Rattle.mesh_model.specs.Routes.Queries.{unheard}
 use Rattle.mesh_model.specs.Routes.Quality.{average_quality, echo_quality, echoes_from, own_ogms}
 use Rattle.mesh_model.specs.Routes.RouteLog.{RouteLog}
-use Rattle.mesh_laws.proofs.WindowLemmas.{has-le}
-use Rattle.mesh_algo.proofs.LifeLemmas.{and_false, numbers-le, late_newest, next_newest, late_forwarded, next_forwarded}
 use Rattle.mesh_laws.proofs.MacLemmas.{same_exact}
+use Rattle.mesh_algo.specs.LifeRows.{latest, life_row}
+use Rattle.mesh_algo.specs.Pairs.{pair_order, same_pair}
+use Rattle.mesh_algo.proofs.HearingLemmas.{lives_on, not_accepted, touched, touched_life}
+use Rattle.mesh_algo.proofs.LifeRows.{before_is_latest}
 use Rattle.mesh_iv.specs.declared.ogm.OgmCame.{OgmCame}
 use Rattle.mesh_iv.specs.declared.path.Path.{Path}
-use Rattle.mesh_iv.specs.declared.row.Life.{Life}
-use Rattle.mesh_iv.specs.declared.row.Pair.{Pair}
+use Rattle.mesh_algo.specs.declared.life.Life.{Life}
+use Rattle.mesh_algo.specs.declared.pair.Pair.{Pair}
 use Rattle.mesh_iv.specs.Came.{ogm_in}
 use Rattle.mesh_iv.specs.Hears.{IsHeard, input_of, life_before, hearing_of}
-use Rattle.mesh_iv.specs.Rows.{latest, life_row, path_row, echo_row}
+use Rattle.mesh_iv.specs.Rows.{path_row, echo_row}
 use Rattle.mesh_iv.specs.Tables.{Tables, StandsFor, LivesStand, PathsStand, path_at}
-use Rattle.mesh_iv.specs.Walk.{pair_order, same_pair}
 use Rattle.mesh_iv.proofs.HeardRows.{touched_row}
-use Rattle.mesh_iv.proofs.StandLemmas.{before_is_latest}
 
 -- what isn't the first of its number isn't sent on
 first_to_send : (g : HeardOgm) (l : List HeardOgm) → is_first g l ≡ false → sends_on g l ≡ false
@@ -115,40 +115,13 @@ module _ (me : Mac) (log : RouteLog) (came : OgmCame) where
   pub not_sent : is_first h alive ≡ false → h.sent_on ≡ false
   not_sent first = first_to_send v (before v hearings) first
 
-  within : has h.seq (numbers_from h.from alive) ≡ true → max h.seq (newest alive) ≡ newest alive
-  within seen = let le = has-le h.seq (numbers_from h.from alive) seen in let top = numbers-le h.from alive in omega (arith, le, top)
-
-  repeated : is_first h alive ≡ false → h.late ≡ false → has h.seq (numbers_from h.from alive) ≡ true
-  repeated first timely = not-false _ (sym (ap (λ b. not b && not (has h.seq (numbers_from h.from alive))) timely) ∙ first)
-
-  touched_newest : is_first h alive ≡ false → newest (h ∷ alive) ≡ newest alive
-  touched_newest first = ⊎_elim (λ late. late_newest came.from h alive late) (λ timely. next_newest came.from h alive timely ∙ within (repeated first timely)) (cases_Bool h.late)
-
-  touched_forwarded : is_first h alive ≡ false → forwarded (h ∷ alive) ≡ forwarded alive
-  touched_forwarded first =
-      ⊎_elim (λ late. late_forwarded came.from h alive late)
-      (λ timely. next_forwarded came.from h alive timely ∙ ap (λ b. cond b (h.seq ∷ forwarded alive) (forwarded alive)) (not_sent first)) (cases_Bool h.late)
-
-  -- the row of the life, with a new end
-  abbrev pub touched : Life → Life
-  touched row = record row { last = came.moment }
-
-  row_parts : (l : List HeardOgm) (row : Life) → life_row l ≡ Some row → Some (touched row) ≡ Some (record { last = came.moment; newest = newest l; forwarded = window (forwarded l) })
-  row_parts [] row e = cc
-  row_parts (g ∷ older) row e = sym (ap touch e)
-    where
-      touch : Option Life → Option Life
-      touch None = None
-      touch (Some r) = Some (record { last = came.moment; newest = r.newest; forwarded = r.forwarded })
-
   pub touch_stands : (tp : ℕ) (row : Life) (old new : Tables) → IsHeard me old log came (Some row) → is_first h alive ≡ false → new.me ≡ old.me → new.sent ≡ old.sent
-      → ((q : Mac) → lookup (same_mac q) new.lives ≡ cond (same_mac came.orig q) (Some (touched row)) (lookup (same_mac q) old.lives))
+      → ((q : Mac) → lookup (same_mac q) new.lives ≡ cond (same_mac came.orig q) (Some (touched h alive row)) (lookup (same_mac q) old.lives))
       → IsStrictlySortedBy mac_order (keys_of new.lives) → new.paths ≡ old.paths → StandsFor me new (input_of came tp ∷ log)
   touch_stands tp row old new is first same_me same_sent updated sorted same_paths =
       let other = other_orig is.passing in
       let last = before_is_latest h (of came.orig hearings) row (sym is.row_is) in
-      let life_is : Some (touched row) ≡ life_row (h ∷ alive)
-      = row_parts alive row (sym is.row_is) ∙ ap₂ (λ n f. Some (record { last = came.moment; newest = n; forwarded = window f })) (sym (touched_newest first)) (sym (touched_forwarded first)) in
+      let life_is : Some (touched h alive row) ≡ life_row (h ∷ alive) = touched_life h alive row (sym is.row_is) first (not_sent first) in
       step_stands tp old new is.stands is.passing same_me same_sent
       (lives_step old.lives new.lives is.stands.lives_stand (λ q. updated q ∙ ap (λ r. cond (same_mac came.orig q) r (lookup (same_mac q) old.lives)) life_is) sorted)
       (paths_step old.paths new.paths is.stands.paths_stand other
@@ -159,20 +132,9 @@ module _ (me : Mac) (log : RouteLog) (came : OgmCame) where
       (λ pair t. ap (λ rows. lookup (same_pair pair) rows) same_paths)
       (subst (λ rows. IsStrictlySortedBy pair_order (keys_of rows)) (sym same_paths) is.stands.paths_stand.rise))
 
-  accepted_not : (l : List HeardOgm) (row : Life) → life_row l ≡ Some row → (h.late ≡ false → max h.seq (newest l) ≡ newest l) → is_accepted h l ≡ false
-  accepted_not [] row e up = cc
-  accepted_not (g ∷ older) row e up =
-      ⊎_elim (λ late. ap (λ b. not b && nat_lt (newest (g ∷ older)) h.seq) late)
-      (λ timely. let top = up timely in ap (λ b. not h.late && b) (le-ltb (newest (g ∷ older)) h.seq (omega (arith, top))) ∙ and_false (not h.late))
-      (cases_Bool h.late)
-
-  lives_on : (l : List HeardOgm) (row : Life) → life_row l ≡ Some row → is_live l ≡ true
-  lives_on [] row e = cc
-  lives_on (g ∷ older) row e = refl
-
   -- nothing is made of it
   pub touch_answer : (row : Life) → life_row alive ≡ Some row → is_first h alive ≡ false → answer_to h alive ≡ unheard
   touch_answer row e first =
       ap₂ (λ a b. record { accepted = a; began = not (is_live alive); forward = cond b (Some (forward_head h (h ∷ alive))) None })
-      (accepted_not alive row e (λ timely. within (repeated first timely))) (not_sent first)
-      ∙ ap (λ b. record { accepted = false; began = not b; forward = None }) (lives_on alive row e)
+      (not_accepted h alive row e first) (not_sent first)
+      ∙ ap (λ b. record { accepted = false; began = not b; forward = None }) (lives_on h alive alive row e)

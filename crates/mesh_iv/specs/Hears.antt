@@ -1,5 +1,5 @@
 -- What is known of an OGM that is heard, and what is made of it. The main word is `IsHeard`.
-use Rattle.std.specs.Prelude.{◌≡◌, ℕ, ◌+◌, ◌-◌, ◌&&◌, ◌||◌, nat_lt, max, Bool, true, false, not, List, [], ◌∷◌, Option, Some, None, if◌then◌else◌}
+use Rattle.std.specs.Prelude.{◌≡◌, ℕ, ◌+◌, ◌-◌, ◌&&◌, ◌||◌, nat_lt, Bool, true, not, List, Option, Some, None, if◌then◌else◌}
 use Rattle.mesh_base.specs.declared.address.Mac.{Mac}
 use Rattle.mesh_model.specs.declared.packet.Head.{Head}
 use Rattle.mesh_model.specs.declared.packet.Head.TheVariants.{IvOgm}
@@ -12,12 +12,12 @@ use Rattle.mesh_model.specs.Routes.Ogm.{ogm_of_head, passes}
 use Rattle.mesh_model.specs.Packets.Numbers.{not_best_next_hop_flag, directlink_flag}
 use Rattle.mesh_model.specs.Routes.Quality.{echo_quality}
 use Rattle.mesh_model.specs.Routes.RouteLog.{RouteLog, RouteInput, HeadCame}
-use Rattle.mesh_iv.specs.declared.best.Best.{Best}
+use Rattle.mesh_algo.specs.declared.life.Life.{Life}
+use Rattle.mesh_algo.specs.LifeRows.{life_row}
 use Rattle.mesh_iv.specs.declared.ogm.OgmCame.{OgmCame}
 use Rattle.mesh_iv.specs.declared.path.Path.{Path}
-use Rattle.mesh_iv.specs.declared.row.Life.{Life}
 use Rattle.mesh_iv.specs.Came.{ogm_in, head_of}
-use Rattle.mesh_iv.specs.Rows.{life_row, five, value_below}
+use Rattle.mesh_iv.specs.Rows.{five, value_below}
 use Rattle.mesh_iv.specs.Tables.{Tables, StandsFor}
 
 -- the input that an OGM is
@@ -58,20 +58,6 @@ pub record IsFirstHeard (me : Mac) (tables : Tables) (log : RouteLog) (came : Og
   pub path_is : path ≡ kept_row came.from (life_before me log came)
   pub first : is_first (hearing_of me log came) (life_before me log came) ≡ true
 
--- the newest number of a life by its row, and the numbers that were sent on
-abbrev pub newest_by : Option Life → ℕ
-newest_by None = 0
-newest_by (Some life) = life.newest
-
-abbrev pub forwarded_by : Option Life → List ℕ
-forwarded_by None = []
-forwarded_by (Some life) = life.forwarded
-
--- whether the best neighbour is this one
-abbrev pub is_best : Mac → Option Best → Bool
-is_best k None = false
-is_best k (Some best) = same_mac best.from k
-
 -- whether an OGM is sent on that is the first of its number from its neighbour and on time
 abbrev pub goes_on : OgmCame → ℕ → List ℕ → Bool → Bool
 goes_on came value sent over =
@@ -94,14 +80,6 @@ head_on came value over =
 abbrev pub sent_on_as : OgmCame → ℕ → List ℕ → Bool → Option Head
 sent_on_as came value sent over =
     if goes_on came value sent over then Some (head_on came value over) else None
-
--- the row of a life with an OGM more
-abbrev pub life_with : OgmCame → Option Life → Bool → Life
-life_with came row sent_on = record {
-  last = came.moment;
-  newest = max (newest_by row) came.seq;
-  forwarded = if sent_on then window (came.seq ∷ forwarded_by row) else forwarded_by row;
-}
 
 -- an OGM that came at a moment from a neighbour is what a head is, if it is one
 abbrev pub IsCame : ℕ → Mac → Head → Option OgmCame → Type 0

@@ -7,9 +7,9 @@ use Rattle.mesh_base.specs.declared.address.Mac.{Mac}
 use Rattle.mesh_model.specs.Routes.Addresses.{same_mac}
 use Rattle.mesh_model.specs.Routes.Ogm.{Ogm, ogm_of_head}
 use Rattle.mesh_model.specs.Routes.RouteLog.{RouteLog, OwnTick, HeadCame}
-use Rattle.mesh_iv.specs.declared.row.Pair.{Pair}
+use Rattle.mesh_algo.specs.declared.pair.Pair.{Pair}
+use Rattle.mesh_algo.specs.Pairs.{same_pair}
 use Rattle.mesh_iv.specs.Tables.{Tables}
-use Rattle.mesh_iv.specs.Walk.{same_pair}
 
 -- whether an OGM is of an originator
 abbrev pub is_of : Mac → Option Ogm → Bool

@@ -1,6 +1,5 @@
 -- What the contracts cite.
 pub mod Rows
-pub mod Walk
 pub mod Tables
 pub mod Answers
 pub mod Came

@@ -1,29 +1,9 @@
--- The rows of the two tables, and what each says of the hearings. The main words are `life_row` and
--- `path_row`.
+-- The rows of pairs, and what each says of the hearings. The main word is `path_row`.
 use Rattle.std.specs.Prelude.{ℕ, ◌-◌, ◌/◌, ◌==◌, nat_lt, nat_le, max, List, [], ◌∷◌, take, sum, count_by, slice_index, Option, Some, None, if◌then◌else◌}
 use Rattle.mesh_base.specs.declared.address.Mac.{Mac}
-use Rattle.mesh_model.specs.Routes.Life.{HeardOgm, since, life_span, newest, numbers_from, forwarded, value_at}
+use Rattle.mesh_model.specs.Routes.Life.{HeardOgm, numbers_from, value_at}
 use Rattle.mesh_model.specs.Routes.Numbers.{greatest, window}
-use Rattle.mesh_iv.specs.declared.row.Life.{Life}
 use Rattle.mesh_iv.specs.declared.path.Path.{Path}
-
--- of an originator's hearings, those of the life of the last one, whenever that was
-abbrev pub latest : List HeardOgm → List HeardOgm
-latest [] = []
-latest (h ∷ older) = h ∷ since h older
-
--- the row of an originator, by its last life
-abbrev pub life_row : List HeardOgm → Option Life
-life_row [] = None
-life_row (h ∷ older) = Some (record {
-  last = h.moment;
-  newest = newest (h ∷ older);
-  forwarded = window (forwarded (h ∷ older));
-})
-
--- a row of an originator, if it is of a life at a moment
-abbrev pub life_at : ℕ → Life → Option Life
-life_at moment life = if nat_lt (moment - life.last) life_span then Some life else None
 
 -- the value of the number so far below the greatest heard from a neighbour, 0 below number 0
 abbrev pub value_below : ℕ → Mac → List HeardOgm → ℕ
@@ -80,3 +60,7 @@ mean_of values =
 -- the mean of a row's good values among the newest five numbers
 abbrev pub average_of : ℕ → Path → ℕ
 average_of top path = mean_of (take (5 - (top - greatest path.heard)) path.values)
+
+-- the score of a neighbour's row, by the originator's newest number
+abbrev pub path_score : ℕ → Mac → Path → ℕ
+path_score top k path = average_of top path

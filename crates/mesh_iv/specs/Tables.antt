@@ -10,11 +10,12 @@ use Rattle.mesh_model.specs.Routes.Hearings.{heard}
 use Rattle.mesh_model.specs.Routes.Life.{HeardOgm, of}
 use Rattle.mesh_model.specs.Routes.Quality.{own_ogms, echoes_from}
 use Rattle.mesh_model.specs.Routes.RouteLog.{RouteLog}
+use Rattle.mesh_algo.specs.declared.life.Life.{Life}
+use Rattle.mesh_algo.specs.declared.pair.Pair.{Pair}
+use Rattle.mesh_algo.specs.LifeRows.{latest, life_row}
+use Rattle.mesh_algo.specs.Pairs.{pair_order, same_pair}
 use Rattle.mesh_iv.specs.declared.path.Path.{Path}
-use Rattle.mesh_iv.specs.declared.row.Life.{Life}
-use Rattle.mesh_iv.specs.declared.row.Pair.{Pair}
-use Rattle.mesh_iv.specs.Rows.{latest, life_row, path_row, echo_row}
-use Rattle.mesh_iv.specs.Walk.{pair_order, same_pair}
+use Rattle.mesh_iv.specs.Rows.{path_row, echo_row}
 
 -- a node's own address and last number, and the rows of its two tables
 pub record Tables : Type 0 where

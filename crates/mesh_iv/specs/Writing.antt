@@ -1,21 +1,19 @@
 -- What is written into the tables for an OGM that is the first of its number from its neighbour. No
 -- public clause cites this module.
-use Rattle.std.specs.Prelude.{◌≡◌, ℕ, max, Bool, true, false, not, List, filter, Option, Some, None, is_none, if◌then◌else◌}
+use Rattle.std.specs.Prelude.{◌≡◌, ℕ, max, Bool, List, Option, Some, None, is_none, if◌then◌else◌}
 use Rattle.std.specs.List.Sorted.{IsStrictlySortedBy}
 use Rattle.std.specs.Map.{keys_of, lookup}
 use Rattle.mesh_base.specs.declared.address.Mac.{Mac}
 use Rattle.mesh_model.specs.Routes.Addresses.{mac_order, same_mac}
+use Rattle.mesh_algo.specs.declared.life.Life.{Life}
+use Rattle.mesh_algo.specs.declared.pair.Pair.{Pair}
+use Rattle.mesh_algo.specs.LifeRows.{forwarded_by, life_with, newest_by}
+use Rattle.mesh_algo.specs.Pairs.{pair_order, rows_kept, same_pair}
+use Rattle.mesh_algo.specs.Walk.{is_best, walk}
 use Rattle.mesh_iv.specs.declared.ogm.OgmCame.{OgmCame}
 use Rattle.mesh_iv.specs.declared.path.Path.{Path}
-use Rattle.mesh_iv.specs.declared.row.Life.{Life}
-use Rattle.mesh_iv.specs.declared.row.Pair.{Pair}
-use Rattle.mesh_iv.specs.Hears.{newest_by, forwarded_by, is_best, goes_on, life_with}
-use Rattle.mesh_iv.specs.Walk.{pair_order, same_pair, walk}
-
--- the rows of pairs, without those of an originator if a life of it begins
-abbrev pub rows_kept : Bool → Mac → List (Pair × Path) → List (Pair × Path)
-rows_kept true orig rows = filter (λ e. not (same_mac e.0.orig orig)) rows
-rows_kept false orig rows = rows
+use Rattle.mesh_iv.specs.Hears.{goes_on}
+use Rattle.mesh_iv.specs.Rows.{path_score}
 
 -- the originator and the neighbour of an OGM
 abbrev pub pair_of : OgmCame → Pair
@@ -29,12 +27,14 @@ path_put came row rows pair =
 -- whether the best neighbour is then that from which the OGM came
 abbrev pub is_over_after : OgmCame → Option Life → List (Pair × Path) → Bool
 is_over_after came life rows =
-    is_best came.from (walk (max (newest_by life) came.seq) came.orig None rows)
+    is_best came.from
+    (walk (path_score (max (newest_by life) came.seq)) came.orig None rows)
 
 -- the originator's row is then this
 abbrev pub life_then : OgmCame → Option Life → ℕ → List (Pair × Path) → Life
 life_then came life value rows =
-    life_with came life (goes_on came value (forwarded_by life) (is_over_after came life rows))
+    life_with came.moment came.seq life
+    (goes_on came value (forwarded_by life) (is_over_after came life rows))
 
 -- the rows of originators, and the rows of pairs
 abbrev pub Rows : Type 0

@@ -1,22 +1,10 @@
 ghost use Rattle.std.specs.Prelude.{◌≡◌};
-ghost use Rattle.mesh_iv.specs.Hears.{flags_on, forwarded_by, goes_on, head_on, is_best};
+ghost use Rattle.mesh_algo.specs.LifeRows.{forwarded_by};
+ghost use Rattle.mesh_iv.specs.Hears.{flags_on, goes_on, head_on};
 
-use crate::best::Best;
 use crate::ogm::{DIRECTLINK, NOT_BEST_NEXT_HOP, OgmCame};
-use crate::row::Life;
-use crate::writing::forwarded_of;
-use mesh_algo::Head;
-use mesh_base::Mac;
-
-/// Whether the best neighbour is this one.
-pub(crate) fn is_best(from: Mac, best: &Option<Best>) -> bool
-    ensures { result ≡ is_best from best.now }
-{
-    match best {
-        None => false,
-        Some(best) => best.from == from,
-    }
-}
+use mesh_algo::life::forwarded_of;
+use mesh_algo::{Head, Life};
 
 /// Whether an OGM is sent on, whose best neighbour then is `over` its sender.
 pub(crate) fn goes_on(ogm: &OgmCame, value: u8, life: &Option<Life>, over: bool) -> bool

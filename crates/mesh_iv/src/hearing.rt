@@ -1,29 +1,26 @@
-ghost use Rattle.std.specs.Prelude.{◌≡◌, ℕ, ◌+◌, ◌∷◌, ◌||◌, nat_lt, max, false, is_none, List, Option, Some, None, IfOk, OnOk, OnErr, if◌then◌else◌};
+ghost use Rattle.std.specs.Prelude.{◌≡◌, ℕ, ◌∷◌, max, false, Option, Some, IfOk, OnOk, OnErr};
 ghost use Rattle.mesh_base.specs.declared.address.Mac.{Mac};
 ghost use Rattle.mesh_model.specs.Routes.AlgorithmIv.{answer_to, iv_answer};
 ghost use Rattle.mesh_model.specs.Routes.Hearings.{heard};
-ghost use Rattle.mesh_model.specs.Routes.Life.{HeardOgm, is_first, meeting};
+ghost use Rattle.mesh_model.specs.Routes.Life.{is_first};
 ghost use Rattle.mesh_model.specs.Routes.Ogm.{passes};
 ghost use Rattle.mesh_model.specs.Routes.Quality.{echo_quality};
 ghost use Rattle.mesh_model.specs.Routes.RouteLog.{RouteLog};
 ghost use Rattle.mesh_iv.specs.Came.{ogm_in};
-ghost use Rattle.mesh_iv.specs.Hears.{IsFirstHeard, IsHeard, hearing_of, input_of, kept_row, life_before, newest_by};
-ghost use Rattle.mesh_iv.specs.Rows.{life_row};
+ghost use Rattle.mesh_iv.specs.Hears.{IsFirstHeard, IsHeard, hearing_of, input_of, kept_row, life_before};
 ghost use Rattle.mesh_iv.specs.Tables.{StandsFor};
-ghost use Rattle.mesh_iv.specs.declared.row.Life.{Life};
+ghost use Rattle.mesh_algo.specs.LifeRows.{newest_by};
+ghost use Rattle.mesh_algo.specs.declared.life.Life.{Life};
 
 use crate::iv::Iv;
 use crate::ogm::OgmCame;
 use crate::path::Path;
 use crate::quality::transmit_quality;
-use crate::row::{Life, Pair};
-use crate::table::put;
-use crate::writing::{newest_of, write};
-use mesh_algo::{Hearing, Meeting};
+use crate::writing::write;
+use mesh_algo::life::{going_on, is_accepted, meeting, newest_of};
+use mesh_algo::table::put;
+use mesh_algo::{Hearing, Life, Pair};
 use mesh_base::NoMemory;
-
-/// How many numbers below the newest one is late.
-const LATE: u32 = 64;
 
 /// What is made of a head that isn't heard.
 pub(crate) const UNHEARD: Hearing = Hearing {
@@ -50,7 +47,7 @@ impl Iv {
             return Ok(UNHEARD);
         }
         let lived = self.life(ogm.moment, ogm.orig);
-        let met = meeting(ogm, &lived);
+        let met = meeting(ogm.moment, ogm.seq, &lived);
         let life = going_on(lived, met);
         let path = self.path_before(ogm, &life);
         if met.late || path.heard.has(ogm.seq) {
@@ -157,29 +154,4 @@ impl Iv {
         heard.see(ogm.seq);
         transmit_quality(ogm.tq, echo, heard.count_to(newest))
     }
-}
-
-// Whether a number begins a life or raises its newest.
-fn is_accepted(seq: u32, life: &Option<Life>) -> bool
-    ensures { result ≡ (is_none life.now || nat_lt (newest_by life.now) seq) }
-{
-    life.is_none() || newest_of(life) < seq
-}
-
-// How the number of an OGM meets the life of its originator.
-fn meeting(ogm: &OgmCame, life: &Option<Life>) -> Meeting
-    ensures { (alive : List HeardOgm) → life.now ≡ life_row alive →
-        result ≡ meeting ogm.now.moment ogm.now.seq alive }
-{
-    Meeting {
-        late: newest_of(life).saturating_sub(ogm.seq) >= LATE,
-        restart: false,
-    }
-}
-
-// The life that an OGM goes on with: none where it is a restart.
-fn going_on(life: Option<Life>, met: Meeting) -> Option<Life>
-    ensures { result ≡ (if met.restart then None else life) }
-{
-    if met.restart { None } else { life }
 }

@@ -2,16 +2,17 @@ ghost use Rattle.std.specs.Prelude.{◌≡◌, ◌≤◌, [], is_some, option_ma
 ghost use Rattle.mesh_base.specs.declared.address.Mac.{Mac};
 ghost use Rattle.mesh_model.specs.Routes.AlgorithmIv.{iv_life};
 ghost use Rattle.mesh_model.specs.Routes.Hearings.{heard};
-ghost use Rattle.mesh_model.specs.Routes.Quality.{receive_quality, echo_quality, echoes_from};
+ghost use Rattle.mesh_model.specs.Routes.Quality.{average_quality, receive_quality, echo_quality, echoes_from};
 ghost use Rattle.mesh_model.specs.Routes.RouteLog.{RouteLog};
-ghost use Rattle.mesh_iv.specs.Rows.{life_row};
+ghost use Rattle.mesh_algo.specs.LifeRows.{life_row};
+ghost use Rattle.mesh_algo.specs.Walk.{best_in};
 ghost use Rattle.mesh_iv.specs.Tables.{StandsFor, path_at};
-ghost use Rattle.mesh_iv.specs.Answers.{count_of, best_in};
+ghost use Rattle.mesh_iv.specs.Answers.{count_of};
 
-use crate::best::{Best, best_of};
+use crate::best::best_of;
 use crate::path::Path;
-use crate::row::{Life, Pair};
 use indexmap::IndexMap;
+use mesh_algo::{Best, Life, Pair};
 use mesh_base::{Mac, Millis};
 use std::alloc::Global;
 use std::marker::Model;
@@ -99,7 +100,8 @@ impl Iv {
     // The best neighbour to an originator.
     pub(crate) fn best(&self, now: Millis, orig: Mac) -> Option<Best>
         ensures { (me : Mac) (log : RouteLog) → StandsFor me self.now log →
-            result ≡ best_in (iv_life me log now orig) }
+            let alive = iv_life me log now orig in
+            result ≡ best_in (average_quality alive) alive }
     {
         let life = self.life(now, orig)?;
         best_of(&self.paths, orig, life.newest)

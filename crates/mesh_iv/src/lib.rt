@@ -12,8 +12,6 @@ pub mod laws;
 mod ogm;
 mod path;
 mod quality;
-mod row;
-mod table;
 mod writing;
 
 pub use iv::Iv;

@@ -1,8 +1,7 @@
 use super::Iv;
 use crate::path::Path;
-use crate::row::{Life, Pair};
 use indexmap::IndexMap;
-use mesh_algo::SeqWindow;
+use mesh_algo::{Life, Pair, SeqWindow};
 use mesh_base::Mac;
 
 const A: Mac = Mac([2, 0, 0, 0, 0, 10]);

@@ -1,7 +1,8 @@
 use Rattle.std.proofs.Common.{◌≡◌, None, drop}
-use Rattle.mesh_iv.specs.Walk.{walk_front}
+use Rattle.mesh_algo.specs.Walk.{walk_front}
+use Rattle.mesh_iv.specs.Rows.{path_score}
 use Rattle.mesh_iv.proofs.best.best_from.Given as goal
 
 abbrev pub invariant-loop-pair : goal.invariant-loop-pair
 invariant-loop-pair l =
-    walk_front l.newest l.orig l.best l.pair-iterator ≡ walk_front l.newest l.orig None (drop l.first l.paths.entries)
+    walk_front (path_score l.newest) l.orig l.best l.pair-iterator ≡ walk_front (path_score l.newest) l.orig None (drop l.first l.paths.entries)

@@ -2,11 +2,12 @@ use Rattle.std.proofs.Common.{◌≡◌, ◌∙◌, ap, ap₂, sym, subst, cond,
 use Rattle.std.specs.List.Sorted.{IsStrictlySortedBy}
 use Rattle.std.specs.Map.{keys_of, lookup}
 use Rattle.mesh_model.specs.Routes.Addresses.{mac_order, same_mac}
-use Rattle.mesh_iv.specs.Walk.{pair_order}
-use Rattle.mesh_iv.specs.Hears.{forwarded_by, goes_on, life_with}
-use Rattle.mesh_iv.specs.Writing.{is_over_after, life_then, path_put, rows_kept}
+use Rattle.mesh_algo.specs.LifeRows.{forwarded_by, life_with}
+use Rattle.mesh_algo.specs.Pairs.{pair_order, rows_kept}
+use Rattle.mesh_iv.specs.Hears.{goes_on}
+use Rattle.mesh_iv.specs.Writing.{is_over_after, life_then, path_put}
 use Rattle.mesh_iv.proofs.AskLemmas.{asked_goes}
-use Rattle.mesh_iv.proofs.PutLemmas.{none_test}
+use Rattle.mesh_algo.proofs.PutLemmas.{none_test}
 use Rattle.mesh_iv.proofs.writing.write.Goals as goal
 
 pub returns-clause-written : goal.returns-clause-written
@@ -20,7 +21,7 @@ returns-clause-written c =
     let over : IsStrictlySortedBy pair_order (keys_of c.args.paths.now.entries) → c.is_over-over.result ≡ (goes_on came c.args.value (forwarded_by life) true && is_over_after came life c.put_path.new.paths.entries)
     = λ sorted. c.is_over-over.ensures (rises sorted) in
     let row : IsStrictlySortedBy pair_order (keys_of c.args.paths.now.entries) → c.life_after.result ≡ life_then came life c.args.value c.put_path.new.paths.entries
-    = λ sorted. c.life_after.ensures ∙ ap (λ b. life_with came life b) (c.goes_on-sent.ensures ∙ ap (λ b. goes_on came c.args.value (forwarded_by life) b) (over sorted) ∙ asked_goes came c.args.value (forwarded_by life) (is_over_after came life c.put_path.new.paths.entries)) in
+    = λ sorted. c.life_after.ensures ∙ ap (λ b. life_with came.moment came.seq life b) (c.goes_on-sent.ensures ∙ ap (λ b. goes_on came c.args.value (forwarded_by life) b) (over sorted) ∙ asked_goes came c.args.value (forwarded_by life) (is_over_after came life c.put_path.new.paths.entries)) in
     record {
       paths_are = λ pair. c.in_ok-put_path.ensures.updated pair ∙ ap₂ (λ b rows. path_put came c.args.row (rows_kept b came.orig rows) pair) (none_test life c.is_none.result c.is_none.ensures) same_paths;
       paths_rise = rises;

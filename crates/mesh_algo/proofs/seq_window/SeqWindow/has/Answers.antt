@@ -1,4 +1,4 @@
-use Rattle.std.proofs.Common.{◌∙◌, ap, arith}
+use Rattle.std.proofs.Common.{◌∙◌, ap}
 use Rattle.mesh_model.specs.Routes.Numbers.{has}
 use Rattle.mesh_algo.proofs.WordLemmas.{has_above, has_far, has_near}
 use Rattle.mesh_algo.proofs.seq_window.SeqWindow.has.Goals.{then-s-self-via-then-s-self, then-s-self-via-else-s-self+then-self-s-ge-WINDOW}

@@ -1,4 +1,3 @@
-use Rattle.std.proofs.Common.{refl}
 use Rattle.mesh_algo.proofs.WordLemmas.{no_numbers}
 use Rattle.mesh_algo.proofs.seq_window.SeqWindow.new.Goals as goal
 

@@ -1,6 +1,6 @@
-use Rattle.std.proofs.Common.{◌≡◌, ◌∙◌, ap, arith, ◌-◌, ◌∷◌, bit_or, sym}
+use Rattle.std.proofs.Common.{◌∙◌, ap, ◌∷◌, bit_or, sym}
 use Rattle.mesh_model.specs.Routes.Numbers.{window}
-use Rattle.mesh_algo.specs.Words.{numbers_of, IsWord}
+use Rattle.mesh_algo.specs.Words.{numbers_of}
 use Rattle.mesh_algo.proofs.WordLemmas.{see_above, see_near, see_far, word_above, word_near}
 use Rattle.mesh_algo.proofs.seq_window.SeqWindow.see.Goals as goal
 

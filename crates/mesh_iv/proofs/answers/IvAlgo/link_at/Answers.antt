@@ -5,7 +5,8 @@ use Rattle.std.proofs.lemmas.Iterator.Consumers.{YieldsList-from_filter_map, Yie
 use Rattle.mesh_model.specs.Routes.AlgorithmIv.{iv_link}
 use Rattle.mesh_model.specs.Routes.Hearings.{heard}
 use Rattle.mesh_model.specs.Routes.Life.{heard_originators}
-use Rattle.mesh_iv.proofs.TableLemmas.{keys_are, no_link_past_end}
+use Rattle.mesh_algo.proofs.ReaderLemmas.{no_link_past_end}
+use Rattle.mesh_iv.proofs.TableLemmas.{keys_are}
 use Rattle.mesh_iv.proofs.answers.IvAlgo.link_at.Goals as goal
 
 pub returns-clause-at_place : goal.returns-clause-at_place

@@ -7,7 +7,8 @@ use Rattle.mesh_model.specs.Routes.BestRoute.{orig_row}
 use Rattle.mesh_model.specs.Routes.Quality.{average_quality}
 use Rattle.mesh_model.specs.Routes.Hearings.{heard}
 use Rattle.mesh_model.specs.Routes.Life.{heard_originators}
-use Rattle.mesh_iv.proofs.TableLemmas.{keys_are, no_orig_past_end}
+use Rattle.mesh_algo.proofs.ReaderLemmas.{no_orig_past_end}
+use Rattle.mesh_iv.proofs.TableLemmas.{keys_are}
 use Rattle.mesh_iv.proofs.answers.IvAlgo.orig_at.Goals as goal
 
 pub returns-clause-at_place : goal.returns-clause-at_place

@@ -1,5 +1,5 @@
 use Rattle.std.proofs.Common.{◌∙◌, ap, arith}
-use Rattle.mesh_iv.proofs.TableLemmas.{ogms-le-ticks}
+use Rattle.mesh_algo.proofs.ReaderLemmas.{ogms-le-ticks}
 use Rattle.mesh_iv.proofs.answers.IvAlgo.tick.Goals as goal
 
 pub overflow_add-self : goal.overflow_add-self

@@ -1,13 +1,14 @@
 use Rattle.std.proofs.Common.{◌≡◌, ◌∙◌, ap, sym, subst, max}
 use Rattle.std.specs.List.Sorted.{IsStrictlySortedBy}
 use Rattle.std.specs.Map.{keys_of}
-use Rattle.mesh_iv.specs.Hears.{hearing_of, newest_by}
+use Rattle.mesh_algo.specs.LifeRows.{newest_by}
+use Rattle.mesh_algo.specs.Pairs.{pair_order}
+use Rattle.mesh_iv.specs.Hears.{hearing_of}
 use Rattle.mesh_iv.specs.Rows.{path_with}
 use Rattle.mesh_iv.specs.Tables.{Tables}
-use Rattle.mesh_iv.specs.Walk.{pair_order}
 use Rattle.mesh_iv.specs.Writing.{IsWritten}
 use Rattle.mesh_iv.proofs.FirstLemmas.{first_stands, first_answer}
-use Rattle.mesh_iv.proofs.PutLemmas.{none_test}
+use Rattle.mesh_algo.proofs.PutLemmas.{none_test}
 use Rattle.mesh_iv.proofs.iv.Iv.hear_first.Goals as goal
 
 pub returns-clause-noted : goal.returns-clause-noted

@@ -1,12 +1,14 @@
 use Rattle.std.proofs.Common.{◌≡◌, ◌∙◌, ap, sym, cond, true, false, rules}
 use Rattle.mesh_model.specs.Routes.AlgorithmIv.{answer_to}
-use Rattle.mesh_model.specs.Routes.Life.{is_first}
+use Rattle.mesh_model.specs.Routes.Hearings.{heard}
+use Rattle.mesh_model.specs.Routes.Life.{is_first, of}
 use Rattle.mesh_model.specs.Routes.Numbers.{has}
 use Rattle.mesh_model.specs.Routes.Ogm.{passes}
 use Rattle.mesh_model.specs.Routes.Queries.{unheard}
 use Rattle.mesh_iv.specs.Came.{ogm_in}
 use Rattle.mesh_iv.specs.Hears.{IsHeard, hearing_of, life_before, lived_at}
-use Rattle.mesh_iv.proofs.ValueLemmas.{first_from, goes_on_with, late_not_first, seen_not_first, touched_answer}
+use Rattle.mesh_algo.proofs.HearingLemmas.{first_from, goes_on_with, late_not_first, seen_not_first}
+use Rattle.mesh_iv.proofs.ValueLemmas.{is_met, touched_answer}
 use Rattle.mesh_iv.proofs.iv.Iv.hear_ogm.Goals as goal
 use Rattle.mesh_iv.proofs.iv.Iv.hear_ogm.Goals.{then-met-via-then-met, then-met-via-else-met+then-has}
 
@@ -29,12 +31,12 @@ returns-then-met-clause-noted c =
     = record {
       stands = stands;
       passing = sym (c.passes.ensures ∙ ap (λ m. passes m (ogm_in came)) my) ∙ passed;
-      row_is = goes_on_with me log came c.life-lived.result c.going_on-life.result c.meeting-met.result lived met c.going_on-life.ensures;
+      row_is = goes_on_with (hearing_of me log came) (of came.orig (heard me log)) (is_met me log came) c.life-lived.result c.going_on-life.result c.meeting-met.result lived met c.going_on-life.ensures;
     } in
     let path_is = c.path_before-path.ensures me log is in
     let first : is_first (hearing_of me log came) (life_before me log came) ≡ false = elim c.then-met.branch [
-      | then-met-via-then-met w ↦ late_not_first me log came (sym (ap (λ m. m.late) met) ∙ w.if-met.true)
-      | then-met-via-else-met+then-has w ↦ seen_not_first me log came (sym (ap (λ p. has came.seq p.heard) path_is) ∙ sym w.has.ensures ∙ w.if-has.true)
+      | then-met-via-then-met w ↦ late_not_first (hearing_of me log came) (life_before me log came) (sym (ap (λ m. m.late) met) ∙ w.if-met.true)
+      | then-met-via-else-met+then-has w ↦ seen_not_first (hearing_of me log came) (life_before me log came) (sym (ap (λ p. has came.seq p.heard) path_is) ∙ sym w.has.ensures ∙ w.if-has.true)
     ] in
     c.in_ok-touch.ensures.noted me log tp is first
 
@@ -50,12 +52,12 @@ returns-then-met-clause-heard c =
     = record {
       stands = stands;
       passing = sym (c.passes.ensures ∙ ap (λ m. passes m (ogm_in came)) my) ∙ passed;
-      row_is = goes_on_with me log came c.life-lived.result c.going_on-life.result c.meeting-met.result lived met c.going_on-life.ensures;
+      row_is = goes_on_with (hearing_of me log came) (of came.orig (heard me log)) (is_met me log came) c.life-lived.result c.going_on-life.result c.meeting-met.result lived met c.going_on-life.ensures;
     } in
     let path_is = c.path_before-path.ensures me log is in
     let first : is_first (hearing_of me log came) (life_before me log came) ≡ false = elim c.then-met.branch [
-      | then-met-via-then-met w ↦ late_not_first me log came (sym (ap (λ m. m.late) met) ∙ w.if-met.true)
-      | then-met-via-else-met+then-has w ↦ seen_not_first me log came (sym (ap (λ p. has came.seq p.heard) path_is) ∙ sym w.has.ensures ∙ w.if-has.true)
+      | then-met-via-then-met w ↦ late_not_first (hearing_of me log came) (life_before me log came) (sym (ap (λ m. m.late) met) ∙ w.if-met.true)
+      | then-met-via-else-met+then-has w ↦ seen_not_first (hearing_of me log came) (life_before me log came) (sym (ap (λ p. has came.seq p.heard) path_is) ∙ sym w.has.ensures ∙ w.if-has.true)
     ] in
     sym (ap (λ b. cond b (answer_to (hearing_of me log came) (life_before me log came)) unheard) is.passing
     ∙ touched_answer me log came c.going_on-life.result is.row_is first)
@@ -72,10 +74,10 @@ returns-clause-noted c =
     = record {
       stands = stands;
       passing = sym (c.passes.ensures ∙ ap (λ m. passes m (ogm_in came)) my) ∙ passed;
-      row_is = goes_on_with me log came c.life-lived.result c.going_on-life.result c.meeting-met.result lived met c.going_on-life.ensures;
+      row_is = goes_on_with (hearing_of me log came) (of came.orig (heard me log)) (is_met me log came) c.life-lived.result c.going_on-life.result c.meeting-met.result lived met c.going_on-life.ensures;
     } in
     let path_is = c.path_before-path.ensures me log is in
-    let first = first_from me log came (sym (ap (λ m. m.late) met) ∙ c.if-met.false)
+    let first = first_from (hearing_of me log came) (of came.orig (heard me log)) (is_met me log came) (sym (ap (λ m. m.late) met) ∙ c.if-met.false)
     (sym (ap (λ p. has came.seq p.heard) path_is) ∙ sym c.has.ensures ∙ c.if-has.false) in
     c.in_ok-hearing.ensures.noted me log tp (record { is = is; path_is = path_is; first = first })
 
@@ -91,10 +93,10 @@ returns-clause-heard c =
     = record {
       stands = stands;
       passing = sym (c.passes.ensures ∙ ap (λ m. passes m (ogm_in came)) my) ∙ passed;
-      row_is = goes_on_with me log came c.life-lived.result c.going_on-life.result c.meeting-met.result lived met c.going_on-life.ensures;
+      row_is = goes_on_with (hearing_of me log came) (of came.orig (heard me log)) (is_met me log came) c.life-lived.result c.going_on-life.result c.meeting-met.result lived met c.going_on-life.ensures;
     } in
     let path_is = c.path_before-path.ensures me log is in
-    let first = first_from me log came (sym (ap (λ m. m.late) met) ∙ c.if-met.false)
+    let first = first_from (hearing_of me log came) (of came.orig (heard me log)) (is_met me log came) (sym (ap (λ m. m.late) met) ∙ c.if-met.false)
     (sym (ap (λ p. has came.seq p.heard) path_is) ∙ sym c.has.ensures ∙ c.if-has.false) in
     c.in_ok-hearing.ensures.heard me log (record { is = is; path_is = path_is; first = first })
     ∙ sym (ap (λ b. cond b (answer_to (hearing_of me log came) (life_before me log came)) unheard) is.passing)

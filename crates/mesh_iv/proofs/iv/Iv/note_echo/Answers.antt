@@ -4,11 +4,11 @@ use Rattle.std.specs.Map.{keys_of, lookup}
 use Rattle.mesh_model.specs.Routes.Hearings.{heard}
 use Rattle.mesh_model.specs.Routes.Ogm.{is_echo}
 use Rattle.mesh_model.specs.Routes.Quality.{echoes_from, own_ogms}
+use Rattle.mesh_algo.specs.Pairs.{pair_order, same_pair}
 use Rattle.mesh_iv.specs.declared.path.Path.{Path}
 use Rattle.mesh_iv.specs.Came.{ogm_in}
 use Rattle.mesh_iv.specs.Rows.{blank, echo_row}
 use Rattle.mesh_iv.specs.Tables.{Tables, path_at}
-use Rattle.mesh_iv.specs.Walk.{pair_order, same_pair}
 use Rattle.mesh_iv.proofs.EchoLemmas.{echo_stands, echo_with}
 use Rattle.mesh_iv.proofs.StandLemmas.{echo_at}
 use Rattle.mesh_iv.proofs.iv.Iv.note_echo.Goals as goal

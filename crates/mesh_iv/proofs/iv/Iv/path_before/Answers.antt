@@ -1,5 +1,6 @@
 use Rattle.std.proofs.Common.{◌∙◌, ap₂, unwrap_or}
-use Rattle.mesh_iv.proofs.ValueLemmas.{kept_none, kept_some, none_is}
+use Rattle.mesh_algo.proofs.LifeRows.{none_is}
+use Rattle.mesh_iv.proofs.ValueLemmas.{kept_none, kept_some}
 use Rattle.mesh_iv.proofs.iv.Iv.path_before.Goals as goal
 
 pub returns-then-is_none : goal.returns-then-is_none

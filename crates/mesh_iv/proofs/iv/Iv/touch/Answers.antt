@@ -2,17 +2,20 @@ use Rattle.std.proofs.Common.{◌≡◌, ◌∙◌, ap, sym, subst, cond, Some, 
 use Rattle.std.specs.List.Sorted.{IsStrictlySortedBy}
 use Rattle.std.specs.Map.{keys_of, lookup}
 use Rattle.mesh_model.specs.Routes.Addresses.{mac_order, same_mac}
-use Rattle.mesh_iv.specs.Hears.{IsHeard}
+use Rattle.mesh_model.specs.Routes.Hearings.{heard}
+use Rattle.mesh_model.specs.Routes.Life.{of}
+use Rattle.mesh_iv.specs.Hears.{IsHeard, hearing_of, life_before}
 use Rattle.mesh_iv.specs.Tables.{Tables}
-use Rattle.mesh_iv.proofs.StepLemmas.{touch_stands, touched}
-use Rattle.mesh_iv.proofs.ValueLemmas.{touches_life}
+use Rattle.mesh_algo.proofs.HearingLemmas.{touched, touches_life}
+use Rattle.mesh_iv.proofs.StepLemmas.{touch_stands}
+use Rattle.mesh_iv.proofs.ValueLemmas.{is_met}
 use Rattle.mesh_iv.proofs.iv.Iv.touch.Goals as goal
 
 pub returns-in_default-clause-noted : goal.returns-in_default-clause-noted
 returns-in_default-clause-noted c =
     λ me log tp is first.
     let none : c.args.life.now ≡ None = search rules in
-    absurd (touches_life me log c.args.ogm.now (sym is.row_is ∙ none) first)
+    absurd (touches_life (hearing_of me log c.args.ogm.now) (of c.args.ogm.now.orig (heard me log)) (is_met me log c.args.ogm.now) (sym is.row_is ∙ none) first)
 
 pub returns-clause-noted : goal.returns-clause-noted
 returns-clause-noted c =
@@ -23,6 +26,6 @@ returns-clause-noted c =
     let lives : c.self.inside.lives.entries ≡ old.lives = ap (λ t. t.lives) c.self.view_is in
     let heard : IsHeard me old log came (Some c.in-Some.life) = subst (λ row. IsHeard me old log came row) c.in-Some.is is in
     touch_stands me log came tp c.in-Some.life old new heard first (ap (λ t. t.me) c.self.view_is) (ap (λ t. t.sent) c.self.view_is)
-    (λ q. c.in_ok-put.ensures.updated.0 q ∙ ap (λ rows. cond (same_mac came.orig q) (Some (touched me log came c.in-Some.life)) (lookup (same_mac q) rows)) lives)
+    (λ q. c.in_ok-put.ensures.updated.0 q ∙ ap (λ rows. cond (same_mac came.orig q) (Some (touched (hearing_of me log came) (life_before me log came) c.in-Some.life)) (lookup (same_mac q) rows)) lives)
     (c.in_ok-put.ensures.rises (subst (λ rows. IsStrictlySortedBy mac_order (keys_of rows)) (sym lives) is.stands.lives_stand.rise))
     (ap (λ t. t.paths) c.self.view_is)

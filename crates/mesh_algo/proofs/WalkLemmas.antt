@@ -9,11 +9,10 @@ use Rattle.std.proofs.lemmas.Cmp.{alike_right}
 use Rattle.mesh_base.specs.declared.address.Mac.{Mac}
 use Rattle.mesh_model.specs.Routes.Addresses.{mac_order, same_mac, is_smaller}
 use Rattle.mesh_laws.proofs.MacLemmas.{mac_total, same_by_order, other_by_order}
-use Rattle.mesh_iv.specs.declared.best.Best.{Best}
-use Rattle.mesh_iv.specs.declared.row.Pair.{Pair}
-use Rattle.mesh_iv.specs.declared.path.Path.{Path}
-use Rattle.mesh_iv.specs.Rows.{average_of}
-use Rattle.mesh_iv.specs.Walk.{pair_order, walk, walk_front, better_row}
+use Rattle.mesh_algo.specs.declared.best.Best.{Best}
+use Rattle.mesh_algo.specs.declared.pair.Pair.{Pair}
+use Rattle.mesh_algo.specs.Pairs.{pair_order}
+use Rattle.mesh_algo.specs.Walk.{walk, walk_front, better_row}
 
 -- ---- originators in the order of pairs
 first_then : (r s : Ordering) → ordering_then r s ≡ Less → (r ≡ Less) ⊎ (r ≡ Equal)
@@ -49,23 +48,23 @@ above_from : (a o : Mac) → is_smaller a o ≡ false → same_mac a o ≡ false
 above_from a o lt eq = mac_total.antisymm o a ∙ greater_from (mac_order a o) lt (same_by_order a o ∙ eq)
 
 -- ---- rows of other originators change nothing
-module _ (top : ℕ) (orig : Mac) where
-  other_row : (best : Option Best) (e : Pair × Path) (rows : List (Pair × Path)) → same_mac e.0.orig orig ≡ false → walk top orig best (e ∷ rows) ≡ walk top orig best rows
-  other_row best e rows n = ap (λ b. cond b (walk top orig (better_row best e.0.from (average_of top e.1)) rows) (walk top orig best rows)) n
+module _ {X : Type 0} (score : Mac → X → ℕ) (orig : Mac) where
+  other_row : (best : Option Best) (e : Pair × X) (rows : List (Pair × X)) → same_mac e.0.orig orig ≡ false → walk score orig best (e ∷ rows) ≡ walk score orig best rows
+  other_row best e rows n = ap (λ b. cond b (walk score orig (better_row best e.0.from (score e.0.from e.1)) rows) (walk score orig best rows)) n
 
-  all_above : (best : Option Best) (k : Pair) (rows : List (Pair × Path)) → mac_order orig k.orig ≡ Less → AllByRecursion (λ y. pair_order k y ≡ Less) (keys_of rows) → walk top orig best rows ≡ best
+  all_above : (best : Option Best) (k : Pair) (rows : List (Pair × X)) → mac_order orig k.orig ≡ Less → AllByRecursion (λ y. pair_order k y ≡ Less) (keys_of rows) → walk score orig best rows ≡ best
   all_above best k [] above h = refl
   all_above best k (e ∷ rows) above h =
       other_row best e rows (other_by_order orig e.0.orig (above_upto orig k e.0 h.0 above)) ∙ all_above best k rows above h.1
 
   -- from the first row that isn't below the originator, its rows come first
-  front : (best : Option Best) (rows : List (Pair × Path)) → IsStrictlySortedBy pair_order (keys_of rows) → ((j : ℕ) (d : Pair × Path) → j < length rows → is_smaller (get_or rows j d).0.orig orig ≡ false) → walk_front top orig best rows ≡ walk top orig best rows
+  front : (best : Option Best) (rows : List (Pair × X)) → IsStrictlySortedBy pair_order (keys_of rows) → ((j : ℕ) (d : Pair × X) → j < length rows → is_smaller (get_or rows j d).0.orig orig ≡ false) → walk_front score orig best rows ≡ walk score orig best rows
   unfolding IsStrictlySortedBy
   front best [] sorted after = refl
   front best (e ∷ rows) sorted after =
-      elim (same_mac e.0.orig orig) as (λ b. same_mac e.0.orig orig ≡ b → cond b (walk_front top orig (better_row best e.0.from (average_of top e.1)) rows) best
-      ≡ cond b (walk top orig (better_row best e.0.from (average_of top e.1)) rows) (walk top orig best rows)) [
-        | true ↦ λ t. front (better_row best e.0.from (average_of top e.1)) rows sorted.1 (λ j d lt. after (suc j) d (omega arith))
+      elim (same_mac e.0.orig orig) as (λ b. same_mac e.0.orig orig ≡ b → cond b (walk_front score orig (better_row best e.0.from (score e.0.from e.1)) rows) best
+      ≡ cond b (walk score orig (better_row best e.0.from (score e.0.from e.1)) rows) (walk score orig best rows)) [
+        | true ↦ λ t. front (better_row best e.0.from (score e.0.from e.1)) rows sorted.1 (λ j d lt. after (suc j) d (omega arith))
         | false ↦ λ n. sym (all_above best e.0 rows (above_from e.0.orig orig (after 0 e (omega arith)) n) sorted.0)
       ] refl
 
@@ -73,10 +72,10 @@ module _ (top : ℕ) (orig : Mac) where
   not_below a lt = sym (same_by_order a orig) ∙ ap is_eq (less_from (mac_order a orig) lt)
 
   -- the walk over all rows is that from the first row on that isn't below the originator
-  pub front_walk : (best : Option Best) (rows : List (Pair × Path)) (i : ℕ) → IsStrictlySortedBy pair_order (keys_of rows) → i ≤ length rows
-      → ((j : ℕ) (d : Pair × Path) → j < i → is_smaller (get_or rows j d).0.orig orig ≡ true)
-      → ((j : ℕ) (d : Pair × Path) → i ≤ j → j < length rows → is_smaller (get_or rows j d).0.orig orig ≡ false)
-      → walk_front top orig best (drop i rows) ≡ walk top orig best rows
+  pub front_walk : (best : Option Best) (rows : List (Pair × X)) (i : ℕ) → IsStrictlySortedBy pair_order (keys_of rows) → i ≤ length rows
+      → ((j : ℕ) (d : Pair × X) → j < i → is_smaller (get_or rows j d).0.orig orig ≡ true)
+      → ((j : ℕ) (d : Pair × X) → i ≤ j → j < length rows → is_smaller (get_or rows j d).0.orig orig ≡ false)
+      → walk_front score orig best (drop i rows) ≡ walk score orig best rows
   unfolding IsStrictlySortedBy
   front_walk best [] zero sorted le before after = refl
   front_walk best [] (suc i) sorted le before after = refl
@@ -86,12 +85,12 @@ module _ (top : ℕ) (orig : Mac) where
       ∙ sym (other_row best e rows (not_below e.0.orig (before 0 e (omega arith))))
 
   -- ---- rows below the originator come first
-  head_below : (k : Pair) (rows : List (Pair × Path)) → AllByRecursion (λ y. pair_order k y ≡ Less) (keys_of rows) → (j : ℕ) (d : Pair × Path) → j < length rows → is_smaller (get_or rows j d).0.orig orig ≡ true → is_smaller k.orig orig ≡ true
+  head_below : (k : Pair) (rows : List (Pair × X)) → AllByRecursion (λ y. pair_order k y ≡ Less) (keys_of rows) → (j : ℕ) (d : Pair × X) → j < length rows → is_smaller (get_or rows j d).0.orig orig ≡ true → is_smaller k.orig orig ≡ true
   head_below k [] h j d lt below = absurd (omega (arith, lt))
   head_below k (e ∷ rows) h zero d lt below = ap is_lt (below_upto orig k e.0 h.0 (less_from _ below))
   head_below k (e ∷ rows) h (suc j) d lt below = head_below k rows h.1 j d (omega (arith, lt)) below
 
-  pub partitioned : (rows : List (Pair × Path)) → IsStrictlySortedBy pair_order (keys_of rows) → IsPartitionedBy (λ e. is_smaller e.0.orig orig) rows
+  pub partitioned : (rows : List (Pair × X)) → IsStrictlySortedBy pair_order (keys_of rows) → IsPartitionedBy (λ e. is_smaller e.0.orig orig) rows
   unfolding IsStrictlySortedBy
   partitioned [] sorted i j d le lt below = absurd (omega (arith, lt))
   partitioned (e ∷ rows) sorted zero zero d le lt below = below

@@ -1,6 +1,6 @@
 use Rattle.std.proofs.Common.{rules}
 use Rattle.mesh_model.specs.Routes.Life.{meeting}
-use Rattle.mesh_iv.proofs.hearing.meeting.Goals as goal
+use Rattle.mesh_algo.proofs.life.meeting.Goals as goal
 
 pub returns : goal.returns
 unfolding meeting

@@ -7,16 +7,14 @@ use Rattle.std.proofs.lemmas.Bool.{not-false, not-true}
 use Rattle.mesh_base.specs.declared.address.Mac.{Mac}
 use Rattle.mesh_model.specs.Routes.Addresses.{same_mac}
 use Rattle.mesh_laws.proofs.MacLemmas.{same_exact, same_equiv}
-use Rattle.mesh_iv.specs.declared.path.Path.{Path}
-use Rattle.mesh_iv.specs.declared.row.Life.{Life}
-use Rattle.mesh_iv.specs.declared.row.Pair.{Pair}
-use Rattle.mesh_iv.specs.Walk.{pair_order, same_pair}
-use Rattle.mesh_iv.specs.Writing.{rows_kept}
+use Rattle.mesh_algo.specs.declared.life.Life.{Life}
+use Rattle.mesh_algo.specs.declared.pair.Pair.{Pair}
+use Rattle.mesh_algo.specs.Pairs.{pair_order, same_pair, rows_kept}
 
-abbrev is_other : Mac → Pair × Path → Bool
+abbrev is_other : {X : Type 0} → Mac → Pair × X → Bool
 is_other orig e = not (same_mac e.0.orig orig)
 
-above_kept : (orig : Mac) (k : Pair) (rows : List (Pair × Path)) → AllByRecursion (λ y. pair_order k y ≡ Less) (keys_of rows) → AllByRecursion (λ y. pair_order k y ≡ Less) (keys_of (filter (is_other orig) rows))
+above_kept : {X : Type 0} (orig : Mac) (k : Pair) (rows : List (Pair × X)) → AllByRecursion (λ y. pair_order k y ≡ Less) (keys_of rows) → AllByRecursion (λ y. pair_order k y ≡ Less) (keys_of (filter (is_other orig) rows))
 above_kept orig k [] above = tt
 above_kept orig k (e ∷ rows) above =
     elim (is_other orig e) as (λ b. AllByRecursion (λ y. pair_order k y ≡ Less) (keys_of (cond b (e ∷ filter (is_other orig) rows) (filter (is_other orig) rows)))) [
@@ -24,7 +22,7 @@ above_kept orig k (e ∷ rows) above =
       | false ↦ above_kept orig k rows above.1
     ]
 
-sorted_filter : (orig : Mac) (rows : List (Pair × Path)) → IsStrictlySortedBy pair_order (keys_of rows) → IsStrictlySortedBy pair_order (keys_of (filter (is_other orig) rows))
+sorted_filter : {X : Type 0} (orig : Mac) (rows : List (Pair × X)) → IsStrictlySortedBy pair_order (keys_of rows) → IsStrictlySortedBy pair_order (keys_of (filter (is_other orig) rows))
 unfolding IsStrictlySortedBy
 sorted_filter orig [] sorted = tt
 sorted_filter orig (e ∷ rows) sorted =
@@ -34,12 +32,12 @@ sorted_filter orig (e ∷ rows) sorted =
     ]
 
 -- the rows that are kept stand in order
-pub kept_sorted : (begins : Bool) (orig : Mac) (rows : List (Pair × Path)) → IsStrictlySortedBy pair_order (keys_of rows) → IsStrictlySortedBy pair_order (keys_of (rows_kept begins orig rows))
+pub kept_sorted : {X : Type 0} (begins : Bool) (orig : Mac) (rows : List (Pair × X)) → IsStrictlySortedBy pair_order (keys_of rows) → IsStrictlySortedBy pair_order (keys_of (rows_kept begins orig rows))
 kept_sorted true orig rows sorted = sorted_filter orig rows sorted
 kept_sorted false orig rows sorted = sorted
 
-module _ (orig : Mac) (pair : Pair) where
-  found_step : (e : Pair × Path) (rows : List (Pair × Path)) (x p : Bool) → same_mac e.0.orig orig ≡ x → same_mac pair.orig orig ≡ p
+module _ {X : Type 0} (orig : Mac) (pair : Pair) where
+  found_step : (e : Pair × X) (rows : List (Pair × X)) (x p : Bool) → same_mac e.0.orig orig ≡ x → same_mac pair.orig orig ≡ p
       → lookup (same_pair pair) (filter (is_other orig) rows) ≡ cond p None (lookup (same_pair pair) rows)
       → lookup (same_pair pair) (cond (not x) (e ∷ filter (is_other orig) rows) (filter (is_other orig) rows)) ≡ cond p None (lookup (same_pair pair) (e ∷ rows))
   found_step e rows true true at here h = h
@@ -51,17 +49,19 @@ module _ (orig : Mac) (pair : Pair) where
   found_step e rows false false at here h = ap (λ r. cond (same_pair pair e.0) (Some e.1) r) h
 
   -- the originator has no row, and each other row stands
-  pub lookup_filter : (rows : List (Pair × Path)) → lookup (same_pair pair) (filter (is_other orig) rows) ≡ cond (same_mac pair.orig orig) None (lookup (same_pair pair) rows)
-  lookup_filter [] = elim (same_mac pair.orig orig) as (λ b. lookup (same_pair pair) (rows_kept false orig []) ≡ cond b None (lookup (same_pair pair) (rows_kept false orig []))) [ true ↦ refl | false ↦ refl ]
+  pub lookup_filter : (rows : List (Pair × X)) → lookup (same_pair pair) (filter (is_other orig) rows) ≡ cond (same_mac pair.orig orig) None (lookup (same_pair pair) rows)
+  lookup_filter [] =
+      let none : List (Pair × X) = [] in
+      elim (same_mac pair.orig orig) as (λ b. lookup (same_pair pair) none ≡ cond b None (lookup (same_pair pair) none)) [ true ↦ refl | false ↦ refl ]
   lookup_filter (e ∷ rows) = found_step e rows (same_mac e.0.orig orig) (same_mac pair.orig orig) refl refl (lookup_filter rows)
 
   -- the row of another originator is kept
-  pub kept_other : (begins : Bool) (rows : List (Pair × Path)) → same_mac pair.orig orig ≡ false → lookup (same_pair pair) (rows_kept begins orig rows) ≡ lookup (same_pair pair) rows
+  pub kept_other : (begins : Bool) (rows : List (Pair × X)) → same_mac pair.orig orig ≡ false → lookup (same_pair pair) (rows_kept begins orig rows) ≡ lookup (same_pair pair) rows
   kept_other true rows other = lookup_filter rows ∙ ap (λ b. cond b None (lookup (same_pair pair) rows)) other
   kept_other false rows other = refl
 
   -- a row of the originator goes where a life begins
-  pub kept_own : (rows : List (Pair × Path)) → same_mac pair.orig orig ≡ true → lookup (same_pair pair) (rows_kept true orig rows) ≡ None
+  pub kept_own : (rows : List (Pair × X)) → same_mac pair.orig orig ≡ true → lookup (same_pair pair) (rows_kept true orig rows) ≡ None
   kept_own rows own = lookup_filter rows ∙ ap (λ b. cond b None (lookup (same_pair pair) rows)) own
 
 -- the test that an option has nothing

@@ -1,8 +1,8 @@
 use Rattle.std.proofs.Common.{◌≡◌, sym, subst, rules}
 use Rattle.std.specs.List.Sorted.{IsStrictlySortedBy}
 use Rattle.std.specs.Map.{keys_of}
-use Rattle.mesh_iv.proofs.KeyOrders.{strict_from, sorted_from_strict}
-use Rattle.mesh_iv.proofs.table.put.Goals as goal
+use Rattle.mesh_algo.proofs.KeyOrders.{strict_from, sorted_from_strict}
+use Rattle.mesh_algo.proofs.table.put.Goals as goal
 
 pub returns-in_ok-insert_sorted-in-None-clause-rises :
     goal.returns-in_ok-insert_sorted-in-None-clause-rises

@@ -1,0 +1,42 @@
+-- The row that an algorithm keeps of an originator's last life, and what follows from it. The main
+-- word is `life_row`.
+use Rattle.std.specs.Prelude.{ℕ, ◌-◌, nat_lt, max, Bool, List, [], ◌∷◌, Option, Some, None, if◌then◌else◌}
+use Rattle.mesh_model.specs.Routes.Life.{HeardOgm, since, life_span, newest, forwarded}
+use Rattle.mesh_model.specs.Routes.Numbers.{window}
+use Rattle.mesh_algo.specs.declared.life.Life.{Life}
+
+-- of an originator's hearings, those of the life of the last one, whenever that was
+abbrev pub latest : List HeardOgm → List HeardOgm
+latest [] = []
+latest (h ∷ older) = h ∷ since h older
+
+-- the row of a life
+abbrev pub life_row : List HeardOgm → Option Life
+life_row [] = None
+life_row (h ∷ older) = Some (record {
+  last = h.moment;
+  newest = newest (h ∷ older);
+  forwarded = window (forwarded (h ∷ older));
+})
+
+-- a row of a life, if it is one at a moment
+abbrev pub life_at : ℕ → Life → Option Life
+life_at moment life = if nat_lt (moment - life.last) life_span then Some life else None
+
+-- the newest number of a life by its row, 0 without one
+abbrev pub newest_by : Option Life → ℕ
+newest_by None = 0
+newest_by (Some life) = life.newest
+
+-- the numbers of a life that were sent on, by its row
+abbrev pub forwarded_by : Option Life → List ℕ
+forwarded_by None = []
+forwarded_by (Some life) = life.forwarded
+
+-- the row of a life with a hearing more, of a number at a moment
+abbrev pub life_with : ℕ → ℕ → Option Life → Bool → Life
+life_with moment number row sent_on = record {
+  last = moment;
+  newest = max (newest_by row) number;
+  forwarded = if sent_on then window (number ∷ forwarded_by row) else forwarded_by row;
+}

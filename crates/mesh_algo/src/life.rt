@@ -1,0 +1,102 @@
+ghost use Rattle.std.specs.Prelude.{◌≡◌, ℕ, ◌∷◌, ◌||◌, nat_lt, is_none, List, None, if◌then◌else◌};
+ghost use Rattle.mesh_model.specs.Routes.Life.{HeardOgm, meeting};
+ghost use Rattle.mesh_model.specs.Routes.Numbers.{window};
+ghost use Rattle.mesh_algo.specs.LifeRows.{forwarded_by, life_at, life_row, life_with, newest_by};
+
+use crate::seq_window::SeqWindow;
+use mesh_base::Millis;
+use mesh_model::Meeting;
+
+/// How long an originator lives after a hearing, in milliseconds.
+const LIFE_SPAN: Millis = 200_000;
+
+/// How many numbers below the newest one is late.
+const LATE: u32 = 64;
+
+/// The life of an originator up to its last hearing.
+#[derive(Clone, Copy, Debug)]
+pub struct Life {
+    /// When it was heard last.
+    pub last: Millis,
+    /// The newest number.
+    pub newest: u32,
+    /// The numbers that were sent on.
+    pub forwarded: SeqWindow,
+}
+
+impl Life {
+    /// The life, if it is one at a moment.
+    pub fn at(&self, now: Millis) -> Option<Life>
+        ensures { result ≡ life_at now self.now }
+    {
+        (now.saturating_sub(self.last) < LIFE_SPAN).then_some(*self)
+    }
+}
+
+/// The newest number of a life, 0 where there is none.
+pub fn newest_of(life: &Option<Life>) -> u32
+    ensures { result ≡ newest_by life.now }
+{
+    match life {
+        None => 0,
+        Some(life) => life.newest,
+    }
+}
+
+/// The numbers that were sent on in a life.
+pub fn forwarded_of(life: &Option<Life>) -> SeqWindow
+    ensures { result ≡ forwarded_by life.now }
+{
+    match life {
+        None => SeqWindow::new(),
+        Some(life) => life.forwarded,
+    }
+}
+
+/// How a number that comes at a moment meets the life of its originator.
+pub fn meeting(_now: Millis, seq: u32, life: &Option<Life>) -> Meeting
+    ensures { (alive : List HeardOgm) → life.now ≡ life_row alive →
+        result ≡ meeting _now seq alive }
+{
+    Meeting {
+        late: newest_of(life).saturating_sub(seq) >= LATE,
+        restart: false,
+    }
+}
+
+/// The life that a hearing goes on with: none where it is a restart.
+pub fn going_on(life: Option<Life>, met: Meeting) -> Option<Life>
+    ensures { result ≡ (if met.restart then None else life) }
+{
+    if met.restart { None } else { life }
+}
+
+/// Whether a number that isn't late begins a life or raises its newest.
+pub fn is_accepted(seq: u32, life: &Option<Life>) -> bool
+    ensures { result ≡ (is_none life.now || nat_lt (newest_by life.now) seq) }
+{
+    life.is_none() || newest_of(life) < seq
+}
+
+/// The life with a number more that isn't late.
+pub fn life_after(now: Millis, seq: u32, life: &Option<Life>, sent_on: bool) -> Life
+    ensures { result ≡ life_with now seq life.now sent_on }
+{
+    Life {
+        last: now,
+        newest: newest_of(life).max(seq),
+        forwarded: forwarded_after(seq, life, sent_on),
+    }
+}
+
+// The numbers that were sent on in a life, with one more if it is sent on.
+fn forwarded_after(seq: u32, life: &Option<Life>, sent_on: bool) -> SeqWindow
+    ensures { result ≡ (if sent_on then window (seq ∷ forwarded_by life.now)
+        else forwarded_by life.now) }
+{
+    let mut forwarded = forwarded_of(life);
+    if sent_on {
+        forwarded.see(seq);
+    }
+    forwarded
+}
