@@ -27,8 +27,8 @@ module _ (h : HeardOgm) (hearings : List HeardOgm) (is_met : IsMet h hearings) w
   alive = since h hearings
 
   -- the row of the life that it goes on with
-  pub goes_on_with : (row gone : Option Life) (m : Meeting) → row ≡ life_row (life h.moment hearings) → m ≡ met h hearings → gone ≡ cond m.restart None row → gone ≡ life_row alive
-  goes_on_with row gone m row_is m_is e =
+  pub goes_on_with : (row kept : Option Life) (m : Meeting) → row ≡ life_row (life h.moment hearings) → m ≡ met h hearings → kept ≡ cond m.restart None row → kept ≡ life_row alive
+  goes_on_with row kept m row_is m_is e =
       e ∙ ap (λ x. cond x.restart None row) m_is ∙ ap (λ b. cond b None row) (sym is_met.restart)
       ∙ elim h.restart as (λ b. cond b None row ≡ life_row (cond b [] (life h.moment hearings))) [
         | true ↦ refl

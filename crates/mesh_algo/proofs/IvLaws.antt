@@ -13,10 +13,10 @@ use Rattle.mesh_model.specs.Routes.Ogm.{Ogm, ogm_of_head, passes}
 use Rattle.mesh_model.specs.Routes.Quality.{average_quality, echo_quality, echoes_with, echoes_from, own_ogms, receive_quality}
 use Rattle.mesh_model.specs.Routes.Queries.{is_ogm, unheard}
 use Rattle.mesh_model.specs.Routes.RouteLog.{RouteLog, HeadCame}
-use Rattle.mesh_algo.specs.AlgoLaws.{HasElps, HasRouteByMetric, HasLiveRoutes, HasOgmAtEvenTicks, HasSameAnswers, HearsNoneBut, IgnoresAllBut, SendsOgms}
+use Rattle.mesh_algo.specs.AlgoLaws.{HasElps, HasRouteByMetric, HasLiveRoutes, HasOgmAtEvenTicks, HasSameAnswers, HearsNoneBut, IgnoresAllBut, SendsElps, SendsOgms}
 use Rattle.mesh_algo.proofs.BestLemmas.{IsTop, is_among, best_is_top}
 
-by_top : (score : Mac → ℕ) (among : Mac → Bool) (route : Option Mac) → IsTop score among route → IsSome route ↔ (0 < route_metric score route)
+pub by_top : (score : Mac → ℕ) (among : Mac → Bool) (route : Option Mac) → IsTop score among route → IsSome route ↔ (0 < route_metric score route)
 by_top score among None top = (λ e. absurd (false≢true e), λ lt. absurd (omega (arith, lt)))
 by_top score among (Some k) top = (λ e. top.0, λ lt. refl)
 
@@ -35,7 +35,7 @@ live_by (h ∷ older) some = refl
 pub iv_live_routes : (me : Mac) → HasLiveRoutes (iv_queries me)
 iv_live_routes me = λ log moment orig. live_by (life moment (of orig (heard me log)))
 
-even_by : (index : ℕ) (head : Head) → IsSome (cond (index % 2 == 0) (Some head) None) ↔ (index % 2 ≡ 0)
+pub even_by : (index : ℕ) (head : Head) → IsSome (cond (index % 2 == 0) (Some head) None) ↔ (index % 2 ≡ 0)
 even_by index head =
     elim (index % 2 == 0) as (λ b. (index % 2 == 0) ≡ b → IsSome (cond b (Some head) None) ↔ (index % 2 ≡ 0)) [
       | true ↦ λ t. (λ e. eqb-true (index % 2) 0 t, λ e. refl)
@@ -45,7 +45,7 @@ even_by index head =
 pub iv_ogms : (me : Mac) → HasOgmAtEvenTicks (iv_queries me)
 iv_ogms me = λ log index. even_by index _
 
-ogm_if : (b : Bool) (head : Head) → IsTrue (is_ogm head) → IfSome (cond b (Some head) None) (λ h. IsTrue (is_ogm h))
+pub ogm_if : (b : Bool) (head : Head) → IsTrue (is_ogm head) → IfSome (cond b (Some head) None) (λ h. IsTrue (is_ogm h))
 ogm_if true head is = is
 ogm_if false head is = tt
 
@@ -93,6 +93,9 @@ module _ (me : Mac) (log : RouteLog) (moment : ℕ) (from : Mac) (tp : ℕ) (hea
 
 pub iv_elps : (me : Mac) → HasElps (iv_queries me) false
 iv_elps me = λ log index. refl
+
+pub iv_elp_heads : (me : Mac) → SendsElps (iv_queries me)
+iv_elp_heads me = λ log index. tt
 
 pub iv_other_unheard : (me : Mac) → HearsNoneBut (iv_queries me) (λ head. is_some (ogm_of_head head))
 iv_other_unheard me = λ log moment from tp head other. other_unheard me log moment from tp head other

@@ -3,6 +3,7 @@ pub mod Meetings
 pub mod LifeLemmas
 pub mod BestLemmas
 pub mod IvLaws
+pub mod VLaws
 pub mod OrigLemmas
 pub mod WordLemmas
 pub mod KeyOrders

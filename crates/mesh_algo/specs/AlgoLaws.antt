@@ -3,7 +3,7 @@
 use Rattle.std.specs.Prelude.{◌≡◌, ◌↔◌, ℕ, ◌%◌, ◌<◌, Bool, false, ◌∷◌, is_some, IsSome, IfSome, IsTrue}
 use Rattle.mesh_base.specs.declared.address.Mac.{Mac}
 use Rattle.mesh_model.specs.declared.packet.Head.{Head}
-use Rattle.mesh_model.specs.Routes.Queries.{Queries, is_ogm, unheard}
+use Rattle.mesh_model.specs.Routes.Queries.{Queries, is_elp, is_ogm, unheard}
 use Rattle.mesh_model.specs.Routes.RouteLog.{RouteLog, HeadCame}
 
 -- a route is there exactly where the metric is above 0
@@ -33,6 +33,11 @@ pub record SendsOgms (q : Queries) : Type 0 where
 -- an ELP is sent at each tick, or at none
 abbrev pub HasElps : Queries → Bool → Type 0
 HasElps q sends = (log : RouteLog) (index : ℕ) → is_some (q.beats log index).elp ≡ sends
+
+-- what is sent as an ELP is the head of one
+abbrev pub SendsElps : Queries → Type 0
+SendsElps q =
+    (log : RouteLog) (index : ℕ) → IfSome (q.beats log index).elp (λ head. IsTrue (is_elp head))
 
 -- a head of another kind than those that are heard is not heard
 abbrev pub HearsNoneBut : Queries → (Head → Bool) → Type 0

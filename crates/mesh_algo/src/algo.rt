@@ -3,7 +3,7 @@ ghost use Rattle.mesh_base.specs.declared.address.Mac.{Mac};
 ghost use Rattle.mesh_model.specs.declared.packet.Head.{Head};
 ghost use Rattle.mesh_model.specs.Routes.Queries.{Queries, unheard};
 ghost use Rattle.mesh_model.specs.Routes.RouteLog.{RouteLog, OwnTick, HeadCame, MayTick};
-ghost use Rattle.mesh_algo.specs.AlgoLaws.{HasElps, HasLiveRoutes, HasOgmAtEvenTicks, HasRouteByMetric, HearsNoneBut, IgnoresAllBut, SendsOgms};
+ghost use Rattle.mesh_algo.specs.AlgoLaws.{HasElps, HasLiveRoutes, HasOgmAtEvenTicks, HasRouteByMetric, HearsNoneBut, IgnoresAllBut, SendsElps, SendsOgms};
 
 use mesh_base::{Mac, Millis, NoMemory};
 use mesh_model::{Beats, Head, Hearing, LinkRow, OrigRow};
@@ -85,6 +85,9 @@ pub trait Algo {
 
     /// A law: an ELP is sent at each tick, or at none.
     ghost elps: { (me : Mac) → HasElps (queries me) sends_elps };
+
+    /// A law: what is sent as an ELP is one.
+    ghost elp_heads: { (me : Mac) → SendsElps (queries me) };
 
     /// A law: a head of another kind is not heard.
     ghost other_unheard: { (me : Mac) → HearsNoneBut (queries me) hears };

@@ -25,7 +25,7 @@ impl Algo for Iv {
     ghost use Rattle.std.specs.Prelude.{false, is_some};
     ghost use Rattle.mesh_model.specs.Routes.AlgorithmIv.{iv_queries};
     ghost use Rattle.mesh_model.specs.Routes.Ogm.{ogm_of_head};
-    ghost use Rattle.mesh_algo.proofs.IvLaws.{iv_routes, iv_live_routes, iv_ogms, iv_ogm_heads, iv_elps, iv_other_unheard, iv_other_kinds};
+    ghost use Rattle.mesh_algo.proofs.IvLaws.{iv_routes, iv_live_routes, iv_ogms, iv_ogm_heads, iv_elps, iv_elp_heads, iv_other_unheard, iv_other_kinds};
     ghost use Rattle.mesh_iv.specs.Tables.{StandsFor};
 
     ghost queries = { iv_queries };
@@ -45,6 +45,8 @@ impl Algo for Iv {
     ghost ogm_heads = { iv_ogm_heads };
 
     ghost elps = { iv_elps };
+
+    ghost elp_heads = { iv_elp_heads };
 
     ghost other_unheard = { iv_other_unheard };
 
