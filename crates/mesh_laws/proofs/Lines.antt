@@ -5,6 +5,7 @@ pub mod Passing
 pub mod Reached
 pub mod Ways
 pub mod Printing
+pub mod Choosing
 pub mod Keeping
 pub mod Quiet
 pub mod ReadRange

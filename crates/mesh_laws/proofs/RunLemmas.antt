@@ -13,7 +13,7 @@ use Rattle.mesh_model.specs.Scenario.Readings.{Reading}
 use Rattle.mesh_model.specs.Scenario.Lines.{content, lines_of}
 use Rattle.mesh_model.specs.Run.Outcome.{Outcome, Goes, Ends, reached}
 use Rattle.mesh_model.specs.Run.PlainRun.{Run, start, after_line, after_lines, after_outcome, after_reading, line_outcome, passes_input, passes_line, plain_run, output}
-use Rattle.mesh_model.specs.Run.Rules.{iv_setup}
+use Rattle.mesh_model.specs.Run.Rules.{setup_of}
 use Rattle.mesh_model.specs.Run.State.{State, printed_text, text_of}
 use Rattle.mesh_laws.proofs.CutLemmas.{lines_of-lines_then}
 use Rattle.mesh_laws.proofs.Lines.Printing.{Grows, grows, grows_by_none, text_of_more}
@@ -39,7 +39,7 @@ pub PrintsOn-none : (state : State) → Grows state state
 PrintsOn-none state = grows_by_none state state refl refl
 
 pub after_reading-prints : (state : State) (reading : Reading) → PrintsOn state (after_reading state reading)
-after_reading-prints state (Ok command) = grows iv_setup state command
+after_reading-prints state (Ok command) = grows (setup_of state.algorithm) state command
 after_reading-prints state (Err stop) = PrintsOn-none state
 
 unless-prints : (state : State) (test : Bool) (stop : Stop) (outcome : Outcome) → PrintsOn state outcome → PrintsOn state (if test then Ends state stop else outcome)

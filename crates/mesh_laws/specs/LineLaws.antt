@@ -1,8 +1,9 @@
 -- Laws of the states that lines lead to. A run may be cut at a moment, and behind its first
 -- happening; its end is where the clock stands. What is printed only grows. A line that is refused
--- changes nothing, and neither does one that passes a limit, unless it is a run. What holds of all
--- states that are reached is kept by each command, and nothing is due between lines.
-use Rattle.std.specs.Prelude.{◌≡◌, ℕ, ◌≤◌, ◌⊎◌, true, List, ◌++◌, Some, Ok}
+-- changes nothing, and neither does one that passes a limit, unless it is a run. Nodes keep the
+-- algorithm that was chosen before the first of them. What holds of all states that are reached is
+-- kept by each command, and nothing is due between lines.
+use Rattle.std.specs.Prelude.{◌≡◌, ℕ, ◌<◌, ◌≤◌, ◌⊎◌, true, List, ◌++◌, length, Some, Ok}
 use Rattle.std.specs.Fn.{iterate}
 use Rattle.mesh_model.specs.declared.ending.Refusal.{Refusal}
 use Rattle.mesh_model.specs.declared.ending.Stop.{Stop}
@@ -106,6 +107,12 @@ IsRun command = (time : ℕ) × (command ≡ Run time)
 abbrev pub EndsChangeNothing : Type 0
 EndsChangeNothing = (setup : Setup) (state after : State) (command : Command) (stop : Stop) →
     carried_out setup state command ≡ Ends after stop → IsRun command ⊎ (after ≡ state)
+
+-- while a node stands, no command changes the algorithm
+abbrev pub NodesKeepTheirAlgorithm : Type 0
+NodesKeepTheirAlgorithm = (setup : Setup) (state : State) (command : Command) →
+    0 < length state.mesh.nodes →
+    (reached (carried_out setup state command)).algorithm ≡ state.algorithm
 
 -- a link has a delay, as those that are read have
 abbrev pub HasDelay : Command → Type 0

@@ -1,6 +1,6 @@
 //! What holds of the states that lines lead to.
 
-ghost use Rattle.mesh_laws.specs.LineLaws.{ClockStandsAtTheEnd, CommandsAreReached, EndsChangeNothing, EndsWhereQuiet, FirstIsReached, GoesByHappenings, GoesOn, GoesOnBehind, HappeningsAreReached, NothingIsDueBetweenLines, PrintedGrows, ReadLinksAreInRange, RefusedChangesNothing, RunsAreReached, TextGrows};
+ghost use Rattle.mesh_laws.specs.LineLaws.{ClockStandsAtTheEnd, CommandsAreReached, EndsChangeNothing, EndsWhereQuiet, FirstIsReached, GoesByHappenings, GoesOn, GoesOnBehind, HappeningsAreReached, NodesKeepTheirAlgorithm, NothingIsDueBetweenLines, PrintedGrows, ReadLinksAreInRange, RefusedChangesNothing, RunsAreReached, TextGrows};
 
 /// A run of a state may be cut at a moment, and behind its first or any of its happenings; what it
 /// prints is the same.
@@ -36,6 +36,11 @@ pub fn what_is_printed_grows()
 pub fn a_refused_line_changes_nothing()
     ensures refused { RefusedChangesNothing }
     ensures ends { EndsChangeNothing }
+{}
+
+/// The algorithm that is chosen before the first node is that of all nodes, to the end.
+pub fn nodes_keep_their_algorithm()
+    ensures { NodesKeepTheirAlgorithm }
 {}
 
 /// A link that is read has a delay, a pattern and a throughput in their ranges.

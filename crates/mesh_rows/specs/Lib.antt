@@ -4,6 +4,7 @@ pub mod Rows
 pub mod DecodeRows
 pub mod NetRows
 pub mod NetLines
+pub mod AlgorithmLines
 pub mod TableRows
 pub mod CommitRows
 -- What is said of a worked scenario, of bytes that are decoded, and of a single line.

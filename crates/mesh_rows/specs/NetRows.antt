@@ -1,15 +1,17 @@
 -- What is said of a small scenario with links: what it prints, at which line it ends and why, and
--- which link frames a node was given. `Rows` says what `lines` are.
+-- which link frames a node was given. Each line is carried out under the algorithm that was chosen
+-- before it. `Rows` says what `lines` are.
 use Rattle.std.specs.Prelude.{◌≡◌, ℕ, ◌+◌, List, [], ◌∷◌, ◌++◌, fold, Option, Some, None, Ok, Err}
 use Rattle.std.specs.Option.{option_map_or}
 use Rattle.mesh_base.specs.declared.address.Mac.{Mac}
 use Rattle.mesh_model.specs.declared.ending.Stop.{Stop}
 use Rattle.mesh_model.specs.declared.frame_choice.FrameChoice.{FrameChoice}
+use Rattle.mesh_model.specs.declared.line_form.Algorithm.{Algorithm}
 use Rattle.mesh_model.specs.Clients.Log.{Given, Tick, LinkFrame, LanFrame, Line, Log}
 use Rattle.mesh_model.specs.Net.Mesh.{Setup}
 use Rattle.mesh_model.specs.Run.State.{State, first_state, node_named, text_of}
 use Rattle.mesh_model.specs.Run.Outcome.{Outcome, Goes, Ends, reached}
-use Rattle.mesh_model.specs.Run.Rules.{carried_out, iv_setup}
+use Rattle.mesh_model.specs.Run.Rules.{carried_out, setup_of}
 use Rattle.mesh_model.specs.Scenario.Commands.{command_of_line}
 use Rattle.mesh_model.specs.Scenario.Readings.{Reading}
 use Rattle.mesh_rows.specs.Rows.{lines}
@@ -24,48 +26,53 @@ abbrev pub stop_of : Outcome → Option Stop
 stop_of (Goes state) = None
 stop_of (Ends state stop) = Some stop
 
+-- what a scenario is run with, by the algorithm of its nodes
+abbrev pub Setups : Type 0
+Setups = Algorithm → Setup
+
 -- the outcome of a line that was read
-abbrev pub reading_outcome : Setup → State → Reading → Outcome
-reading_outcome setup state (Ok command) = carried_out setup state command
-reading_outcome setup state (Err stop) = Ends state stop
+abbrev pub reading_outcome : Setups → State → Reading → Outcome
+reading_outcome setups state (Ok command) = carried_out (setups state.algorithm) state command
+reading_outcome setups state (Err stop) = Ends state stop
 
 -- lines and one more, by the outcome before it
-abbrev pub one_more : Setup → List ℕ → LinesRun → Outcome → LinesRun
-one_more setup text run (Goes state) = record {
+abbrev pub one_more : Setups → List ℕ → LinesRun → Outcome → LinesRun
+one_more setups text run (Goes state) = record {
   lines = run.lines + 1;
-  outcome = reading_outcome setup state (command_of_line text);
+  outcome = reading_outcome setups state (command_of_line text);
 }
-one_more setup text run (Ends state stop) = run
+one_more setups text run (Ends state stop) = run
 
 -- the run of lines, one after another; the first that ends it is the last
-abbrev pub run_of : Setup → FrameChoice → List (List ℕ) → LinesRun
-run_of setup choice texts = fold (λ run text. one_more setup text run run.outcome)
+abbrev pub run_of : Setups → FrameChoice → List (List ℕ) → LinesRun
+run_of setups choice texts = fold (λ run text. one_more setups text run run.outcome)
     (record { lines = 0; outcome = Goes (first_state choice) }) texts
 
--- with this setup, the lines are all carried out and print this
-abbrev pub PrintsWith : Setup → FrameChoice → List (List ℕ) → List (List ℕ) → Type 0
-PrintsWith setup choice texts printed =
-    (stop_of (run_of setup choice texts).outcome ≡ None)
-    × (text_of (reached (run_of setup choice texts).outcome) ≡ lines printed)
+-- with these setups, the lines are all carried out and print this
+abbrev pub PrintsWith : Setups → FrameChoice → List (List ℕ) → List (List ℕ) → Type 0
+PrintsWith setups choice texts printed =
+    (stop_of (run_of setups choice texts).outcome ≡ None)
+    × (text_of (reached (run_of setups choice texts).outcome) ≡ lines printed)
 
--- with this setup, the lines print this and end at a line
-abbrev pub EndsWith : Setup → FrameChoice → List (List ℕ) → List (List ℕ) → ℕ → Stop → Type 0
-EndsWith setup choice texts printed number stop =
-    (stop_of (run_of setup choice texts).outcome ≡ Some stop)
-    × ((run_of setup choice texts).lines ≡ number)
-    × (text_of (reached (run_of setup choice texts).outcome) ≡ lines printed)
+-- with these setups, the lines print this and end at a line
+abbrev pub EndsWith : Setups → FrameChoice → List (List ℕ) → List (List ℕ) → ℕ → Stop → Type 0
+EndsWith setups choice texts printed number stop =
+    (stop_of (run_of setups choice texts).outcome ≡ Some stop)
+    × ((run_of setups choice texts).lines ≡ number)
+    × (text_of (reached (run_of setups choice texts).outcome) ≡ lines printed)
 
 -- the scenario is carried out and prints this
 abbrev pub Prints : FrameChoice → List (List ℕ) → List (List ℕ) → Type 0
-Prints = PrintsWith iv_setup
+Prints = PrintsWith setup_of
 
 -- the scenario prints this and ends at a line
 abbrev pub EndsAt : FrameChoice → List (List ℕ) → List (List ℕ) → ℕ → Stop → Type 0
-EndsAt = EndsWith iv_setup
+EndsAt = EndsWith setup_of
 
--- the setup of a scenario with other limits on frames and their bytes
-abbrev pub with_limits : ℕ → ℕ → Setup
-with_limits frames bytes = record iv_setup { frames_limit = frames; bytes_limit = bytes }
+-- the setups of a scenario with other limits on frames and their bytes
+abbrev pub with_limits : ℕ → ℕ → Setups
+with_limits frames bytes algorithm =
+    record (setup_of algorithm) { frames_limit = frames; bytes_limit = bytes }
 
 -- a link frame that a node was given: when, its number, the last byte of the sender's address, and
 -- the throughput of the link to the sender
@@ -95,4 +102,4 @@ taken_at name state = option_map_or (λ node. taken node.log) (node_named state 
 -- behind these lines, the node of this name was given these link frames, newest first
 abbrev pub Takes : List (List ℕ) → FrameChoice → List ℕ → List Taken → Type 0
 Takes texts choice name frames =
-    taken_at name (reached (run_of iv_setup choice texts).outcome) ≡ frames
+    taken_at name (reached (run_of setup_of choice texts).outcome) ≡ frames

@@ -4,6 +4,7 @@
 
 #![tactic(auto)]
 
+pub mod algorithm_rows;
 pub mod client_rows;
 pub mod commit_rows;
 pub mod container_rows;

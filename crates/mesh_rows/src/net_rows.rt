@@ -8,7 +8,7 @@ ghost use Rattle.mesh_model.specs.declared.ending.Stop.TheVariants.{Limit, Refus
 ghost use Rattle.mesh_model.specs.declared.frame_choice.FrameChoice.TheVariants.{All, Client, Hidden, Ogm};
 ghost use Rattle.mesh_model.specs.Acts.OwnContainers.{arp_table_container};
 ghost use Rattle.mesh_model.specs.Run.Outcome.{reached};
-ghost use Rattle.mesh_model.specs.Run.Rules.{iv_setup};
+ghost use Rattle.mesh_model.specs.Run.Rules.{setup_of};
 ghost use Rattle.mesh_rows.specs.NetLines.{acts_on, bare_containers, duo, forwarded_line, is_full_after, limit_after, many_nodes, many_vlans, message_bytes, message_line, node_mac, sent_on};
 ghost use Rattle.mesh_rows.specs.NetRows.{run_of, with_limits, EndsAt, EndsWith, Prints, Takes};
 
@@ -192,7 +192,7 @@ pub fn a_limit_ends_a_run_in_its_middle()
 
 /// Three nodes in a chain, five seconds.
 pub fn a_chain_runs_for_five_seconds()
-    ensures { length (reached (run_of iv_setup Hidden
+    ensures { length (reached (run_of setup_of Hidden
         (duo ++ codes "node C 02:00:00:00:00:0c" ∷ codes "link B C" ∷ codes "link C B"
         ∷ codes "run 5000" ∷ [])).outcome).mesh.frames ≡ 48 }
 {}

@@ -1,7 +1,7 @@
 //! Small scenarios with pings and traceroutes, computed from the definitions alone.
 
 ghost use Rattle.std.specs.Prelude.{[], ◌∷◌, ◌++◌, codes};
-ghost use Rattle.mesh_model.specs.declared.ending.Refusal.TheVariants.{AlgoAfterNode, NotBuilt, SameNode, UnknownName};
+ghost use Rattle.mesh_model.specs.declared.ending.Refusal.TheVariants.{SameNode, UnknownName};
 ghost use Rattle.mesh_model.specs.declared.ending.Stop.TheVariants.{Refused};
 ghost use Rattle.mesh_model.specs.declared.frame_choice.FrameChoice.TheVariants.{Hidden};
 ghost use Rattle.mesh_rows.specs.NetLines.{duo};
@@ -30,12 +30,4 @@ pub fn a_session_is_of_two_nodes()
     ensures same { EndsAt Hidden (duo ++ codes "ping A A" ∷ []) [] 5 (Refused SameNode) }
     ensures trace { EndsAt Hidden (duo ++ codes "traceroute B B" ∷ []) [] 5 (Refused SameNode) }
     ensures unknown { EndsAt Hidden (duo ++ codes "ping X X" ∷ []) [] 5 (Refused UnknownName) }
-{}
-
-/// The algorithm is chosen before the first node, any number of times.
-pub fn the_algorithm_is_chosen_first()
-    ensures before { Prints Hidden (codes "algo iv" ∷ codes "algo iv" ∷ duo) [] }
-    ensures after { EndsAt Hidden (codes "algo iv" ∷ duo ++ codes "algo iv" ∷ []) [] 6
-        (Refused AlgoAfterNode) }
-    ensures other { EndsAt Hidden (duo ++ codes "algo v" ∷ []) [] 5 (Refused NotBuilt) }
 {}

@@ -2,6 +2,7 @@
 use Rattle.std.proofs.Common.{◌≡◌, ℕ, ◌+◌, ◌<◌, ◌≤◌, ◌⊎◌, inl, inr, [], ◌∷◌, ◌++◌, length, slice_get, Some, sym, ap, ◌∙◌, subst, arith}
 use Rattle.mesh_model.specs.declared.frame_choice.FrameChoice.{FrameChoice}
 use Rattle.mesh_model.specs.declared.happening.Happening.{Happening}
+use Rattle.mesh_model.specs.declared.line_form.Algorithm.{Algorithm}
 use Rattle.mesh_model.specs.declared.line_form.Command.{Command}
 use Rattle.mesh_model.specs.Net.Mesh.{NodeLog, NetLink, Mesh, Setup}
 use Rattle.mesh_model.specs.Net.Next.{Has}
@@ -18,13 +19,16 @@ use Rattle.mesh_laws.proofs.Schedule.Sound.{lines_keep_sound}
 use Rattle.mesh_laws.proofs.Schedule.Kept.{bytes_after}
 use Rattle.mesh_laws.proofs.Schedule.Added.{empty_bytes, empty_sound, links_sound, nodes_sound}
 use Rattle.mesh_laws.proofs.Lines.Reached.{runs_are_reached}
-use Rattle.mesh_laws.proofs.Lines.Ways.{Led, ended, printed, stayed, noded, linked, given, again, passed}
+use Rattle.mesh_laws.proofs.Lines.Ways.{Led, ended, printed, stayed, chose, noded, linked, given, again, passed}
 
 pub first_is_reached : (choice : FrameChoice) → IsReached (first_state choice)
 first_is_reached choice = record { sound = empty_sound; bytes = empty_bytes; past = omega arith; low = omega arith }
 
 printing_reached : (state : State) (more : Printed) → IsReached state → IsReached (after_print state more)
 printing_reached state more r = record { sound = r.sound; bytes = r.bytes; past = r.past; low = r.low }
+
+choice_reached : (state : State) (algorithm : Algorithm) → IsReached state → IsReached (record state { algorithm = algorithm })
+choice_reached state algorithm r = record { sound = r.sound; bytes = r.bytes; past = r.past; low = r.low }
 
 -- a new node was given no frame
 node_bytes : (mesh : Mesh) (new : NodeLog) → new.log ≡ [] → KeepsBytes mesh → KeepsBytes (record mesh { nodes = mesh.nodes ++ new ∷ [] })
@@ -62,6 +66,7 @@ can_pass setup time state fits r low = record { fits = fits; is_reached = r; beg
 pub outcome_reached : (setup : Setup) (state : State) (command : Command) (outcome : Outcome) → FitsPlaces setup → IsReached state → HasDelay command → Led setup state command outcome → IsReached (reached outcome)
 outcome_reached setup state command outcome fits r delay (ended stop e) = subst (λ o. IsReached (reached o)) (sym e) r
 outcome_reached setup state command outcome fits r delay (stayed e) = subst (λ o. IsReached (reached o)) (sym e) r
+outcome_reached setup state command outcome fits r delay (chose algorithm is e) = subst (λ o. IsReached (reached o)) (sym e) (choice_reached state algorithm r)
 outcome_reached setup state command outcome fits r delay (printed more e) = subst (λ o. IsReached (reached o)) (sym e) (printing_reached state more r)
 outcome_reached setup state command outcome fits r delay (noded node new made few e) = subst (λ o. IsReached (reached o)) (sym e) (node_reached state node new made few r)
 outcome_reached setup state command outcome fits r delay (linked link has e) = subst (λ o. IsReached (reached o)) (sym e) (link_reached state link (has delay) r)

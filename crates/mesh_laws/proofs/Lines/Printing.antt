@@ -14,7 +14,7 @@ use Rattle.mesh_model.specs.Run.Passing.{events_since, gone_on, course_outcome}
 use Rattle.mesh_model.specs.Run.Steps.{step_of}
 use Rattle.mesh_model.specs.Run.Rules.{first_refused_rule, unless_refused, after_step, carried_out}
 use Rattle.mesh_laws.specs.LineLaws.{IsRun}
-use Rattle.mesh_laws.proofs.Lines.Ways.{Led, ended, printed, stayed, noded, linked, given, again, passed, led}
+use Rattle.mesh_laws.proofs.Lines.Ways.{Led, ended, printed, stayed, chose, noded, linked, given, again, passed, led}
 
 -- more is printed, by the same choice
 pub record Grows (state after : State) : Type 0 where
@@ -35,6 +35,7 @@ course_grows state t mesh (Some p) = gone_on_grows state p.moment mesh
 outcome_grows : (setup : Setup) (state : State) (command : Command) (outcome : Outcome) → Led setup state command outcome → Grows state (reached outcome)
 outcome_grows setup state command outcome (ended stop e) = subst (λ o. Grows state (reached o)) (sym e) (grows_by_none state state refl refl)
 outcome_grows setup state command outcome (stayed e) = subst (λ o. Grows state (reached o)) (sym e) (grows_by_none state state refl refl)
+outcome_grows setup state command outcome (chose algorithm is e) = subst (λ o. Grows state (reached o)) (sym e) (grows_by_none state _ refl refl)
 outcome_grows setup state command outcome (printed more e) = subst (λ o. Grows state (reached o)) (sym e) (record { more = more ∷ []; grows = refl; choice = refl })
 outcome_grows setup state command outcome (noded node new made few e) = subst (λ o. Grows state (reached o)) (sym e) (grows_by_none state _ refl refl)
 outcome_grows setup state command outcome (linked link delay e) = subst (λ o. Grows state (reached o)) (sym e) (grows_by_none state _ refl refl)
@@ -70,6 +71,7 @@ no_end a b t e = cc
 pub ends_change_nothing : (setup : Setup) (state after : State) (command : Command) (stop : Stop) (outcome : Outcome) → Led setup state command outcome → outcome ≡ Ends after stop → IsRun command ⊎ (after ≡ state)
 ends_change_nothing setup state after command stop outcome (ended s e) f = inr (sym (end_of_two state after s stop (sym e ∙ f)))
 ends_change_nothing setup state after command stop outcome (stayed e) f = absurd (no_end _ after stop (sym e ∙ f))
+ends_change_nothing setup state after command stop outcome (chose algorithm is e) f = absurd (no_end _ after stop (sym e ∙ f))
 ends_change_nothing setup state after command stop outcome (printed more e) f = absurd (no_end _ after stop (sym e ∙ f))
 ends_change_nothing setup state after command stop outcome (noded node new made few e) f = absurd (no_end _ after stop (sym e ∙ f))
 ends_change_nothing setup state after command stop outcome (linked link delay e) f = absurd (no_end _ after stop (sym e ∙ f))

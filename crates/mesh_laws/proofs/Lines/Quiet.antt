@@ -20,7 +20,7 @@ use Rattle.mesh_laws.proofs.Schedule.Added.{added}
 use Rattle.mesh_laws.proofs.Schedule.ToCome.{links_add_nothing, nodes_add_later}
 use Rattle.mesh_laws.proofs.Lines.Passing.{begun}
 use Rattle.mesh_laws.proofs.Lines.Keeping.{can_pass}
-use Rattle.mesh_laws.proofs.Lines.Ways.{Led, ended, printed, stayed, noded, linked, given, again, passed}
+use Rattle.mesh_laws.proofs.Lines.Ways.{Led, ended, printed, stayed, chose, noded, linked, given, again, passed}
 
 goes_one : (a b : State) → Goes a ≡ Goes b → a ≡ b
 goes_one a b e = cc
@@ -60,6 +60,7 @@ quiet_run setup t state after can e =
 pub goes_quiet : (setup : Setup) (state after : State) (command : Command) (outcome : Outcome) → FitsPlaces setup → IsReached state → HasDelay command → Led setup state command outcome → outcome ≡ Goes after → IsQuietNow state → IsQuietNow after
 goes_quiet setup state after command outcome fits r delay (ended stop e) f quiet = absurd (no_end state after stop (sym e ∙ f))
 goes_quiet setup state after command outcome fits r delay (stayed e) f quiet = subst IsQuietNow (goes_one state after (sym e ∙ f)) quiet
+goes_quiet setup state after command outcome fits r delay (chose algorithm is e) f quiet = subst IsQuietNow (goes_one (record state { algorithm = algorithm }) after (sym e ∙ f)) quiet
 goes_quiet setup state after command outcome fits r delay (printed more e) f quiet = subst IsQuietNow (goes_one (after_print state more) after (sym e ∙ f)) quiet
 goes_quiet setup state after command outcome fits r delay (noded node new made few e) f quiet = subst IsQuietNow (goes_one (with_node state node) after (sym e ∙ f)) (quiet_node state node made quiet)
 goes_quiet setup state after command outcome fits r delay (linked link has e) f quiet = subst IsQuietNow (goes_one (with_link state link) after (sym e ∙ f)) (λ x happens later. quiet x (links_add_nothing state.mesh link x r.sound happens) later)

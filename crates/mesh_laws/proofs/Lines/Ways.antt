@@ -8,7 +8,7 @@ use Rattle.mesh_model.specs.declared.ending.Refusal.{Refusal}
 use Rattle.mesh_model.specs.declared.ending.Stop.{Stop}
 use Rattle.mesh_model.specs.declared.ending.Stop.TheVariants.{Refused, Limit}
 use Rattle.mesh_base.specs.declared.address.Mac.{Mac}
-use Rattle.mesh_model.specs.declared.line_form.Algorithm.TheVariants.{Iv, V}
+use Rattle.mesh_model.specs.declared.line_form.Algorithm.{Algorithm}
 use Rattle.mesh_model.specs.declared.line_form.Command.{Command}
 use Rattle.mesh_model.specs.declared.line_form.Command.TheVariants.{Nothing, Algo, Node, Link, Lan, Frame, Gone, Join, Leave, Arp, Dhcp, Wifi, GwOff, GwServer, GwClient, Mcast, Dat, Alfred, Put, Get, Ping, Trace, Run, Deliver, Show, Decode}
 use Rattle.mesh_model.specs.Clients.Log.{Given, LineGiven, Line, Sets}
@@ -34,6 +34,7 @@ pub data Led (setup : Setup) (state : State) (command : Command) (outcome : Outc
   ended : (stop : Stop) → outcome ≡ Ends state stop → Led setup state command outcome
   printed : (more : Printed) → outcome ≡ Goes (after_print state more) → Led setup state command outcome
   stayed : outcome ≡ Goes state → Led setup state command outcome
+  chose : (algorithm : Algorithm) → command ≡ Algo algorithm → outcome ≡ Goes (record state { algorithm = algorithm }) → Led setup state command outcome
   noded : (node : NodeLog) → node.log ≡ [] → node.made ≡ state.clock → length state.mesh.nodes < nodes_limit → outcome ≡ Goes (with_node state node) → Led setup state command outcome
   linked : (link : NetLink) → (HasDelay command → 1 ≤ link.delay) → outcome ≡ Goes (with_link state link) → Led setup state command outcome
   given : (place : ℕ) (given : Given) (after : Mesh) → ticks_by given ≡ 0 → GivesItsBytes state.mesh.frames given → given_to setup place state.clock 0 given state.mesh ≡ Ok after
@@ -70,12 +71,12 @@ at_led : (setup : Setup) (state : State) (command : Command) (step : ℕ → Ste
 at_led setup state command step None all = stayed refl
 at_led setup state command step (Some place) all = all place
 
-show_led : (setup : Setup) (state : State) (command : Command) (print : ℕ → NodeLog → Printed) (o : Option NodeLog)
-    → Led setup state command (option_map_or (λ node. Goes (after_print state (print state.clock node))) o (Goes state))
+show_led : (setup : Setup) (state : State) (command : Command) (print : Algorithm → ℕ → NodeLog → Printed) (o : Option NodeLog)
+    → Led setup state command (option_map_or (λ node. Goes (after_print state (print state.algorithm state.clock node))) o (Goes state))
 show_led setup state command print None = stayed refl
-show_led setup state command print (Some node) = printed (print state.clock node) refl
+show_led setup state command print (Some node) = printed (print state.algorithm state.clock node) refl
 
-shown_led : (setup : Setup) (state : State) (command : Command) (name : List ℕ) (o : Option (ℕ → NodeLog → Printed)) → Led setup state command (after_step state (option_map (show_step name) o))
+shown_led : (setup : Setup) (state : State) (command : Command) (name : List ℕ) (o : Option (Algorithm → ℕ → NodeLog → Printed)) → Led setup state command (after_step state (option_map (show_step name) o))
 shown_led setup state command name None = stayed refl
 shown_led setup state command name (Some print) = show_led setup state command print (node_named state name)
 
@@ -101,8 +102,7 @@ frame_led setup state command place line false = line_led setup state command pl
 
 pub command_led : (setup : Setup) (state : State) (command : Command) → Led setup state command (after_step state (step_of setup command))
 command_led setup state Nothing = stayed refl
-command_led setup state (Algo Iv) = stayed refl
-command_led setup state (Algo V) = stayed refl
+command_led setup state (Algo algorithm) = chose algorithm refl refl
 command_led setup state (Node name mac) = node_led setup state (Node name mac) (new_node name mac state.clock) refl refl (nat_le nodes_limit (length state.mesh.nodes)) refl
 command_led setup state (Link from to delay pattern throughput) =
     let link : ℕ → ℕ → NetLink = λ start end. record { from = start; to = end; delay = delay; pattern = pattern; throughput = throughput } in

@@ -10,6 +10,7 @@ use Rattle.std.specs.Prelude.{ℕ, ◌+◌, ◌-◌, ◌*◌, ◌/◌, ◌%◌, 
 use Rattle.std.specs.List.{count_by, slice_split, starts_with}
 use Rattle.mesh_base.specs.Address.{hex_of_byte}
 use Rattle.mesh_model.specs.declared.frame_choice.FrameChoice.TheVariants.{Hidden}
+use Rattle.mesh_model.specs.declared.line_form.Algorithm.{Algorithm}
 use Rattle.mesh_model.specs.Commits.History.{commits}
 use Rattle.mesh_model.specs.Net.Mesh.{NodeLog}
 use Rattle.mesh_model.specs.Run.PlainRun.{Run, output, plain_run}
@@ -105,8 +106,9 @@ abbrev pub later_commits : NodeLog → ℕ
 later_commits node = length (commits node.mac node.log) - 1
 
 -- how many tables a node counts as ok at a moment
-abbrev pub ok_tables : ℕ → NodeLog → ℕ
-ok_tables now node = count_by (λ part. part.row.ok) (global_table now node).parts
+abbrev pub ok_tables : Algorithm → ℕ → NodeLog → ℕ
+ok_tables algorithm now node =
+    count_by (λ part. part.row.ok) (global_table algorithm now node).parts
 
 -- the counts of a mesh of so many nodes, as a line
 unfoldable pub summary_line : (nodes frames received commits ok : ℕ) → List ℕ
@@ -119,7 +121,7 @@ summary_line nodes frames received commits ok = line_of
 abbrev pub summary : ℕ → State → List ℕ → List ℕ
 summary nodes state text = summary_line nodes (length state.mesh.frames) (received_lines text)
     (sum (map later_commits state.mesh.nodes))
-    (sum (map (ok_tables state.clock) state.mesh.nodes))
+    (sum (map (ok_tables state.algorithm state.clock) state.mesh.nodes))
 
 -- the run of the generated lines of a mesh of so many nodes
 abbrev pub generated_run : ℕ → Run

@@ -1,8 +1,9 @@
 -- The plain run of an input, by the choice of frames: its lines are carried out one after another,
--- each as a whole, and the first that is refused or at which a quantity would pass its limit ends
--- the run there. What was printed up to then stays printed. The limit `line` is reached at the byte
--- past 4,096 before a line's newline, `input` at the byte past 67,108,864 of the input, whichever
--- comes first; where one byte is both, it is `line`. The main words are `plain_run` and `output`.
+-- each as a whole and under the algorithm that was chosen before it, and the first that is refused
+-- or at which a quantity would pass its limit ends the run there. What was printed up to then stays
+-- printed. The limit `line` is reached at the byte past 4,096 before a line's newline, `input` at
+-- the byte past 67,108,864 of the input, whichever comes first; where one byte is both, it is
+-- `line`. The main words are `plain_run` and `output`.
 use Rattle.std.specs.Prelude.{ℕ, ◌+◌, ◌&&◌, nat_lt, nat_le, Bool, List, length, fold, Option, Some, None, is_some, Ok, Err, if◌then◌else◌}
 use Rattle.mesh_model.specs.declared.ending.LimitName.TheVariants.{Line, Input}
 use Rattle.mesh_model.specs.declared.ending.Stop.TheVariants.{Limit}
@@ -12,7 +13,7 @@ use Rattle.mesh_model.specs.Scenario.Halt.{Halt}
 use Rattle.mesh_model.specs.Scenario.Lines.{line_limit, input_limit, lines_of, before_newline, content}
 use Rattle.mesh_model.specs.Scenario.Readings.{Reading}
 use Rattle.mesh_model.specs.Run.Outcome.{Outcome, Goes, Ends}
-use Rattle.mesh_model.specs.Run.Rules.{carried_out, iv_setup}
+use Rattle.mesh_model.specs.Run.Rules.{carried_out, setup_of}
 use Rattle.mesh_model.specs.Run.State.{State, first_state, text_of}
 
 -- a run so far: its state, how many lines and bytes were carried out, and where it halted
@@ -38,7 +39,7 @@ passes_input before line = nat_lt input_limit (before + length line)
 
 -- the outcome of a line that was read
 abbrev pub after_reading : State → Reading → Outcome
-after_reading state (Ok command) = carried_out iv_setup state command
+after_reading state (Ok command) = carried_out (setup_of state.algorithm) state command
 after_reading state (Err stop) = Ends state stop
 
 -- the outcome of a line that follows so many bytes

@@ -11,6 +11,8 @@ use Rattle.std.specs.Option.{option_or, option_map_or}
 use Rattle.mesh_model.specs.declared.ending.Refusal.{Refusal}
 use Rattle.mesh_model.specs.declared.ending.Refusal.TheVariants.{NotBuilt, UnknownName}
 use Rattle.mesh_model.specs.declared.ending.Stop.TheVariants.{Refused}
+use Rattle.mesh_model.specs.declared.line_form.Algorithm.{Algorithm}
+use Rattle.mesh_model.specs.declared.line_form.Algorithm.TheVariants.{Iv}
 use Rattle.mesh_model.specs.declared.line_form.Command.{Command}
 use Rattle.mesh_model.specs.Net.Limits.{scenario_setup}
 use Rattle.mesh_model.specs.Net.Mesh.{Setup}
@@ -18,16 +20,16 @@ use Rattle.mesh_model.specs.Run.State.{State}
 use Rattle.mesh_model.specs.Run.Outcome.{Outcome, Goes, Ends}
 use Rattle.mesh_model.specs.Run.Steps.{Step, step_of}
 use Rattle.mesh_model.specs.Run.Demands.{demand_of, is_known, refusal_if, first_unmet}
-use Rattle.mesh_model.specs.Routes.AlgorithmIv.{iv_queries}
+use Rattle.mesh_model.specs.Routes.Algorithms.{queries_of}
 use Rattle.mesh_model.specs.Run.Names.{names_used}
 
--- what every scenario is run with in this version
-abbrev pub iv_setup : Setup
-iv_setup = scenario_setup iv_queries
+-- what a scenario whose nodes have an algorithm is run with
+abbrev pub setup_of : Algorithm → Setup
+setup_of algorithm = scenario_setup (queries_of algorithm)
 
--- a command that has no step in this version
+-- a command that has no step in this version, whatever the algorithm
 abbrev pub not_built : Command → Option Refusal
-not_built command = refusal_if (is_none (step_of iv_setup command)) NotBuilt
+not_built command = refusal_if (is_none (step_of (setup_of Iv) command)) NotBuilt
 
 -- a command uses a name that no node has
 abbrev pub unknown_name : State → Command → Option Refusal

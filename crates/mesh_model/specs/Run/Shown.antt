@@ -1,8 +1,8 @@
 -- What a line prints at once: the table of a node that is shown, at a moment. The local table, the
 -- originators, the neighbours and what is known of the others' clients are built, each asked of the
--- node's log. The main word is `shown`.
+-- node's log, under the algorithm of the nodes. The main word is `shown`.
 use Rattle.std.specs.Prelude.{ℕ, [], ◌∷◌, ◌++◌, Option, Some, None}
-use Rattle.mesh_model.specs.declared.line_form.Algorithm.TheVariants.{Iv}
+use Rattle.mesh_model.specs.declared.line_form.Algorithm.{Algorithm}
 use Rattle.mesh_model.specs.declared.line_form.Table.{Table}
 use Rattle.mesh_model.specs.declared.line_form.Table.TheVariants.{Originators, Neighbors, Locals, Globals, Claims, Gateways, Groups, Addresses, Facts}
 use Rattle.mesh_model.specs.Clients.Mentions.{mentions}
@@ -13,7 +13,7 @@ use Rattle.mesh_model.specs.Knowledge.Known.{Knowledge}
 use Rattle.mesh_model.specs.Knowledge.Steps.{knowledge}
 use Rattle.mesh_model.specs.Marks.RoamingMarks.{marks_at}
 use Rattle.mesh_model.specs.Net.Mesh.{NodeLog}
-use Rattle.mesh_model.specs.Routes.AlgorithmIv.{iv_queries}
+use Rattle.mesh_model.specs.Routes.Algorithms.{queries_of}
 use Rattle.mesh_model.specs.Run.KnownTables.{parts_at}
 use Rattle.mesh_model.specs.Run.State.{Printed, GlobalsShown, LocalsShown, NeighborsShown, OriginatorsShown, State}
 use Rattle.mesh_model.specs.Tables.Sums.{sums_of}
@@ -34,39 +34,39 @@ local_table now node = record {
 }
 
 -- what a node knows
-abbrev pub known_to : NodeLog → Knowledge
-known_to node = knowledge (iv_queries node.mac) node.mac node.log
+abbrev pub known_to : Algorithm → NodeLog → Knowledge
+known_to algorithm node = knowledge (queries_of algorithm node.mac) node.mac node.log
 
 -- the live originators of a node at a moment
-abbrev pub orig_table : ℕ → NodeLog → OrigTable
-orig_table now node = record {
+abbrev pub orig_table : Algorithm → ℕ → NodeLog → OrigTable
+orig_table algorithm now node = record {
   name = node.name;
-  algorithm = Iv;
-  rows = (iv_queries node.mac).originators (known_to node).routes now;
+  algorithm = algorithm;
+  rows = (queries_of algorithm node.mac).originators (known_to algorithm node).routes now;
 }
 
 -- the neighbours of a node at a moment
-abbrev pub link_table : ℕ → NodeLog → LinkTable
-link_table now node = record {
+abbrev pub link_table : Algorithm → ℕ → NodeLog → LinkTable
+link_table algorithm now node = record {
   name = node.name;
-  algorithm = Iv;
-  rows = (iv_queries node.mac).neighbours (known_to node).routes now;
+  algorithm = algorithm;
+  rows = (queries_of algorithm node.mac).neighbours (known_to algorithm node).routes now;
 }
 
 -- what a node knows of the others' clients at a moment
-abbrev pub global_table : ℕ → NodeLog → GlobalTable
-global_table now node = record {
+abbrev pub global_table : Algorithm → ℕ → NodeLog → GlobalTable
+global_table algorithm now node = record {
   name = node.name;
-  parts = parts_at (iv_queries node.mac) (known_to node) now;
-  marks = marks_at now (known_to node).marks;
+  parts = parts_at (queries_of algorithm node.mac) (known_to algorithm node) now;
+  marks = marks_at now (known_to algorithm node).marks;
 }
 
 -- what is printed of a node at a moment, for each table that is shown
-abbrev pub shown : Table → Option (ℕ → NodeLog → Printed)
-shown Originators = Some (λ now node. OriginatorsShown (orig_table now node))
-shown Neighbors = Some (λ now node. NeighborsShown (link_table now node))
-shown Locals = Some (λ now node. LocalsShown (local_table now node))
-shown Globals = Some (λ now node. GlobalsShown (global_table now node))
+abbrev pub shown : Table → Option (Algorithm → ℕ → NodeLog → Printed)
+shown Originators = Some (λ algorithm now node. OriginatorsShown (orig_table algorithm now node))
+shown Neighbors = Some (λ algorithm now node. NeighborsShown (link_table algorithm now node))
+shown Locals = Some (λ algorithm now node. LocalsShown (local_table now node))
+shown Globals = Some (λ algorithm now node. GlobalsShown (global_table algorithm now node))
 shown Claims = None
 shown Gateways = None
 shown Groups = None

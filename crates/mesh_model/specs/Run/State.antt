@@ -1,10 +1,13 @@
--- The state of a scenario's run: the mesh, the clock, which link frames are printed, and what is
--- printed so far. An event is kept with the names that the nodes have when it comes. The main words
--- are `State` and `text_of`.
+-- The state of a scenario's run: the mesh, the clock, the routing algorithm of its nodes, which link
+-- frames are printed, and what is printed so far. The algorithm is IV until a line chooses another.
+-- An event is kept with the names that the nodes have when it comes. The main words are `State` and
+-- `text_of`.
 use Rattle.std.specs.Prelude.{ℕ, Bool, List, [], flat_map, map, bytes_eq, position, slice_get, Option, option_and_then}
 use Rattle.mesh_base.specs.declared.event.Event.{Event}
 use Rattle.mesh_base.specs.declared.names.NodeName.{NodeName}
 use Rattle.mesh_model.specs.declared.frame_choice.FrameChoice.{FrameChoice}
+use Rattle.mesh_model.specs.declared.line_form.Algorithm.{Algorithm}
+use Rattle.mesh_model.specs.declared.line_form.Algorithm.TheVariants.{Iv}
 use Rattle.mesh_model.specs.Net.Mesh.{NodeLog, Mesh, empty_mesh}
 use Rattle.mesh_model.specs.Text.Decode.{decode_text}
 use Rattle.mesh_model.specs.Text.Events.{event_text}
@@ -21,17 +24,19 @@ pub data Printed : Type 0 where
   Decoded : List ℕ → Printed
   Happened : List NodeName → Event → Printed
 
--- the mesh, the clock in milliseconds, the choice of frames, and what was printed so far
+-- the mesh, the clock in milliseconds, the algorithm of the nodes, the choice of frames, and what
+-- was printed so far
 pub record State : Type 0 where
   pub mesh : Mesh
   pub clock : ℕ
+  pub algorithm : Algorithm
   pub choice : FrameChoice
   pub printed : List Printed
 
 -- before the first line
 abbrev pub first_state : FrameChoice → State
 first_state choice =
-    record { mesh = empty_mesh; clock = 0; choice = choice; printed = [] }
+    record { mesh = empty_mesh; clock = 0; algorithm = Iv; choice = choice; printed = [] }
 
 -- whether a node has this name
 abbrev pub is_named : List ℕ → NodeLog → Bool

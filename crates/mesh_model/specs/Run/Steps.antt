@@ -1,9 +1,10 @@
--- The step of each command, from a state to an outcome: a new node has an empty log and ticks from
--- now on; a link carries frames from now on; a client frame is given to its node, and so is a ping
--- or a traceroute; time passes; a frame is delivered again, now; what is shown or decoded is
--- printed. The limits are looked at here: `nodes` and `links` are passed by one more than 64 and
--- 512, `clock` by the end of a run, before its first happening. A command that has no step isn't
--- built: this version doesn't carry it out. The main word is `step_of`.
+-- The step of each command, from a state to an outcome: an algorithm is chosen for all nodes that
+-- follow; a new node has an empty log and ticks from now on; a link carries frames from now on; a
+-- client frame is given to its node, and so is a ping or a traceroute; time passes; a frame is
+-- delivered again, now; what is shown or decoded is printed. The limits are looked at here: `nodes`
+-- and `links` are passed by one more than 64 and 512, `clock` by the end of a run, before its first
+-- happening. A command that has no step isn't built: this version doesn't carry it out. The main
+-- word is `step_of`.
 use Rattle.std.specs.Prelude.{ℕ, ◌+◌, ◌-◌, ◌&&◌, not, nat_lt, nat_le, List, [], ◌∷◌, ◌++◌, length, Option, Some, None, option_map, if◌then◌else◌}
 use Rattle.std.specs.Option.{option_map_or}
 use Rattle.mesh_base.specs.Address.{is_broadcast, is_group}
@@ -11,7 +12,7 @@ use Rattle.mesh_base.specs.declared.address.Mac.{Mac}
 use Rattle.mesh_model.specs.declared.ending.LimitName.{LimitName}
 use Rattle.mesh_model.specs.declared.ending.LimitName.TheVariants.{Nodes, Links, Clock}
 use Rattle.mesh_model.specs.declared.ending.Stop.TheVariants.{Limit}
-use Rattle.mesh_model.specs.declared.line_form.Algorithm.TheVariants.{Iv, V}
+use Rattle.mesh_model.specs.declared.line_form.Algorithm.{Algorithm}
 use Rattle.mesh_model.specs.declared.line_form.Command.{Command}
 use Rattle.mesh_model.specs.declared.line_form.Command.TheVariants.{Nothing, Algo, Node, Link, Lan, Frame, Gone, Join, Leave, Arp, Dhcp, Wifi, GwOff, GwServer, GwClient, Mcast, Dat, Alfred, Put, Get, Ping, Trace, Run, Deliver, Show, Decode}
 use Rattle.mesh_model.specs.Clients.Log.{LineGiven, Line, Sets}
@@ -35,7 +36,11 @@ abbrev pub at_node : List ℕ → (ℕ → Step) → Step
 at_node name step state =
     option_map_or (λ place. step place state) (place_of state name) (Goes state)
 
--- ---- nodes and links
+-- ---- the algorithm, nodes and links
+
+-- the nodes have this algorithm
+abbrev pub choice_step : Algorithm → Step
+choice_step algorithm state = Goes (record state { algorithm = algorithm })
 
 -- a state that a step goes on to, unless there are as many already as may be
 abbrev pub unless_full : ℕ → ℕ → LimitName → State → State → Outcome
@@ -95,17 +100,17 @@ time_step setup time state =
     else run_until setup (state.clock + time) state
 
 -- something of the node of a name is printed
-abbrev pub show_step : List ℕ → (ℕ → NodeLog → Printed) → Step
+abbrev pub show_step : List ℕ → (Algorithm → ℕ → NodeLog → Printed) → Step
 show_step name print state = option_map_or
-    (λ node. Goes (after_print state (print state.clock node))) (node_named state name) (Goes state)
+    (λ node. Goes (after_print state (print state.algorithm state.clock node)))
+    (node_named state name) (Goes state)
 
 -- ---- the steps
 
 -- the step of a command
 abbrev pub step_of : Setup → Command → Option Step
 step_of setup Nothing = Some Goes
-step_of setup (Algo Iv) = Some Goes
-step_of setup (Algo V) = None
+step_of setup (Algo algorithm) = Some (choice_step algorithm)
 step_of setup (Node name mac) = Some (node_step name mac)
 step_of setup (Link from to delay pattern throughput) = Some (link_between from to (λ start end.
     record { from = start; to = end; delay = delay; pattern = pattern; throughput = throughput }))
