@@ -12,7 +12,7 @@ use Rattle.mesh_model.specs.Acts.Choosing.{acts_of, client_acts, probing_acts, s
 use Rattle.mesh_model.specs.Acts.FrameRows.{broadcast_acts, here_acts, passed_frame}
 use Rattle.mesh_model.specs.Acts.OwnContainers.{own_containers}
 use Rattle.mesh_model.specs.Acts.ProbeRows.{IcmpMessage}
-use Rattle.mesh_model.specs.Acts.Rows.{Own, alias_acts, alias_event, commit_acts, head_acts, icmp_acts, message_acts, own_by, packet_acts, packets_acts, place_at, taken_acts, tick_acts}
+use Rattle.mesh_model.specs.Acts.Rows.{Own, alias_acts, alias_event, commit_acts, elp_acts, head_acts, icmp_acts, message_acts, own_by, packet_acts, packets_acts, place_at, taken_acts, tick_acts}
 use Rattle.mesh_model.specs.Acts.TableRows.{other_containers, own_answer}
 use Rattle.mesh_model.specs.Clients.Log.{LinkFrame, Frame, Gone, Join, Leave, Arp, Dhcp, Ping, Trace, Log, Line, LineGiven, Attach, Sets, Put, Get}
 use Rattle.mesh_model.specs.Clients.Mentions.{Mention, key_of, mentions, next_mentions}
@@ -32,7 +32,7 @@ use Rattle.mesh_model.specs.Routes.Addresses.{same_mac}
 use Rattle.mesh_model.specs.Routes.Queries.{Queries}
 use Rattle.mesh_model.specs.Routes.RouteLog.{RouteLog}
 use Rattle.mesh_model.specs.Tables.Versions.{Version}
-use Rattle.mesh_laws.proofs.Schedule.Members.{has_either, has_left}
+use Rattle.mesh_laws.proofs.Schedule.Members.{has_either, has_left, has_right}
 use Rattle.mesh_tie.proofs.CalmRows.{calm_frame, calm_here, calm_session}
 use Rattle.mesh_tie.proofs.CommitLemmas.{Committed, as_before, committed_is, one_more}
 use Rattle.mesh_tie.proofs.EntryLemmas.{each_appended}
@@ -191,10 +191,24 @@ commit_gains q me routes index before after (one_more version byte order same) =
     each earlier is = has_left events message (Print (Alias me (length before.commits) earlier))
         (subst (λ acts. Has acts (Print (Alias me (length before.commits) earlier))) (sym events_are) (event_tells me (length before.commits) (alias_before version before.commits) earlier is))
 
+-- acts that tell of no alias may stand before others
+gains_behind : (me : Mac) (before after : List Version) (quiet acts : List Act) → AreQuiet quiet → Gains me before after acts → Gains me before after (quiet ++ acts)
+gains_behind me before _ quiet _ none (gains_none acts all) = gains_none (quiet ++ acts) (each_appended IsQuiet quiet acts none all)
+gains_behind me before _ quiet _ none (gains_one version acts only each) = gains_one version (quiet ++ acts)
+    (λ mac number earlier has. go mac number earlier (has_either quiet acts (Print (Alias mac number earlier)) has))
+    (λ earlier is. has_right quiet acts (Print (Alias me (length before) earlier)) (each earlier is))
+  where
+    go : (mac : Mac) (number earlier : ℕ) → Has quiet (Print (Alias mac number earlier)) ⊎ Has acts (Print (Alias mac number earlier)) → (mac ≡ me) × (number ≡ length before) × (alias_before version before ≡ Some earlier)
+    go mac number earlier (inl told) = absurd (quiet_none quiet mac number earlier none told)
+    go mac number earlier (inr told) = only mac number earlier told
+
 pub tick_gains : (q : Queries) (me : Mac) (routes : RouteLog) (ms : List Mention) (before : History) (now index : ℕ)
     → Gains me before.commits (cond (is_commit_tick index) (with_message (committed (present_table ms now) before)) before).commits (tick_acts q me routes ms before now index)
 unfolding tick_acts
-tick_gains q me routes ms before now index = go (is_commit_tick index)
+tick_gains q me routes ms before now index =
+    let acts = cond (is_commit_tick index) (commit_acts q me routes index before (committed (present_table ms now) before)) [] in
+    gains_behind me before.commits (cond (is_commit_tick index) (with_message (committed (present_table ms now) before)) before).commits (elp_acts q routes index) acts
+    (plain_quiet (elp_acts q routes index) (plain_message (q.beats routes index).elp [])) (go (is_commit_tick index))
   where
     go : (b : Bool) → Gains me before.commits (cond b (with_message (committed (present_table ms now) before)) before).commits (cond b (commit_acts q me routes index before (committed (present_table ms now) before)) [])
     go true = commit_gains q me routes index before (committed (present_table ms now) before) (committed_is ms now before)

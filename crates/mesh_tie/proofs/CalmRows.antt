@@ -1,5 +1,5 @@
 -- The rows that say nothing of tables, a line each.
-use Rattle.std.proofs.Common.{◌-◌, ℕ, suc, Bool, true, false, cond, ◌||◌, nat_le, List, [], ◌∷◌, ◌++◌, drop, Option, Some, None}
+use Rattle.std.proofs.Common.{◌≡◌, ◌-◌, ℕ, suc, Bool, true, false, cond, ◌||◌, nat_le, List, [], ◌∷◌, ◌++◌, drop, Option, Some, None, refl}
 use Rattle.std.specs.List.{AllByRecursion}
 use Rattle.std.specs.Option.{unwrap_or}
 use Rattle.mesh_base.specs.Address.{is_broadcast, is_group}
@@ -9,19 +9,22 @@ use Rattle.mesh_base.specs.declared.event.Reason.TheVariants.{Fwd}
 use Rattle.mesh_base.specs.declared.event.LossReason.TheVariants.{Ttl, NoRoute}
 use Rattle.mesh_base.specs.declared.event.LossReason.{LossReason}
 use Rattle.mesh_model.specs.declared.act.Act.{Act}
-use Rattle.mesh_model.specs.declared.packet.Head.TheVariants.{Bcast, Unicast}
+use Rattle.mesh_model.specs.declared.packet.Head.{Head}
+use Rattle.mesh_model.specs.declared.packet.Head.TheVariants.{IvOgm, Bcast, Elp, Ogm2, Unicast, Frag, Unicast4, Icmp, Utvlv}
 use Rattle.mesh_model.specs.Acts.FrameRows.{Place, addressed, arrived, broadcast_acts, broadcast_on, frame_acts, handed_out, handed_out_if, here_acts, is_present, lost, lost_if, on_route, on_way, passed_frame, readdressed}
 use Rattle.mesh_model.specs.Acts.Packing.{sent_to, sent_to_all}
 use Rattle.mesh_model.specs.Acts.ProbeRows.{IcmpMessage, icmp_head, session_acts}
-use Rattle.mesh_model.specs.Acts.Rows.{icmp_acts}
+use Rattle.mesh_model.specs.Acts.Rows.{elp_acts, icmp_acts, message_acts}
 use Rattle.mesh_model.specs.Clients.Mentions.{Mention, key_of}
 use Rattle.mesh_model.specs.Knowledge.Addressee.{Way, addressee}
 use Rattle.mesh_model.specs.Knowledge.Known.{Broadcast, Knowledge, is_new_broadcast, told_at}
 use Rattle.mesh_model.specs.Packets.Layout.{spelling}
 use Rattle.mesh_model.specs.Packets.Payload.{ClientFrame, client_frame_of, payload_spelling}
-use Rattle.mesh_model.specs.Routes.Queries.{Queries}
+use Rattle.mesh_model.specs.Routes.Queries.{Queries, is_elp}
+use Rattle.mesh_model.specs.Routes.RouteLog.{RouteLog}
+use Rattle.mesh_tie.specs.Sources.{KeepsOriginators}
 use Rattle.mesh_tie.proofs.EntryLemmas.{each_appended}
-use Rattle.mesh_tie.proofs.HeadLemmas.{bcast_frame, icmp_frame, unicast_frame}
+use Rattle.mesh_tie.proofs.HeadLemmas.{bcast_frame, elp_frame, icmp_frame, unicast_frame}
 use Rattle.mesh_tie.proofs.ProbeActs.{AreProbing, IsProbing, icmp_puts, puts_message, puts_pinged, puts_traced, session_puts}
 use Rattle.mesh_tie.proofs.Sayable.{IsCalm}
 
@@ -31,6 +34,26 @@ calm_bcast ttl seq orig tail = bcast_frame (drop 2 (spelling (Bcast ttl seq orig
 
 pub calm_unicast : (next : Mac) (reason : Option Reason) (ttl ttvn : ℕ) (dst : Mac) (tail : List ℕ) → IsCalm (sent_to next reason (Unicast ttl ttvn dst) tail)
 calm_unicast next reason ttl ttvn dst tail = unicast_frame (drop 2 (spelling (Unicast ttl ttvn dst) tail))
+
+-- ---- ELPs
+calm_elp : (head : Head) → is_elp head ≡ true → IsCalm (sent_to_all head [])
+calm_elp (IvOgm ttl flags seq orig prev tq) is = cc
+calm_elp (Bcast ttl seq orig) is = cc
+calm_elp (Elp orig seq interval) is = elp_frame (drop 2 (spelling (Elp orig seq interval) []))
+calm_elp (Ogm2 ttl flags seq orig throughput) is = cc
+calm_elp (Unicast ttl ttvn dst) is = cc
+calm_elp (Frag ttl number priority dst orig seq total) is = cc
+calm_elp (Unicast4 ttl ttvn dst src subtype) is = cc
+calm_elp (Icmp ttl msg dst orig uid seq) is = cc
+calm_elp (Utvlv ttl dst src) is = cc
+
+pub calm_elps : (me : Mac) (q : Queries) (routes : RouteLog) (index : ℕ) → KeepsOriginators me q → AllByRecursion IsCalm (elp_acts q routes index)
+unfolding message_acts
+calm_elps me q routes index keeps = go (q.beats routes index).elp refl
+  where
+    go : (o : Option Head) → (q.beats routes index).elp ≡ o → AllByRecursion IsCalm (message_acts o [])
+    go None is = tt
+    go (Some head) is = (calm_elp head (keeps.elps routes index head is), tt)
 
 calm_if : (b : Bool) (xs ys : List Act) → AllByRecursion IsCalm xs → AllByRecursion IsCalm ys → AllByRecursion IsCalm (cond b xs ys)
 calm_if true xs ys a b = a

@@ -7,7 +7,7 @@ use Rattle.mesh_model.specs.declared.link_frame.NoPacket.TheVariants.{Short, Len
 use Rattle.mesh_model.specs.declared.link_frame.Ending.TheVariants.{Rest}
 use Rattle.mesh_model.specs.declared.link_frame.TvlvErr.{TvlvErr}
 use Rattle.mesh_model.specs.Packets.LinkFrame.{LinkFrame, behind, frame_from, is_followed, link_frame, only_ending, packet_flaw}
-use Rattle.mesh_model.specs.Packets.Shapes.{bcast, icmp, shape_of, unicast}
+use Rattle.mesh_model.specs.Packets.Shapes.{bcast, elp, icmp, shape_of, unicast}
 use Rattle.mesh_laws.proofs.FrameLemmas.{link_frame-first}
 use Rattle.mesh_model.specs.declared.packet.Head.{Head}
 use Rattle.mesh_model.specs.declared.packet.Head.TheVariants.{IvOgm, Ogm2, Utvlv}
@@ -222,6 +222,9 @@ unicast_fields bytes fields after packet has = nothing_cut (head_in unicast.fiel
 bcast_fields : (bytes fields after : List ℕ) (packet : Packet) → Has (frame_from link_frame (packet_of_fields bcast fields after)).packets packet → word_of packet.head ≡ Nothing
 bcast_fields bytes fields after packet has = nothing_cut (head_in bcast.fields bcast.head fields) (length after) after packet refl (λ rest. refl) has
 
+elp_fields : (bytes fields after : List ℕ) (packet : Packet) → Has (frame_from link_frame (packet_of_fields elp fields after)).packets packet → word_of packet.head ≡ Nothing
+elp_fields bytes fields after packet has = nothing_cut (head_in elp.fields elp.head fields) 0 after packet refl (λ rest. refl) has
+
 icmp_fields : (bytes fields after : List ℕ) (packet : Packet) → Has (frame_from link_frame (packet_of_fields icmp fields after)).packets packet → word_of packet.head ≡ Nothing
 icmp_fields bytes fields after packet has = nothing_cut (head_in icmp.fields icmp.head fields) 0 after packet refl (λ rest. refl) has
 
@@ -242,6 +245,13 @@ unfolding first_packet
 bcast_frame fields packet has =
     let bytes = 1 ∷ 15 ∷ fields in
     by_length (Short (length bytes) 14) (nat_lt (length bytes) 14) (packet_of_fields bcast (drop 2 bytes) (drop 14 bytes)) packet (bcast_fields bytes (drop 2 bytes) (drop 14 bytes) packet)
+    (subst (λ (f : LinkFrame). Has f.packets packet) (link_frame-first bytes) has)
+
+pub elp_frame : (fields : List ℕ) → TellsNothing (3 ∷ 15 ∷ fields)
+unfolding first_packet
+elp_frame fields packet has =
+    let bytes = 3 ∷ 15 ∷ fields in
+    by_length (Short (length bytes) 16) (nat_lt (length bytes) 16) (packet_of_fields elp (drop 2 bytes) (drop 16 bytes)) packet (elp_fields bytes (drop 2 bytes) (drop 16 bytes) packet)
     (subst (λ (f : LinkFrame). Has f.packets packet) (link_frame-first bytes) has)
 
 pub icmp_frame : (fields : List ℕ) → TellsNothing (67 ∷ 15 ∷ fields)

@@ -3,7 +3,7 @@ use Rattle.std.proofs.Common.{◌≡◌, ◌+◌, ◌%◌, ℕ, Bool, true, fals
 use Rattle.mesh_base.specs.declared.address.Mac.{Mac}
 use Rattle.mesh_model.specs.declared.packet.Head.{Head}
 use Rattle.mesh_model.specs.declared.packet.Head.TheVariants.{IvOgm, Bcast, Elp, Ogm2, Unicast, Frag, Unicast4, Icmp, Utvlv}
-use Rattle.mesh_model.specs.Routes.AlgorithmIv.{answer_to, forward_head, iv_answer, own_ogm}
+use Rattle.mesh_model.specs.Routes.AlgorithmIv.{answer_to, forward_head, iv_answer, iv_queries, own_ogm}
 use Rattle.mesh_model.specs.Routes.Hearings.{before, heard, hearing}
 use Rattle.mesh_model.specs.Routes.Life.{HeardOgm}
 use Rattle.mesh_model.specs.Routes.Ogm.{Ogm, ogm_of_head, passes}
@@ -11,7 +11,7 @@ use Rattle.mesh_model.specs.Routes.Quality.{echo_quality, own_ogms}
 use Rattle.mesh_model.specs.Routes.Queries.{unheard}
 use Rattle.mesh_model.specs.Routes.RouteLog.{RouteLog}
 use Rattle.mesh_tie.specs.Sources.{IsMessageOf, IsWhole, MessageOf}
-use Rattle.mesh_tie.specs.TieLaws.{IvKeeps}
+use Rattle.mesh_tie.specs.TieLaws.{AllKeep}
 
 own_is : (me : Mac) (number : ℕ) (b : Bool) (head : Head) → IsWhole me → cond b (Some (own_ogm me number)) None ≡ Some head → IsMessageOf me head
 own_is me number true head whole is =
@@ -49,8 +49,9 @@ onward_is me log moment from (Unicast4 ttl ttvn dst src subtype) sent orig whole
 onward_is me log moment from (Icmp ttl msg dst o uid seq) sent orig whole is forward = cc
 onward_is me log moment from (Utvlv ttl dst src) sent orig whole is forward = cc
 
-pub iv_keeps : IvKeeps
+pub iv_keeps : AllKeep iv_queries
 iv_keeps me = record {
   own = λ log index head whole is. own_is me (own_ogms log + 1) (index % 2 == 0) head whole is;
   onward = λ log moment from throughput head sent orig whole is forward. onward_is me log moment from head sent orig whole is forward;
+  elps = λ log index head is. cc;
 }

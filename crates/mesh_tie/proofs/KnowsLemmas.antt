@@ -84,7 +84,7 @@ packet_knows q me came packet known whole k = go packet.head packet.tail whole
     go : (head : Head) (tail : List ℕ) → HasWholeAddresses head → KnowsWhole (after_head q me came (message_of (record { head = head; tail = tail })) tail head known)
     go (IvOgm ttl flags seq o prev tq) tail whole = taken_knows q came (IvOgm ttl flags seq o prev tq) o (first_table (containers_of tail)) known whole.0 k
     go (Bcast ttl seq o) tail whole = knows_if (is_new_broadcast me (record { orig = o; number = seq }) known.taken) (record known { taken = record { orig = o; number = seq } ∷ known.taken }) known (record { tables = k.tables; marks = k.marks }) k
-    go (Elp o seq interval) tail whole = k
+    go (Elp o seq interval) tail whole = with_head_knows came (Elp o seq interval) known k
     go (Ogm2 ttl flags seq o throughput) tail whole = taken_knows q came (Ogm2 ttl flags seq o throughput) o (first_table (containers_of tail)) known whole k
     go (Unicast ttl ttvn dst) tail whole = k
     go (Frag ttl number priority dst o seq total) tail whole = k

@@ -17,9 +17,11 @@ pub mod LogLemmas
 pub mod MeshSteps
 pub mod FitLemmas
 pub mod IvLemmas
+pub mod VLemmas
 pub mod NamesRows
 pub mod NameSteps
 pub mod RunReach
+pub mod NoNodes
 pub mod TellReading
 pub mod LineReach
 pub mod AliasRows

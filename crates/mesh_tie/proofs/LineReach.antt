@@ -7,11 +7,11 @@ use Rattle.mesh_base.specs.Address.{is_broadcast, is_group}
 use Rattle.mesh_base.specs.declared.address.Mac.{Mac}
 use Rattle.mesh_model.specs.declared.ending.LimitName.TheVariants.{Clock, Input, Line, Links, Nodes}
 use Rattle.mesh_model.specs.declared.ending.Refusal.{Refusal}
-use Rattle.mesh_model.specs.declared.ending.Refusal.TheVariants.{AddressTaken, NameTaken}
+use Rattle.mesh_model.specs.declared.ending.Refusal.TheVariants.{AddressTaken, AlgoAfterNode, NameTaken}
 use Rattle.mesh_model.specs.declared.ending.Stop.{Stop}
 use Rattle.mesh_model.specs.declared.ending.Stop.TheVariants.{Limit, Refused}
 use Rattle.mesh_model.specs.declared.frame_choice.FrameChoice.{FrameChoice}
-use Rattle.mesh_model.specs.declared.line_form.Algorithm.TheVariants.{Iv, V}
+use Rattle.mesh_model.specs.declared.line_form.Algorithm.{Algorithm}
 use Rattle.mesh_model.specs.declared.line_form.Command.{Command}
 use Rattle.mesh_model.specs.declared.line_form.Command.TheVariants.{Nothing, Algo, Node, Link, Lan, Frame, Gone, Join, Leave, Arp, Dhcp, Wifi, GwOff, GwServer, GwClient, Mcast, Dat, Alfred, Put, Get, Ping, Trace, Run as RunFor, Deliver, Show, Decode}
 use Rattle.mesh_model.specs.Clients.Log.{Line, LineGiven, Sets}
@@ -23,15 +23,15 @@ use Rattle.mesh_model.specs.Net.Mesh.{NodeLog, NetLink, Mesh, empty_mesh, has_ad
 use Rattle.mesh_model.specs.Net.Next.{Happens, delivers, ticks}
 use Rattle.mesh_model.specs.Net.Runs.{Course, PassedLimit, begin, delivered, run_to}
 use Rattle.mesh_model.specs.Net.Sending.{Attempt}
-use Rattle.mesh_model.specs.Routes.AlgorithmIv.{iv_queries}
+use Rattle.mesh_model.specs.Routes.Algorithms.{queries_of}
 use Rattle.mesh_model.specs.Run.Demands.{first_unmet, is_known, refusal_if}
 use Rattle.mesh_model.specs.Run.Outcome.{Outcome, Ends, Goes, reached}
 use Rattle.mesh_model.specs.Run.Passing.{after_attempt, course_outcome, gone_on, run_until}
 use Rattle.mesh_model.specs.Run.PlainRun.{Run, after_line, after_lines, after_outcome, after_reading, line_outcome, passes_input, passes_line, plain_run, start}
-use Rattle.mesh_model.specs.Run.Rules.{after_step, carried_out, first_refused_rule, iv_setup, not_built, unknown_name, unless_refused}
+use Rattle.mesh_model.specs.Run.Rules.{after_step, carried_out, first_refused_rule, not_built, setup_of, unknown_name, unless_refused}
 use Rattle.mesh_model.specs.Run.Shown.{after_print, shown}
 use Rattle.mesh_model.specs.Run.State.{Decoded, Printed, State, first_state, node_named, place_of}
-use Rattle.mesh_model.specs.Run.Steps.{Step, at_node, input_step, link_step, new_node, session_step, show_step, step_of, with_link, with_node}
+use Rattle.mesh_model.specs.Run.Steps.{Step, at_node, choice_step, input_step, link_step, new_node, session_step, show_step, step_of, with_link, with_node}
 use Rattle.mesh_model.specs.Scenario.Commands.{command_of_line}
 use Rattle.mesh_model.specs.Scenario.Lines.{content, lines_of}
 use Rattle.mesh_model.specs.Scenario.Readings.{Reading}
@@ -43,18 +43,19 @@ use Rattle.mesh_laws.proofs.Lines.Quiet.{goes_quiet}
 use Rattle.mesh_laws.proofs.Lines.ReadRange.{read-in-range}
 use Rattle.mesh_laws.proofs.Lines.Ways.{led}
 use Rattle.mesh_laws.proofs.MacLemmas.{same_self}
-use Rattle.mesh_tie.specs.PlainRuns.{CommandsAreSteps, IsBetweenLines, IsTellable, NoneIsLater, PlainRunsAreReachable}
+use Rattle.mesh_tie.specs.PlainRuns.{CommandsAreSteps, HasReachableMesh, IsBetweenLines, IsTellable, NoneIsLater, PlainRunsAreReachable}
 use Rattle.mesh_tie.specs.Sources.{IsWhole}
-use Rattle.mesh_tie.specs.Steps.{IsNew, IsReachable, begins, goes_on, line_gives, link_joins, newest_moment, node_joins, TellsClient}
-use Rattle.mesh_tie.proofs.IvLemmas.{iv_keeps}
+use Rattle.mesh_tie.specs.Steps.{IsNew, begins, goes_on, line_gives, link_joins, newest_moment, node_joins, TellsClient}
 use Rattle.mesh_tie.proofs.MeshSteps.{got_front}
+use Rattle.mesh_tie.proofs.NoNodes.{reachable_anyhow}
 use Rattle.mesh_tie.proofs.RunReach.{Comes, Runs, begun_runs, delivered_comes, given_comes, run_runs}
 use Rattle.mesh_tie.proofs.TellReading.{read_is_tellable}
+use Rattle.mesh_tie.proofs.VLemmas.{algorithms_keep}
 
 -- ---- outcomes
 -- an outcome's mesh is one that steps reach, and where it goes on nothing was later than the clock
 record Leads (outcome : Outcome) : Type 0 where
-  reachable : IsReachable iv_queries (reached outcome).mesh
+  reachable : HasReachableMesh (reached outcome)
   settled : (after : State) → outcome ≡ Goes after → NoneIsLater after.mesh after.clock
 
 goes_one : (a b : State) → Goes a ≡ Goes b → a ≡ b
@@ -63,17 +64,17 @@ goes_one a b e = cc
 no_end : (a b : State) (stop : Stop) → Ends a stop ≡ Goes b → ⊥
 no_end a b stop e = cc
 
-goes_leads : (state : State) → IsReachable iv_queries state.mesh → NoneIsLater state.mesh state.clock → Leads (Goes state)
+goes_leads : (state : State) → HasReachableMesh state → NoneIsLater state.mesh state.clock → Leads (Goes state)
 goes_leads state r settled = record { reachable = r; settled = λ after e. subst (λ (s : State). NoneIsLater s.mesh s.clock) (goes_one state after e) settled }
 
-ends_leads : (state : State) (stop : Stop) → IsReachable iv_queries state.mesh → Leads (Ends state stop)
+ends_leads : (state : State) (stop : Stop) → HasReachableMesh state → Leads (Ends state stop)
 ends_leads state stop r = record { reachable = r; settled = λ after e. absurd (no_end state after stop e) }
 
 stays_leads : (state : State) → IsBetweenLines state → Leads (Goes state)
 stays_leads state b = goes_leads state b.reachable b.settled
 
-fits : FitsPlaces iv_setup
-fits = omega arith
+fits : (algorithm : Algorithm) → FitsPlaces (setup_of algorithm)
+fits algorithm = omega arith
 
 -- ---- nodes and links
 node_leads : (state : State) (name : List ℕ) (mac : Mac) → IsBetweenLines state → IsWhole mac → IsNew mac state.mesh.nodes → (full : Bool)
@@ -96,47 +97,47 @@ at_leads state step None b all = stays_leads state b
 at_leads state step (Some place) b all = all place
 
 -- ---- inputs and time
-attempt_leads : (state : State) (attempt : Attempt) → IsBetweenLines state → ((after : Mesh) → attempt ≡ Ok after → Comes iv_queries state.mesh after state.clock) → Leads (after_attempt state attempt)
+attempt_leads : (state : State) (attempt : Attempt) → IsBetweenLines state → ((after : Mesh) → attempt ≡ Ok after → Comes (queries_of state.algorithm) state.mesh after state.clock) → Leads (after_attempt state attempt)
 attempt_leads state (Ok after) b comes = let c = comes after refl in goes_leads (gone_on state state.clock after) c.reachable c.settled
 attempt_leads state (Err limit) b comes = ends_leads state (Limit limit) b.reachable
 
-input_leads : (state : State) (line : LineGiven) (place : ℕ) → IsBetweenLines state → TellsClient line → Leads (input_step iv_setup line place state)
-input_leads state line place b of = attempt_leads state (given_to iv_setup place state.clock 0 (Line line) state.mesh) b (λ after is.
-    given_comes iv_queries state.mesh after place state.clock 0 (Line line) b.reachable b.settled (λ node found may got. line_gives state.mesh after place state.clock node line found may of got) is)
+input_leads : (state : State) (line : LineGiven) (place : ℕ) → IsBetweenLines state → TellsClient line → Leads (input_step (setup_of state.algorithm) line place state)
+input_leads state line place b of = attempt_leads state (given_to (setup_of state.algorithm) place state.clock 0 (Line line) state.mesh) b (λ after is.
+    given_comes (queries_of state.algorithm) state.mesh after place state.clock 0 (Line line) b.reachable b.settled (λ node found may got. line_gives state.mesh after place state.clock node line found may of got) is)
 
-line_leads : (state : State) (name : List ℕ) (line : LineGiven) → IsBetweenLines state → TellsClient line → Leads (at_node name (input_step iv_setup line) state)
-line_leads state name line b of = at_leads state (input_step iv_setup line) (place_of state name) b (λ place. input_leads state line place b of)
+line_leads : (state : State) (name : List ℕ) (line : LineGiven) → IsBetweenLines state → TellsClient line → Leads (at_node name (input_step (setup_of state.algorithm) line) state)
+line_leads state name line b of = at_leads state (input_step (setup_of state.algorithm) line) (place_of state name) b (λ place. input_leads state line place b of)
 
-session_leads : (state : State) (line : Mac → LineGiven) → ((mac : Mac) → TellsClient (line mac)) → (node target : List ℕ) → IsBetweenLines state → Leads (session_step iv_setup line node target state)
+session_leads : (state : State) (line : Mac → LineGiven) → ((mac : Mac) → TellsClient (line mac)) → (node target : List ℕ) → IsBetweenLines state → Leads (session_step (setup_of state.algorithm) line node target state)
 session_leads state line of node target b =
-    let to : ℕ → ℕ → Step = λ place end s. input_step iv_setup (line (address_at end s.mesh.nodes)) place s in
+    let to : ℕ → ℕ → Step = λ place end s. input_step (setup_of state.algorithm) (line (address_at end s.mesh.nodes)) place s in
     at_leads state (λ place. at_node target (to place)) (place_of state node) b (λ place.
     at_leads state (to place) (place_of state target) b (λ end. input_leads state (line (address_at end state.mesh.nodes)) place b (of (address_at end state.mesh.nodes))))
 
-again_leads : (state : State) (place : ℕ) → IsBetweenLines state → Leads (after_attempt state (delivered iv_setup place state.clock state.mesh))
-again_leads state place b = attempt_leads state (delivered iv_setup place state.clock state.mesh) b (λ after is. delivered_comes iv_queries state.mesh after place state.clock iv_keeps b.reachable b.settled is)
+again_leads : (state : State) (place : ℕ) → IsBetweenLines state → Leads (after_attempt state (delivered (setup_of state.algorithm) place state.clock state.mesh))
+again_leads state place b = attempt_leads state (delivered (setup_of state.algorithm) place state.clock state.mesh) b (λ after is. delivered_comes (queries_of state.algorithm) state.mesh after place state.clock (algorithms_keep state.algorithm) b.reachable b.settled is)
 
-course_leads : (state : State) (t : ℕ) (o : Course) (stop : Option PassedLimit) → o.stop ≡ stop → Runs iv_queries t o → Leads (course_outcome state t o.mesh stop)
+course_leads : (state : State) (t : ℕ) (o : Course) (stop : Option PassedLimit) → o.stop ≡ stop → Runs (queries_of state.algorithm) t o → Leads (course_outcome state t o.mesh stop)
 course_leads state t o None is runs = goes_leads (gone_on state t o.mesh) runs.reachable (λ place n got. let low = runs.settled place n got in let within = runs.within in omega (arith, low, within))
 course_leads state t o (Some passed) is runs = ends_leads (gone_on state passed.moment o.mesh) (Limit passed.limit) runs.reachable
 
-time_leads : (state : State) (time : ℕ) (past : Bool) → nat_lt clock_limit (state.clock + time) ≡ past → IsBetweenLines state → Leads (cond past (Ends state (Limit Clock)) (run_until iv_setup (state.clock + time) state))
+time_leads : (state : State) (time : ℕ) (past : Bool) → nat_lt clock_limit (state.clock + time) ≡ past → IsBetweenLines state → Leads (cond past (Ends state (Limit Clock)) (run_until (setup_of state.algorithm) (state.clock + time) state))
 time_leads state time true e b = ends_leads state (Limit Clock) b.reachable
 time_leads state time false e b =
     let t = state.clock + time in
-    let can = can_pass iv_setup time state fits b.is_reached (ltb-false clock_limit (state.clock + time) e) in
-    let o = run_to iv_setup t state.mesh in
-    course_leads state t o o.stop refl (run_runs iv_queries t (begin state.mesh) iv_keeps fits (begun_runs iv_queries t state.clock state.mesh (begun iv_setup t state can) b.reachable b.settled can.begins b.quiet))
+    let can = can_pass (setup_of state.algorithm) time state (fits state.algorithm) b.is_reached (ltb-false clock_limit (state.clock + time) e) in
+    let o = run_to (setup_of state.algorithm) t state.mesh in
+    course_leads state t o o.stop refl (run_runs (queries_of state.algorithm) t (begin state.mesh) (algorithms_keep state.algorithm) (fits state.algorithm) (begun_runs (queries_of state.algorithm) t state.clock state.mesh (begun (setup_of state.algorithm) t state can) b.reachable b.settled can.begins b.quiet))
 
-show_leads : (state : State) (print : ℕ → NodeLog → Printed) (o : Option NodeLog) → IsBetweenLines state → Leads (option_map_or (λ node. Goes (after_print state (print state.clock node))) o (Goes state))
+show_leads : (state : State) (print : Algorithm → ℕ → NodeLog → Printed) (o : Option NodeLog) → IsBetweenLines state → Leads (option_map_or (λ node. Goes (after_print state (print state.algorithm state.clock node))) o (Goes state))
 show_leads state print None b = stays_leads state b
-show_leads state print (Some node) b = goes_leads (after_print state (print state.clock node)) b.reachable b.settled
+show_leads state print (Some node) b = goes_leads (after_print state (print state.algorithm state.clock node)) b.reachable b.settled
 
-shown_leads : (state : State) (name : List ℕ) (o : Option (ℕ → NodeLog → Printed)) → IsBetweenLines state → Leads (after_step state (option_map (show_step name) o))
+shown_leads : (state : State) (name : List ℕ) (o : Option (Algorithm → ℕ → NodeLog → Printed)) → IsBetweenLines state → Leads (after_step state (option_map (show_step name) o))
 shown_leads state name None b = stays_leads state b
 shown_leads state name (Some print) b = show_leads state print (node_named state name) b
 
-frame_leads : (state : State) (name : List ℕ) (line : LineGiven) (group : Bool) → IsBetweenLines state → TellsClient line → Leads (after_step state (cond group None (Some (at_node name (input_step iv_setup line)))))
+frame_leads : (state : State) (name : List ℕ) (line : LineGiven) (group : Bool) → IsBetweenLines state → TellsClient line → Leads (after_step state (cond group None (Some (at_node name (input_step (setup_of state.algorithm) line)))))
 frame_leads state name line true b of = stays_leads state b
 frame_leads state name line false b of = line_leads state name line b of
 
@@ -166,11 +167,21 @@ fresh_mac state name mac none place other got same =
     let taken = unmet_none (list_any (has_address mac) state.mesh.nodes) AddressTaken (second_none (refusal_if (is_known state name) NameTaken) (refusal_if (list_any (has_address mac) state.mesh.nodes) AddressTaken) unmet) in
     true≢false (sym (ap (λ (m : Mac). Rattle.mesh_model.specs.Routes.Addresses.same_mac m mac) same ∙ same_self mac) ∙ none_has state.mesh.nodes mac place other taken got)
 
+-- ---- the rule on an algorithm
+no_nodes : (nodes : List NodeLog) → length nodes ≤ 0 → nodes ≡ []
+no_nodes [] few = refl
+no_nodes (first ∷ rest) few = absurd (omega (arith, few))
+
+none_yet : (state : State) (algorithm : Algorithm) → first_refused_rule state (Algo algorithm) ≡ None → state.mesh.nodes ≡ []
+none_yet state algorithm none = no_nodes state.mesh.nodes (ltb-false 0 (length state.mesh.nodes) (unmet_none (nat_lt 0 (length state.mesh.nodes)) AlgoAfterNode none))
+
+choice_leads : (state : State) (algorithm : Algorithm) → IsBetweenLines state → state.mesh.nodes ≡ [] → Leads (choice_step algorithm state)
+choice_leads state algorithm b none = goes_leads (record state { algorithm = algorithm }) (reachable_anyhow (queries_of state.algorithm) (queries_of algorithm) state.mesh b.reachable none) b.settled
+
 -- ---- commands
-step_leads : (state : State) (command : Command) → IsBetweenLines state → IsTellable command → first_refused_rule state command ≡ None → Leads (after_step state (step_of iv_setup command))
+step_leads : (state : State) (command : Command) → IsBetweenLines state → IsTellable command → first_refused_rule state command ≡ None → Leads (after_step state (step_of (setup_of state.algorithm) command))
 step_leads state Nothing b tell none = stays_leads state b
-step_leads state (Algo Iv) b tell none = stays_leads state b
-step_leads state (Algo V) b tell none = stays_leads state b
+step_leads state (Algo algorithm) b tell none = choice_leads state algorithm b (none_yet state algorithm none)
 step_leads state (Node name mac) b tell none = node_leads state name mac b tell (fresh_mac state name mac none) (nat_le nodes_limit (length state.mesh.nodes))
 step_leads state (Link from to delay pattern throughput) b tell none =
     let link : ℕ → ℕ → NetLink = λ start end. record { from = start; to = end; delay = delay; pattern = pattern; throughput = throughput } in
@@ -199,45 +210,45 @@ step_leads state (Deliver number) b tell none = again_leads state (number - 1) b
 step_leads state (Show node table) b tell none = shown_leads state node (shown table) b
 step_leads state (Decode bytes) b tell none = goes_leads (after_print state (Decoded bytes)) b.reachable b.settled
 
-command_leads : (state : State) (command : Command) → IsBetweenLines state → IsTellable command → Leads (carried_out iv_setup state command)
+command_leads : (state : State) (command : Command) → IsBetweenLines state → IsTellable command → Leads (carried_out (setup_of state.algorithm) state command)
 command_leads state command b tell = go (first_refused_rule state command) refl
   where
-    go : (o : Option Refusal) → first_refused_rule state command ≡ o → Leads (unless_refused state o (after_step state (step_of iv_setup command)))
+    go : (o : Option Refusal) → first_refused_rule state command ≡ o → Leads (unless_refused state o (after_step state (step_of (setup_of state.algorithm) command)))
     go None none = step_leads state command b tell none
     go (Some refusal) none = ends_leads state (Refused refusal) b.reachable
 
 pub commands_are_steps : CommandsAreSteps
 commands_are_steps state command b delay tell = (command_leads state command b tell).reachable
 
-next_between : (state after : State) (command : Command) → IsBetweenLines state → HasDelay command → IsTellable command → carried_out iv_setup state command ≡ Goes after → IsBetweenLines after
+next_between : (state after : State) (command : Command) → IsBetweenLines state → HasDelay command → IsTellable command → carried_out (setup_of state.algorithm) state command ≡ Goes after → IsBetweenLines after
 next_between state after command b delay tell is =
     let l = command_leads state command b tell in
     record {
-      is_reached = subst (λ o. IsReached (reached o)) is (outcome_reached iv_setup state command (carried_out iv_setup state command) fits b.is_reached delay (led iv_setup state command));
-      quiet = goes_quiet iv_setup state after command (carried_out iv_setup state command) fits b.is_reached delay (led iv_setup state command) is b.quiet;
-      reachable = subst (λ o. IsReachable iv_queries (reached o).mesh) is l.reachable;
+      is_reached = subst (λ o. IsReached (reached o)) is (outcome_reached (setup_of state.algorithm) state command (carried_out (setup_of state.algorithm) state command) (fits state.algorithm) b.is_reached delay (led (setup_of state.algorithm) state command));
+      quiet = goes_quiet (setup_of state.algorithm) state after command (carried_out (setup_of state.algorithm) state command) (fits state.algorithm) b.is_reached delay (led (setup_of state.algorithm) state command) is b.quiet;
+      reachable = subst (λ o. HasReachableMesh (reached o)) is l.reachable;
       settled = l.settled after is;
     }
 
 -- ---- a whole run
 pub record RunHolds (run : Run) : Type 0 where
   pub going : run.halt ≡ None → IsBetweenLines run.state
-  pub reachable : IsReachable iv_queries run.state.mesh
+  pub reachable : HasReachableMesh run.state
 
 -- what an outcome is for a run
 abbrev OutcomeHolds : Outcome → Type 0
 OutcomeHolds (Goes state) = IsBetweenLines state
-OutcomeHolds (Ends state stop) = IsReachable iv_queries state.mesh
+OutcomeHolds (Ends state stop) = HasReachableMesh state
 
 range_delay : (command : Command) → IsInRange command → HasDelay command
 range_delay command range from to pattern delay throughput is = (range from to pattern delay throughput is).least
 
-carried_holds : (state : State) (command : Command) → IsBetweenLines state → HasDelay command → IsTellable command → OutcomeHolds (carried_out iv_setup state command)
-carried_holds state command b delay tell = go (carried_out iv_setup state command) refl
+carried_holds : (state : State) (command : Command) → IsBetweenLines state → HasDelay command → IsTellable command → OutcomeHolds (carried_out (setup_of state.algorithm) state command)
+carried_holds state command b delay tell = go (carried_out (setup_of state.algorithm) state command) refl
   where
-    go : (o : Outcome) → carried_out iv_setup state command ≡ o → OutcomeHolds o
+    go : (o : Outcome) → carried_out (setup_of state.algorithm) state command ≡ o → OutcomeHolds o
     go (Goes after) is = next_between state after command b delay tell is
-    go (Ends after stop) is = subst (λ o. IsReachable iv_queries (reached o).mesh) is (command_leads state command b tell).reachable
+    go (Ends after stop) is = subst (λ o. HasReachableMesh (reached o)) is (command_leads state command b tell).reachable
 
 reading_holds : (state : State) (line : List ℕ) → IsBetweenLines state → OutcomeHolds (after_reading state (command_of_line line))
 reading_holds state line b = go (command_of_line line) refl

@@ -19,7 +19,7 @@ use Rattle.mesh_model.specs.Acts.FrameRows.{Place, addressed, advert_acts, arriv
 use Rattle.mesh_model.specs.Acts.OwnContainers.{own_containers}
 use Rattle.mesh_model.specs.Acts.Packing.{reply_containers, request_containers, sent_over, sent_to_all}
 use Rattle.mesh_model.specs.Acts.ProbeRows.{IcmpMessage, session_acts}
-use Rattle.mesh_model.specs.Acts.Rows.{Own, accepted_acts, alias_acts, alias_event, commit_acts, head_acts, icmp_acts, message_acts, ogm_acts, packet_acts, place_at, taken_acts, tick_acts}
+use Rattle.mesh_model.specs.Acts.Rows.{Own, accepted_acts, alias_acts, alias_event, commit_acts, elp_acts, head_acts, icmp_acts, message_acts, ogm_acts, packet_acts, place_at, taken_acts, tick_acts}
 use Rattle.mesh_model.specs.Acts.TableRows.{on_the_way, other_containers, own_answer, request_acts, way_reply}
 use Rattle.mesh_model.specs.Clients.Mentions.{Mention, key_of}
 use Rattle.mesh_model.specs.Commits.Aliases.{last_alias}
@@ -328,11 +328,14 @@ unfolding tick_acts
 names_tick had all orig log frames q me routes ms before now index =
     let after = committed (present_table ms now) before in
     let message = message_acts (q.beats routes index).ogm (containers_spelling (own_containers (announcement after))) in
-    names_if had all orig log frames (is_commit_tick index) (commit_acts q me routes index before after) []
+    let elps = elp_acts q routes index in
+    each_appended (ActNames had all orig log frames) elps (cond (is_commit_tick index) (commit_acts q me routes index before after) [])
+    (plain_names had all orig log frames elps (plain_message (q.beats routes index).elp []))
+    (names_if had all orig log frames (is_commit_tick index) (commit_acts q me routes index before after) []
     (each_appended (ActNames had all orig log frames) (alias_acts me before.commits after.commits) message
     (names_if had all orig log frames (length after.commits == length before.commits) [] (alias_event me (length before.commits) (last_alias after.commits)) tt
     (names_event had all orig log frames me (length before.commits) (last_alias after.commits)))
-    (plain_names had all orig log frames message (plain_message (q.beats routes index).ogm (containers_spelling (own_containers (announcement after)))))) tt
+    (plain_names had all orig log frames message (plain_message (q.beats routes index).ogm (containers_spelling (own_containers (announcement after)))))) tt)
 
 -- a client frame of a line
 pub frame_names : (had all : TableCalls) (orig : Mac) (log : Log) (frames : List SentFrame) (q : Queries) (known : Knowledge) (ms : List Mention) (at : Place) (client : ClientFrame) → CanName had all orig log frames known

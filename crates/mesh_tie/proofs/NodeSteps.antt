@@ -11,7 +11,7 @@ use Rattle.mesh_model.specs.Acts.Choosing.{acts_of, client_acts, probing_acts, s
 use Rattle.mesh_model.specs.Acts.FrameRows.{advert_acts}
 use Rattle.mesh_model.specs.Acts.OwnContainers.{own_containers}
 use Rattle.mesh_model.specs.Acts.Packing.{roaming_container, sent_to_all}
-use Rattle.mesh_model.specs.Acts.Rows.{Own, alias_acts, alias_event, commit_acts, message_acts, packet_acts, packets_acts, tick_acts}
+use Rattle.mesh_model.specs.Acts.Rows.{Own, alias_acts, alias_event, commit_acts, elp_acts, message_acts, packet_acts, packets_acts, tick_acts}
 use Rattle.mesh_model.specs.Clients.Log.{Frame, Gone, Join, Leave, Arp, Dhcp, Ping, Trace, Log, Line, LineGiven, Attach, Sets, Put, Get}
 use Rattle.mesh_model.specs.Clients.Mentions.{Mention, key_of, mentions, next_mentions}
 use Rattle.mesh_model.specs.Commits.Announcements.{announced_changes, announcement}
@@ -42,7 +42,7 @@ use Rattle.mesh_tie.specs.Sayings.{FrameSays, IsAnnounced, PacketSays}
 use Rattle.mesh_tie.specs.Sources.{IsWhole, KeepsOriginators}
 use Rattle.mesh_tie.specs.Steps.{TellsClient}
 use Rattle.mesh_tie.specs.Tie.{FitsAnswer, FitsEntry, KnowsWhole, NodeIsTied}
-use Rattle.mesh_tie.proofs.CalmRows.{calm_frame, calm_session}
+use Rattle.mesh_tie.proofs.CalmRows.{calm_elps, calm_frame, calm_session}
 use Rattle.mesh_tie.proofs.CommitLemmas.{Chain, announced_are, last_and_older}
 use Rattle.mesh_tie.proofs.EntryLemmas.{OfCommits, each_appended, reached_entries}
 use Rattle.mesh_tie.proofs.KnowsLemmas.{advertised_whole, packet_knows, sighting_knows}
@@ -228,7 +228,9 @@ pub tick_row : (orig : Mac) (log : Log) (w : World) (q : Queries) (me : Mac) (ro
     → (is_commit_tick index ≡ true → Announcer orig log w me index (committed (present_table ms now) before))
     → AllByRecursion (Sayable orig log index w) (tick_acts q me routes ms before now index)
 unfolding tick_acts
-tick_row orig log w q me routes ms before now index keeps a = go (is_commit_tick index) refl
+tick_row orig log w q me routes ms before now index keeps a =
+    each_appended (Sayable orig log index w) (elp_acts q routes index) (cond (is_commit_tick index) (commit_acts q me routes index before after) [])
+    (calm_row orig log index w (elp_acts q routes index) (calm_elps me q routes index keeps)) (go (is_commit_tick index) refl)
   where
     after : History
     after = committed (present_table ms now) before

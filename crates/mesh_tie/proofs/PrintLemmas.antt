@@ -11,7 +11,7 @@ use Rattle.mesh_model.specs.declared.ending.LimitName.TheVariants.{Clock, Input,
 use Rattle.mesh_model.specs.declared.ending.Refusal.{Refusal}
 use Rattle.mesh_model.specs.declared.ending.Stop.TheVariants.{Limit}
 use Rattle.mesh_model.specs.declared.frame_choice.FrameChoice.{FrameChoice}
-use Rattle.mesh_model.specs.declared.line_form.Algorithm.TheVariants.{Iv, V}
+use Rattle.mesh_model.specs.declared.line_form.Algorithm.{Algorithm}
 use Rattle.mesh_model.specs.declared.line_form.Command.{Command}
 use Rattle.mesh_model.specs.declared.line_form.Command.TheVariants.{Nothing, Algo, Node, Link, Lan, Frame, Gone, Join, Leave, Arp, Dhcp, Wifi, GwOff, GwServer, GwClient, Mcast, Dat, Alfred, Put, Get, Ping, Trace, Run as RunFor, Deliver, Show, Decode}
 use Rattle.mesh_model.specs.declared.line_form.Table.{Table}
@@ -19,32 +19,30 @@ use Rattle.mesh_model.specs.declared.line_form.Table.TheVariants.{Originators, N
 use Rattle.mesh_model.specs.Clients.Log.{Line, LineGiven, Sets}
 use Rattle.mesh_model.specs.Clients.Settings.{Wifi as WifiSet}
 use Rattle.mesh_model.specs.Clients.Log.{Frame as FrameGiven, Gone as GoneGiven, Join as JoinGiven, Leave as LeaveGiven, Ping as PingGiven, Trace as TraceGiven}
-use Rattle.mesh_model.specs.Net.Due.{ticks_by}
 use Rattle.mesh_model.specs.Net.Inputs.{given_to}
 use Rattle.mesh_model.specs.Net.Limits.{clock_limit, links_limit, nodes_limit}
-use Rattle.mesh_model.specs.Net.Mesh.{NodeLog, NetLink, Mesh, address_at}
+use Rattle.mesh_model.specs.Net.Mesh.{NodeLog, NetLink, Mesh, Setup, address_at}
 use Rattle.mesh_model.specs.Net.Next.{Has}
 use Rattle.mesh_model.specs.Net.Runs.{Course, PassedLimit, begin, delivered, run_to}
 use Rattle.mesh_model.specs.Net.Sending.{Attempt}
-use Rattle.mesh_model.specs.Routes.AlgorithmIv.{iv_queries}
+use Rattle.mesh_model.specs.Routes.Algorithms.{queries_of}
 use Rattle.mesh_model.specs.Run.Outcome.{Outcome, Ends, Goes, reached}
 use Rattle.mesh_model.specs.Run.Passing.{after_attempt, course_outcome, events_since, gone_on, run_until}
 use Rattle.mesh_model.specs.Run.PlainRun.{Run, after_line, after_lines, after_outcome, after_reading, line_outcome, passes_input, passes_line, start}
-use Rattle.mesh_model.specs.Run.Rules.{after_step, carried_out, first_refused_rule, iv_setup, unless_refused}
+use Rattle.mesh_model.specs.Run.Rules.{after_step, carried_out, first_refused_rule, setup_of, unless_refused}
 use Rattle.mesh_model.specs.Run.Shown.{after_print, shown}
 use Rattle.mesh_model.specs.Run.State.{Printed, LocalsShown, OriginatorsShown, NeighborsShown, GlobalsShown, Decoded, Happened, State, names_of, node_named, place_of}
-use Rattle.mesh_model.specs.Run.Steps.{Step, at_node, input_step, link_step, new_node, session_step, show_step, step_of, with_link, with_node}
+use Rattle.mesh_model.specs.Run.Steps.{Step, at_node, choice_step, input_step, link_step, new_node, session_step, show_step, step_of, with_link, with_node}
 use Rattle.mesh_model.specs.Scenario.Commands.{command_of_line}
 use Rattle.mesh_model.specs.Scenario.Halt.{Halt}
 use Rattle.mesh_model.specs.Scenario.Lines.{content}
 use Rattle.mesh_model.specs.Scenario.Readings.{Reading}
-use Rattle.mesh_laws.specs.Soundness.{GivesItsBytes}
 use Rattle.mesh_laws.proofs.Lines.Courses.{Follows, going_follows, since_is}
 use Rattle.mesh_laws.proofs.Schedule.Steps.{Effect, delivered_effect, no_ticks, tickless}
 use Rattle.mesh_tie.specs.LinesByTable.{LinesByTableAreRight}
 use Rattle.mesh_tie.proofs.EventLemmas.{events_by_table_are_right}
-use Rattle.mesh_tie.proofs.IvLemmas.{iv_keeps}
 use Rattle.mesh_tie.proofs.LineReach.{first_holds, lines_hold}
+use Rattle.mesh_tie.proofs.VLemmas.{algorithms_keep}
 
 -- ---- the events among what is printed
 events_in : List Printed → List Event
@@ -96,8 +94,8 @@ gone_same state now mesh f same =
     ∙ ap (λ es. es ++ events_in (map (Happened (names_of mesh.nodes)) (events_since state.mesh mesh))) same
     ∙ ap (λ es. state.mesh.events ++ es) (events_happened (names_of mesh.nodes) (events_since state.mesh mesh) ∙ since_is state.mesh mesh f) ∙ sym f.events
 
-effect_follows : (now : ℕ) (mesh after : Mesh) → Effect iv_setup no_ticks now mesh after → Follows mesh after
-effect_follows now mesh after effect = record { more = effect.adds.more_events; events = effect.adds.events; names = effect.names }
+effect_follows : (setup : Setup) (now : ℕ) (mesh after : Mesh) → Effect setup no_ticks now mesh after → Follows mesh after
+effect_follows setup now mesh after effect = record { more = effect.adds.more_events; events = effect.adds.events; names = effect.names }
 
 attempt_same : (state : State) (attempt : Attempt) → SameEvents state → ((after : Mesh) → attempt ≡ Ok after → Follows state.mesh after) → SameOutcome (after_attempt state attempt)
 attempt_same state (Ok after) same follows = gone_same state state.clock after (follows after refl) same
@@ -107,20 +105,20 @@ at_same : (state : State) (step : ℕ → Step) (o : Option ℕ) → SameEvents 
 at_same state step None same all = same
 at_same state step (Some place) same all = all place
 
-given_same : (state : State) (place : ℕ) (line : LineGiven) → SameEvents state → SameOutcome (input_step iv_setup line place state)
+given_same : (state : State) (place : ℕ) (line : LineGiven) → SameEvents state → SameOutcome (input_step (setup_of state.algorithm) line place state)
 given_same state place line same =
-    attempt_same state (given_to iv_setup place state.clock 0 (Line line) state.mesh) same (λ after is. effect_follows state.clock state.mesh after (tickless iv_setup state.mesh place state.clock 0 (Line line) after refl tt is))
+    attempt_same state (given_to (setup_of state.algorithm) place state.clock 0 (Line line) state.mesh) same (λ after is. effect_follows (setup_of state.algorithm) state.clock state.mesh after (tickless (setup_of state.algorithm) state.mesh place state.clock 0 (Line line) after refl tt is))
 
-session_same : (state : State) (line : Mac → LineGiven) (node target : List ℕ) → SameEvents state → SameOutcome (session_step iv_setup line node target state)
+session_same : (state : State) (line : Mac → LineGiven) (node target : List ℕ) → SameEvents state → SameOutcome (session_step (setup_of state.algorithm) line node target state)
 session_same state line node target same =
-    let to : ℕ → ℕ → Step = λ place end s. input_step iv_setup (line (address_at end s.mesh.nodes)) place s in
+    let to : ℕ → ℕ → Step = λ place end s. input_step (setup_of state.algorithm) (line (address_at end s.mesh.nodes)) place s in
     at_same state (λ place. at_node target (to place)) (place_of state node) same (λ place.
     at_same state (to place) (place_of state target) same (λ end. given_same state place (line (address_at end state.mesh.nodes)) same))
 
-line_same : (state : State) (name : List ℕ) (line : LineGiven) → SameEvents state → SameOutcome (at_node name (input_step iv_setup line) state)
-line_same state name line same = at_same state (input_step iv_setup line) (place_of state name) same (λ place. given_same state place line same)
+line_same : (state : State) (name : List ℕ) (line : LineGiven) → SameEvents state → SameOutcome (at_node name (input_step (setup_of state.algorithm) line) state)
+line_same state name line same = at_same state (input_step (setup_of state.algorithm) line) (place_of state name) same (λ place. given_same state place line same)
 
-frame_same : (state : State) (name : List ℕ) (line : LineGiven) (group : Bool) → SameEvents state → SameOutcome (after_step state (cond group None (Some (at_node name (input_step iv_setup line)))))
+frame_same : (state : State) (name : List ℕ) (line : LineGiven) (group : Bool) → SameEvents state → SameOutcome (after_step state (cond group None (Some (at_node name (input_step (setup_of state.algorithm) line)))))
 frame_same state name line true same = same
 frame_same state name line false same = line_same state name line same
 
@@ -136,13 +134,17 @@ with_link_same : (state : State) (link : NetLink) → SameEvents state → SameE
 unfolding SameEvents
 with_link_same state link same = same
 
+choice_same : (state : State) (algorithm : Algorithm) → SameEvents state → SameOutcome (choice_step algorithm state)
+unfolding SameEvents
+choice_same state algorithm same = same
+
 course_same : (state : State) (t : ℕ) (o : Course) (stop : Option PassedLimit) → Follows state.mesh o.mesh → SameEvents state → SameOutcome (course_outcome state t o.mesh stop)
 course_same state t o None f same = gone_same state t o.mesh f same
 course_same state t o (Some p) f same = gone_same state p.moment o.mesh f same
 
-time_same : (state : State) (t : ℕ) (past : Bool) → SameEvents state → SameOutcome (cond past (Ends state (Limit Clock)) (run_until iv_setup t state))
+time_same : (state : State) (t : ℕ) (past : Bool) → SameEvents state → SameOutcome (cond past (Ends state (Limit Clock)) (run_until (setup_of state.algorithm) t state))
 time_same state t true same = same
-time_same state t false same = course_same state t (run_to iv_setup t state.mesh) (run_to iv_setup t state.mesh).stop (going_follows iv_setup t (begin state.mesh)) same
+time_same state t false same = course_same state t (run_to (setup_of state.algorithm) t state.mesh) (run_to (setup_of state.algorithm) t state.mesh).stop (going_follows (setup_of state.algorithm) t (begin state.mesh)) same
 
 -- something printed that is no event
 abbrev IsNoEvent : Printed → Type 0
@@ -152,44 +154,43 @@ print_same : (state : State) (printed : Printed) → IsNoEvent printed → SameE
 unfolding SameEvents
 print_same state printed none same = events_both state.printed (printed ∷ []) ∙ ap (λ es. events_in state.printed ++ es) none ∙ append-nil (events_in state.printed) ∙ same
 
-show_same : (state : State) (print : ℕ → NodeLog → Printed) (o : Option NodeLog) → ((node : NodeLog) → IsNoEvent (print state.clock node)) → SameEvents state
-    → SameOutcome (option_map_or (λ node. Goes (after_print state (print state.clock node))) o (Goes state))
+show_same : (state : State) (print : Algorithm → ℕ → NodeLog → Printed) (o : Option NodeLog) → ((node : NodeLog) → IsNoEvent (print state.algorithm state.clock node)) → SameEvents state
+    → SameOutcome (option_map_or (λ node. Goes (after_print state (print state.algorithm state.clock node))) o (Goes state))
 show_same state print None none same = same
-show_same state print (Some node) none same = print_same state (print state.clock node) (none node) same
+show_same state print (Some node) none same = print_same state (print state.algorithm state.clock node) (none node) same
 
-shown_same : (state : State) (name : List ℕ) (o : Option (ℕ → NodeLog → Printed)) → ((print : ℕ → NodeLog → Printed) → o ≡ Some print → (node : NodeLog) → IsNoEvent (print state.clock node)) → SameEvents state
+shown_same : (state : State) (name : List ℕ) (o : Option (Algorithm → ℕ → NodeLog → Printed)) → ((print : Algorithm → ℕ → NodeLog → Printed) → o ≡ Some print → (node : NodeLog) → IsNoEvent (print state.algorithm state.clock node)) → SameEvents state
     → SameOutcome (after_step state (option_map (show_step name) o))
 shown_same state name None none same = same
 shown_same state name (Some print) none same = show_same state print (node_named state name) (none print refl) same
 
 -- the tables that are shown are no events
-abbrev IfShown : ℕ → NodeLog → Option (ℕ → NodeLog → Printed) → Type 0
-IfShown now node None = Unit {0}
-IfShown now node (Some print) = IsNoEvent (print now node)
+abbrev IfShown : Algorithm → ℕ → NodeLog → Option (Algorithm → ℕ → NodeLog → Printed) → Type 0
+IfShown algorithm now node None = Unit {0}
+IfShown algorithm now node (Some print) = IsNoEvent (print algorithm now node)
 
-shown_none : (table : Table) (now : ℕ) (node : NodeLog) → IfShown now node (shown table)
+shown_none : (table : Table) (algorithm : Algorithm) (now : ℕ) (node : NodeLog) → IfShown algorithm now node (shown table)
 unfolding events_in
-shown_none Originators now node = refl
-shown_none Neighbors now node = refl
-shown_none Locals now node = refl
-shown_none Globals now node = refl
-shown_none Claims now node = tt
-shown_none Gateways now node = tt
-shown_none Groups now node = tt
-shown_none Addresses now node = tt
-shown_none Facts now node = tt
+shown_none Originators algorithm now node = refl
+shown_none Neighbors algorithm now node = refl
+shown_none Locals algorithm now node = refl
+shown_none Globals algorithm now node = refl
+shown_none Claims algorithm now node = tt
+shown_none Gateways algorithm now node = tt
+shown_none Groups algorithm now node = tt
+shown_none Addresses algorithm now node = tt
+shown_none Facts algorithm now node = tt
 
-tables_same : (table : Table) (now : ℕ) (print : ℕ → NodeLog → Printed) → shown table ≡ Some print → (node : NodeLog) → IsNoEvent (print now node)
-tables_same table now print is node = subst (IfShown now node) is (shown_none table now node)
+tables_same : (table : Table) (algorithm : Algorithm) (now : ℕ) (print : Algorithm → ℕ → NodeLog → Printed) → shown table ≡ Some print → (node : NodeLog) → IsNoEvent (print algorithm now node)
+tables_same table algorithm now print is node = subst (IfShown algorithm now node) is (shown_none table algorithm now node)
 
 decoded_none : (bytes : List ℕ) → IsNoEvent (Decoded bytes)
 unfolding events_in
 decoded_none bytes = refl
 
-command_same : (state : State) (command : Command) → SameEvents state → SameOutcome (after_step state (step_of iv_setup command))
+command_same : (state : State) (command : Command) → SameEvents state → SameOutcome (after_step state (step_of (setup_of state.algorithm) command))
 command_same state Nothing same = same
-command_same state (Algo Iv) same = same
-command_same state (Algo V) same = same
+command_same state (Algo algorithm) same = choice_same state algorithm same
 command_same state (Node name mac) same = full_same (nat_le nodes_limit (length state.mesh.nodes)) (Ends state (Limit Nodes)) (with_node state (new_node name mac state.clock)) same (with_node_same state (new_node name mac state.clock) same)
 command_same state (Link from to delay pattern throughput) same =
     let link : ℕ → ℕ → NetLink = λ start end. record { from = start; to = end; delay = delay; pattern = pattern; throughput = throughput } in
@@ -215,14 +216,14 @@ command_same state (Get node type_no) same = same
 command_same state (Ping node target) same = session_same state PingGiven node target same
 command_same state (Trace node target) same = session_same state TraceGiven node target same
 command_same state (RunFor time) same = time_same state (state.clock + time) (nat_lt clock_limit (state.clock + time)) same
-command_same state (Deliver number) same = attempt_same state (delivered iv_setup (number - 1) state.clock state.mesh) same (λ after is. effect_follows state.clock state.mesh after (delivered_effect iv_setup state.mesh (number - 1) state.clock after is))
-command_same state (Show node table) same = shown_same state node (shown table) (λ print is. tables_same table state.clock print is) same
+command_same state (Deliver number) same = attempt_same state (delivered (setup_of state.algorithm) (number - 1) state.clock state.mesh) same (λ after is. effect_follows (setup_of state.algorithm) state.clock state.mesh after (delivered_effect (setup_of state.algorithm) state.mesh (number - 1) state.clock after is))
+command_same state (Show node table) same = shown_same state node (shown table) (λ print is. tables_same table state.algorithm state.clock print is) same
 command_same state (Decode bytes) same = print_same state (Decoded bytes) (decoded_none bytes) same
 
-carried_same : (state : State) (command : Command) → SameEvents state → SameOutcome (carried_out iv_setup state command)
+carried_same : (state : State) (command : Command) → SameEvents state → SameOutcome (carried_out (setup_of state.algorithm) state command)
 carried_same state command same = go (first_refused_rule state command)
   where
-    go : (o : Option Refusal) → SameOutcome (unless_refused state o (after_step state (step_of iv_setup command)))
+    go : (o : Option Refusal) → SameOutcome (unless_refused state o (after_step state (step_of (setup_of state.algorithm) command)))
     go None = command_same state command same
     go (Some refusal) = same
 
@@ -266,5 +267,5 @@ lines_by_table_are_right choice lines orig before after names number moment me n
     let event : Event = FrameSent number moment me next (Some ByTable) bytes in
     let events : run.state.mesh.events ≡ events_in before ++ event ∷ events_in after =
     sym (printed_same choice lines) ∙ ap events_in printed ∙ events_both before (Happened names event ∷ after) in
-    events_by_table_are_right iv_queries iv_keeps run.state.mesh (lines_hold (start choice) lines (first_holds choice)).reachable orig (events_in before) (events_in after) number moment me next bytes events
+    events_by_table_are_right (queries_of run.state.algorithm) (algorithms_keep run.state.algorithm) run.state.mesh (lines_hold (start choice) lines (first_holds choice)).reachable orig (events_in before) (events_in after) number moment me next bytes events
     (λ n e told. let p = printed_has before (Alias orig n e) told in none p.0 n e p.1)

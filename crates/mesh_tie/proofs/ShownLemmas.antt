@@ -12,12 +12,12 @@ use Rattle.mesh_model.specs.declared.line_form.Command.{Command}
 use Rattle.mesh_model.specs.Net.Mesh.{Mesh, Setup}
 use Rattle.mesh_model.specs.Net.Next.{Has}
 use Rattle.mesh_model.specs.Net.Runs.{Course, PassedLimit, begin, run_to}
-use Rattle.mesh_model.specs.Routes.AlgorithmIv.{iv_queries}
+use Rattle.mesh_model.specs.Routes.Algorithms.{queries_of}
 use Rattle.mesh_model.specs.Run.KnownTables.{part_of}
 use Rattle.mesh_model.specs.Run.Outcome.{Outcome, Ends, Goes, reached}
 use Rattle.mesh_model.specs.Run.Passing.{course_outcome, events_since, gone_on}
 use Rattle.mesh_model.specs.Run.PlainRun.{Run, after_line, after_lines, after_outcome, after_reading, line_outcome, passes_input, passes_line, start}
-use Rattle.mesh_model.specs.Run.Rules.{carried_out, iv_setup}
+use Rattle.mesh_model.specs.Run.Rules.{carried_out, setup_of}
 use Rattle.mesh_model.specs.Run.Shown.{known_to}
 use Rattle.mesh_model.specs.Run.State.{Printed, Happened, State, names_of}
 use Rattle.mesh_model.specs.Scenario.Commands.{command_of_line}
@@ -29,17 +29,17 @@ use Rattle.mesh_model.specs.Tables.Versions.{Version}
 use Rattle.mesh_model.specs.Text.GlobalTables.{GlobalPart}
 use Rattle.mesh_laws.proofs.DifferenceLemmas.{agrees_by_checksums}
 use Rattle.mesh_laws.proofs.Lines.Courses.{Follows, going_follows, since_is}
-use Rattle.mesh_laws.proofs.Lines.Ways.{Led, again, ended, given, led, linked, noded, passed, printed, stayed}
+use Rattle.mesh_laws.proofs.Lines.Ways.{Led, again, chose, ended, given, led, linked, noded, passed, printed, stayed}
 use Rattle.mesh_laws.proofs.Schedule.Members.{has_either, has_left, has_map, has_right}
 use Rattle.mesh_laws.proofs.Schedule.Steps.{Effect, delivered_effect, no_ticks, tickless}
 use Rattle.mesh_tie.specs.Originators.{commits_of, log_of}
 use Rattle.mesh_tie.specs.ShownTables.{IsOfCommit, ShowsCommits, ShownTablesAreCommitted}
 use Rattle.mesh_tie.specs.Tie.{known_at_node}
 use Rattle.mesh_tie.specs.TieLaws.{HoldsTheTold, IsWithoutAlias}
-use Rattle.mesh_tie.proofs.IvLemmas.{iv_keeps}
 use Rattle.mesh_tie.proofs.LawLemmas.{agreed_are_told, held_are_committed}
 use Rattle.mesh_tie.proofs.LineReach.{RunHolds, first_holds, lines_hold}
 use Rattle.mesh_tie.proofs.SeenLemmas.{aliases_are_seen}
+use Rattle.mesh_tie.proofs.VLemmas.{algorithms_keep}
 
 -- ---- events are printed
 -- every event of a state is printed
@@ -74,6 +74,7 @@ led_prints : (setup : Setup) (state : State) (command : Command) (outcome : Outc
 led_prints setup state command outcome (ended stop e) all = subst (λ o. EventsPrinted (reached o)) (sym e) all
 led_prints setup state command outcome (printed more e) all = subst (λ o. EventsPrinted (reached o)) (sym e) (λ event has. let p = all event has in (p.0, has_left state.printed (more ∷ []) (Happened p.0 event) p.1))
 led_prints setup state command outcome (stayed e) all = subst (λ o. EventsPrinted (reached o)) (sym e) all
+led_prints setup state command outcome (chose algorithm is e) all = subst (λ o. EventsPrinted (reached o)) (sym e) all
 led_prints setup state command outcome (noded node new made few e) all = subst (λ o. EventsPrinted (reached o)) (sym e) all
 led_prints setup state command outcome (linked link delay e) all = subst (λ o. EventsPrinted (reached o)) (sym e) all
 led_prints setup state command outcome (given place input after none gives g e) all = subst (λ o. EventsPrinted (reached o)) (sym e)
@@ -84,7 +85,7 @@ led_prints setup state command outcome (passed time run low e) all = subst (λ o
     (course_prints state (state.clock + time) (run_to setup (state.clock + time) state.mesh) (run_to setup (state.clock + time) state.mesh).stop (going_follows setup (state.clock + time) (begin state.mesh)) all)
 
 reading_prints : (state : State) (r : Reading) → EventsPrinted state → EventsPrinted (reached (after_reading state r))
-reading_prints state (Ok command) all = led_prints iv_setup state command (carried_out iv_setup state command) (led iv_setup state command) all
+reading_prints state (Ok command) all = led_prints (setup_of state.algorithm) state command (carried_out (setup_of state.algorithm) state command) (led (setup_of state.algorithm) state command) all
 reading_prints state (Err stop) all = all
 
 line_prints : (state : State) (before : ℕ) (line : List ℕ) → EventsPrinted state → EventsPrinted (reached (line_outcome state before line))
@@ -164,27 +165,27 @@ has_mapped f (x ∷ xs) y has = mapped_step f x (filter_map f xs) y (f x) refl h
 -- ---- the law
 run_shows : (run : Run) → RunHolds run → EventsPrinted run.state → ShowsCommits run
 run_shows run h events place node part found has ok none =
-    let q = iv_queries node.mac in
-    let known = known_to node in
+    let q = queries_of run.state.algorithm node.mac in
+    let known = known_to run.state.algorithm node in
     let from = has_mapped (λ orig. part_of orig (Rattle.mesh_model.specs.Knowledge.Known.known_at q known run.state.clock orig)) (originators_by known.tables) part has in
     let p = part_live (q.live known.routes run.state.clock from.0) from.0 (known_by known.tables from.0) part from.1 ok in
     of_part from.0 p
   where
-    of_part : (orig : Mac) → PartSays orig (known_by (known_at_node iv_queries node).tables orig) part → IsOfCommit run.state.mesh node part
+    of_part : (orig : Mac) → PartSays orig (known_by (known_at_node (queries_of run.state.algorithm) node).tables orig) part → IsOfCommit run.state node part
     of_part orig p =
-        let clear : IsWithoutAlias iv_queries orig run.state.mesh = record {
-          keep = iv_keeps;
+        let clear : IsWithoutAlias (queries_of run.state.algorithm) orig run.state.mesh = record {
+          keep = algorithms_keep run.state.algorithm;
           reachable = h.reachable;
-          none = aliases_are_seen iv_queries run.state.mesh h.reachable orig (λ number earlier told. let e = events (Alias orig number earlier) told in
+          none = aliases_are_seen (queries_of run.state.algorithm) run.state.mesh h.reachable orig (λ number earlier told. let e = events (Alias orig number earlier) told in
               none e.0 number earlier (subst (λ o. Has run.state.printed (Happened e.0 (Alias o number earlier))) (sym p.orig_is) e.1));
         } in
-        let told = agreed_are_told iv_queries orig run.state.mesh clear place node p.last p.held found p.told_is p.held_is p.agreed in
+        let told = agreed_are_told (queries_of run.state.algorithm) orig run.state.mesh clear place node p.last p.held found p.told_is p.held_is p.agreed in
         let bytes = ((agrees_by_checksums p.last.stamp p.held).0 (subst (λ o. agrees o (Some p.held) ≡ true) (ap (option_map (λ (t : LastTold). t.stamp)) p.told_is)
-        (subst (λ o. agrees (option_map (λ (t : LastTold). t.stamp) (known_by (known_at_node iv_queries node).tables orig).told) o ≡ true) p.held_is p.agreed))).0 in
-        subst_orig orig p told bytes (held_are_committed iv_queries orig run.state.mesh clear place node p.held found p.held_is)
+        (subst (λ o. agrees (option_map (λ (t : LastTold). t.stamp) (known_by (known_at_node (queries_of run.state.algorithm) node).tables orig).told) o ≡ true) p.held_is p.agreed))).0 in
+        subst_orig orig p told bytes (held_are_committed (queries_of run.state.algorithm) orig run.state.mesh clear place node p.held found p.held_is)
       where
-        subst_orig : (orig : Mac) (p : PartSays orig (known_by (known_at_node iv_queries node).tables orig) part) → HoldsTheTold orig run.state.mesh p.last p.held → p.held.byte ≡ p.last.stamp.byte
-            → Rattle.mesh_laws.specs.Machine.World.IsCommit (commits_of orig run.state.mesh) p.held → IsOfCommit run.state.mesh node part
+        subst_orig : (orig : Mac) (p : PartSays orig (known_by (known_at_node (queries_of run.state.algorithm) node).tables orig) part) → HoldsTheTold orig run.state.mesh p.last p.held → p.held.byte ≡ p.last.stamp.byte
+            → Rattle.mesh_laws.specs.Machine.World.IsCommit (commits_of orig run.state.mesh) p.held → IsOfCommit run.state node part
         subst_orig orig p told bytes commit = record {
           commit = p.held;
           is_commit = subst (λ o. Rattle.mesh_laws.specs.Machine.World.IsCommit (commits_of o run.state.mesh) p.held) (sym p.orig_is) commit;
@@ -193,7 +194,7 @@ run_shows run h events place node part found has ok none =
           entries = p.entries;
           frame = told.frame;
           last = p.last;
-          accepted = subst (λ o. (known_by (known_at_node iv_queries node).tables o).told ≡ Some p.last) (sym p.orig_is) p.told_is;
+          accepted = subst (λ o. (known_by (known_at_node (queries_of run.state.algorithm) node).tables o).told ≡ Some p.last) (sym p.orig_is) p.told_is;
           sent = told.sent;
           at_root = told.table ∙ ap (λ o. (Rattle.mesh_model.specs.Commits.Announcements.commit_at_root o (log_of o run.state.mesh.nodes) told.frame.root).table) (sym p.orig_is);
         }

@@ -8,7 +8,7 @@ use Rattle.mesh_model.specs.declared.ending.LimitName.TheVariants.{Clock, Input,
 use Rattle.mesh_model.specs.declared.ending.Refusal.{Refusal}
 use Rattle.mesh_model.specs.declared.ending.Stop.TheVariants.{Limit}
 use Rattle.mesh_model.specs.declared.frame_choice.FrameChoice.{FrameChoice}
-use Rattle.mesh_model.specs.declared.line_form.Algorithm.TheVariants.{Iv, V}
+use Rattle.mesh_model.specs.declared.line_form.Algorithm.{Algorithm}
 use Rattle.mesh_model.specs.declared.line_form.Command.{Command}
 use Rattle.mesh_model.specs.declared.line_form.Command.TheVariants.{Nothing, Algo, Node, Link, Lan, Frame, Gone, Join, Leave, Arp, Dhcp, Wifi, GwOff, GwServer, GwClient, Mcast, Dat, Alfred, Put, Get, Ping, Trace, Run as RunFor, Deliver, Show, Decode}
 use Rattle.mesh_model.specs.declared.line_form.Table.{Table}
@@ -25,7 +25,7 @@ use Rattle.mesh_model.specs.Net.Sending.{Attempt}
 use Rattle.mesh_model.specs.Run.Outcome.{Outcome, Ends, Goes, reached}
 use Rattle.mesh_model.specs.Run.Passing.{after_attempt, course_outcome, events_since, gone_on, run_until}
 use Rattle.mesh_model.specs.Run.PlainRun.{Run, after_line, after_lines, after_outcome, after_reading, line_outcome, passes_input, passes_line, start}
-use Rattle.mesh_model.specs.Run.Rules.{after_step, carried_out, first_refused_rule, iv_setup, unless_refused}
+use Rattle.mesh_model.specs.Run.Rules.{after_step, carried_out, first_refused_rule, setup_of, unless_refused}
 use Rattle.mesh_model.specs.Run.Shown.{after_print, global_table, shown}
 use Rattle.mesh_model.specs.Run.State.{Printed, GlobalsShown, Decoded, Happened, State, names_of, node_named, place_of}
 use Rattle.mesh_model.specs.Run.Steps.{Step, at_node, input_step, link_step, new_node, session_step, show_step, step_of, with_link, with_node}
@@ -45,7 +45,7 @@ record OfNode (state : State) (table : GlobalTable) : Type 0 where
   place : ℕ
   node : NodeLog
   found : slice_get state.mesh.nodes place ≡ Some node
-  is : table ≡ global_table state.clock node
+  is : table ≡ global_table state.algorithm state.clock node
 
 -- a table is that of a node of a state, and is all that is new
 record IsAlone (state : State) (new : List Printed) (table : GlobalTable) : Type 0 where
@@ -83,16 +83,16 @@ adds_at : (state : State) (step : ℕ → Step) (o : Option ℕ) → ((place : �
 adds_at state step None all = adds_none state state refl
 adds_at state step (Some place) all = all place
 
-adds_line : (state : State) (name : List ℕ) (line : LineGiven) → AddsTo state (at_node name (input_step iv_setup line) state)
-adds_line state name line = adds_at state (input_step iv_setup line) (place_of state name) (λ place. adds_attempt state (given_to iv_setup place state.clock 0 (Line line) state.mesh))
+adds_line : (state : State) (name : List ℕ) (line : LineGiven) → AddsTo state (at_node name (input_step (setup_of state.algorithm) line) state)
+adds_line state name line = adds_at state (input_step (setup_of state.algorithm) line) (place_of state name) (λ place. adds_attempt state (given_to (setup_of state.algorithm) place state.clock 0 (Line line) state.mesh))
 
-adds_session : (state : State) (line : Mac → LineGiven) (node target : List ℕ) → AddsTo state (session_step iv_setup line node target state)
+adds_session : (state : State) (line : Mac → LineGiven) (node target : List ℕ) → AddsTo state (session_step (setup_of state.algorithm) line node target state)
 adds_session state line node target =
-    let to : ℕ → ℕ → Step = λ place end s. input_step iv_setup (line (address_at end s.mesh.nodes)) place s in
+    let to : ℕ → ℕ → Step = λ place end s. input_step (setup_of state.algorithm) (line (address_at end s.mesh.nodes)) place s in
     adds_at state (λ place. at_node target (to place)) (place_of state node) (λ place.
-    adds_at state (to place) (place_of state target) (λ end. adds_attempt state (given_to iv_setup place state.clock 0 (Line (line (address_at end state.mesh.nodes))) state.mesh)))
+    adds_at state (to place) (place_of state target) (λ end. adds_attempt state (given_to (setup_of state.algorithm) place state.clock 0 (Line (line (address_at end state.mesh.nodes))) state.mesh)))
 
-adds_frame : (state : State) (name : List ℕ) (line : LineGiven) (group : Bool) → AddsTo state (after_step state (cond group None (Some (at_node name (input_step iv_setup line)))))
+adds_frame : (state : State) (name : List ℕ) (line : LineGiven) (group : Bool) → AddsTo state (after_step state (cond group None (Some (at_node name (input_step (setup_of state.algorithm) line)))))
 adds_frame state name line true = adds_none state state refl
 adds_frame state name line false = adds_line state name line
 
@@ -104,9 +104,9 @@ adds_course : (state : State) (t : ℕ) (mesh : Mesh) (stop : Option PassedLimit
 adds_course state t mesh None = adds_events state t mesh
 adds_course state t mesh (Some p) = adds_events state p.moment mesh
 
-adds_time : (state : State) (t : ℕ) (past : Bool) → AddsTo state (cond past (Ends state (Limit Clock)) (run_until iv_setup t state))
+adds_time : (state : State) (t : ℕ) (past : Bool) → AddsTo state (cond past (Ends state (Limit Clock)) (run_until (setup_of state.algorithm) t state))
 adds_time state t true = adds_none state state refl
-adds_time state t false = adds_course state t (run_to iv_setup t state.mesh).mesh (run_to iv_setup t state.mesh).stop
+adds_time state t false = adds_course state t (run_to (setup_of state.algorithm) t state.mesh).mesh (run_to (setup_of state.algorithm) t state.mesh).stop
 
 -- what is printed of a node
 adds_print : (state : State) (one : Printed) → ((table : GlobalTable) → GlobalsShown table ≡ one → OfNode state table) → Added state (after_print state one)
@@ -117,9 +117,9 @@ adds_print state one of = record { new = one ∷ []; printed = refl; tables = λ
     only table (inr none) = absurd none
 
 -- a table that is printed of a node is its own
-abbrev PrintsOwn : State → Option (ℕ → NodeLog → Printed) → Type 0
+abbrev PrintsOwn : State → Option (Algorithm → ℕ → NodeLog → Printed) → Type 0
 PrintsOwn state None = Unit {0}
-PrintsOwn state (Some print) = (node : NodeLog) (table : GlobalTable) → GlobalsShown table ≡ print state.clock node → table ≡ global_table state.clock node
+PrintsOwn state (Some print) = (node : NodeLog) (table : GlobalTable) → GlobalsShown table ≡ print state.algorithm state.clock node → table ≡ global_table state.algorithm state.clock node
 
 prints_own : (state : State) (table : Table) → PrintsOwn state (shown table)
 prints_own state Originators = λ node t is. cc
@@ -136,18 +136,17 @@ node_at : (state : State) (o : Option ℕ) (node : NodeLog) → option_and_then 
 node_at state None node is = cc
 node_at state (Some place) node is = (place, is)
 
-adds_show : (state : State) (name : List ℕ) (o : Option (ℕ → NodeLog → Printed)) → PrintsOwn state o → AddsTo state (after_step state (option_map (show_step name) o))
+adds_show : (state : State) (name : List ℕ) (o : Option (Algorithm → ℕ → NodeLog → Printed)) → PrintsOwn state o → AddsTo state (after_step state (option_map (show_step name) o))
 adds_show state name None own = adds_none state state refl
 adds_show state name (Some print) own = go (node_named state name) (λ node is. node_at state (place_of state name) node is)
   where
-    go : (o : Option NodeLog) → ((node : NodeLog) → o ≡ Some node → (place : ℕ) × (slice_get state.mesh.nodes place ≡ Some node)) → AddsTo state (option_map_or (λ node. Goes (after_print state (print state.clock node))) o (Goes state))
+    go : (o : Option NodeLog) → ((node : NodeLog) → o ≡ Some node → (place : ℕ) × (slice_get state.mesh.nodes place ≡ Some node)) → AddsTo state (option_map_or (λ node. Goes (after_print state (print state.algorithm state.clock node))) o (Goes state))
     go None at = adds_none state state refl
-    go (Some node) at = adds_print state (print state.clock node) (λ table is. let p = at node refl in record { place = p.0; node = node; found = p.1; is = own node table is })
+    go (Some node) at = adds_print state (print state.algorithm state.clock node) (λ table is. let p = at node refl in record { place = p.0; node = node; found = p.1; is = own node table is })
 
-adds_command : (state : State) (command : Command) → AddsTo state (after_step state (step_of iv_setup command))
+adds_command : (state : State) (command : Command) → AddsTo state (after_step state (step_of (setup_of state.algorithm) command))
 adds_command state Nothing = adds_none state state refl
-adds_command state (Algo Iv) = adds_none state state refl
-adds_command state (Algo V) = adds_none state state refl
+adds_command state (Algo algorithm) = adds_none state (record state { algorithm = algorithm }) refl
 adds_command state (Node name mac) = adds_full (nat_le nodes_limit (length state.mesh.nodes)) state (Ends state (Limit Nodes)) (with_node state (new_node name mac state.clock)) (adds_none state state refl) (adds_none state (with_node state (new_node name mac state.clock)) refl)
 adds_command state (Link from to delay pattern throughput) =
     let link : ℕ → ℕ → NetLink = λ start end. record { from = start; to = end; delay = delay; pattern = pattern; throughput = throughput } in
@@ -173,17 +172,17 @@ adds_command state (Get node type_no) = adds_none state state refl
 adds_command state (Ping node target) = adds_session state PingGiven node target
 adds_command state (Trace node target) = adds_session state TraceGiven node target
 adds_command state (RunFor time) = adds_time state (state.clock + time) (nat_lt clock_limit (state.clock + time))
-adds_command state (Deliver number) = adds_attempt state (delivered iv_setup (number - 1) state.clock state.mesh)
+adds_command state (Deliver number) = adds_attempt state (delivered (setup_of state.algorithm) (number - 1) state.clock state.mesh)
 adds_command state (Show node table) = adds_show state node (shown table) (prints_own state table)
 adds_command state (Decode bytes) = adds_print state (Decoded bytes) (λ table is. absurd (no_table table is))
   where
     no_table : (table : GlobalTable) → GlobalsShown table ≡ Decoded bytes → ⊥
     no_table table is = cc
 
-adds_carried : (state : State) (command : Command) → AddsTo state (carried_out iv_setup state command)
+adds_carried : (state : State) (command : Command) → AddsTo state (carried_out (setup_of state.algorithm) state command)
 adds_carried state command = go (first_refused_rule state command)
   where
-    go : (o : Option Refusal) → AddsTo state (unless_refused state o (after_step state (step_of iv_setup command)))
+    go : (o : Option Refusal) → AddsTo state (unless_refused state o (after_step state (step_of (setup_of state.algorithm) command)))
     go None = adds_command state command
     go (Some refusal) = adds_none state state refl
 

@@ -13,9 +13,9 @@ use Rattle.mesh_model.specs.declared.frame_choice.FrameChoice.{FrameChoice}
 use Rattle.mesh_model.specs.Clients.Log.{Log, LogEntry}
 use Rattle.mesh_model.specs.Net.Mesh.{NodeLog, Mesh}
 use Rattle.mesh_model.specs.Net.Next.{Has}
-use Rattle.mesh_model.specs.Routes.AlgorithmIv.{iv_queries}
+use Rattle.mesh_model.specs.Routes.Algorithms.{queries_of}
 use Rattle.mesh_model.specs.Routes.Queries.{Queries}
-use Rattle.mesh_model.specs.Run.PlainRun.{after_lines, start}
+use Rattle.mesh_model.specs.Run.PlainRun.{Run, after_lines, start}
 use Rattle.mesh_model.specs.Run.State.{Printed, Happened}
 use Rattle.mesh_tie.specs.ByTable.{IsSentInStep}
 use Rattle.mesh_tie.specs.ShownTables.{PrintedNone}
@@ -51,6 +51,11 @@ EventsByTableAreRight = (queries : Mac → Queries) → AllKeep queries → (mes
     mesh.events ≡ before ++ FrameSent number moment me next (Some Table) bytes ∷ after →
     ToldNoneOf orig before → SentRightly queries orig mesh moment me bytes
 
+-- the node of an address sent bytes by table at a moment of a run, rightly
+abbrev pub SentRightlyIn : Run → Mac → ℕ → Mac → List ℕ → Type 0
+SentRightlyIn run orig moment me bytes =
+    SentRightly (queries_of run.state.algorithm) orig run.state.mesh moment me bytes
+
 -- and so what the run of some lines prints of them
 abbrev pub PrintsRightFrames : FrameChoice → List (List ℕ) → Type 0
 PrintsRightFrames choice lines = (orig : Mac) (before after : List Printed)
@@ -58,7 +63,7 @@ PrintsRightFrames choice lines = (orig : Mac) (before after : List Printed)
     (after_lines (start choice) lines).state.printed
     ≡ before ++ Happened names (FrameSent number moment me next (Some Table) bytes) ∷ after →
     PrintedNone orig before →
-    SentRightly iv_queries orig (after_lines (start choice) lines).state.mesh moment me bytes
+    SentRightlyIn (after_lines (start choice) lines) orig moment me bytes
 
 abbrev pub LinesByTableAreRight : Type 0
 LinesByTableAreRight = (choice : FrameChoice) (lines : List (List ℕ)) →

@@ -1,16 +1,16 @@
--- The laws hold of every plain run: each mesh of it is one that steps reach. Its lines are read as
--- clients and addresses that records can tell, each of its happenings is a step, and moments never
--- fall. The main word is `PlainRunsAreReachable`.
+-- The laws hold of every plain run: each mesh of it is one that steps reach under the algorithm
+-- that was chosen. Its lines are read as clients and addresses that records can tell, each of its
+-- happenings is a step, and moments never fall. The main word is `PlainRunsAreReachable`.
 use Rattle.std.specs.Prelude.{◌≡◌, ◌≤◌, ℕ, List, slice_get, Some, Ok, ⊤}
 use Rattle.mesh_model.specs.declared.frame_choice.FrameChoice.{FrameChoice}
 use Rattle.mesh_model.specs.declared.line_form.Command.{Command}
 use Rattle.mesh_model.specs.declared.line_form.Command.TheVariants.{Nothing, Algo, Node, Link, Lan, Frame, Gone, Join, Leave, Arp, Dhcp, Wifi, GwOff, GwServer, GwClient, Mcast, Dat, Alfred, Put, Get, Ping, Trace, Run, Deliver, Show, Decode}
 use Rattle.mesh_model.specs.Clients.Mentions.{key_of}
 use Rattle.mesh_model.specs.Net.Mesh.{NodeLog, Mesh}
-use Rattle.mesh_model.specs.Routes.AlgorithmIv.{iv_queries}
+use Rattle.mesh_model.specs.Routes.Algorithms.{queries_of}
 use Rattle.mesh_model.specs.Run.Outcome.{reached}
 use Rattle.mesh_model.specs.Run.PlainRun.{plain_run}
-use Rattle.mesh_model.specs.Run.Rules.{carried_out, iv_setup}
+use Rattle.mesh_model.specs.Run.Rules.{carried_out, setup_of}
 use Rattle.mesh_model.specs.Run.State.{State}
 use Rattle.mesh_model.specs.Scenario.Commands.{command_of_line}
 use Rattle.mesh_laws.specs.LineLaws.{HasDelay, IsQuietNow, IsReached}
@@ -56,20 +56,24 @@ abbrev pub NoneIsLater : Mesh → ℕ → Type 0
 NoneIsLater mesh now = (place : ℕ) (node : NodeLog) → slice_get mesh.nodes place ≡ Some node →
     newest_moment node.log ≤ now
 
+-- a state's mesh is one that steps reach under its algorithm
+abbrev pub HasReachableMesh : State → Type 0
+HasReachableMesh state = IsReachable (queries_of state.algorithm) state.mesh
+
 -- what holds of every state between lines
 pub record IsBetweenLines (state : State) : Type 0 where
   pub is_reached : IsReached state
   pub quiet : IsQuietNow state
-  pub reachable : IsReachable iv_queries state.mesh
+  pub reachable : HasReachableMesh state
   pub settled : NoneIsLater state.mesh state.clock
 
 -- a command leads to a mesh that steps reach, also where it ends the run
 abbrev pub CommandsAreSteps : Type 0
 CommandsAreSteps = (state : State) (command : Command) → IsBetweenLines state →
     HasDelay command → IsTellable command →
-    IsReachable iv_queries (reached (carried_out iv_setup state command)).mesh
+    HasReachableMesh (reached (carried_out (setup_of state.algorithm) state command))
 
 -- every plain run leads to a mesh that steps reach
 abbrev pub PlainRunsAreReachable : Type 0
 PlainRunsAreReachable = (choice : FrameChoice) (input : List ℕ) →
-    IsReachable iv_queries (plain_run choice input).state.mesh
+    HasReachableMesh (plain_run choice input).state

@@ -7,12 +7,12 @@ use Rattle.mesh_base.specs.declared.event.Event.TheVariants.{Alias}
 use Rattle.mesh_base.specs.declared.names.NodeName.{NodeName}
 use Rattle.mesh_model.specs.declared.frame_choice.FrameChoice.{FrameChoice}
 use Rattle.mesh_model.specs.Commits.Announcements.{commit_at_root}
-use Rattle.mesh_model.specs.Net.Mesh.{NodeLog, SentFrame, Mesh}
+use Rattle.mesh_model.specs.Net.Mesh.{NodeLog, SentFrame}
 use Rattle.mesh_model.specs.Net.Next.{Has}
-use Rattle.mesh_model.specs.Routes.AlgorithmIv.{iv_queries}
+use Rattle.mesh_model.specs.Routes.Algorithms.{queries_of}
 use Rattle.mesh_model.specs.Run.PlainRun.{Run, after_lines, start}
 use Rattle.mesh_model.specs.Run.Shown.{global_table}
-use Rattle.mesh_model.specs.Run.State.{Printed, GlobalsShown, Happened}
+use Rattle.mesh_model.specs.Run.State.{Printed, GlobalsShown, Happened, State}
 use Rattle.mesh_model.specs.Tables.Known.{LastTold, known_by}
 use Rattle.mesh_model.specs.Tables.Versions.{Version}
 use Rattle.mesh_model.specs.Text.GlobalTables.{GlobalPart, GlobalTable}
@@ -25,27 +25,30 @@ abbrev pub PrintedNone : Mac → List Printed → Type 0
 PrintedNone orig printed = (names : List NodeName) (number earlier : ℕ) →
     Has printed (Happened names (Alias orig number earlier)) → ⊥
 
--- a part that a node shows is of a commit: its byte and its entries are those of the commit, and it
--- is that of the root of the frame that brought the message which the node accepted last
-pub record IsOfCommit (mesh : Mesh) (node : NodeLog) (part : GlobalPart) : Type 0 where
+-- a part that a node of a state shows is of a commit: its byte and its entries are those of the
+-- commit, and it is that of the root of the frame that brought the message which the node accepted
+-- last
+pub record IsOfCommit (state : State) (node : NodeLog) (part : GlobalPart) : Type 0 where
   pub commit : Version
-  pub is_commit : IsCommit (commits_of part.row.orig mesh) commit
+  pub is_commit : IsCommit (commits_of part.row.orig state.mesh) commit
   pub held : part.row.held ≡ Some commit.byte
   pub told : part.row.told ≡ commit.byte
   pub entries : part.entries ≡ commit.table
   pub last : LastTold
-  pub accepted : (known_by (known_at_node iv_queries node).tables part.row.orig).told ≡ Some last
+  pub accepted : (known_by (known_at_node (queries_of state.algorithm) node).tables
+      part.row.orig).told ≡ Some last
   pub frame : SentFrame
-  pub sent : slice_get mesh.frames (last.frame - 1) ≡ Some frame
+  pub sent : slice_get state.mesh.frames (last.frame - 1) ≡ Some frame
   pub at_root : commit.table
-      ≡ (commit_at_root part.row.orig (log_of part.row.orig mesh.nodes) frame.root).table
+      ≡ (commit_at_root part.row.orig (log_of part.row.orig state.mesh.nodes) frame.root).table
 
 -- whatever a run would show, behind so many of its lines, of a node
 abbrev pub ShowsCommits : Run → Type 0
 ShowsCommits run = (place : ℕ) (node : NodeLog) (part : GlobalPart) →
     slice_get run.state.mesh.nodes place ≡ Some node →
-    Has (global_table run.state.clock node).parts part → part.row.ok ≡ true →
-    PrintedNone part.row.orig run.state.printed → IsOfCommit run.state.mesh node part
+    Has (global_table run.state.algorithm run.state.clock node).parts part →
+    part.row.ok ≡ true → PrintedNone part.row.orig run.state.printed →
+    IsOfCommit run.state node part
 
 -- each table that a run shows is shown behind some of its lines
 abbrev pub ShownTablesAreCommitted : Type 0
@@ -56,7 +59,7 @@ ShownTablesAreCommitted = (choice : FrameChoice) (lines : List (List ℕ)) →
 pub record IsTableOf (run : Run) (node : NodeLog) (table : GlobalTable) : Type 0 where
   pub place : ℕ
   pub found : slice_get run.state.mesh.nodes place ≡ Some node
-  pub table_is : table ≡ global_table run.state.clock node
+  pub table_is : table ≡ global_table run.state.algorithm run.state.clock node
 
 -- a table was printed right behind some of these lines, as that of a node, and a part of it is of
 -- the commit that the node was told last
@@ -68,7 +71,7 @@ pub record WasCommitted (choice : FrameChoice) (lines : List (List ℕ)) (before
   pub printed_before : before ≡ (after_lines (start choice) done).state.printed
   pub node : NodeLog
   pub shown : IsTableOf (after_lines (start choice) done) node table
-  pub of_commit : IsOfCommit (after_lines (start choice) done).state.mesh node part
+  pub of_commit : IsOfCommit (after_lines (start choice) done).state node part
 
 -- each table that the run of some lines prints is so in what it prints as `ok`
 abbrev pub PrintsCommits : FrameChoice → List (List ℕ) → Type 0

@@ -1,11 +1,11 @@
 -- What is asked of a routing algorithm, so that an originator message stays its originator's: one
--- that a node begins names the node, and one that it sends on names the originator that it came
--- with. The main word is `KeepsOriginators`.
-use Rattle.std.specs.Prelude.{◌≡◌, ℕ, length, Some, ⊤}
+-- that a node begins names the node, one that it sends on names the originator that it came with,
+-- and no other stands where an ELP does. The main word is `KeepsOriginators`.
+use Rattle.std.specs.Prelude.{◌≡◌, ℕ, true, length, Some, ⊤}
 use Rattle.mesh_base.specs.declared.address.Mac.{Mac}
 use Rattle.mesh_model.specs.declared.packet.Head.{Head}
 use Rattle.mesh_model.specs.declared.packet.Head.TheVariants.{IvOgm, Bcast, Elp, Ogm2, Unicast, Frag, Unicast4, Icmp, Utvlv}
-use Rattle.mesh_model.specs.Routes.Queries.{Queries}
+use Rattle.mesh_model.specs.Routes.Queries.{Queries, is_elp}
 use Rattle.mesh_model.specs.Routes.RouteLog.{RouteLog}
 
 -- an address of six bytes
@@ -57,3 +57,6 @@ pub record KeepsOriginators (me : Mac) (q : Queries) : Type 0 where
   pub onward : (log : RouteLog) (moment : ℕ) (from : Mac) (throughput : ℕ) (head sent : Head)
       (orig : Mac) → IsWhole from → IsMessageOf orig head →
       (q.hear log moment from throughput head).forward ≡ Some sent → IsMessageOf orig sent
+  -- what is sent at a tick as an ELP is one
+  pub elps : (log : RouteLog) (index : ℕ) (head : Head) →
+      (q.beats log index).elp ≡ Some head → is_elp head ≡ true

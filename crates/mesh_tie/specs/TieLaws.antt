@@ -5,6 +5,7 @@
 -- are `StepsAreMoves`, `HeldAreCommitted` and `AgreedAreTold`.
 use Rattle.std.specs.Prelude.{◌≡◌, ◌⊎◌, ◌-◌, ℕ, [], slice_get, Some, IsTrue}
 use Rattle.mesh_base.specs.declared.address.Mac.{Mac}
+use Rattle.mesh_model.specs.declared.line_form.Algorithm.{Algorithm}
 use Rattle.mesh_model.specs.Clients.Log.{Log}
 use Rattle.mesh_model.specs.Commits.Announcements.{commit_at_root}
 use Rattle.mesh_model.specs.Commits.History.{commits}
@@ -16,7 +17,7 @@ use Rattle.mesh_model.specs.Packets.Containers.{containers_of}
 use Rattle.mesh_model.specs.Packets.Contents.{first_table}
 use Rattle.mesh_model.specs.Packets.FirstPacket.{Packet}
 use Rattle.mesh_model.specs.Packets.LinkFrame.{link_frame}
-use Rattle.mesh_model.specs.Routes.AlgorithmIv.{iv_queries}
+use Rattle.mesh_model.specs.Routes.Algorithms.{queries_of}
 use Rattle.mesh_model.specs.Routes.Queries.{Queries}
 use Rattle.mesh_model.specs.Tables.Judging.{Carried}
 use Rattle.mesh_model.specs.Tables.Known.{LastTold, is_agreed, known_by}
@@ -39,9 +40,9 @@ abbrev pub CommitsAlwaysFit : Type 0
 CommitsAlwaysFit = (queries : Mac → Queries) (mesh : Mesh) → IsReachable queries mesh →
     CommitsFit mesh
 
--- algorithm IV keeps originator messages their originators'
-abbrev pub IvKeeps : Type 0
-IvKeeps = AllKeep iv_queries
+-- each algorithm keeps originator messages their originators'
+abbrev pub AlgorithmsKeep : Type 0
+AlgorithmsKeep = (algorithm : Algorithm) → AllKeep (queries_of algorithm)
 
 -- each step of a mesh is, for each originator, a list of the machine's moves
 abbrev pub StepsAreMoves : Type 0

@@ -1,7 +1,7 @@
 //! How each mesh that is reached is tied to a world of the table machine.
 
 ghost use Rattle.mesh_tie.specs.AliasesSeen.{AliasesAreSeen, AliasesAreTold};
-ghost use Rattle.mesh_tie.specs.TieLaws.{CommitsAlwaysFit, IvKeeps, MeshesAreTied, StepsAreMoves};
+ghost use Rattle.mesh_tie.specs.TieLaws.{AlgorithmsKeep, CommitsAlwaysFit, MeshesAreTied, StepsAreMoves};
 
 /// Each step of a mesh is, for each originator, a list of the machine's moves: a node or a link
 /// that joins, what a line gives, a tick, and a frame that comes to any node at any moment.
@@ -19,9 +19,9 @@ pub fn every_commit_can_be_told()
     ensures { CommitsAlwaysFit }
 {}
 
-/// Algorithm IV keeps originator messages their originators', as is asked of an algorithm.
-pub fn algorithm_iv_keeps_originators()
-    ensures { IvKeeps }
+/// Each algorithm keeps originator messages their originators', as is asked of an algorithm.
+pub fn algorithms_keep_originators()
+    ensures { AlgorithmsKeep }
 {}
 
 /// An event tells of an alias exactly where a commit of an originator has it; so where two of its
