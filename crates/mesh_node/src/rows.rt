@@ -19,6 +19,7 @@ use node_ground::{Coming, NodeErr, NodeKnowledge, Place, Port};
 use node_probes::echoes::icmp;
 use node_probes::icmp_message::IcmpMessage;
 use node_tables::containers::containers_here;
+use node_tables::elps::elp;
 use node_tables::ogms::ogm;
 use node_tables::on_the_way::containers_past;
 use tt_local::Locals;
@@ -77,7 +78,8 @@ fn packet<A: Algo, P: Port>(
             containers_here(kept, port, locals, at, src, tail)?;
         }
         Head::Utvlv { ttl, dst, src } => containers_past(kept, port, at, ttl, dst, src, tail)?,
-        Head::Elp { .. } | Head::Frag { .. } | Head::Unicast4 { .. } => {}
+        Head::Elp { .. } => elp(kept, came, &packet.head)?,
+        Head::Frag { .. } | Head::Unicast4 { .. } => {}
     }
     Ok(())
 }

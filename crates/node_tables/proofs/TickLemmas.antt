@@ -95,12 +95,18 @@ is_even index even = ap (λ n. n == 0) even
 pub is_odd : (index : ℕ) → (index % 2 ≡ 0 → ⊥) → is_commit_tick index ≡ false
 is_odd index odd = grind (arith, nat_tests)
 
+-- a tick puts its ELP, and then what it puts by its index
+pub tick_parts : (q : Queries) (me : Mac) (routes : RouteLog) (mentions : List Mention) (history : History) (now index : ℕ)
+    → elp_acts q routes index ++ (if is_commit_tick index then commit_acts q me routes index history (committed (present_table mentions now) history) else []) ≡ tick_acts q me routes mentions history now index
+unfolding tick_acts
+tick_parts q me routes mentions history now index = refl
+
 -- a tick whose index is that of an even one, or of an odd one
 tick_by : (q : Queries) (me : Mac) (routes : RouteLog) (mentions : List Mention) (history : History) (now index : ℕ) (even : Bool) → is_commit_tick index ≡ even
     → elp_acts q routes index ++ (if even then commit_acts q me routes index history (committed (present_table mentions now) history) else []) ≡ tick_acts q me routes mentions history now index
-unfolding tick_acts
 tick_by q me routes mentions history now index even is =
     sym (ap (λ b. elp_acts q routes index ++ (if b then commit_acts q me routes index history (committed (present_table mentions now) history) else [])) is)
+    ∙ tick_parts q me routes mentions history now index
 
 -- an even tick tells of its commit's alias behind its ELP, and then announces
 pub even_acts : (q : Queries) (me : Mac) (routes : RouteLog) (mentions : List Mention) (history : History) (now index : ℕ) → index % 2 ≡ 0

@@ -6,6 +6,7 @@
 mod announcements;
 mod answers;
 pub mod containers;
+pub mod elps;
 pub mod ogms;
 pub mod on_the_way;
 pub mod ticks;

@@ -43,3 +43,7 @@ returns-clause-puts g c = λ mentions history since stands late.
     (alias_acts c.args.at.me history.commits after.commits) (message_acts c.args.head (containers_spelling (own_containers (announcement after)))) (Ok tt)
     (c.in_ok-commit.ensures.puts mentions history since stands late)
     (c.in_ok-announce.ensures.puts mentions after c.args.at.now (c.in_ok-commit.ensures.committed mentions history since stands late))
+
+pub returns-clause-committed : goal.returns-clause-committed
+returns-clause-committed g c = λ mentions history since stands late.
+    c.in_ok-announce.ensures.counted mentions (committed (present_table mentions c.args.at.now) history) c.args.at.now (c.in_ok-commit.ensures.committed mentions history since stands late)
