@@ -4,7 +4,6 @@ pub mod Lines
 pub mod CutLemmas
 pub mod RunLemmas
 pub mod HaltLemmas
-pub mod UnfinishedLemmas
 pub mod KeyLists
 pub mod NumberLemmas
 pub mod WindowLemmas

@@ -1,5 +1,5 @@
--- Nodes of algorithm V as one of them, A, hears them: its neighbours B and C, and D, whose OGMs come
--- by them. The throughput of each of A's links is 100. The main word is `log_by_both`.
+-- Nodes of algorithm V as one of them, A, hears them: its neighbours B and C, and D, whose OGMs
+-- come by them. The throughput of each of A's links is 100. The main word is `log_by_both`.
 use Rattle.std.specs.Prelude.{ℕ, [], ◌∷◌, codes, Option}
 use Rattle.mesh_base.specs.declared.address.Mac.{Mac}
 use Rattle.mesh_model.specs.declared.line_form.Algorithm.TheVariants.{V}

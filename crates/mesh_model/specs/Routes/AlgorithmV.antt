@@ -1,7 +1,7 @@
 -- Algorithm V. At each tick a node sends an ELP, the k-th with number k, and at each tick of even
--- index an OGM that tells the greatest throughput, the k-th with number k. A hearing that is sent on
--- has one hop less to live and, as throughput, its value less a part of 30 in 255. Its flags stay.
--- The main word is `v_queries`.
+-- index an OGM that tells the greatest throughput, the k-th with number k. A hearing that is sent
+-- on has one hop less to live and, as throughput, its value less a part of 30 in 255. Its flags
+-- stay. The main word is `v_queries`.
 use Rattle.std.specs.Prelude.{ℕ, ◌+◌, ◌-◌, not, Bool, List, filter_map, Option, Some, None, if◌then◌else◌}
 use Rattle.mesh_base.specs.declared.address.Mac.{Mac}
 use Rattle.mesh_model.specs.declared.packet.Head.{Head}

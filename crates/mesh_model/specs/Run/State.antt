@@ -1,7 +1,7 @@
--- The state of a scenario's run: the mesh, the clock, the routing algorithm of its nodes, which link
--- frames are printed, and what is printed so far. The algorithm is IV until a line chooses another.
--- An event is kept with the names that the nodes have when it comes. The main words are `State` and
--- `text_of`.
+-- The state of a scenario's run: the mesh, the clock, the routing algorithm of its nodes, which
+-- link frames are printed, and what is printed so far. The algorithm is IV until a line chooses
+-- another. An event is kept with the names that the nodes have when it comes. The main words are
+-- `State` and `text_of`.
 use Rattle.std.specs.Prelude.{ℕ, Bool, List, [], flat_map, map, bytes_eq, position, slice_get, Option, option_and_then}
 use Rattle.mesh_base.specs.declared.event.Event.{Event}
 use Rattle.mesh_base.specs.declared.names.NodeName.{NodeName}
