@@ -13,3 +13,4 @@ pub mod WalkLemmas
 pub mod BestWalk
 pub mod PutLemmas
 pub mod ReaderLemmas
+pub mod CameFrom

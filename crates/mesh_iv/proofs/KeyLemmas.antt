@@ -8,7 +8,8 @@ use Rattle.mesh_model.specs.Routes.Life.{HeardOgm, life_span, of, since, life, i
 use Rattle.mesh_model.specs.Routes.Ogm.{Ogm, ogm_of_head, is_echo, passes}
 use Rattle.mesh_model.specs.Routes.Quality.{echo_quality, echoes_with, echoes_from, own_ogms}
 use Rattle.mesh_model.specs.Routes.RouteLog.{RouteLog, OwnTick, HeadCame}
-use Rattle.mesh_algo.proofs.LifeLemmas.{of_other, of_same, other_numbers}
+use Rattle.mesh_algo.proofs.CameFrom.{both, came_from, has_any, latest_any, numbers_any, of_any, or_left, or_right}
+use Rattle.mesh_algo.proofs.LifeLemmas.{of_other}
 use Rattle.mesh_laws.proofs.MacLemmas.{same_equiv, same_exact}
 use Rattle.mesh_algo.specs.declared.pair.Pair.{Pair}
 use Rattle.mesh_algo.specs.LifeRows.{latest}
@@ -16,16 +17,6 @@ use Rattle.mesh_algo.proofs.LifeRows.{some_row}
 use Rattle.mesh_iv.specs.KeyLaw.{is_of, names_orig, names_pair, HasKeysOfOgms}
 use Rattle.mesh_iv.specs.Rows.{row_of, path_row, echo_row}
 use Rattle.mesh_iv.specs.Tables.{StandsFor, Tables, path_at}
-
-or_left : (a b : Bool) → a ≡ true → (a || b) ≡ true
-or_left a b e = ap (λ x. x || b) e
-
-or_right : (a b : Bool) → b ≡ true → (a || b) ≡ true
-or_right true b e = refl
-or_right false b e = e
-
-both : (a b : Bool) → a ≡ true → b ≡ true → (a && b) ≡ true
-both a b e f = ap₂ (λ x y. x && y) e f
 
 -- ---- originators
 heard_step : (me orig : Mac) (moment : ℕ) (from : Mac) (m : Option Ogm) (older : List HeardOgm) (echo : ℕ) (names : Bool)
@@ -48,58 +39,10 @@ heard_named me orig (HeadCame moment from throughput head ∷ older) live =
     heard_step me orig moment from (ogm_of_head head) (heard me older) (echo_quality me from older) (names_orig orig older) (heard_named me orig older) live
 
 -- ---- neighbours
-abbrev any_from : Mac → List HeardOgm → Bool
-any_from k [] = false
-any_from k (h ∷ older) = same_mac k h.from || any_from k older
-
-abbrev came_from : Mac → Mac → List HeardOgm → Bool
-came_from orig k [] = false
-came_from orig k (h ∷ older) = (same_mac orig h.orig && same_mac k h.from) || came_from orig k older
-
-abbrev has_any : List ℕ → Bool
-has_any [] = false
-has_any (n ∷ numbers) = true
 
 row_has : (numbers values : List ℕ) → IsSome (row_of numbers values) → has_any numbers ≡ true
 row_has [] values some = absurd (false≢true some)
 row_has (n ∷ numbers) values some = refl
-
-numbers_any : (k : Mac) (l : List HeardOgm) → has_any (numbers_from k l) ≡ true → any_from k l ≡ true
-numbers_any k [] e = absurd (false≢true e)
-numbers_any k (h ∷ older) e =
-    ⊎_elim (λ t. or_left (same_mac k h.from) (any_from k older) (same_equiv.symm k h.from ∙ t))
-    (λ f. or_right (same_mac k h.from) (any_from k older) (numbers_any k older (ap (λ l. has_any l) (sym (other_numbers k h older f)) ∙ e)))
-    (cases_Bool (same_mac h.from k))
-
-none_or_any : (k : Mac) (restart : Bool) (l : List HeardOgm) → any_from k (cond restart [] l) ≡ true → any_from k l ≡ true
-none_or_any k true l e = absurd (false≢true e)
-none_or_any k false l e = e
-
-life_any : (k : Mac) (moment : ℕ) (l : List HeardOgm) → any_from k (life moment l) ≡ true → any_from k l ≡ true
-life_any k moment [] e = e
-life_any k moment (g ∷ older) e =
-    elim (nat_lt (moment - g.moment) life_span) as (λ b. any_from k (cond b (g ∷ since g older) []) ≡ true → (same_mac k g.from || any_from k older) ≡ true) [
-      | true ↦ λ x. ⊎_elim (λ t. or_left (same_mac k g.from) (any_from k older) t)
-          (λ r. or_right (same_mac k g.from) (any_from k older) (life_any k g.moment older (none_or_any k g.restart (life g.moment older) r))) (or_cases (same_mac k g.from) (any_from k (since g older)) x)
-      | false ↦ λ x. absurd (false≢true x)
-    ] e
-
-since_any : (k : Mac) (h : HeardOgm) (l : List HeardOgm) → any_from k (since h l) ≡ true → any_from k l ≡ true
-since_any k h l e = life_any k h.moment l (none_or_any k h.restart (life h.moment l) e)
-
-latest_any : (k : Mac) (l : List HeardOgm) → any_from k (latest l) ≡ true → any_from k l ≡ true
-latest_any k [] e = e
-latest_any k (h ∷ older) e =
-    ⊎_elim (λ t. or_left (same_mac k h.from) (any_from k older) t) (λ r. or_right (same_mac k h.from) (any_from k older) (since_any k h older r)) (or_cases (same_mac k h.from) (any_from k (since h older)) e)
-
-of_any : (orig k : Mac) (l : List HeardOgm) → any_from k (of orig l) ≡ true → came_from orig k l ≡ true
-of_any orig k [] e = e
-of_any orig k (h ∷ older) e =
-    ⊎_elim (λ t. ⊎_elim (λ s. or_left (same_mac orig h.orig && same_mac k h.from) (came_from orig k older) (both _ _ (same_equiv.symm orig h.orig ∙ t) s))
-    (λ r. or_right (same_mac orig h.orig && same_mac k h.from) (came_from orig k older) (of_any orig k older r))
-    (or_cases (same_mac k h.from) (any_from k (of orig older)) (ap (λ l. any_from k l) (sym (of_same orig h older t)) ∙ e)))
-    (λ f. or_right (same_mac orig h.orig && same_mac k h.from) (came_from orig k older) (of_any orig k older (ap (λ l. any_from k l) (sym (of_other orig h older f)) ∙ e)))
-    (cases_Bool (same_mac h.orig orig))
 
 came_step : (me : Mac) (pair : Pair) (moment : ℕ) (from : Mac) (m : Option Ogm) (older : List HeardOgm) (echo : ℕ) (names : Bool)
     → (came_from pair.orig pair.from older ≡ true → names ≡ true) → came_from pair.orig pair.from (heard_with me moment from m older echo) ≡ true

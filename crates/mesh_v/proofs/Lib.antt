@@ -1,0 +1,7 @@
+-- What the methods rest on.
+pub mod RowLemmas
+pub mod StandLemmas
+pub mod StepLemmas
+pub mod FirstLemmas
+pub mod TableLemmas
+pub mod KeyLemmas

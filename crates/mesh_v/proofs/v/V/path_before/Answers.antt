@@ -1,0 +1,14 @@
+use Rattle.std.proofs.Common.{◌∙◌, ap₂, unwrap_or}
+use Rattle.mesh_algo.proofs.LifeRows.{none_is}
+use Rattle.mesh_v.proofs.StepLemmas.{kept_none, kept_some}
+use Rattle.mesh_v.proofs.v.V.path_before.Goals as goal
+
+pub returns-then-is_none : goal.returns-then-is_none
+returns-then-is_none c =
+    λ me log elp is. c.new.ensures ∙ kept_none me log c.args.ogm.now c.args.life.now is.row_is (none_is c.args.life.now c.is_none.result c.is_none.ensures c.if-is_none.true)
+
+pub returns : goal.returns
+returns c =
+    λ me log elp is.
+    c.unwrap_or.ensures ∙ ap₂ (λ p b. unwrap_or p b) (c.path.ensures me log is.stands) c.new-2.ensures
+    ∙ kept_some me log c.args.ogm.now c.args.self.now elp c.args.life.now c.is_none.result is c.is_none.ensures c.if-is_none.false

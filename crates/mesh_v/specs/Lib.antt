@@ -1,0 +1,7 @@
+-- What the contracts cite.
+pub mod Rows
+pub mod Tables
+pub mod Came
+pub mod Hears
+pub mod Writing
+pub mod KeyLaw

@@ -1,0 +1,14 @@
+use mesh_base::{Mac, Millis};
+
+/// An OGM that came from a neighbour over a link of a throughput, 0 where there is no such link.
+#[derive(Clone, Copy, Debug)]
+pub(crate) struct OgmCame {
+    pub(crate) moment: Millis,
+    pub(crate) from: Mac,
+    pub(crate) link: u32,
+    pub(crate) ttl: u8,
+    pub(crate) flags: u8,
+    pub(crate) seq: u32,
+    pub(crate) orig: Mac,
+    pub(crate) throughput: u32,
+}

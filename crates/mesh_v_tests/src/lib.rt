@@ -1,0 +1,10 @@
+//! Tests of mesh_v: what is sent at ticks, a chain of links, and what counts no more.
+
+#![tactic(auto)]
+
+#[cfg(test)]
+mod chain;
+#[cfg(test)]
+mod old;
+#[cfg(test)]
+mod ticks;
