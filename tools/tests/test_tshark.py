@@ -15,8 +15,8 @@ to_pcap = load_tool("to_pcap")
 TO_ALL = bytes.fromhex("ffffffffffff02000000000a4305")
 
 
-@needs_dpkt
 @needs_command("tshark", "tshark")
+@needs_dpkt
 class Tshark(Folder):
     def read(self, packets):
         """What tshark reads of packets behind an Ethernet header."""
