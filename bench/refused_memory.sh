@@ -109,7 +109,7 @@ ending() {
 
 odd_ones=0
 try_scenario() {
-    if ! LD_PRELOAD=$work/refuse.so "$program" --frames all < "$1" > "$work/whole" 9> "$work/count"
+    if ! LD_PRELOAD=$work/refuse.so "$program" < "$1" > "$work/whole" 9> "$work/count"
     then
         echo "bench/refused_memory.sh: the run of $1 doesn't end with 0" >&2
         exit 2
@@ -120,7 +120,7 @@ try_scenario() {
     while [ "$number" -lt "$requests" ]; do
         number=$((number + 1))
         REFUSED=$number LD_PRELOAD=$work/refuse.so \
-            "$program" --frames all < "$1" > "$work/out" 2> "$work/err"
+            "$program" < "$1" > "$work/out" 2> "$work/err"
         ending $?
         case $kind in
             odd)
