@@ -92,9 +92,9 @@ is_front() {
     cmp -s -n "$(wc -c < "$work/out")" "$work/out" "$work/whole"
 }
 
-# Which of three ends a run came to: out of memory, silent or whole; else odd.
+# Which of three ends a run with this status came to: out of memory, silent or whole; else odd.
 ending() {
-    said=
+    status=$1 said=
     read -r said < "$work/err"
     if [ "$1" -eq 5 ] && [ "$said" = 'batmesh: out of memory' ] && is_front; then
         kind=refused
@@ -124,7 +124,7 @@ try_scenario() {
         ending $?
         case $kind in
             odd)
-                echo "$1: request $number: something else"
+                echo "$1: request $number: status $status, $(wc -c < "$work/out") bytes, said: $said"
                 odd_ones=$((odd_ones + 1)) ;;
             *) eval "$kind=\$(($kind + 1))" ;;
         esac
