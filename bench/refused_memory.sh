@@ -124,7 +124,8 @@ try_scenario() {
         ending $?
         case $kind in
             odd)
-                echo "$1: request $number: status $status, $(wc -c < "$work/out") bytes, said: $said"
+                printed=$(wc -c < "$work/out")
+                echo "$1: request $number: status $status, $printed bytes, said: $said"
                 odd_ones=$((odd_ones + 1)) ;;
             *) eval "$kind=\$(($kind + 1))" ;;
         esac
