@@ -1,6 +1,5 @@
 -- Sendings by their bytes and their roots: the one at a place, and one more behind them.
-use Rattle.std.proofs.Common.{◌≡◌, ℕ, zero, suc, ◌+◌, ◌<◌, ◌≤◌, List, [], ◌∷◌, ◌++◌, length, get_or, slice_get, slice_index_or, Some, None, refl, sym, ap, ◌∙◌, arith}
-use Rattle.mesh_post.specs.declared.row.Sending.{Sending}
+use Rattle.std.proofs.Common.{◌≡◌, ℕ, zero, suc, ◌<◌, List, [], ◌∷◌, ◌++◌, length, get_or, slice_get, slice_index_or, Some, refl, sym, ap, arith}
 use Rattle.mesh_net.specs.Kept.{sendings_of}
 
 -- there are as many as roots

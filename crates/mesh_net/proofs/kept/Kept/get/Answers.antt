@@ -1,4 +1,4 @@
-use Rattle.std.proofs.Common.{◌≡◌, ◌∙◌, ◌<◌, ◌≤◌, length, ap, sym, arith, rules, slice_get, Some}
+use Rattle.std.proofs.Common.{length, ap, arith}
 use Rattle.std.proofs.lemmas.Option.{slice_get_past}
 use Rattle.frame_store.specs.Frames.{frames}
 use Rattle.mesh_net.proofs.KeptLemmas.{sending_at, sendings_count}
