@@ -4,7 +4,10 @@ The layouts of headers and blocks are dpkt's. Its readers aren't used, since the
 a packet was on the wire and know one interface alone. Nothing here is proved.
 """
 
+import os
 import struct
+import subprocess
+import sys
 from dataclasses import dataclass
 from decimal import Decimal
 from fractions import Fraction
@@ -16,6 +19,7 @@ try:
 except ImportError:
     dpkt = None
 
+DEBIANS_PYTHON = "/usr/bin/python3"
 ETHERNET, COOKED, COOKED_2 = 1, 113, 276  # link types
 MESH_TYPE = 0x4305
 VLAN_TYPES = (0x8100, 0x88A8, 0x9100)
@@ -24,12 +28,24 @@ SECTION, INTERFACE, OLD_PACKET, SIMPLE_PACKET, PACKET = 0x0A0D0D0A, 1, 2, 3, 6  
 
 
 def need_dpkt():
-    """Says how dpkt is come by, where it isn't there."""
-    if dpkt is None:
-        raise Trouble(
-            "dpkt isn't installed for this python3: `apt-get install python3-dpkt` has it for "
-            "/usr/bin/python3, `pip install dpkt` for another"
-        )
+    """Goes on in Debian's python3 where that alone has dpkt; else says how dpkt is come by."""
+    if dpkt is not None:
+        return
+    if sys.executable != DEBIANS_PYTHON and has_dpkt(DEBIANS_PYTHON):
+        os.execv(DEBIANS_PYTHON, [DEBIANS_PYTHON, *sys.argv])
+    raise Trouble(
+        "dpkt isn't installed for this python3: `apt-get install python3-dpkt` has it for "
+        f"{DEBIANS_PYTHON}, `pip install dpkt` for another"
+    )
+
+
+def has_dpkt(python):
+    """Whether another python3 has dpkt."""
+    try:
+        done = subprocess.run([python, "-c", "import dpkt"], stderr=subprocess.DEVNULL, check=False)
+    except OSError:
+        return False
+    return done.returncode == 0
 
 
 @dataclass(frozen=True)

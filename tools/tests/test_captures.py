@@ -1,8 +1,14 @@
 """Captures out and in, over frames that are written down in the examples' rows."""
 
 import struct
+import subprocess
+import sys
+import unittest
 from decimal import Decimal
+from unittest import mock
 
+import capture
+from batmesh_run import Trouble
 from common import DATA, EXAMPLES, Folder, needs_dpkt, run_tool
 
 ROWS = EXAMPLES / "vectors" / "rows"
@@ -192,3 +198,41 @@ class In(Folder):
         status, _, said = run_tool("from_pcap", self.folder / "none")
         self.assertEqual(status, 2)
         self.assertIn("can't read", said)
+
+
+class WithoutDpkt(unittest.TestCase):
+    """What is done where this python3 has no dpkt."""
+
+    def setUp(self):
+        for name, value in (("dpkt", None), ("DEBIANS_PYTHON", "/debians/python3")):
+            patch = mock.patch.object(capture, name, value)
+            patch.start()
+            self.addCleanup(patch.stop)
+
+    def need(self, has_it):
+        with (
+            mock.patch.object(capture, "has_dpkt", return_value=has_it),
+            mock.patch.object(sys, "argv", ["tools/from_pcap", "x.pcap"]),
+            mock.patch("os.execv", side_effect=SystemExit) as go_on,
+        ):
+            try:
+                capture.need_dpkt()
+            finally:
+                self.gone_on = go_on.call_args
+
+    def test_the_tool_goes_on_in_debians_python(self):
+        with self.assertRaises(SystemExit):
+            self.need(has_it=True)
+        words = ["/debians/python3", "tools/from_pcap", "x.pcap"]
+        self.assertEqual(self.gone_on.args, (words[0], words))
+
+    def test_where_none_has_it_the_package_is_named(self):
+        with self.assertRaises(Trouble) as caught:
+            self.need(has_it=False)
+        self.assertIn("apt-get install python3-dpkt", str(caught.exception))
+        self.assertIsNone(self.gone_on)
+
+    def test_what_isnt_there_or_fails_has_no_dpkt(self):
+        self.assertFalse(capture.has_dpkt("/no/python3"))
+        with mock.patch("subprocess.run", return_value=subprocess.CompletedProcess([], 1)):
+            self.assertFalse(capture.has_dpkt("python3"))

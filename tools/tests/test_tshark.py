@@ -5,15 +5,18 @@ import json
 import batmesh_run
 import capture
 from common import (
-    DATA, EXAMPLES, PROGRAM, Folder, needs_command, needs_dpkt, needs_program, run_tool, running,
+    DATA, EXAMPLES, PROGRAM, Folder, load_tool, needs_command, needs_dpkt, needs_program, run_tool,
+    running,
 )
 from tshark_lines import as_told_by_both, read_packets
+
+to_pcap = load_tool("to_pcap")
 
 TO_ALL = bytes.fromhex("ffffffffffff02000000000a4305")
 
 
-@needs_dpkt
 @needs_command("tshark", "tshark")
+@needs_dpkt
 class Tshark(Folder):
     def read(self, packets):
         """What tshark reads of packets behind an Ethernet header."""
@@ -43,27 +46,24 @@ class Tshark(Folder):
 
     @needs_program
     def test_each_frame_of_each_example_is_read_as_decode_prints_it(self):
-        compared = 0
+        sent, frames = 0, {}
         for scenario in sorted([*EXAMPLES.glob("*.scn"), *EXAMPLES.glob("linux/*.scn")]):
-            with self.subTest(scenario.name):
-                compared += self.compare(scenario)
-        print(f"tshark read {compared} frames as decode does", flush=True)
+            for frame, packet in sent_packets(scenario.read_text()):
+                sent += 1
+                frames.setdefault(packet, f"{scenario.name} {frame.head}")
+        read = self.read(frames)
+        printed = decoded("".join(f"decode {packet[14:].hex()}\n" for packet in frames))
+        for head, lines, texts in zip(frames.values(), read, printed, strict=True):
+            self.assertEqual(lines, as_told_by_both(texts), head)
+        print(f"tshark read {sent} frames as decode does, {len(frames)} different", flush=True)
 
-    def compare(self, scenario):
-        """How many frames of a run both read, each alike."""
-        with running(PROGRAM):
-            frames = batmesh_run.frames_of(batmesh_run.run(scenario.read_text(), "all").printed)
-        if not frames:
-            return 0
-        status, out, _ = run_tool("to_pcap", scenario, self.write("frames", "\n".join(
-            f"{frame.head} {frame.data.hex()}" for frame in frames
-        )))
-        self.assertEqual(status, 0)
-        read = list(read_packets(self.write("capture", out)))
-        printed = decoded("".join(f"decode {frame.data.hex()}\n" for frame in frames))
-        for frame, lines, texts in zip(frames, read, printed, strict=True):
-            self.assertEqual(lines, as_told_by_both(texts), frame.head)
-        return len(frames)
+
+def sent_packets(text):
+    """The link frames of a run, each with the Ethernet frame that to_pcap makes of it."""
+    nodes = batmesh_run.nodes_of(batmesh_run.scenario_lines(text))
+    with running(PROGRAM):
+        frames = batmesh_run.frames_of(batmesh_run.run(text, "all").printed)
+    return [(frame, to_pcap.ethernet_frame(frame, nodes)) for frame in frames]
 
 
 def decoded(text):

@@ -9,9 +9,7 @@ ghost use Rattle.mesh_codec.specs.Inner.Writing.{HasRoom};
 ghost use Rattle.mesh_codec.specs.Payloads.{seen_ether};
 
 use crate::cursor::Cursor;
-use crate::numbers::{
-    ADDRESSES_SIZE, ETHERTYPE_SIZE, LAST_VLAN, TAG_SIZE, VLAN_ETHERTYPE,
-};
+use crate::numbers::{ADDRESSES_SIZE, ETHERTYPE_SIZE, LAST_VLAN, TAG_SIZE, VLAN_ETHERTYPE};
 use crate::put::{put_mac, put_u16};
 use mesh_base::{Mac, Vid};
 

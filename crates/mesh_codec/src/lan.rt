@@ -11,7 +11,7 @@ ghost use Rattle.mesh_codec.specs.Lans.{seen_lan};
 use crate::cursor::Cursor;
 use crate::ether::begins_type;
 use crate::numbers::{ADDRESS, ADDRESSES_SIZE, CLAIM_ETHERTYPE};
-use crate::payload::{read_client_frame, ClientFrame};
+use crate::payload::{ClientFrame, read_client_frame};
 use mesh_base::{Key, Mac, Vid};
 use mesh_tvlv::key_bytes;
 
@@ -19,7 +19,9 @@ use mesh_tvlv::key_bytes;
 const GATEWAY_MARK: [u8; 3] = [0xff, 0x43, 0x05];
 /// The types of such a frame, in the byte behind these.
 const CLAIM: u8 = 0;
+
 const UNCLAIM: u8 = 1;
+
 const ANNOUNCE: u8 = 2;
 /// The bytes of these, of the type, and of the number of the LAN.
 const NUMBER_END: usize = 6;
@@ -138,7 +140,9 @@ pub fn announce_bytes(lan: u16, me: Mac, count: u32) -> [u8; ANNOUNCE_SIZE]
 {
     let [x, y, z] = GATEWAY_MARK;
     let [high, low] = lan.to_be_bytes();
-    let mut bytes = [x, y, z, ANNOUNCE, high, low, 0, 0, 0, 0, 0, 0, 0, 0, 0, 0, 0, 0];
+    let mut bytes = [
+        x, y, z, ANNOUNCE, high, low, 0, 0, 0, 0, 0, 0, 0, 0, 0, 0, 0, 0,
+    ];
     bytes[NUMBER_END..].copy_from_slice(&counted(me, count));
     bytes
 }

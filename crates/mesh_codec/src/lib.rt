@@ -20,7 +20,7 @@ mod writing;
 pub use decoding::decode;
 pub use failure::CodecErr;
 pub use first_packet::Packet;
-pub use lan::{announce_bytes, claim_bytes, read_lan, LanMessage};
+pub use lan::{LanMessage, announce_bytes, claim_bytes, read_lan};
 pub use link_frame::LinkFrame;
 pub use mesh_model::{Ending, Head, NoPacket, TvlvErr};
 pub use payload::{ClientFrame, read_client_frame, write_client_frame};

@@ -4,7 +4,7 @@ ghost use Rattle.std.specs.Prelude.{◌≡◌, ◌++◌, option_map, OnOk, OnErr
 ghost use Rattle.mesh_model.specs.Packets.Payload.{client_frame_of, payload_spelling};
 ghost use Rattle.mesh_codec.specs.Payloads.{seen_frame};
 
-use crate::ether::{put_ether_head, read_ether_frame, ETHER_HEAD_SIZE};
+use crate::ether::{ETHER_HEAD_SIZE, put_ether_head, read_ether_frame};
 use crate::numbers::CLIENT_ETHERTYPE;
 use crate::put::put;
 use mesh_base::{Mac, NoMemory, Vid};

@@ -1,7 +1,10 @@
-//! Tests of mesh_codec: given bytes of client frames, and tails that a header can't have.
+//! Tests of mesh_codec: given bytes of client frames and of frames of a LAN, and tails that a
+//! header can't have.
 
 #![tactic(auto)]
 
+#[cfg(test)]
+mod lans;
 #[cfg(test)]
 mod payloads;
 #[cfg(test)]

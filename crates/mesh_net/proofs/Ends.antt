@@ -128,8 +128,8 @@ abbrev pub settled_post : Post → Post → Post
 settled_post old new = record old { fresh = new.fresh; older = new.older }
 
 module _ {A : Type 0} where
-  pub settled_step : (a b : Net A) (last : Happening) (ticks : List Happening) (mesh : Mesh) → Settled a b → InStep a.post a.sent.items last ticks mesh → InStep b.post b.sent.items last ticks mesh
-  settled_step a b last ticks mesh s step = subst (λ p. InStep p b.sent.items last ticks mesh) (sym s.post) (record {
+  pub settled_step : (a b : Net A) (last : Happening) (ticks : List Happening) (mesh : Mesh) → Settled a b → InStep a.post a.sent last ticks mesh → InStep b.post b.sent last ticks mesh
+  settled_step a b last ticks mesh s step = subst (λ p. InStep p b.sent last ticks mesh) (sym s.post) (record {
     amid = record {
       stands = record {
         rows = step.amid.stands.rows;
@@ -145,8 +145,8 @@ module _ {A : Type 0} where
     older_is = s.older;
   })
     where
-      sendings : a.sent.items ++ a.post.fresh.items ≡ b.sent.items ++ b.post.fresh.items
-      sendings = sym s.sent ∙ sym (append-nil b.sent.items) ∙ ap (λ fs. b.sent.items ++ fs) (sym s.fresh)
+      sendings : a.sent ++ a.post.fresh.items ≡ b.sent ++ b.post.fresh.items
+      sendings = sym s.sent ∙ sym (append-nil b.sent) ∙ ap (λ fs. b.sent ++ fs) (sym s.fresh)
 
   -- a net that has all but the clock and the last happening of another
   pub record SameBut (a b : Net A) : Type 0 where
@@ -158,7 +158,7 @@ module _ {A : Type 0} where
   -- the net stands for the mesh after a step
   pub stands_for : (queries : Mac → Queries) (stands : A → Mac → RouteLog → Type 0) (net done end : Net A) (choice : FrameChoice) (last : Happening) (ticks : List Happening) (clock : ℕ) (after : Mesh)
       → Settled net done → SameBut done end → net.dead ≡ false → net.post.choice ≡ choice → end.clock ≡ clock → end.last ≡ last → after.last ≡ last → last.moment ≤ clock → clock ≤ clock_limit
-      → SeatsStand queries stands net.seats.items after.nodes → InStep net.post net.sent.items last ticks after → ((x : Happening) → Has ticks x ↔ Has (first_ticks 0 after.nodes) x) → IsReached (scenario_setup queries) clock after
+      → SeatsStand queries stands net.seats.items after.nodes → InStep net.post net.sent last ticks after → ((x : Happening) → Has ticks x ↔ Has (first_ticks 0 after.nodes) x) → IsReached (scenario_setup queries) clock after
       → NetStands queries stands end choice clock after
   stands_for queries stands net done end choice last ticks clock after s b alive choice_is clock_is last_is is past low seats step same way = record {
     alive = b.dead ∙ s.dead ∙ alive;
@@ -168,9 +168,9 @@ module _ {A : Type 0} where
     past = subst (λ (h : Happening). h.moment ≤ clock) (sym is) past;
     low = low;
     seats = subst (λ (v : Vec (Seat A)). SeatsStand queries stands v.items after.nodes) (sym (b.seats ∙ s.seats)) seats;
-    kept = subst (λ p. InStep p end.sent.items after.last (first_ticks 0 after.nodes) after) (sym b.post)
-        (subst (λ (v : Vec Sending). InStep done.post v.items after.last (first_ticks 0 after.nodes) after) (sym b.sent)
-        (subst (λ h. InStep done.post done.sent.items h (first_ticks 0 after.nodes) after) (sym is) (step_ticks done.post done.sent.items last ticks (first_ticks 0 after.nodes) after same (settled_step net done last ticks after s step))));
+    kept = subst (λ p. InStep p end.sent after.last (first_ticks 0 after.nodes) after) (sym b.post)
+        (subst (λ (v : List Sending). InStep done.post v after.last (first_ticks 0 after.nodes) after) (sym b.sent)
+        (subst (λ h. InStep done.post done.sent h (first_ticks 0 after.nodes) after) (sym is) (step_ticks done.post done.sent last ticks (first_ticks 0 after.nodes) after same (settled_step net done last ticks after s step))));
     settled = ap (λ (p : Post). p.fresh.items) b.post ∙ s.fresh;
     reached = way;
   }
@@ -347,7 +347,7 @@ module _ {A : Type 0} (queries : Mac → Queries) (stands : A → Mac → RouteL
           after = with_happening h g.after;
           is = is;
           standing = stands_for queries stands amid done end choice h (ticks_amid h.class h.place h.moment waiting_ticks) h.moment (with_happening h g.after) d b (k.dead ∙ s.alive) g.choice_is clock_is last_is refl (omega arith) h_low
-              g.seats_stand (step_last amid.post amid.sent.items h h (ticks_amid h.class h.place h.moment waiting_ticks) g.after g.step) (ticks_match (with_happening h g.after) h.class refl is)
+              g.seats_stand (step_last amid.post amid.sent h h (ticks_amid h.class h.place h.moment waiting_ticks) g.after g.step) (ticks_match (with_happening h g.after) h.class refl is)
               (happens clock mesh (with_happening h g.after) h s.reached due.0 h_later h_low is);
           logged = subst (Logged choice mesh (with_happening h g.after) old) (sym told) (record { more = g.logged.more; came = g.logged.came; told = g.logged.told });
         }

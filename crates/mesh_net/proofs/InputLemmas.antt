@@ -118,7 +118,7 @@ module _ {A : Type 0} (queries : Mac → Queries) (stands : A → Mac → RouteL
   -- ---- a frame
   pub record Comes (setup : Setup) (net : Net A) (mesh : Mesh) (place now : ℕ) (arrival : Arrival) : Type 0 where
     pub sending : Sending
-    pub found : slice_get net.sent.items arrival.sending ≡ Some sending
+    pub found : slice_get net.sent arrival.sending ≡ Some sending
     pub is : delivered setup place now mesh ≡ given_to setup arrival.to now sending.root (log.LinkFrame (suc place) arrival.from arrival.tp sending.bytes) mesh
 
   delivered_is : (setup : Setup) (mesh : Mesh) (place now : ℕ) (frame : SentFrame) (link : NetLink) → slice_get mesh.frames place ≡ Some frame → slice_get mesh.links frame.link ≡ Some link
@@ -126,10 +126,10 @@ module _ {A : Type 0} (queries : Mac → Queries) (stands : A → Mac → RouteL
   delivered_is setup mesh place now frame link found on = ap (λ o. frame_given setup place now o mesh) found ∙ ap (λ o. frame_over setup place now frame o mesh) on
 
   comes_at : (setup : Setup) (net : Net A) (choice : FrameChoice) (last : Happening) (ticks : List Happening) (now : ℕ) (mesh : Mesh) (place : ℕ) (frame : SentFrame) (link : NetLink) (arrival : Arrival) → Begun queries stands net choice last ticks now mesh
-      → slice_get mesh.frames place ≡ Some frame → slice_get mesh.links frame.link ≡ Some link → ArrivalIs (net.sent.items ++ net.post.fresh.items) mesh frame link arrival → Comes setup net mesh place now arrival
+      → slice_get mesh.frames place ≡ Some frame → slice_get mesh.links frame.link ≡ Some link → ArrivalIs (net.sent ++ net.post.fresh.items) mesh frame link arrival → Comes setup net mesh place now arrival
   comes_at setup net choice last ticks now mesh place frame link arrival begun found on a = record {
     sending = a.sending;
-    found = subst (λ ss. slice_get ss arrival.sending ≡ Some a.sending) (ap (λ fs. net.sent.items ++ fs) begun.settled ∙ append-nil net.sent.items) a.found;
+    found = subst (λ ss. slice_get ss arrival.sending ≡ Some a.sending) (ap (λ fs. net.sent ++ fs) begun.settled ∙ append-nil net.sent) a.found;
     is = delivered_is setup mesh place now frame link found on
         ∙ ap (λ n. given_to setup n now frame.root (log.LinkFrame (suc place) (address_at link.from mesh.nodes) (throughput_between link.to link.from mesh.links) frame.bytes) mesh) (sym a.to)
         ∙ ap (λ n. given_to setup arrival.to now n (log.LinkFrame (suc place) (address_at link.from mesh.nodes) (throughput_between link.to link.from mesh.links) frame.bytes) mesh) (sym a.root)
@@ -147,14 +147,14 @@ module _ {A : Type 0} (queries : Mac → Queries) (stands : A → Mac → RouteL
 
   -- what comes is kept
   pub comes : (setup : Setup) (net : Net A) (choice : FrameChoice) (last : Happening) (ticks : List Happening) (now : ℕ) (mesh : Mesh) (place : ℕ) (o : Option Arrival) (arrival : Arrival) → o ≡ Some arrival → Begun queries stands net choice last ticks now mesh → AreOnLinks mesh
-      → ((frame : SentFrame) (link : NetLink) → slice_get mesh.frames place ≡ Some frame → slice_get mesh.links frame.link ≡ Some link → (a : Arrival) × (o ≡ Some a) × ArrivalIs (net.sent.items ++ net.post.fresh.items) mesh frame link a)
+      → ((frame : SentFrame) (link : NetLink) → slice_get mesh.frames place ≡ Some frame → slice_get mesh.links frame.link ≡ Some link → (a : Arrival) × (o ≡ Some a) × ArrivalIs (net.sent ++ net.post.fresh.items) mesh frame link a)
       → (slice_get mesh.frames place ≡ None → o ≡ None) → Comes setup net mesh place now arrival
   comes setup net choice last ticks now mesh place o arrival is begun on some none = by_frame (slice_get mesh.frames place)
       (λ e. none_some arrival o (none e) is)
       (λ frame e.
       let link = got_there mesh.links frame.link (on place frame e) in
       let a = some frame link.0 e link.1 in
-      comes_at setup net choice last ticks now mesh place frame link.0 arrival begun e link.1 (subst (ArrivalIs (net.sent.items ++ net.post.fresh.items) mesh frame link.0) (some_one a.0 arrival (sym a.1 ∙ is)) a.2))
+      comes_at setup net choice last ticks now mesh place frame link.0 arrival begun e link.1 (subst (ArrivalIs (net.sent ++ net.post.fresh.items) mesh frame link.0) (some_one a.0 arrival (sym a.1 ∙ is)) a.2))
 
   -- where nothing comes, nothing happens
   pub comes_none : (setup : Setup) (mesh : Mesh) (place now : ℕ) (sendings : List Sending) (o : Option Arrival) → o ≡ None → AreOnLinks mesh
@@ -168,7 +168,7 @@ module _ {A : Type 0} (queries : Mac → Queries) (stands : A → Mac → RouteL
       none_some a.0 o is a.1)
 
   -- what is given is what comes
-  pub link_is : (setup : Setup) (net : Net A) (mesh : Mesh) (place now : ℕ) (arrival : Arrival) (sending : Sending) (bytes : List ℕ) → Comes setup net mesh place now arrival → slice_get net.sent.items arrival.sending ≡ Some sending → bytes ≡ sending.bytes
+  pub link_is : (setup : Setup) (net : Net A) (mesh : Mesh) (place now : ℕ) (arrival : Arrival) (sending : Sending) (bytes : List ℕ) → Comes setup net mesh place now arrival → slice_get net.sent arrival.sending ≡ Some sending → bytes ≡ sending.bytes
       → given_to setup arrival.to now sending.root (log.LinkFrame (suc place) arrival.from arrival.tp bytes) mesh ≡ delivered setup place now mesh
   link_is setup net mesh place now arrival sending bytes it found same =
       let s : it.sending ≡ sending = some_one it.sending sending (sym it.found ∙ found) in

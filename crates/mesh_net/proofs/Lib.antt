@@ -4,6 +4,7 @@ pub mod ReachedLemmas
 pub mod MomentLemmas
 pub mod SeatLemmas
 pub mod StepLemmas
+pub mod KeptLemmas
 pub mod InputLemmas
 pub mod TickLemmas
 pub mod PopLemmas

@@ -43,7 +43,7 @@ pub record NetStands {A : Type 0} (queries : Mac → Queries) (stands : A → Ma
   pub low : clock ≤ clock_limit
   pub seats : SeatsStand queries stands net.seats.items mesh.nodes
   -- what is kept besides the nodes, between two steps; those wait that are to come
-  pub kept : InStep net.post net.sent.items mesh.last (first_ticks 0 mesh.nodes) mesh
+  pub kept : InStep net.post net.sent mesh.last (first_ticks 0 mesh.nodes) mesh
   pub settled : net.post.fresh.items ≡ []
   pub reached : IsReached (scenario_setup queries) clock mesh
 

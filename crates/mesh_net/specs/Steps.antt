@@ -106,13 +106,13 @@ pub record Begun {A : Type 0} (queries : Mac → Queries) (stands : A → Mac �
     (mesh : Mesh) : Type 0 where
   pub choice_is : net.post.choice ≡ choice
   pub settled : net.post.fresh.items ≡ []
-  pub stage : Stage queries stands net.seats.items net.post net.sent.items last ticks now mesh
+  pub stage : Stage queries stands net.seats.items net.post net.sent last ticks now mesh
 
 -- something was tried in such a step of a net
 abbrev pub Gave : {A : Type 0} → (Mac → Queries) → (A → Mac → RouteLog → Type 0) → Net A
     → FrameChoice → Happening → List Happening → Mesh → List Event → List Event → Attempt → Type 0
 Gave queries stands net choice last ticks before old new attempt =
-    Tried queries stands net.seats.items net.post choice net.sent.items last ticks before old new
+    Tried queries stands net.seats.items net.post choice net.sent last ticks before old new
     attempt
 
 -- what a step leaves as it is, until it is settled
@@ -165,9 +165,9 @@ SettleTells (Err refused) error = error ≡ net_error refused
 
 -- the sendings of a step stand behind the others
 pub record Settled {A : Type 0} (old new : Net A) : Type 0 where
-  pub sent : new.sent.items ≡ old.sent.items ++ old.post.fresh.items
+  pub sent : new.sent ≡ old.sent ++ old.post.fresh.items
   pub fresh : new.post.fresh.items ≡ []
-  pub older : new.post.older ≡ length new.sent.items
+  pub older : new.post.older ≡ length new.sent
   pub post : new.post ≡ record old.post { fresh = new.post.fresh; older = new.post.older }
   pub seats : new.seats ≡ old.seats
   pub clock : new.clock ≡ old.clock

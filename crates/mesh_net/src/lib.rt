@@ -6,6 +6,7 @@
 mod failure;
 mod give;
 mod joins;
+mod kept;
 mod link;
 mod net;
 mod runs;

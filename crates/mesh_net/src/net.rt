@@ -7,12 +7,13 @@ ghost use Rattle.mesh_node.specs.NodeStands.{NodeStands};
 ghost use Rattle.mesh_net.specs.NetStands.{NetStands, IsNet, IsDead, HasNode, SeatsStand};
 ghost use Rattle.mesh_net.specs.declared.seat.Seat.{Seat};
 
+use crate::kept::Kept;
 use crate::seat::Seat;
 use mesh_algo::Algo;
 use mesh_base::{Mac, Millis};
 use mesh_model::{Class, FrameChoice, Happening};
 use mesh_node::Node;
-use mesh_post::{Post, Sending};
+use mesh_post::Post;
 use std::alloc::Global;
 
 /// A net of nodes with a routing algorithm.
@@ -22,7 +23,7 @@ pub struct Net<A: Algo> {
     pub(crate) seats: Vec<Seat<A>>,
     pub(crate) post: Post,
     /// What was sent before the step under way.
-    pub(crate) sent: Vec<Sending>,
+    pub(crate) sent: Kept,
     pub(crate) clock: Millis,
     /// The last happening that was carried out.
     pub(crate) last: Happening,
@@ -39,7 +40,7 @@ impl<A: Algo + Drop> Net<A> {
             alloc,
             seats: Vec::new(alloc),
             post: Post::new(alloc),
-            sent: Vec::new(alloc),
+            sent: Kept::new(alloc),
             clock: 0,
             last: Happening {
                 moment: 0,

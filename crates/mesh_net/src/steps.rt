@@ -133,18 +133,18 @@ impl<A: Algo + Drop> Net<A> {
         let Some(arrival) = self.post.arrival(place) else {
             return Ok(());
         };
-        let Some(sending) = self.sent.get(arrival.sending as usize) else {
+        let Some((bytes, root)) = self.sent.get(arrival.sending) else {
             return Ok(());
         };
         let at = Occasion {
             place: arrival.to,
             now,
-            root: sending.root,
+            root,
         };
         let input = Input::Link {
             from: arrival.from,
             tp: arrival.tp,
-            bytes: sending.bytes.as_slice(),
+            bytes,
         };
         give_at(&mut self.seats, &mut self.post, log, at, &input)
     }
@@ -248,7 +248,7 @@ impl<A: Algo + Drop> Net<A> {
         ensures ok { OnOk result (Settled self.old self.new) }
         ensures err { IfErr result (λ error. error ≡ NetErr.Memory) }
     {
-        self.sent.append(&mut self.post.fresh)?;
+        self.sent.keep(&mut self.post.fresh)?;
         self.post.older = self.sent.len();
         Ok(())
     }

@@ -4,6 +4,7 @@ pub mod RoutesOnLiterals
 pub mod DecodeOnLiterals
 pub mod NetOnLiterals
 pub mod TablesOnLiterals
+pub mod ServicesOnLiterals
 pub mod LineOnLiterals
 pub mod WordsOnLiterals
 pub mod GeneratedOnLiterals

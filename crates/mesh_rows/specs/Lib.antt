@@ -16,3 +16,5 @@ pub mod CallRows
 pub mod ContainerRows
 pub mod EventRows
 pub mod WordRows
+-- Claims, services, and the frames that tell of them.
+pub mod ServiceRows

@@ -5,6 +5,7 @@
 #![tactic(auto)]
 
 pub mod algorithm_rows;
+pub mod bridge_rows;
 pub mod client_rows;
 pub mod commit_rows;
 pub mod container_rows;
@@ -17,6 +18,7 @@ pub mod net_rows;
 pub mod probe_rows;
 pub mod route_rows;
 pub mod rows;
+pub mod service_rows;
 pub mod session_rows;
 pub mod table_rows;
 pub mod throughput_rows;

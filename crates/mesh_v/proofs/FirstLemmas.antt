@@ -1,16 +1,15 @@
 -- An OGM that is the first of its number from its neighbour: whether it is sent on, and the tables
 -- after it.
-use Rattle.std.proofs.Common.{◌≡◌, ⊎_elim, ℕ, max, nat_lt, Bool, true, false, cond, not, ◌&&◌, ◌||◌, List, [], ◌∷◌, is_none, Option, Some, None, arith, refl, sym, ap, ap₂, ◌∙◌}
+use Rattle.std.proofs.Common.{◌≡◌, ⊎_elim, ℕ, max, nat_lt, Bool, true, false, cond, not, ◌&&◌, ◌||◌, List, ◌∷◌, is_none, Option, Some, None, arith, refl, sym, ap, ap₂, ◌∙◌}
 use Rattle.std.specs.Map.{lookup}
 use Rattle.std.proofs.lemmas.Bool.{cases_Bool}
 use Rattle.mesh_base.specs.declared.address.Mac.{Mac}
 use Rattle.mesh_model.specs.Routes.Addresses.{same_mac}
-use Rattle.mesh_model.specs.Routes.AlgorithmV.{answer_to_v, forward_head_v}
+use Rattle.mesh_model.specs.Routes.AlgorithmV.{answer_to_v}
 use Rattle.mesh_model.specs.Routes.BestRoute.{best_route, is_over}
 use Rattle.mesh_model.specs.Routes.HearingsV.{path_throughput}
 use Rattle.mesh_model.specs.Routes.Life.{HeardOgm, of, is_live, newest, is_first, forwarded}
-use Rattle.mesh_model.specs.Routes.Neighbours.{is_up}
-use Rattle.mesh_model.specs.Routes.Numbers.{has, among}
+use Rattle.mesh_model.specs.Routes.Numbers.{has}
 use Rattle.mesh_model.specs.Routes.RouteLog.{RouteLog}
 use Rattle.mesh_laws.proofs.MacLemmas.{same_exact, same_equiv, same_self}
 use Rattle.mesh_algo.specs.declared.life.Life.{Life}

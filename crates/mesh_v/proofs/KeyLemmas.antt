@@ -4,7 +4,7 @@ use Rattle.std.proofs.lemmas.Bool.{cases_Bool, and_parts, or_cases, false≢true
 use Rattle.mesh_base.specs.declared.address.Mac.{Mac}
 use Rattle.mesh_model.specs.Routes.Addresses.{same_mac}
 use Rattle.mesh_model.specs.Routes.HearingsV.{heard_v, heard_with_v, hearing_v, passes_v}
-use Rattle.mesh_model.specs.Routes.Life.{HeardOgm, of, is_live, numbers_from}
+use Rattle.mesh_model.specs.Routes.Life.{HeardOgm, of, is_live}
 use Rattle.mesh_model.specs.Routes.Neighbours.{ElpHeard, is_own_elp, is_up, last_elp}
 use Rattle.mesh_model.specs.Routes.Ogm2.{OgmV, elp_of_head, ogm2_of_head}
 use Rattle.mesh_model.specs.Routes.RouteLog.{RouteLog, OwnTick, HeadCame}

@@ -2,7 +2,7 @@
 use Rattle.std.proofs.Common.{◌≡◌, Bool, true, false, cond, ◌&&◌, ◌||◌, List, [], ◌∷◌, filter, filter_map, is_some, Option, Some, None, refl, sym, ap, ap₂, ◌∙◌, Less, ℕ}
 use Rattle.std.specs.List.{AllByRecursion, cons_option, list_any}
 use Rattle.std.specs.List.Sorted.{IsStrictlySortedBy}
-use Rattle.std.specs.Map.{keys_of, lookup}
+use Rattle.std.specs.Map.{keys_of}
 use Rattle.std.proofs.lemmas.Bool.{true≢false}
 use Rattle.mesh_base.specs.declared.address.Mac.{Mac}
 use Rattle.mesh_model.specs.Routes.Addresses.{insert_mac, mac_order, same_mac}
@@ -19,7 +19,6 @@ use Rattle.mesh_algo.specs.LifeRows.{latest, life_row}
 use Rattle.mesh_algo.proofs.LifeRows.{any_key, some_row}
 use Rattle.mesh_algo.proofs.OrigLemmas.{any_inserted, keys_are_heard, same_keys, sorted_insert}
 use Rattle.mesh_v.specs.declared.row.LastElp.{LastElp}
-use Rattle.mesh_v.specs.declared.row.Orig.{Orig}
 use Rattle.mesh_v.specs.Rows.{elp_row, orig_with}
 use Rattle.mesh_v.specs.Tables.{StandsFor, Tables, orig_at}
 

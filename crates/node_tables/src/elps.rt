@@ -12,11 +12,7 @@ use mesh_codec::Head;
 use node_ground::{Coming, NodeKnowledge};
 
 /// A message of the echo location protocol, which the algorithm takes. It puts nothing.
-pub fn elp<A: Algo>(
-    kept: &mut NodeKnowledge<A>,
-    came: Coming,
-    head: &Head,
-) -> Result<(), NoMemory>
+pub fn elp<A: Algo>(kept: &mut NodeKnowledge<A>, came: Coming, head: &Head) -> Result<(), NoMemory>
     ensures { (me : Mac) (known : Knowledge) (number : ℕ) →
         KnowledgeStands A.stands kept.old me known →
         OnOk result (KnowledgeStands A.stands kept.new me

@@ -5,8 +5,8 @@ use Rattle.mesh_model.specs.Routes.Addresses.{mac_order, same_mac}
 use Rattle.mesh_algo.specs.LifeRows.{forwarded_by, life_with}
 use Rattle.mesh_algo.specs.Pairs.{pair_order, rows_kept}
 use Rattle.mesh_algo.proofs.PutLemmas.{none_test}
-use Rattle.mesh_v.specs.Hears.{goes_on, sent_on_as, head_on}
-use Rattle.mesh_v.specs.Writing.{is_over_after, orig_then, path_put}
+use Rattle.mesh_v.specs.Hears.{goes_on}
+use Rattle.mesh_v.specs.Writing.{is_over_after, path_put}
 use Rattle.mesh_v.proofs.writing.write.Goals as goal
 
 pub returns-clause-written : goal.returns-clause-written

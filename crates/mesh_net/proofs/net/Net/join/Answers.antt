@@ -81,7 +81,7 @@ returns-clause-joins g c = λ choice clock mesh st.
               mac = refl;
               ticks = refl;
             });
-            kept = step_ticks c.add_node.new.self c.args.self.now.sent.items mesh.last (first_ticks 0 mesh.nodes ++ c.tick_of.result ∷ []) (first_ticks 0 (mesh.nodes ++ new ∷ [])) (with_node new mesh) ticks (c.in_ok-add_node.ensures.joins c.args.self.now.sent.items mesh.last (first_ticks 0 mesh.nodes ++ c.tick_of.result ∷ []) mesh new (record {
+            kept = step_ticks c.add_node.new.self c.args.self.now.sent mesh.last (first_ticks 0 mesh.nodes ++ c.tick_of.result ∷ []) (first_ticks 0 (mesh.nodes ++ new ∷ [])) (with_node new mesh) ticks (c.in_ok-add_node.ensures.joins c.args.self.now.sent mesh.last (first_ticks 0 mesh.nodes ++ c.tick_of.result ∷ []) mesh new (record {
               amid = record {
                 stands = record {
                   rows = s.rows;

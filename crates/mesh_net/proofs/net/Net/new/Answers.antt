@@ -11,7 +11,7 @@ returns g c = record {
   past = omega arith;
   low = omega arith;
   seats = rw c.new.ensures.items tt;
-  kept = rw c.new-3.ensures.items c.new-2.ensures.stands;
+  kept = rw c.new-3.ensures c.new-2.ensures.stands;
   settled = c.new-2.ensures.settled;
   reached = begins;
 }

@@ -1,4 +1,4 @@
-use Rattle.std.proofs.Common.{◌≡◌, ◌∙◌, ◌∷◌, ap, sym, subst}
+use Rattle.std.proofs.Common.{◌∙◌, ◌∷◌, ap, sym, subst}
 use Rattle.mesh_model.specs.Routes.AlgorithmV.{v_answer}
 use Rattle.mesh_model.specs.Routes.HearingsV.{heard_v}
 use Rattle.mesh_model.specs.Routes.Neighbours.{is_up}

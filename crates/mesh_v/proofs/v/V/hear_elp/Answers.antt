@@ -1,7 +1,6 @@
-use Rattle.std.proofs.Common.{◌≡◌, ◌∙◌, ap, ap₂, sym, subst, cond, Some, true, false, rules}
+use Rattle.std.proofs.Common.{◌∙◌, ap, ap₂, sym, subst, cond, Some, rules}
 use Rattle.std.specs.List.Sorted.{IsStrictlySortedBy}
 use Rattle.std.specs.Map.{keys_of, lookup}
-use Rattle.std.proofs.lemmas.Bool.{not-false, not-true}
 use Rattle.mesh_model.specs.Routes.Addresses.{mac_order, same_mac}
 use Rattle.mesh_model.specs.Routes.HearingsV.{heard_v}
 use Rattle.mesh_model.specs.Routes.Life.{of}

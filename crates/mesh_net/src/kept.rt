@@ -1,0 +1,83 @@
+ghost use Rattle.std.specs.Prelude.{◌≡◌, ◌++◌, ◌∷◌, [], length, slice_get, Some, None, IfSome, IfNone, OnOk};
+
+use frame_store::FrameStore;
+use mesh_base::NoMemory;
+use mesh_post::Sending;
+use std::alloc::Global;
+use std::marker::Model;
+
+/// What was sent before the step under way: the bytes of each sending in a store, and beside them
+/// its root.
+#[derive(Debug, Drop)]
+pub struct Kept {
+    store: FrameStore,
+    roots: Vec<u64>,
+}
+
+impl Model for Kept {
+    ghost use Rattle.std.specs.Prelude.{List};
+    ghost use Rattle.mesh_post.specs.declared.row.Sending.{Sending};
+    ghost use Rattle.mesh_net.specs.Kept.{kept_sendings, IsKept};
+
+    ghost Value = { List Sending };
+
+    ghost view = { λ k. kept_sendings k.store k.roots.items };
+
+    ghost invariant = { λ k. IsKept k.store k.roots.items };
+}
+
+impl Kept {
+    /// Nothing was sent.
+    pub(crate) fn new(alloc: Global) -> Kept
+        ensures { result ≡ [] }
+    {
+        Kept {
+            store: FrameStore::new(alloc),
+            roots: Vec::new(alloc),
+        }
+    }
+
+    /// How many sendings there are.
+    pub(crate) fn len(&self) -> usize
+        ensures { result ≡ length self.now }
+    {
+        self.roots.len()
+    }
+
+    /// The bytes of the sending at a place, and its root.
+    pub(crate) fn get(&self, place: u32) -> Option<(&[u8], u64)>
+        ensures some { IfSome result (λ found. slice_get self.now place
+            ≡ Some (record { root = found.1; bytes = found.0.now })) }
+        ensures none { IfNone result (slice_get self.now place ≡ None) }
+    {
+        let root = *self.roots.get(place as usize)?;
+        Some((self.store.get(place), root))
+    }
+
+    /// Puts the sendings of a step behind the others, and lets them go.
+    pub(crate) fn keep(&mut self, fresh: &mut Vec<Sending>) -> Result<(), NoMemory>
+        ensures ok { OnOk result ((self.new ≡ self.old ++ fresh.old.items)
+            × (fresh.new.items ≡ [])) }
+    {
+        for sending in fresh.iter() {
+            self.push(sending)?;
+        }
+        fresh.clear();
+        Ok(())
+    }
+
+    // Puts a sending behind the others. The store is never full: the frames of a sending are at
+    // least one and passed no limit before it was sent.
+    fn push(&mut self, sending: &Sending) -> Result<(), NoMemory>
+        ensures { OnOk result (self.new ≡ self.old ++ sending.now ∷ []) }
+    {
+        self.roots.reserve(1)?;
+        match self.store.push(sending.bytes.as_slice()) {
+            Ok(_) => {
+                self.roots.push_reserved(sending.root);
+                Ok(())
+            }
+            Err(_) => Err(NoMemory),
+        }
+    }
+}
