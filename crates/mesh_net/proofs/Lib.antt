@@ -14,3 +14,4 @@ pub mod ExtendLemmas
 pub mod ToldLemmas
 pub mod RightLemmas
 pub mod JoinCalls
+pub mod EmptyLemmas

@@ -1,8 +1,9 @@
-ghost use Rattle.std.specs.Prelude.{◌≡◌, ◌↔◌, ◌-◌, ◌+◌, ℕ, nat_lt, ◌<◌, false, List, length, Some, slice_get};
+ghost use Rattle.std.specs.Prelude.{◌≡◌, ◌↔◌, ◌-◌, ◌+◌, ℕ, nat_lt, ◌<◌, ◌≤◌, false, List, length, Some, slice_get};
 ghost use Rattle.mesh_model.specs.declared.frame_choice.FrameChoice.{FrameChoice};
 ghost use Rattle.mesh_model.specs.declared.frame_choice.FrameChoice.TheVariants.{All};
 ghost use Rattle.mesh_model.specs.Net.Mesh.{Mesh, NodeLog, empty_mesh, address_at};
 ghost use Rattle.mesh_model.specs.declared.happening.Happening.{Happening};
+ghost use Rattle.mesh_model.specs.Net.Limits.{clock_limit};
 ghost use Rattle.mesh_node.specs.NodeStands.{NodeStands};
 ghost use Rattle.mesh_net.specs.NetStands.{NetStands, IsNet, IsDead, HasNode, SeatsStand};
 ghost use Rattle.mesh_net.specs.declared.seat.Seat.{Seat};
@@ -51,6 +52,16 @@ impl<A: Algo + Drop> Net<A> {
         }
     }
 
+    /// A net without nodes, at a moment. All frames become events.
+    pub fn begin(alloc: Global, clock: Millis) -> Net<A>
+        requires { clock ≤ clock_limit }
+        ensures { NetStands A.queries A.stands result All clock empty_mesh }
+    {
+        let mut net = Net::new(alloc);
+        net.clock = clock;
+        net
+    }
+
     /// From now on only those link frames become events that a choice shows; other events always
     /// do. It takes no memory.
     pub fn show_frames(&mut self, choice: FrameChoice)
@@ -60,6 +71,14 @@ impl<A: Algo + Drop> Net<A> {
         ensures dead { IsDead self.new ↔ IsDead self.old }
     {
         self.post.choice = choice;
+    }
+
+    /// The choice of the link frames that become events.
+    pub fn choice(&self) -> FrameChoice
+        ensures { (choice : FrameChoice) (clock : ℕ) (mesh : Mesh) →
+            NetStands A.queries A.stands self.now choice clock mesh → result ≡ choice }
+    {
+        self.post.choice
     }
 
     /// The node at a place.
@@ -82,11 +101,14 @@ impl<A: Algo + Drop> Net<A> {
         self.mac_at(node)
     }
 
-    /// Whether there is a node.
+    /// Whether there is a node. A mesh without nodes is the empty one, at whatever moment.
     pub fn has_nodes(&self) -> bool
-        ensures { (choice : FrameChoice) (clock : ℕ) (mesh : Mesh) →
+        ensures told { (choice : FrameChoice) (clock : ℕ) (mesh : Mesh) →
             NetStands A.queries A.stands self.now choice clock mesh →
             result ≡ nat_lt 0 (length mesh.nodes) }
+        ensures empty { (choice : FrameChoice) (clock : ℕ) (mesh : Mesh) →
+            NetStands A.queries A.stands self.now choice clock mesh →
+            result ≡ false → mesh ≡ empty_mesh }
     {
         !self.seats.is_empty()
     }
