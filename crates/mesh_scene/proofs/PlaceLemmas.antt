@@ -8,8 +8,11 @@ use Rattle.std.proofs.lemmas.Slice.Eq.{bytes_eq-Decides}
 use Rattle.mesh_base.specs.Names.{is_node_name, node_name}
 use Rattle.mesh_base.specs.declared.address.Mac.{Mac}
 use Rattle.mesh_base.specs.declared.names.NodeName.{NodeName}
+use Rattle.mesh_model.specs.declared.line_form.Algorithm.{Algorithm}
 use Rattle.mesh_model.specs.Net.Mesh.{NodeLog, has_address}
 use Rattle.mesh_model.specs.Net.Runs.{leads}
+use Rattle.mesh_model.specs.Routes.Queries.{Queries}
+use Rattle.mesh_model.specs.Routes.RouteLog.{RouteLog}
 use Rattle.mesh_model.specs.Run.State.{State, is_named, names_of, place_of}
 use Rattle.mesh_scene.specs.SceneStands.{SceneStands, ends_of}
 use Rattle.mesh_scene.specs.declared.link_ends.LinkEnds.{LinkEnds}
@@ -25,8 +28,8 @@ same_place : (name : List ℕ) (nodes : List NodeLog) → position (is_node_name
 same_place name nodes = ap₂ (λ (at many : ℕ). if nat_lt at many then Some at else None) (or_len name nodes) (length-map nodes (λ (node : NodeLog). record { mac = node.mac; name = node.name }))
 
 -- a name stands at one place in the scene and in the state
-pub placed : (scene : Scene) (state : State) (name : List ℕ) → SceneStands scene state → position (is_node_name name) scene.names.nodes ≡ place_of state name
-placed scene state name stands = ap (position (is_node_name name)) stands.names_are ∙ same_place name state.mesh.nodes
+pub placed : {A : Type 0} (algorithm : Algorithm) (queries : Mac → Queries) (stand : A → Mac → RouteLog → Type 0) (scene : Scene A) (state : State) (name : List ℕ) → SceneStands algorithm queries stand scene state → position (is_node_name name) scene.names.nodes ≡ place_of state name
+placed algorithm queries stand scene state name stands = ap (position (is_node_name name)) stands.names_are ∙ same_place name state.mesh.nodes
 
 if_within : (i at many : ℕ) (b : Bool) → nat_lt at many ≡ b → (if b then Some at else None) ≡ Some i → i < many
 if_within i at many true less is = let same : at ≡ i = cc in omega (arith, same, ltb-true at many less)
@@ -54,8 +57,8 @@ addresses mac (n ∷ ns) =
     step (has_address mac n) (record { mac = n.mac; name = n.name }) (find (λ node. bytes_eq node.mac.0 mac.0) (names_of ns)) (list_any (has_address mac) ns) (addresses mac ns)
 
 -- an address is one of a node where it has a name
-pub addressed : (scene : Scene) (state : State) (mac : Mac) → SceneStands scene state → is_some (node_name scene.names.nodes mac) ≡ list_any (has_address mac) state.mesh.nodes
-addressed scene state mac stands = ap (λ names. is_some (node_name names mac)) stands.names_are ∙ addresses mac state.mesh.nodes
+pub addressed : {A : Type 0} (algorithm : Algorithm) (queries : Mac → Queries) (stand : A → Mac → RouteLog → Type 0) (scene : Scene A) (state : State) (mac : Mac) → SceneStands algorithm queries stand scene state → is_some (node_name scene.names.nodes mac) ≡ list_any (has_address mac) state.mesh.nodes
+addressed algorithm queries stand scene state mac stands = ap (λ names. is_some (node_name names mac)) stands.names_are ∙ addresses mac state.mesh.nodes
 
 -- ---- ends
 
@@ -64,9 +67,9 @@ any_map f test [] = refl
 any_map f test (x ∷ xs) = ap (λ b. test (f x) || b) (any_map f test xs)
 
 -- ends are those of a link where a link leads so
-pub linked : (scene : Scene) (state : State) (from to : ℕ) → SceneStands scene state
+pub linked : {A : Type 0} (algorithm : Algorithm) (queries : Mac → Queries) (stand : A → Mac → RouteLog → Type 0) (scene : Scene A) (state : State) (from to : ℕ) → SceneStands algorithm queries stand scene state
     → list_any (λ (other : LinkEnds). other.from == from && other.to == to) scene.ends.items ≡ list_any (leads from to) state.mesh.links
-linked scene state from to stands =
+linked algorithm queries stand scene state from to stands =
     ap (list_any (λ (other : LinkEnds). other.from == from && other.to == to)) stands.ends_are ∙ any_map ends_of (λ (other : LinkEnds). other.from == from && other.to == to) state.mesh.links
 
 -- ---- lists that grow at their end

@@ -10,4 +10,4 @@ pub record HasCounts (nodes : ℕ) (state : State) (text : List ℕ) (counts : C
   pub frames_are : counts.frames ≡ length state.mesh.frames
   pub received_are : counts.received ≡ received_lines text
   pub commits_are : counts.commits ≡ sum (map later_commits state.mesh.nodes)
-  pub ok_are : counts.ok ≡ sum (map (ok_tables state.clock) state.mesh.nodes)
+  pub ok_are : counts.ok ≡ sum (map (ok_tables state.algorithm state.clock) state.mesh.nodes)

@@ -1,7 +1,8 @@
 -- The words of this crate's contracts. What the layer above cites is in SceneStands, CarriesOut,
--- Slices and Counts.
+-- StageStands, Slices and Counts.
 pub mod SceneStands
 pub mod CarriesOut
+pub mod StageStands
 pub mod Slices
 pub mod Counts
 pub mod Inner

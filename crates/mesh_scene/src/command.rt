@@ -1,29 +1,30 @@
 //! The commands: each is carried out by what stands for it.
 
-ghost use Rattle.std.specs.Prelude.{◌≡◌, Bool, false, [], None};
+ghost use Rattle.std.specs.Prelude.{◌≡◌, Bool, true, [], None};
 ghost use Rattle.mesh_laws.specs.LineLaws.{IsInRange};
-ghost use Rattle.mesh_model.specs.Run.Rules.{carried_out, iv_setup};
-ghost use Rattle.mesh_scene.specs.CarriesOut.{CarriesFrom, FailsFrom, lets_time_pass};
+ghost use Rattle.mesh_scene.specs.CarriesOut.{CarriesFrom, FailsFrom, is_for_scene, outcome_under};
 ghost use Rattle.mesh_scene.specs.Inner.AtNodes.{given_of};
-ghost use Rattle.mesh_scene.specs.SceneStands.{IsSomewhere};
+ghost use Rattle.mesh_scene.specs.SceneStands.{IsSomewhere, SceneStands};
 
 use crate::fault::{LineFault, refused};
 use crate::given::given_of;
 use crate::scene::Scene;
 use batctl_text::decode_text;
-use mesh_model::{Algorithm, Command, Refusal};
+use mesh_model::{Command, Refusal};
 use mesh_net::Link;
+use mesh_show::Choosable;
 
-impl Scene {
-    /// Carries a command out, other than `run`, and appends what it prints.
+impl<A: Choosable + Drop> Scene<A> {
+    /// Carries a command out, other than `algo` and `run`, and appends what it prints.
     pub fn carry_out(&mut self, command: Command, text: &mut Vec<u8>) -> Result<(), LineFault>
-        requires somewhere { IsSomewhere self.old }
+        requires somewhere { IsSomewhere A.algorithm A.queries A.stands self.old }
         requires empty { text.old.items ≡ [] }
         requires ranges { IsInRange command }
-        requires other { lets_time_pass command ≡ false }
-        ensures ok { CarriesFrom self.old self.new (λ state. carried_out iv_setup state command)
-            text.new.items result }
-        ensures refused { FailsFrom self.old (λ state. carried_out iv_setup state command) result }
+        requires other { is_for_scene command ≡ true }
+        ensures ok { CarriesFrom (SceneStands A.algorithm A.queries A.stands) self.old self.new
+            (outcome_under A.queries command) text.new.items result }
+        ensures refused { FailsFrom (SceneStands A.algorithm A.queries A.stands) self.old
+            (outcome_under A.queries command) result }
     {
         if let Some((name, input)) = given_of(&command) {
             return self.give(name, &input, text);
@@ -31,20 +32,20 @@ impl Scene {
         self.carry_other(command, text)
     }
 
-    /// Carries a command out that gives no node anything, other than `run`.
+    /// Carries a command out that gives no node anything, other than `algo` and `run`.
     fn carry_other(&mut self, command: Command, text: &mut Vec<u8>) -> Result<(), LineFault>
-        requires somewhere { IsSomewhere self.old }
+        requires somewhere { IsSomewhere A.algorithm A.queries A.stands self.old }
         requires empty { text.old.items ≡ [] }
         requires ranges { IsInRange command }
-        requires other { lets_time_pass command ≡ false }
+        requires other { is_for_scene command ≡ true }
         requires none { given_of command ≡ None }
-        ensures ok { CarriesFrom self.old self.new (λ state. carried_out iv_setup state command)
-            text.new.items result }
-        ensures refused { FailsFrom self.old (λ state. carried_out iv_setup state command) result }
+        ensures ok { CarriesFrom (SceneStands A.algorithm A.queries A.stands) self.old self.new
+            (outcome_under A.queries command) text.new.items result }
+        ensures refused { FailsFrom (SceneStands A.algorithm A.queries A.stands) self.old
+            (outcome_under A.queries command) result }
     {
         match command {
             Command::Nothing => {}
-            Command::Algo(Algorithm::Iv) => self.choose_iv()?,
             Command::Node { name, mac } => self.add_node(name.as_slice(), mac)?,
             Command::Link {
                 from,
@@ -72,8 +73,9 @@ impl Scene {
             | Command::Join { .. }
             | Command::Leave { .. }
             | Command::Wifi { .. } => unreachable!(),
+            // These change more than the scene.
+            Command::Algo(_) | Command::Run { .. } => unreachable!(),
             Command::Frame { .. }
-            | Command::Algo(Algorithm::V)
             | Command::Lan { .. }
             | Command::Arp { .. }
             | Command::Dhcp { .. }
@@ -84,8 +86,7 @@ impl Scene {
             | Command::Dat { .. }
             | Command::Alfred { .. }
             | Command::Put { .. }
-            | Command::Get { .. }
-            | Command::Run { .. } => return Err(refused(Refusal::NotBuilt)),
+            | Command::Get { .. } => return Err(refused(Refusal::NotBuilt)),
         }
         Ok(())
     }

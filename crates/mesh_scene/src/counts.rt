@@ -10,7 +10,7 @@ ghost use Rattle.mesh_scene.specs.SceneStands.{IsSomewhere, SceneStands};
 use crate::scene::Scene;
 use mesh_base::NoMemory;
 use mesh_generate::{Counts, received_lines};
-use mesh_show::ok_count;
+use mesh_show::{Choosable, ok_count};
 
 /// The counts of one node: its commits beside commit 0, and the tables that it counts as ok.
 #[derive(Clone, Copy)]
@@ -19,15 +19,18 @@ struct NodeCounts {
     ok: usize,
 }
 
-impl Scene {
+impl<A: Choosable + Drop> Scene<A> {
     /// The counts of the node at a place.
     fn node_counts(&self, place: usize) -> Result<NodeCounts, NoMemory>
-        requires somewhere { IsSomewhere self.now }
-        requires known { (state : State) → SceneStands self.now state →
+        requires somewhere { IsSomewhere A.algorithm A.queries A.stands self.now }
+        requires known { (state : State) →
+            SceneStands A.algorithm A.queries A.stands self.now state →
             place < length state.mesh.nodes }
-        ensures { (state : State) (node : NodeLog) → SceneStands self.now state →
+        ensures { (state : State) (node : NodeLog) →
+            SceneStands A.algorithm A.queries A.stands self.now state →
             slice_get state.mesh.nodes place ≡ Some node → IfOk result (λ counts.
-            (counts.commits ≡ later_commits node) × (counts.ok ≡ ok_tables state.clock node)) }
+            (counts.commits ≡ later_commits node)
+            × (counts.ok ≡ ok_tables state.algorithm state.clock node)) }
     {
         let node = self.net.node(place as u32);
         Ok(NodeCounts {
@@ -38,8 +41,8 @@ impl Scene {
 
     /// The counts of a mesh of so many nodes, after which this text was printed.
     pub fn counts(&self, nodes: u8, text: &[u8]) -> Result<Counts, NoMemory>
-        requires somewhere { IsSomewhere self.now }
-        ensures { (state : State) → SceneStands self.now state →
+        requires somewhere { IsSomewhere A.algorithm A.queries A.stands self.now }
+        ensures { (state : State) → SceneStands A.algorithm A.queries A.stands self.now state →
             IfOk result (HasCounts nodes state text.now) }
     {
         let mut commits = 0;

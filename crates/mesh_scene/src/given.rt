@@ -2,18 +2,18 @@
 
 ghost use Rattle.std.specs.Prelude.{◌≡◌, [], None, Some, IfSome, IsNone};
 ghost use Rattle.mesh_model.specs.declared.line_form.Command.TheVariants as command;
-ghost use Rattle.mesh_model.specs.Run.Rules.{carried_out, iv_setup};
+ghost use Rattle.mesh_model.specs.Net.Limits.{scenario_setup};
 ghost use Rattle.mesh_net.specs.Reached.{IsOfLine};
 ghost use Rattle.mesh_node.specs.NodeStands.{given_by};
-ghost use Rattle.mesh_scene.specs.CarriesOut.{CarriesFrom, FailsFrom};
-ghost use Rattle.mesh_scene.specs.SceneStands.{IsSomewhere};
+ghost use Rattle.mesh_scene.specs.CarriesOut.{CarriesFrom, FailsFrom, outcome_under};
+ghost use Rattle.mesh_scene.specs.SceneStands.{IsSomewhere, SceneStands};
 ghost use Rattle.mesh_scene.specs.Inner.AtNodes.{given_at, given_of};
 
 use crate::fault::{LineFault, refused};
 use crate::scene::Scene;
 use mesh_model::{Command, Refusal};
 use mesh_node::Input;
-use mesh_show::put_events;
+use mesh_show::{Choosable, put_events};
 
 /// The name of the node that a command gives something, and what it gives. A frame to a group, other
 /// than to all stations, isn't built.
@@ -70,7 +70,7 @@ pub fn given_of(command: &Command) -> Option<(&[u8], Input<'_>)>
     }
 }
 
-impl Scene {
+impl<A: Choosable + Drop> Scene<A> {
     /// Gives the node of a name what a line gives it.
     pub fn give(
         &mut self,
@@ -78,12 +78,14 @@ impl Scene {
         input: &Input<'_>,
         text: &mut Vec<u8>,
     ) -> Result<(), LineFault>
-        requires somewhere { IsSomewhere self.old }
+        requires somewhere { IsSomewhere A.algorithm A.queries A.stands self.old }
         requires line { IsOfLine (given_by 0 input.now) }
         requires empty { text.old.items ≡ [] }
-        ensures ok { CarriesFrom self.old self.new (given_at name.now (given_by 0 input.now))
+        ensures ok { CarriesFrom (SceneStands A.algorithm A.queries A.stands) self.old self.new
+            (given_at (scenario_setup A.queries) name.now (given_by 0 input.now))
             text.new.items result }
-        ensures refused { FailsFrom self.old (given_at name.now (given_by 0 input.now)) result }
+        ensures refused { FailsFrom (SceneStands A.algorithm A.queries A.stands) self.old
+            (given_at (scenario_setup A.queries) name.now (given_by 0 input.now)) result }
     {
         let Some(place) = self.place_of(name) else {
             return Err(refused(Refusal::UnknownName));
@@ -96,12 +98,12 @@ impl Scene {
 
     /// `deliver N`
     pub fn deliver(&mut self, number: u64, text: &mut Vec<u8>) -> Result<(), LineFault>
-        requires somewhere { IsSomewhere self.old }
+        requires somewhere { IsSomewhere A.algorithm A.queries A.stands self.old }
         requires empty { text.old.items ≡ [] }
-        ensures ok { CarriesFrom self.old self.new
-            (λ state. carried_out iv_setup state (command.Deliver number)) text.new.items result }
-        ensures refused { FailsFrom self.old
-            (λ state. carried_out iv_setup state (command.Deliver number)) result }
+        ensures ok { CarriesFrom (SceneStands A.algorithm A.queries A.stands) self.old self.new
+            (outcome_under A.queries (command.Deliver number)) text.new.items result }
+        ensures refused { FailsFrom (SceneStands A.algorithm A.queries A.stands) self.old
+            (outcome_under A.queries (command.Deliver number)) result }
     {
         if number == 0 {
             return Err(refused(Refusal::NoSuchFrame));

@@ -10,9 +10,11 @@ mod link_ends;
 mod scene;
 mod sessions;
 mod slice;
+mod stage;
 mod tables;
 mod topology;
 
 pub use fault::{LineFault, refused};
 pub use scene::Scene;
 pub use slice::Passage;
+pub use stage::Stage;

@@ -1,22 +1,25 @@
 //! The scene: the net of a scenario, the names of its nodes and the ends of its links.
 
-ghost use Rattle.std.specs.Prelude.{◌≡◌, ◌==◌, ◌&&◌};
+ghost use Rattle.std.specs.Prelude.{◌≡◌, ◌≤◌, ◌==◌, ◌&&◌};
 ghost use Rattle.std.specs.List.{list_any};
-ghost use Rattle.mesh_model.specs.Run.State.{State, first_state, place_of};
+ghost use Rattle.mesh_model.specs.Net.Limits.{clock_limit};
+ghost use Rattle.mesh_model.specs.Net.Mesh.{empty_mesh};
+ghost use Rattle.mesh_model.specs.Run.State.{State, place_of};
 ghost use Rattle.mesh_scene.specs.SceneStands.{IsSomewhere, SceneStands};
 
 use crate::link_ends::LinkEnds;
-use mesh_base::{Events, Names};
-use mesh_iv::Iv;
+use mesh_algo::Algo;
+use mesh_base::{Events, Millis, Names};
 use mesh_model::FrameChoice;
 use mesh_net::Net;
+use mesh_show::Choosable;
 use std::alloc::Global;
 
-/// The mesh of a scenario, and what lines ask of it.
+/// The mesh of a scenario under a routing algorithm, and what lines ask of it.
 #[derive(Drop)]
-pub struct Scene {
+pub struct Scene<A: Algo> {
     pub alloc: Global,
-    pub net: Net<Iv>,
+    pub net: Net<A>,
     pub names: Names,
     /// The ends of the links, in their order.
     pub ends: Vec<LinkEnds>,
@@ -24,12 +27,15 @@ pub struct Scene {
     pub events: Events,
 }
 
-impl Scene {
-    /// No nodes, at moment 0, with this choice of frames.
-    pub fn new(alloc: Global, choice: FrameChoice) -> Scene
-        ensures { SceneStands result (first_state choice) }
+impl<A: Choosable + Drop> Scene<A> {
+    /// No nodes, at a moment, with this choice of frames.
+    pub fn begin(alloc: Global, choice: FrameChoice, clock: Millis) -> Scene<A>
+        requires low { clock ≤ clock_limit }
+        ensures { (state : State) → state.mesh ≡ empty_mesh → state.clock ≡ clock →
+            state.algorithm ≡ A.algorithm → state.choice ≡ choice →
+            SceneStands A.algorithm A.queries A.stands result state }
     {
-        let mut net = Net::new(alloc);
+        let mut net = Net::begin(alloc, clock);
         net.show_frames(choice);
         Scene {
             alloc,
@@ -42,8 +48,9 @@ impl Scene {
 
     /// The place of the node of this name.
     pub fn place_of(&self, name: &[u8]) -> Option<u32>
-        requires somewhere { IsSomewhere self.now }
-        ensures { (state : State) → SceneStands self.now state → result ≡ place_of state name.now }
+        requires somewhere { IsSomewhere A.algorithm A.queries A.stands self.now }
+        ensures { (state : State) → SceneStands A.algorithm A.queries A.stands self.now state →
+            result ≡ place_of state name.now }
     {
         match self.names.node_place(name) {
             Some(place) => Some(place as u32),

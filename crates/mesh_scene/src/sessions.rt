@@ -3,10 +3,10 @@
 ghost use Rattle.std.specs.Prelude.{◌≡◌, [], IfErr, IfOk};
 ghost use Rattle.mesh_base.specs.declared.address.Mac.{Mac};
 ghost use Rattle.mesh_model.specs.Clients.Log.{Line, LineGiven};
+ghost use Rattle.mesh_model.specs.Net.Mesh.{Setup};
 ghost use Rattle.mesh_model.specs.declared.line_form.Command.TheVariants as command;
-ghost use Rattle.mesh_model.specs.Run.Rules.{carried_out, iv_setup};
 ghost use Rattle.mesh_model.specs.Run.State.{State};
-ghost use Rattle.mesh_scene.specs.CarriesOut.{CarriesFrom, FailsFrom, HasLineCause};
+ghost use Rattle.mesh_scene.specs.CarriesOut.{CarriesFrom, FailsFrom, HasLineCause, outcome_under};
 ghost use Rattle.mesh_scene.specs.SceneStands.{IsSomewhere, SceneStands};
 ghost use Rattle.mesh_scene.specs.Inner.AtNodes.{given_at, session_at};
 
@@ -15,16 +15,17 @@ use crate::scene::Scene;
 use mesh_base::Mac;
 use mesh_model::Refusal;
 use mesh_node::Input;
+use mesh_show::Choosable;
 
-impl Scene {
+impl<A: Choosable + Drop> Scene<A> {
     /// `ping NODE NODE`
     pub fn ping(&mut self, node: &[u8], target: &[u8], text: &mut Vec<u8>) -> Result<(), LineFault>
-        requires somewhere { IsSomewhere self.old }
+        requires somewhere { IsSomewhere A.algorithm A.queries A.stands self.old }
         requires empty { text.old.items ≡ [] }
-        ensures ok { CarriesFrom self.old self.new (λ state. carried_out iv_setup state
-            (command.Ping node.now target.now)) text.new.items result }
-        ensures refused { FailsFrom self.old (λ state. carried_out iv_setup state
-            (command.Ping node.now target.now)) result }
+        ensures ok { CarriesFrom (SceneStands A.algorithm A.queries A.stands) self.old self.new
+            (outcome_under A.queries (command.Ping node.now target.now)) text.new.items result }
+        ensures refused { FailsFrom (SceneStands A.algorithm A.queries A.stands) self.old
+            (outcome_under A.queries (command.Ping node.now target.now)) result }
     {
         let target = self.target_of(node, target)?;
         self.give(node, &Input::Ping { target }, text)?;
@@ -33,12 +34,12 @@ impl Scene {
 
     /// `traceroute NODE NODE`
     pub fn trace(&mut self, node: &[u8], target: &[u8], text: &mut Vec<u8>) -> Result<(), LineFault>
-        requires somewhere { IsSomewhere self.old }
+        requires somewhere { IsSomewhere A.algorithm A.queries A.stands self.old }
         requires empty { text.old.items ≡ [] }
-        ensures ok { CarriesFrom self.old self.new (λ state. carried_out iv_setup state
-            (command.Trace node.now target.now)) text.new.items result }
-        ensures refused { FailsFrom self.old (λ state. carried_out iv_setup state
-            (command.Trace node.now target.now)) result }
+        ensures ok { CarriesFrom (SceneStands A.algorithm A.queries A.stands) self.old self.new
+            (outcome_under A.queries (command.Trace node.now target.now)) text.new.items result }
+        ensures refused { FailsFrom (SceneStands A.algorithm A.queries A.stands) self.old
+            (outcome_under A.queries (command.Trace node.now target.now)) result }
     {
         let target = self.target_of(node, target)?;
         self.give(node, &Input::Trace { target }, text)?;
@@ -47,12 +48,14 @@ impl Scene {
 
     /// The address of the target of a session, which is another node than the one of its beginning.
     fn target_of(&self, node: &[u8], target: &[u8]) -> Result<Mac, LineFault>
-        requires somewhere { IsSomewhere self.now }
-        ensures found { (state : State) (line : Mac → LineGiven) → SceneStands self.now state →
-            IfOk result (λ mac. session_at node.now target.now line state
-            ≡ given_at node.now (Line (line mac)) state) }
-        ensures refused { (state : State) (line : Mac → LineGiven) → SceneStands self.now state →
-            IfErr result (HasLineCause state (session_at node.now target.now line state)) }
+        requires somewhere { IsSomewhere A.algorithm A.queries A.stands self.now }
+        ensures found { (setup : Setup) (state : State) (line : Mac → LineGiven) →
+            SceneStands A.algorithm A.queries A.stands self.now state →
+            IfOk result (λ mac. session_at setup node.now target.now line state
+            ≡ given_at setup node.now (Line (line mac)) state) }
+        ensures refused { (setup : Setup) (state : State) (line : Mac → LineGiven) →
+            SceneStands A.algorithm A.queries A.stands self.now state → IfErr result
+            (HasLineCause state (session_at setup node.now target.now line state)) }
     {
         if self.place_of(node).is_none() {
             return Err(refused(Refusal::UnknownName));

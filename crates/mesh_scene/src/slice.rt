@@ -1,16 +1,16 @@
 //! A slice of a run: happenings until a moment, at most so many that their text is held at once.
 
 ghost use Rattle.std.specs.Prelude.{◌≡◌, ◌≤◌, [], Ok};
-ghost use Rattle.mesh_model.specs.Net.Limits.{clock_limit};
+ghost use Rattle.mesh_model.specs.Net.Limits.{clock_limit, scenario_setup};
 ghost use Rattle.mesh_scene.specs.Inner.NetAnswers.{passage_by};
 ghost use Rattle.mesh_scene.specs.Slices.{HasAdvanced, PassesFrom};
-ghost use Rattle.mesh_scene.specs.SceneStands.{IsSomewhere};
+ghost use Rattle.mesh_scene.specs.SceneStands.{IsSomewhere, SceneStands};
 
 use crate::scene::Scene;
 use mesh_base::{Millis, NoMemory};
 use mesh_model::LimitName;
 use mesh_net::NetErr;
-use mesh_show::put_events;
+use mesh_show::{Choosable, put_events};
 
 /// The most happenings of a slice, whose events and text are held at once.
 const SLICE: u32 = 256;
@@ -38,15 +38,16 @@ fn passage_of(answer: Result<bool, NetErr>) -> Option<Passage>
     }
 }
 
-impl Scene {
+impl<A: Choosable + Drop> Scene<A> {
     /// Carries out the next happenings until a moment, at most a slice of them, and appends what
     /// they print.
     pub fn pass(&mut self, end: Millis, text: &mut Vec<u8>) -> Result<Passage, NoMemory>
-        requires somewhere { IsSomewhere self.old }
+        requires somewhere { IsSomewhere A.algorithm A.queries A.stands self.old }
         requires empty { text.old.items ≡ [] }
         requires later { self.old.net.clock ≤ end }
         requires within { end ≤ clock_limit }
-        ensures ok { PassesFrom self.old self.new end text.new.items result }
+        ensures ok { PassesFrom (SceneStands A.algorithm A.queries A.stands)
+            (scenario_setup A.queries) self.old self.new end text.new.items result }
         ensures advances { result ≡ Ok Passage.Going → HasAdvanced end self.old.net self.new.net }
     {
         self.events.cut(0);

@@ -2,29 +2,26 @@
 
 ghost use Rattle.std.specs.Prelude.{◌≡◌, [], IfErr, IfOk};
 ghost use Rattle.mesh_model.specs.declared.line_form.Command.TheVariants as command;
-ghost use Rattle.mesh_model.specs.Run.Rules.{carried_out, iv_setup};
 ghost use Rattle.mesh_model.specs.Run.State.{State};
-ghost use Rattle.mesh_scene.specs.CarriesOut.{CarriesFrom, FailsFrom};
+ghost use Rattle.mesh_scene.specs.CarriesOut.{CarriesFrom, FailsFrom, outcome_under};
 ghost use Rattle.mesh_scene.specs.Inner.AtNodes.{IsNodeOf, IsUnknown};
 ghost use Rattle.mesh_scene.specs.SceneStands.{IsSomewhere, SceneStands};
 
 use crate::fault::{LineFault, refused};
 use crate::scene::Scene;
-use mesh_iv::Iv;
 use mesh_model::{Refusal, Table};
 use mesh_node::Node;
-use mesh_show::{is_built, show_table};
+use mesh_show::{Choosable, is_built, show_table};
 
-impl Scene {
+impl<A: Choosable + Drop> Scene<A> {
     /// `show NODE T`
     pub fn show(&self, name: &[u8], table: Table, text: &mut Vec<u8>) -> Result<(), LineFault>
-        requires somewhere { IsSomewhere self.now }
+        requires somewhere { IsSomewhere A.algorithm A.queries A.stands self.now }
         requires empty { text.old.items ≡ [] }
-        ensures ok { CarriesFrom self.now self.now
-            (λ state. carried_out iv_setup state (command.Show name.now table))
-            text.new.items result }
-        ensures refused { FailsFrom self.now
-            (λ state. carried_out iv_setup state (command.Show name.now table)) result }
+        ensures ok { CarriesFrom (SceneStands A.algorithm A.queries A.stands) self.now self.now
+            (outcome_under A.queries (command.Show name.now table)) text.new.items result }
+        ensures refused { FailsFrom (SceneStands A.algorithm A.queries A.stands) self.now
+            (outcome_under A.queries (command.Show name.now table)) result }
     {
         if !is_built(table) {
             return Err(refused(Refusal::NotBuilt));
@@ -35,11 +32,13 @@ impl Scene {
     }
 
     /// The node of a name.
-    fn node_of(&self, name: &[u8]) -> Result<&Node<Iv>, LineFault>
-        requires somewhere { IsSomewhere self.now }
-        ensures found { (state : State) → SceneStands self.now state →
-            IfOk result (λ node. IsNodeOf state name.now node.now) }
-        ensures unknown { (state : State) → SceneStands self.now state →
+    fn node_of(&self, name: &[u8]) -> Result<&Node<A>, LineFault>
+        requires somewhere { IsSomewhere A.algorithm A.queries A.stands self.now }
+        ensures found { (state : State) →
+            SceneStands A.algorithm A.queries A.stands self.now state →
+            IfOk result (λ node. IsNodeOf A.queries A.stands state name.now node.now) }
+        ensures unknown { (state : State) →
+            SceneStands A.algorithm A.queries A.stands self.now state →
             IfErr result (IsUnknown state name.now) }
     {
         let Some(place) = self.place_of(name) else {

@@ -1,24 +1,26 @@
 -- A node that is shown, and its tables as text. The main words are `IsNodeAt` and `AppendsTable`.
 use Rattle.std.specs.Prelude.{◌≡◌, ℕ, ◌≤◌, List, ◌++◌, IfSome}
-use Rattle.mesh_iv.specs.Tables.{Tables}
+use Rattle.mesh_base.specs.declared.address.Mac.{Mac}
 use Rattle.mesh_model.specs.declared.frame_choice.FrameChoice.{FrameChoice}
+use Rattle.mesh_model.specs.declared.line_form.Algorithm.{Algorithm}
 use Rattle.mesh_model.specs.declared.line_form.Table.{Table}
 use Rattle.mesh_model.specs.Net.Mesh.{NodeLog}
-use Rattle.mesh_model.specs.Routes.AlgorithmIv.{iv_queries}
+use Rattle.mesh_model.specs.Routes.Queries.{Queries}
+use Rattle.mesh_model.specs.Routes.RouteLog.{RouteLog}
 use Rattle.mesh_model.specs.Run.Shown.{shown}
 use Rattle.mesh_model.specs.Run.State.{printed_text}
 use Rattle.mesh_node.specs.NodeStands.{NodeStands}
 use Rattle.node_ground.specs.OwnStands.{newest_moment}
 use Rattle.mesh_node.specs.declared.node.Node.{Node}
-use Rattle.mesh_show.specs.IvStands.{iv_stands}
 
 -- a node stands for one of the mesh, which has this name and was given nothing after a moment
-pub record IsNodeAt (node : Node Tables) (name : List ℕ) (now : ℕ) (row : NodeLog) : Type 0 where
-  pub stands : NodeStands iv_stands iv_queries node row.mac row.log
+pub record IsNodeAt {A : Type 0} (queries : Mac → Queries) (stands : A → Mac → RouteLog → Type 0)
+    (node : Node A) (name : List ℕ) (now : ℕ) (row : NodeLog) : Type 0 where
+  pub standing : NodeStands stands queries node row.mac row.log
   pub named : row.name ≡ name
   pub past : newest_moment row.log ≤ now
 
--- a text gains a table of a node at a moment, where that table is built
-abbrev pub AppendsTable : Table → ℕ → NodeLog → (old new : List ℕ) → Type 0
-AppendsTable table now row old new = (choice : FrameChoice)
-    → IfSome (shown table) (λ print. new ≡ old ++ printed_text choice (print now row))
+-- a text gains a table of a node at a moment, under an algorithm, where that table is built
+abbrev pub AppendsTable : Algorithm → Table → ℕ → NodeLog → (old new : List ℕ) → Type 0
+AppendsTable algorithm table now row old new = (choice : FrameChoice)
+    → IfSome (shown table) (λ print. new ≡ old ++ printed_text choice (print algorithm now row))

@@ -3,24 +3,21 @@
 ghost use Rattle.std.specs.Prelude.{◌≡◌, ◌++◌, filter_map, flat_map, option_and_then, slice_get, IfOk, OnOk};
 ghost use Rattle.std.specs.List.{count_by};
 ghost use Rattle.mesh_base.specs.declared.address.Mac.{Mac};
-ghost use Rattle.mesh_iv.specs.Tables.{StandsFor};
 ghost use Rattle.mesh_model.specs.Clients.Log.{Log};
 ghost use Rattle.mesh_model.specs.Knowledge.Known.{Knowledge};
 ghost use Rattle.mesh_model.specs.Knowledge.Steps.{knowledge};
 ghost use Rattle.mesh_model.specs.Marks.Calls.{Calls};
 ghost use Rattle.mesh_model.specs.Marks.RoamingMarks.{marks_at};
-ghost use Rattle.mesh_model.specs.Routes.AlgorithmIv.{iv_queries};
 ghost use Rattle.mesh_model.specs.Run.KnownTables.{held_entries, parts_at};
 ghost use Rattle.mesh_model.specs.Tables.Known.{TableCalls, known_by, originators_by};
 ghost use Rattle.mesh_model.specs.Text.GlobalTables.{entry_line, global_table_text, mark_line, part_text};
 ghost use Rattle.mesh_node.specs.NodeStands.{NodeStands};
-ghost use Rattle.mesh_show.specs.IvStands.{iv_stands};
 ghost use Rattle.mesh_show.specs.Inner.Parts.{held_part, live_row};
 ghost use Rattle.tt_global.specs.Globals.{GlobalsStand};
 ghost use Rattle.tt_sync.specs.Sync.{StandsFor as MarksStand};
 
+use mesh_algo::Algo;
 use mesh_base::{Entry, Key, Mac, Millis, NoMemory};
-use mesh_iv::{Algo, Iv};
 use mesh_model::GlobalRow;
 use mesh_node::Node;
 use std::alloc::Global;
@@ -28,10 +25,15 @@ use tt_global::Globals;
 use tt_sync::Sync;
 
 /// Of the originators that announced something, the row of the one at a place, where it is live.
-fn live_row_at(algo: &Iv, globals: &Globals, now: Millis, place: usize) -> Option<GlobalRow>
+fn live_row_at<A: Algo>(
+    algo: &A,
+    globals: &Globals,
+    now: Millis,
+    place: usize,
+) -> Option<GlobalRow>
     ensures { (me : Mac) (known : Knowledge) →
-        StandsFor me algo.now known.routes → GlobalsStand globals.now known.tables →
-        result ≡ option_and_then (live_row (iv_queries me) known now)
+        A.stands algo.now me known.routes → GlobalsStand globals.now known.tables →
+        result ≡ option_and_then (live_row (A.queries me) known now)
         (slice_get (originators_by known.tables) place) }
 {
     let row = globals.row_at(place)?;
@@ -39,15 +41,15 @@ fn live_row_at(algo: &Iv, globals: &Globals, now: Millis, place: usize) -> Optio
 }
 
 /// The rows of the live originators that announced something.
-fn live_rows(
+fn live_rows<A: Algo>(
     alloc: Global,
-    algo: &Iv,
+    algo: &A,
     globals: &Globals,
     now: Millis,
 ) -> Result<Vec<GlobalRow>, NoMemory>
     ensures { IfOk result (λ rows. (me : Mac) (known : Knowledge) →
-        StandsFor me algo.now known.routes → GlobalsStand globals.now known.tables →
-        rows.items ≡ filter_map (live_row (iv_queries me) known now)
+        A.stands algo.now me known.routes → GlobalsStand globals.now known.tables →
+        rows.items ≡ filter_map (live_row (A.queries me) known now)
         (originators_by known.tables)) }
 {
     let mut rows = Vec::new(alloc);
@@ -60,10 +62,10 @@ fn live_rows(
 }
 
 /// How many tables of live originators are held in agreement.
-pub fn ok_count(alloc: Global, node: &Node<Iv>, now: Millis) -> Result<usize, NoMemory>
-    ensures { (me : Mac) (log : Log) → NodeStands iv_stands iv_queries node.now me log →
+pub fn ok_count<A: Algo>(alloc: Global, node: &Node<A>, now: Millis) -> Result<usize, NoMemory>
+    ensures { (me : Mac) (log : Log) → NodeStands A.stands A.queries node.now me log →
         IfOk result (λ count. count ≡ count_by (λ part. part.row.ok)
-        (parts_at (iv_queries me) (knowledge (iv_queries me) me log) now)) }
+        (parts_at (A.queries me) (knowledge (A.queries me) me log) now)) }
 {
     let rows = live_rows(alloc, node.algo(), node.globals(), now)?;
     Ok(rows.iter().filter(|row| row.ok).count())
@@ -137,18 +139,18 @@ fn put_marks(out: &mut Vec<u8>, marks: &[(Key, Mac)]) -> Result<(), NoMemory>
 }
 
 /// Appends what a node knows of the others' clients.
-pub fn show_globals(
+pub fn show_globals<A: Algo>(
     alloc: Global,
-    node: &Node<Iv>,
+    node: &Node<A>,
     name: &[u8],
     now: Millis,
     out: &mut Vec<u8>,
 ) -> Result<(), NoMemory>
-    ensures { (me : Mac) (log : Log) → NodeStands iv_stands iv_queries node.now me log →
+    ensures { (me : Mac) (log : Log) → NodeStands A.stands A.queries node.now me log →
         OnOk result (out.new.items ≡ out.old.items ++ global_table_text (record {
           name = name.now;
-          parts = parts_at (iv_queries me) (knowledge (iv_queries me) me log) now;
-          marks = marks_at now (knowledge (iv_queries me) me log).marks;
+          parts = parts_at (A.queries me) (knowledge (A.queries me) me log) now;
+          marks = marks_at now (knowledge (A.queries me) me log).marks;
         })) }
 {
     let rows = live_rows(alloc, node.algo(), node.globals(), now)?;

@@ -2,12 +2,14 @@
 
 #![tactic(auto)]
 
+mod choosable;
 mod clients;
 mod events;
 mod known;
 mod routes;
 mod tables;
 
+pub use choosable::Choosable;
 pub use events::put_events;
 pub use known::ok_count;
 pub use tables::{is_built, show_table};

@@ -2,21 +2,20 @@
 
 ghost use Rattle.std.specs.Prelude.{◌≡◌, ◌++◌, IfOk, OnOk};
 ghost use Rattle.mesh_base.specs.declared.address.Mac.{Mac};
-ghost use Rattle.mesh_iv.specs.Tables.{StandsFor};
-ghost use Rattle.mesh_model.specs.Routes.AlgorithmIv.{iv_queries};
 ghost use Rattle.mesh_model.specs.Routes.RouteLog.{RouteLog};
 ghost use Rattle.mesh_model.specs.Text.Tables.{neighbor_line, link_table_text, orig_table_text};
 
+use crate::choosable::Choosable;
 use batctl_text::{iv_link_line, link_header, orig_header, orig_line, v_link_line};
+use mesh_algo::Algo;
 use mesh_base::{Millis, NoMemory};
-use mesh_iv::{Algo, Iv};
 use mesh_model::{Algorithm, LinkRow, OrigRow};
 use std::alloc::Global;
 
 /// The live originators of a node.
-fn orig_rows(alloc: Global, algo: &Iv, now: Millis) -> Result<Vec<OrigRow>, NoMemory>
-    ensures { IfOk result (λ rows. (me : Mac) (log : RouteLog) → StandsFor me algo.now log →
-        rows.items ≡ (iv_queries me).originators log now) }
+fn orig_rows<A: Algo>(alloc: Global, algo: &A, now: Millis) -> Result<Vec<OrigRow>, NoMemory>
+    ensures { IfOk result (λ rows. (me : Mac) (log : RouteLog) → A.stands algo.now me log →
+        rows.items ≡ (A.queries me).originators log now) }
 {
     let mut rows = Vec::new(alloc);
     while let Some(row) = algo.orig_at(now, rows.len()) {
@@ -26,9 +25,9 @@ fn orig_rows(alloc: Global, algo: &Iv, now: Millis) -> Result<Vec<OrigRow>, NoMe
 }
 
 /// The neighbours of a node.
-fn link_rows(alloc: Global, algo: &Iv, now: Millis) -> Result<Vec<LinkRow>, NoMemory>
-    ensures { IfOk result (λ rows. (me : Mac) (log : RouteLog) → StandsFor me algo.now log →
-        rows.items ≡ (iv_queries me).neighbours log now) }
+fn link_rows<A: Algo>(alloc: Global, algo: &A, now: Millis) -> Result<Vec<LinkRow>, NoMemory>
+    ensures { IfOk result (λ rows. (me : Mac) (log : RouteLog) → A.stands algo.now me log →
+        rows.items ≡ (A.queries me).neighbours log now) }
 {
     let mut rows = Vec::new(alloc);
     while let Some(row) = algo.link_at(now, rows.len()) {
@@ -38,14 +37,19 @@ fn link_rows(alloc: Global, algo: &Iv, now: Millis) -> Result<Vec<LinkRow>, NoMe
 }
 
 /// Appends a table of originators.
-fn put_originators(out: &mut Vec<u8>, name: &[u8], rows: &[OrigRow]) -> Result<(), NoMemory>
+fn put_originators(
+    out: &mut Vec<u8>,
+    name: &[u8],
+    algorithm: Algorithm,
+    rows: &[OrigRow],
+) -> Result<(), NoMemory>
     ensures ok { OnOk result (out.new.items ≡ out.old.items ++ orig_table_text (record {
       name = name.now;
-      algorithm = Algorithm.Iv;
+      algorithm = algorithm;
       rows = rows.now;
     })) }
 {
-    orig_header(out, name, Algorithm::Iv, rows.len())?;
+    orig_header(out, name, algorithm, rows.len())?;
     for row in rows {
         orig_line(out, row.orig, row.seq, row.seen, row.next, row.metric)?;
     }
@@ -64,14 +68,19 @@ fn put_neighbor(out: &mut Vec<u8>, row: LinkRow) -> Result<(), NoMemory>
 }
 
 /// Appends a table of neighbours.
-fn put_neighbors(out: &mut Vec<u8>, name: &[u8], rows: &[LinkRow]) -> Result<(), NoMemory>
+fn put_neighbors(
+    out: &mut Vec<u8>,
+    name: &[u8],
+    algorithm: Algorithm,
+    rows: &[LinkRow],
+) -> Result<(), NoMemory>
     ensures ok { OnOk result (out.new.items ≡ out.old.items ++ link_table_text (record {
       name = name.now;
-      algorithm = Algorithm.Iv;
+      algorithm = algorithm;
       rows = rows.now;
     })) }
 {
-    link_header(out, name, Algorithm::Iv, rows.len())?;
+    link_header(out, name, algorithm, rows.len())?;
     for row in rows {
         put_neighbor(out, *row)?;
     }
@@ -79,41 +88,41 @@ fn put_neighbors(out: &mut Vec<u8>, name: &[u8], rows: &[LinkRow]) -> Result<(),
 }
 
 /// Appends the table of a node's originators.
-pub fn show_originators(
+pub fn show_originators<A: Choosable>(
     alloc: Global,
-    algo: &Iv,
+    algo: &A,
     name: &[u8],
     now: Millis,
     out: &mut Vec<u8>,
 ) -> Result<(), NoMemory>
-    ensures { (me : Mac) (log : RouteLog) → StandsFor me algo.now log →
+    ensures { (me : Mac) (log : RouteLog) → A.stands algo.now me log →
         OnOk result (out.new.items ≡ out.old.items ++ orig_table_text (record {
           name = name.now;
-          algorithm = Algorithm.Iv;
-          rows = (iv_queries me).originators log now;
+          algorithm = A.algorithm;
+          rows = (A.queries me).originators log now;
         })) }
 {
     let rows = orig_rows(alloc, algo, now)?;
-    put_originators(out, name, rows.as_slice())?;
+    put_originators(out, name, A::algorithm(), rows.as_slice())?;
     Ok(())
 }
 
 /// Appends the table of a node's neighbours.
-pub fn show_neighbors(
+pub fn show_neighbors<A: Choosable>(
     alloc: Global,
-    algo: &Iv,
+    algo: &A,
     name: &[u8],
     now: Millis,
     out: &mut Vec<u8>,
 ) -> Result<(), NoMemory>
-    ensures { (me : Mac) (log : RouteLog) → StandsFor me algo.now log →
+    ensures { (me : Mac) (log : RouteLog) → A.stands algo.now me log →
         OnOk result (out.new.items ≡ out.old.items ++ link_table_text (record {
           name = name.now;
-          algorithm = Algorithm.Iv;
-          rows = (iv_queries me).neighbours log now;
+          algorithm = A.algorithm;
+          rows = (A.queries me).neighbours log now;
         })) }
 {
     let rows = link_rows(alloc, algo, now)?;
-    put_neighbors(out, name, rows.as_slice())?;
+    put_neighbors(out, name, A::algorithm(), rows.as_slice())?;
     Ok(())
 }

@@ -5,11 +5,11 @@ ghost use Rattle.mesh_model.specs.Net.Mesh.{NodeLog};
 ghost use Rattle.mesh_model.specs.Run.Shown.{shown};
 ghost use Rattle.mesh_show.specs.Shown.{AppendsTable, IsNodeAt};
 
+use crate::choosable::Choosable;
 use crate::clients::show_locals;
 use crate::known::show_globals;
 use crate::routes::{show_neighbors, show_originators};
 use mesh_base::{Millis, NoMemory};
-use mesh_iv::Iv;
 use mesh_model::Table;
 use mesh_node::Node;
 use std::alloc::Global;
@@ -26,17 +26,17 @@ pub fn is_built(table: Table) -> bool
 }
 
 /// Appends a table of a node of this name.
-pub fn show_table(
+pub fn show_table<A: Choosable>(
     alloc: Global,
-    node: &Node<Iv>,
+    node: &Node<A>,
     name: &[u8],
     table: Table,
     now: Millis,
     out: &mut Vec<u8>,
 ) -> Result<(), NoMemory>
     requires built { is_some (shown table) ≡ true }
-    ensures ok { (row : NodeLog) → IsNodeAt node.now name.now now row →
-        OnOk result (AppendsTable table now row out.old.items out.new.items) }
+    ensures ok { (row : NodeLog) → IsNodeAt A.queries A.stands node.now name.now now row →
+        OnOk result (AppendsTable A.algorithm table now row out.old.items out.new.items) }
 {
     match table {
         Table::Locals => show_locals(alloc, node.locals(), name, now, out)?,

@@ -3,7 +3,6 @@
 use Rattle.std.specs.Prelude.{◌≡◌, ℕ, ◌&&◌, not, if◌then◌else◌, List, slice_get, Option, Some, None}
 use Rattle.mesh_base.specs.Address.{is_broadcast, is_group}
 use Rattle.mesh_base.specs.declared.address.Mac.{Mac}
-use Rattle.mesh_iv.specs.Tables.{Tables}
 use Rattle.mesh_model.specs.Clients.Log.{Given, LineGiven, Line, Sets}
 use Rattle.mesh_model.specs.Clients.Log.{Frame as GivenFrame, Gone as GivenGone, Join as GivenJoin, Leave as GivenLeave}
 use Rattle.mesh_model.specs.Clients.Settings.{Wifi as WifiSet}
@@ -12,11 +11,13 @@ use Rattle.mesh_model.specs.declared.ending.Stop.TheVariants.{Refused}
 use Rattle.mesh_model.specs.declared.line_form.Command.{Command}
 use Rattle.mesh_model.specs.declared.line_form.Command.TheVariants.{Nothing, Algo, Node, Link, Lan, Frame, Gone, Join, Leave, Arp, Dhcp, Wifi, GwOff, GwServer, GwClient, Mcast, Dat, Alfred, Put, Get, Ping, Trace, Run, Deliver, Show, Decode}
 use Rattle.mesh_model.specs.Net.Inputs.{given_to}
-use Rattle.mesh_model.specs.Net.Mesh.{NodeLog}
+use Rattle.mesh_model.specs.Net.Mesh.{NodeLog, Setup}
+use Rattle.mesh_model.specs.Routes.Queries.{Queries}
+use Rattle.mesh_model.specs.Routes.RouteLog.{RouteLog}
 use Rattle.mesh_model.specs.Run.Demands.{is_known, refusal_if}
 use Rattle.mesh_model.specs.Run.Outcome.{Outcome}
 use Rattle.mesh_model.specs.Run.Passing.{after_attempt}
-use Rattle.mesh_model.specs.Run.Rules.{first_refused_rule, iv_setup, unless_refused}
+use Rattle.mesh_model.specs.Run.Rules.{first_refused_rule, unless_refused}
 use Rattle.mesh_model.specs.Run.State.{State, place_of}
 use Rattle.mesh_model.specs.Run.Steps.{Step, at_node, session_step}
 use Rattle.mesh_node.specs.declared.node.Node.{Node as NodeValue}
@@ -25,15 +26,15 @@ use Rattle.mesh_scene.specs.declared.fault.LineFault.TheVariants.{Stopped}
 use Rattle.mesh_show.specs.Shown.{IsNodeAt}
 
 -- the node at a place is given something, now; what it sends has the root 0
-abbrev pub given_step : Given → ℕ → Step
-given_step given place state =
-    after_attempt state (given_to iv_setup place state.clock 0 given state.mesh)
+abbrev pub given_step : Setup → Given → ℕ → Step
+given_step setup given place state =
+    after_attempt state (given_to setup place state.clock 0 given state.mesh)
 
 -- the outcome of a line that gives the node of a name something
-abbrev pub given_at : List ℕ → Given → State → Outcome
-given_at name given state = unless_refused state
+abbrev pub given_at : Setup → List ℕ → Given → State → Outcome
+given_at setup name given state = unless_refused state
     (refusal_if (not (is_known state name)) UnknownName)
-    (at_node name (given_step given) state)
+    (at_node name (given_step setup given) state)
 
 -- the node of a name that a command gives something, and what it gives; a frame to a group, other
 -- than to all stations, isn't built
@@ -68,17 +69,18 @@ given_of (Decode bytes) = None
 
 -- the outcome of a line that begins a session of the node of one name with that of another; its
 -- rules are those of `ping`, whichever session it begins
-abbrev pub session_at : List ℕ → List ℕ → (Mac → LineGiven) → State → Outcome
-session_at node target line state = unless_refused state
-    (first_refused_rule state (Ping node target)) (session_step iv_setup line node target state)
+abbrev pub session_at : Setup → List ℕ → List ℕ → (Mac → LineGiven) → State → Outcome
+session_at setup node target line state = unless_refused state
+    (first_refused_rule state (Ping node target)) (session_step setup line node target state)
 
 -- the node of a name, as it stands in the mesh and as it is kept
-pub record IsNodeOf (state : State) (name : List ℕ) (node : NodeValue Tables) : Type 0 where
+pub record IsNodeOf {A : Type 0} (queries : Mac → Queries) (stands : A → Mac → RouteLog → Type 0)
+    (state : State) (name : List ℕ) (node : NodeValue A) : Type 0 where
   pub place : ℕ
   pub row : NodeLog
   pub at : place_of state name ≡ Some place
   pub found : slice_get state.mesh.nodes place ≡ Some row
-  pub kept : IsNodeAt node name state.clock row
+  pub kept : IsNodeAt queries stands node name state.clock row
 
 -- a fault says that no node has a name, and none has it
 pub record IsUnknown (state : State) (name : List ℕ) (fault : LineFault) : Type 0 where

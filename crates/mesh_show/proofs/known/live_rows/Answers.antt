@@ -1,7 +1,6 @@
 use Rattle.std.proofs.Common.{◌<◌, ◌++◌, [], ◌∷◌, List, length, take, Some, None, sym, ap, ◌∙◌, append-nil, arith, take_all}
 use Rattle.std.specs.Prelude.{filter_map}
 use Rattle.mesh_model.specs.declared.table_row.GlobalRow.{GlobalRow}
-use Rattle.mesh_model.specs.Routes.AlgorithmIv.{iv_queries}
 use Rattle.mesh_model.specs.Tables.Known.{originators_by}
 use Rattle.mesh_show.specs.Inner.Parts.{live_row}
 use Rattle.mesh_show.proofs.KnownLemmas.{found_next}
@@ -9,8 +8,8 @@ use Rattle.mesh_show.proofs.known.live_rows.Goals as goal
 use Rattle.mesh_show.proofs.known.live_rows.Goals.{in-Some+in_ok-push, in_default}
 
 pub loop-place-preserved : goal.loop-place-preserved
-loop-place-preserved c = λ me known algo tables.
-    let row_of = live_row (iv_queries me) known c.args.now in
+loop-place-preserved g c = λ me known algo tables.
+    let row_of = live_row (g.A.Algo.queries me) known c.args.now in
     let origs = originators_by known.tables in
     let place = c.loop-place.place in
     let first = c.loop-place.invariant me known algo tables in
@@ -24,7 +23,7 @@ loop-place-preserved c = λ me known algo tables.
     ]
 
 pub returns : goal.returns
-returns c = λ me known algo tables.
+returns g c = λ me known algo tables.
     c.loop-place.invariant me known algo tables
-    ∙ ap (filter_map (live_row (iv_queries me) known c.args.now))
+    ∙ ap (filter_map (live_row (g.A.Algo.queries me) known c.args.now))
     (take_all c.loop-place.place (originators_by known.tables) (omega (arith, c.loop-place-test.false, c.len-place-end.ensures known.tables tables)))

@@ -4,7 +4,7 @@ use Rattle.mesh_scene.proofs.CountLemmas.{found-at, sum-next}
 use Rattle.mesh_scene.proofs.scene.Scene.counts.Goals as goal
 
 pub loop-place-preserved : goal.loop-place-preserved
-loop-place-preserved c =
+loop-place-preserved g c =
     let loop = c.loop-place.invariant in
     let place = c.loop-place.place in
     record {
@@ -17,7 +17,7 @@ loop-place-preserved c =
           let nodes = state.mesh.nodes in
           let there = found-at nodes place (omega (arith, c.loop-place-test.true, c.len-place-end.ensures state.choice state.clock state.mesh stands.net_is)) in
           let counts = c.in_ok-counts.ensures state there.0 stands there.1 in
-          omega (arith, loop.ok state stands, counts.1, sum-next (ok_tables state.clock) nodes place there.0 there.1);
+          omega (arith, loop.ok state stands, counts.1, sum-next (ok_tables state.algorithm state.clock) nodes place there.0 there.1);
       few_commits = search rules;
       few_ok = search rules;
     }
