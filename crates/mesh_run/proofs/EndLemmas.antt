@@ -23,7 +23,8 @@ use Rattle.mesh_laws.proofs.RunLemmas.{after_lines-append}
 use Rattle.mesh_run.specs.declared.fault.Fault.{Fault}
 use Rattle.mesh_run.specs.declared.fault.Fault.TheVariants.{Halted, Read, Write, Memory}
 use Rattle.mesh_run.specs.declared.runner.Runner.{Runner}
-use Rattle.mesh_scene.specs.declared.scene.Scene.{Scene}
+use Rattle.mesh_scene.specs.StageStands.{StageStands}
+use Rattle.mesh_scene.specs.declared.stage.Stage.{Stage}
 use Rattle.mesh_run.proofs.ProgressLemmas.{HaltsFrom-after}
 
 -- ---- the byte past the limit of the input
@@ -86,14 +87,14 @@ plain_run-last choice base old runner read outcome stands short some within is =
     plain_run-end choice base old runner read stands ∙ ap (after_lines run) (open_line-some rest some) ∙ after_line-going run rest outcome stands.going line
 
 -- the unfinished line is carried out
-pub Finishes-last : (choice : FrameChoice) (base old new : Option (List ℕ)) (runner : Runner) (scene : Scene) (read : List ℕ) → (stands : Stands choice base old runner read)
+pub Finishes-last : (choice : FrameChoice) (base old new : Option (List ℕ)) (runner : Runner) (stage : Stage) (read : List ℕ) → (stands : Stands choice base old runner read)
     → length runner.line.items ≤ 4096 → 0 < length runner.line.items → runner.taken ≤ 67108864
-    → Carried (after_reading (after_lines (start choice) stands.lines).state (command_of_line runner.line.items)) base new scene
+    → Carried StageStands (after_reading (after_lines (start choice) stands.lines).state (command_of_line runner.line.items)) base new stage
     → Finishes choice base new read
-Finishes-last choice base old new runner scene read stands short some within carried =
+Finishes-last choice base old new runner stage read stands short some within carried =
     let run_is = plain_run-last choice base old runner read (Goes carried.after) stands short some within carried.carried in
     let T : List ℕ → Type 0 = λ text. Appends base new text in
-    record { halt = ap (λ (r : Run). r.halt) run_is; printed = subst T (sym (ap output run_is)) carried.stands.printed }
+    record { halt = ap (λ (r : Run). r.halt) run_is; printed = subst T (sym (ap output run_is)) carried.standing.printed }
 
 halting_place-last : (before : ℕ) (rest : List ℕ) (stop : Stop) → length rest ≤ 4096 → before + length rest ≤ 67108864 → before + length rest ≤ halting_place before rest stop
 halting_place-last before rest (Refused refusal) short within = omega arith

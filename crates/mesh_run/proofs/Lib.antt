@@ -12,3 +12,4 @@ pub mod SliceLemmas
 pub mod Right
 pub mod GeneratedLemmas
 pub mod RightlyLemmas
+pub mod StageLemmas

@@ -23,7 +23,8 @@ use Rattle.mesh_laws.proofs.RunLemmas.{after_lines-grows}
 use Rattle.mesh_run.specs.declared.fault.Fault.{Fault}
 use Rattle.mesh_run.specs.declared.fault.Fault.TheVariants.{Halted, Read, Write, Memory}
 use Rattle.mesh_run.specs.declared.runner.Runner.{Runner}
-use Rattle.mesh_scene.specs.declared.scene.Scene.{Scene}
+use Rattle.mesh_scene.specs.StageStands.{StageStands}
+use Rattle.mesh_scene.specs.declared.stage.Stage.{Stage}
 
 -- a run that halts after these lines, whose text out took
 pub HaltsFrom-after : (choice : FrameChoice) (base now : Option (List ℕ)) (least number : ℕ) (input : List ℕ) (lines : List (List ℕ)) (line : List ℕ) (reached : State) (stop : Stop)
@@ -82,16 +83,16 @@ halts-hold choice base now runner read text unbroken stands short long within mo
 
 -- a runner that has more of the unfinished line
 pub Stands-more : (choice : FrameChoice) (base now : Option (List ℕ)) (old new : Runner) (read text : List ℕ) → IsUnbroken text → Stands choice base now old read
-    → new.line.items ≡ old.line.items ++ text → new.scene ≡ old.scene → new.lines ≡ old.lines → new.taken ≡ old.taken + length text
+    → new.line.items ≡ old.line.items ++ text → new.stage ≡ old.stage → new.lines ≡ old.lines → new.taken ≡ old.taken + length text
     → Stands choice base now new (read ++ text)
-Stands-more choice base now old new read text unbroken stands line scene lines taken =
+Stands-more choice base now old new read text unbroken stands line stage lines taken =
     let C : List ℕ → Type 0 = λ rest. IsCut (read ++ text) stands.lines rest in
-    let S : Scene → Type 0 = λ s. StandsAt base now s (after_lines (start choice) stands.lines).state in
+    let S : Stage → Type 0 = λ s. StandsAt StageStands base now s (after_lines (start choice) stands.lines).state in
     record {
       lines = stands.lines;
       cut = subst C (sym line) (IsCut-more read stands.lines old.line.items text stands.cut unbroken);
       going = stands.going;
-      at = subst S (sym scene) stands.at;
+      at = subst S (sym stage) stands.at;
       lines_are = stands.lines_are ∙ sym lines;
       taken = length-append read text ∙ ap (λ n. n + length text) stands.taken ∙ sym taken;
     }
@@ -99,7 +100,7 @@ Stands-more choice base now old new read text unbroken stands line scene lines t
 -- a runner whose unfinished line was ended and carried out
 pub Stands-newline : (choice : FrameChoice) (base old_taken new_taken : Option (List ℕ)) (old new : Runner) (read : List ℕ) → (stands : Stands choice base old_taken old read)
     → length old.line.items ≤ 4096 → old.taken < 67108864
-    → Carried (after_reading (after_lines (start choice) stands.lines).state (command_of_line (without_carriage_return old.line.items))) base new_taken new.scene
+    → Carried StageStands (after_reading (after_lines (start choice) stands.lines).state (command_of_line (without_carriage_return old.line.items))) base new_taken new.stage
     → new.line.items ≡ [] → new.lines ≡ old.lines + 1 → new.taken ≡ old.taken + 1 → Stands choice base new_taken new (read ++ newline ∷ [])
 Stands-newline choice base old_taken new_taken old new read stands short within carried line lines taken =
     let rest = old.line.items in
@@ -108,12 +109,12 @@ Stands-newline choice base old_taken new_taken old new read stands short within 
     let outcome = line_outcome-newline run.state run.bytes rest short (omega (arith, before, stands.taken, within)) ∙ carried.carried in
     let next = after_lines-newline choice stands.lines (rest ++ newline ∷ []) (Goes carried.after) stands.going outcome in
     let C : List ℕ → Type 0 = λ left. IsCut (read ++ newline ∷ []) (stands.lines ++ (rest ++ newline ∷ []) ∷ []) left in
-    let S : Run → Type 0 = λ r. StandsAt base new_taken new.scene r.state in
+    let S : Run → Type 0 = λ r. StandsAt StageStands base new_taken new.stage r.state in
     record {
       lines = stands.lines ++ (rest ++ newline ∷ []) ∷ [];
       cut = subst C (sym line) (IsCut-newline read stands.lines rest stands.cut);
       going = ap (λ (r : Run). r.halt) next;
-      at = subst S (sym next) carried.stands;
+      at = subst S (sym next) carried.standing;
       lines_are = ap (λ (r : Run). r.lines) next ∙ ap (λ n. n + 1) stands.lines_are ∙ sym lines;
       taken = length-append read (newline ∷ []) ∙ ap (λ n. n + 1) stands.taken ∙ sym taken;
     }

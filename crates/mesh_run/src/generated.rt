@@ -38,7 +38,7 @@ fn summary_of(alloc: Global, nodes: u8) -> Result<Vec<u8>, Fault>
     if let Err(fault) = runner.take_piece(&mut kept, lines.as_slice()) {
         return Err(kept_fault(fault));
     }
-    let counts = runner.scene.counts(nodes, kept.text.as_slice())?;
+    let counts = runner.stage.counts(nodes, kept.text.as_slice())?;
     let mut line = Vec::new(alloc);
     summary_line(&mut line, counts)?;
     Ok(line)

@@ -4,7 +4,7 @@ ghost use Rattle.std.specs.Prelude.{◌≡◌, ℕ, List, [], Option, IfSome, On
 ghost use Rattle.std.specs.Option.{option_copied};
 ghost use Rattle.std.specs.Io.KnownBytes.{IsAtEnd};
 ghost use Rattle.mesh_model.specs.declared.frame_choice.FrameChoice.{FrameChoice};
-ghost use Rattle.mesh_scene.specs.SceneStands.{IsSomewhere};
+ghost use Rattle.mesh_scene.specs.StageStands.{IsOnStage};
 ghost use Rattle.mesh_run.specs.Inner.Progress.{Stands};
 ghost use Rattle.mesh_run.specs.Inner.Reading.{CountsFaults, ReadFails, ReadsAll, RunFails};
 ghost use Rattle.mesh_run.specs.Outcome.{Finishes};
@@ -13,16 +13,16 @@ use crate::fault::Fault;
 use crate::runner::Runner;
 use mesh_base::{Failed, Intake, OpenErr, PIECE_LIMIT, Sink};
 use mesh_model::FrameChoice;
-use mesh_scene::Scene;
+use mesh_scene::Stage;
 use std::alloc::Global;
 
 /// A run before its first line.
 pub fn new_runner(alloc: Global, choice: FrameChoice) -> Runner
     ensures stands { (base : Option (List ℕ)) → Stands choice base base result [] }
-    ensures somewhere { IsSomewhere result.scene }
+    ensures somewhere { IsOnStage result.stage }
 {
     Runner {
-        scene: Scene::new(alloc, choice),
+        stage: Stage::new(alloc, choice),
         line: Vec::new(alloc),
         text: Vec::new(alloc),
         lines: 0,
@@ -36,7 +36,7 @@ pub fn read_all<I: Intake, K: Sink>(
     out: &mut K,
     mut runner: Runner,
 ) -> Result<(), Fault>
-    requires somewhere { IsSomewhere runner.scene }
+    requires somewhere { IsOnStage runner.stage }
     ensures ok { (choice : FrameChoice) (base : Option (List ℕ)) →
         Stands choice base (K.taken out.old) runner [] → OnOk result
         (ReadsAll choice (I.left intake.old) (I.left intake.new) base (K.taken out.new)) }

@@ -5,7 +5,7 @@ ghost use Rattle.mesh_model.specs.declared.frame_choice.FrameChoice.{FrameChoice
 ghost use Rattle.mesh_laws.specs.Cuts.{IsUnbroken};
 ghost use Rattle.mesh_model.specs.Scenario.Lines.{input_limit, newline, without_carriage_return};
 ghost use Rattle.mesh_run.specs.Inner.Lines.{BlamesWrite, CountsWrites};
-ghost use Rattle.mesh_scene.specs.SceneStands.{IsSomewhere};
+ghost use Rattle.mesh_scene.specs.StageStands.{IsOnStage};
 ghost use Rattle.mesh_run.specs.Inner.Progress.{Fails, FailsIn, FailsOn, ReadsOn, Stands};
 ghost use Rattle.mesh_run.specs.Outcome.{Finishes};
 
@@ -32,7 +32,7 @@ impl Runner {
         ensures failed { (taken : Option (List ℕ)) → IsUnbroken text.now →
             FailsOn taken taken self.old text.now result }
         ensures taken { OnOk result (self.new.taken ≡ self.old.taken + length text.now) }
-        ensures scene { self.new.scene ≡ self.old.scene }
+        ensures stage { self.new.stage ≡ self.old.stage }
         ensures blameless { (old new : ℕ) → IfErr result (BlamesWrite old new) }
     {
         if text.len() > LINE_LIMIT - self.line.len() {
@@ -48,17 +48,17 @@ impl Runner {
     /// Carries out the unfinished line, whose newline came.
     pub fn end_line<K: Sink>(&mut self, out: &mut K) -> Result<(), Fault>
         requires within { self.old.taken < input_limit }
-        requires somewhere { IsSomewhere self.old.scene }
+        requires somewhere { IsOnStage self.old.stage }
         ensures ok { ReadsOn (K.taken out.old) (K.taken out.new) self.old self.new
             (newline ∷ []) result }
         ensures failed { FailsOn (K.taken out.old) (K.taken out.new) self.old
             (newline ∷ []) result }
         ensures taken { OnOk result (self.new.taken ≡ self.old.taken + 1) }
         ensures faults { CountsWrites (K.faults out.old) (K.faults out.new) result }
-        ensures somewhere { OnOk result (IsSomewhere self.new.scene) }
+        ensures somewhere { OnOk result (IsOnStage self.new.stage) }
     {
         let line = without_return(self.line.as_slice());
-        carry_line(&mut self.scene, &mut self.text, out, line, self.lines + 1)?;
+        carry_line(&mut self.stage, &mut self.text, out, line, self.lines + 1)?;
         self.line.clear();
         self.lines += 1;
         self.taken += 1;
@@ -68,13 +68,13 @@ impl Runner {
     /// Carries out the lines that these bytes end, and keeps what they begin.
     pub fn take_lines<K: Sink>(&mut self, out: &mut K, bytes: &[u8]) -> Result<(), Fault>
         requires within { self.old.taken + length bytes.now ≤ input_limit }
-        requires somewhere { IsSomewhere self.old.scene }
+        requires somewhere { IsOnStage self.old.stage }
         ensures ok { ReadsOn (K.taken out.old) (K.taken out.new) self.old self.new
             bytes.now result }
         ensures failed { FailsOn (K.taken out.old) (K.taken out.new) self.old bytes.now result }
         ensures taken { OnOk result (self.new.taken ≡ self.old.taken + length bytes.now) }
         ensures faults { CountsWrites (K.faults out.old) (K.faults out.new) result }
-        ensures somewhere { OnOk result (IsSomewhere self.new.scene) }
+        ensures somewhere { OnOk result (IsOnStage self.new.stage) }
     {
         let mut rest = bytes;
         while let Some(end) = memchr(b'\n', rest) {
@@ -89,14 +89,14 @@ impl Runner {
     /// newline.
     fn take_line<K: Sink>(&mut self, out: &mut K, text: &[u8]) -> Result<(), Fault>
         requires within { self.old.taken + length text.now < input_limit }
-        requires somewhere { IsSomewhere self.old.scene }
+        requires somewhere { IsOnStage self.old.stage }
         ensures ok { IsUnbroken text.now → ReadsOn (K.taken out.old) (K.taken out.new)
             self.old self.new (text.now ++ newline ∷ []) result }
         ensures failed { IsUnbroken text.now → FailsOn (K.taken out.old) (K.taken out.new)
             self.old (text.now ++ newline ∷ []) result }
         ensures taken { OnOk result (self.new.taken ≡ self.old.taken + length text.now + 1) }
         ensures faults { CountsWrites (K.faults out.old) (K.faults out.new) result }
-        ensures somewhere { OnOk result (IsSomewhere self.new.scene) }
+        ensures somewhere { OnOk result (IsOnStage self.new.stage) }
     {
         self.hold(text)?;
         self.end_line(out)?;
@@ -105,13 +105,13 @@ impl Runner {
 
     /// Takes what one read gave; the byte past the input's limit halts the run.
     pub fn take_piece<K: Sink>(&mut self, out: &mut K, piece: &[u8]) -> Result<(), Fault>
-        requires somewhere { IsSomewhere self.old.scene }
+        requires somewhere { IsOnStage self.old.stage }
         ensures ok { ReadsOn (K.taken out.old) (K.taken out.new) self.old self.new
             piece.now result }
         ensures failed { FailsOn (K.taken out.old) (K.taken out.new) self.old piece.now result }
         ensures taken { OnOk result (self.new.taken ≡ self.old.taken + length piece.now) }
         ensures faults { CountsWrites (K.faults out.old) (K.faults out.new) result }
-        ensures somewhere { OnOk result (IsSomewhere self.new.scene) }
+        ensures somewhere { OnOk result (IsOnStage self.new.stage) }
     {
         let room = INPUT_LIMIT - self.taken;
         if piece.len() <= room {
@@ -151,7 +151,7 @@ impl Runner {
 
     /// Carries out a last line without a newline, at the end of the input.
     pub fn finish<K: Sink>(mut self, out: &mut K) -> Result<(), Fault>
-        requires somewhere { IsSomewhere self.scene }
+        requires somewhere { IsOnStage self.stage }
         ensures ok { (choice : FrameChoice) (base : Option (List ℕ)) (read : List ℕ) →
             Stands choice base (K.taken out.old) self read →
             OnOk result (Finishes choice base (K.taken out.new) read) }
@@ -166,7 +166,7 @@ impl Runner {
         let runner = &mut self;
         let number = runner.lines + 1;
         let line = runner.line.as_slice();
-        carry_line(&mut runner.scene, &mut runner.text, out, line, number)?;
+        carry_line(&mut runner.stage, &mut runner.text, out, line, number)?;
         Ok(())
     }
 }

@@ -1,13 +1,13 @@
 //! `run`: time passes slice by slice, and the text of each is written before the next begins.
 
 ghost use Rattle.std.specs.Prelude.{◌≡◌, ◌+◌, ◌<◌, ◌≤◌, true, IfSome, IsNone, Ok, OnOk};
-ghost use Rattle.mesh_model.specs.Net.Limits.{clock_limit};
+ghost use Rattle.mesh_model.specs.Net.Limits.{clock_limit, scenario_setup};
 ghost use Rattle.mesh_model.specs.Run.Passing.{run_until};
 ghost use Rattle.mesh_model.specs.declared.line_form.Command.TheVariants as command;
-ghost use Rattle.mesh_model.specs.Run.Rules.{carried_out, iv_setup};
 ghost use Rattle.mesh_run.specs.Inner.Lines.{BreaksOff, CarriesOn, CountsWrites, GoesOnBy};
+ghost use Rattle.mesh_scene.specs.CarriesOut.{outcome_under};
 ghost use Rattle.mesh_scene.specs.Slices.{HasAdvanced};
-ghost use Rattle.mesh_scene.specs.SceneStands.{IsSomewhere};
+ghost use Rattle.mesh_scene.specs.SceneStands.{IsSomewhere, SceneStands};
 
 use crate::fault::Fault;
 use crate::output::put_text;
@@ -15,25 +15,27 @@ use mesh_base::{Failed, Millis, Sink};
 use mesh_model::{LimitName, Stop};
 use mesh_net::CLOCK_LIMIT;
 use mesh_scene::{Passage, Scene};
+use mesh_show::Choosable;
 
 /// Carries out a slice of a run until a moment and writes what it prints, by way of `text`.
 /// Answers whether more is to come.
-fn run_slice<K: Sink>(
-    scene: &mut Scene,
+fn run_slice<A: Choosable + Drop, K: Sink>(
+    scene: &mut Scene<A>,
     text: &mut Vec<u8>,
     out: &mut K,
     end: Millis,
     number: u64,
 ) -> Result<bool, Fault>
-    requires somewhere { IsSomewhere scene.old }
+    requires somewhere { IsSomewhere A.algorithm A.queries A.stands scene.old }
     requires later { scene.old.net.clock ≤ end }
     requires within { end ≤ clock_limit }
-    ensures ok { GoesOnBy (K.taken out.old) (K.taken out.new) scene.old scene.new end result }
-    ensures failed { BreaksOff (K.taken out.old) (K.taken out.new) scene.old
-        (λ state. run_until iv_setup end state) number result }
+    ensures ok { GoesOnBy (SceneStands A.algorithm A.queries A.stands) (scenario_setup A.queries)
+        (K.taken out.old) (K.taken out.new) scene.old scene.new end result }
+    ensures failed { BreaksOff (SceneStands A.algorithm A.queries A.stands) (K.taken out.old)
+        (K.taken out.new) scene.old (run_until (scenario_setup A.queries) end) number result }
     ensures faults { CountsWrites (K.faults out.old) (K.faults out.new) result }
     ensures advances { result ≡ Ok true → HasAdvanced end scene.old.net scene.new.net }
-    ensures somewhere { OnOk result (IsSomewhere scene.new) }
+    ensures somewhere { OnOk result (IsSomewhere A.algorithm A.queries A.stands scene.new) }
 {
     text.clear();
     let passage = scene.pass(end, text)?;
@@ -51,22 +53,22 @@ fn run_slice<K: Sink>(
 }
 
 /// Lets time pass until a moment, slice by slice.
-fn run_until<K: Sink>(
-    scene: &mut Scene,
+fn run_until<A: Choosable + Drop, K: Sink>(
+    scene: &mut Scene<A>,
     text: &mut Vec<u8>,
     out: &mut K,
     end: Millis,
     number: u64,
 ) -> Result<(), Fault>
-    requires somewhere { IsSomewhere scene.old }
+    requires somewhere { IsSomewhere A.algorithm A.queries A.stands scene.old }
     requires later { scene.old.net.clock ≤ end }
     requires within { end ≤ clock_limit }
-    ensures ok { CarriesOn (K.taken out.old) (K.taken out.new) scene.old scene.new
-        (λ state. run_until iv_setup end state) result }
-    ensures failed { BreaksOff (K.taken out.old) (K.taken out.new) scene.old
-        (λ state. run_until iv_setup end state) number result }
+    ensures ok { CarriesOn (SceneStands A.algorithm A.queries A.stands) (K.taken out.old)
+        (K.taken out.new) scene.old scene.new (run_until (scenario_setup A.queries) end) result }
+    ensures failed { BreaksOff (SceneStands A.algorithm A.queries A.stands) (K.taken out.old)
+        (K.taken out.new) scene.old (run_until (scenario_setup A.queries) end) number result }
     ensures faults { CountsWrites (K.faults out.old) (K.faults out.new) result }
-    ensures somewhere { OnOk result (IsSomewhere scene.new) }
+    ensures somewhere { OnOk result (IsSomewhere A.algorithm A.queries A.stands scene.new) }
 {
     'slices: loop {
         let more = run_slice(scene, text, out, end, number)?;
@@ -90,20 +92,20 @@ fn end_of(now: Millis, time: Millis) -> Option<Millis>
 }
 
 /// `run MS`
-pub fn run<K: Sink>(
-    scene: &mut Scene,
+pub fn run<A: Choosable + Drop, K: Sink>(
+    scene: &mut Scene<A>,
     text: &mut Vec<u8>,
     out: &mut K,
     time: Millis,
     number: u64,
 ) -> Result<(), Fault>
-    requires somewhere { IsSomewhere scene.old }
-    ensures ok { CarriesOn (K.taken out.old) (K.taken out.new) scene.old scene.new
-        (λ state. carried_out iv_setup state (command.Run time)) result }
-    ensures failed { BreaksOff (K.taken out.old) (K.taken out.new) scene.old
-        (λ state. carried_out iv_setup state (command.Run time)) number result }
+    requires somewhere { IsSomewhere A.algorithm A.queries A.stands scene.old }
+    ensures ok { CarriesOn (SceneStands A.algorithm A.queries A.stands) (K.taken out.old)
+        (K.taken out.new) scene.old scene.new (outcome_under A.queries (command.Run time)) result }
+    ensures failed { BreaksOff (SceneStands A.algorithm A.queries A.stands) (K.taken out.old)
+        (K.taken out.new) scene.old (outcome_under A.queries (command.Run time)) number result }
     ensures faults { CountsWrites (K.faults out.old) (K.faults out.new) result }
-    ensures somewhere { OnOk result (IsSomewhere scene.new) }
+    ensures somewhere { OnOk result (IsSomewhere A.algorithm A.queries A.stands scene.new) }
 {
     let Some(end) = end_of(scene.net.now(), time) else {
         return Err(Fault::Halted {

@@ -13,6 +13,7 @@ use Rattle.mesh_run.specs.Outcome.{PrintsFrontOf, PrintsLessOf}
 use Rattle.mesh_run.specs.declared.fault.Fault.{Fault}
 use Rattle.mesh_run.specs.declared.fault.Fault.TheVariants.{Halted, Read, Write, Memory}
 use Rattle.mesh_run.specs.declared.runner.Runner.{Runner}
+use Rattle.mesh_scene.specs.StageStands.{StageStands}
 
 -- what was read, and what out took since it held base, is where the runner stands
 pub record Stands (choice : FrameChoice) (base now : Option (List ℕ)) (runner : Runner)
@@ -20,7 +21,7 @@ pub record Stands (choice : FrameChoice) (base now : Option (List ℕ)) (runner 
   pub lines : List (List ℕ)
   pub cut : IsCut read lines runner.line.items
   pub going : (after_lines (start choice) lines).halt ≡ None
-  pub at : StandsAt base now runner.scene (after_lines (start choice) lines).state
+  pub at : StandsAt StageStands base now runner.stage (after_lines (start choice) lines).state
   pub lines_are : (after_lines (start choice) lines).lines ≡ runner.lines
   pub taken : length read ≡ runner.taken
 

@@ -1,5 +1,5 @@
-use Rattle.std.proofs.Common.{◌++◌, take, arith, rules}
-use Rattle.std.proofs.KnownBytes.{Consumes-kept, Consumes-trans}
+use Rattle.std.proofs.Common.{[], ◌++◌, take, arith, rules}
+use Rattle.std.proofs.KnownBytes.{Consumes-kept, Consumes-nil, Consumes-trans}
 use Rattle.std.proofs.lemmas.Result.{err_from_is_err_and}
 use Rattle.mesh_run.proofs.ReadLemmas.{Consumes-none, PrintsRead-from, ReadFails-end, ReadFails-piece}
 use Rattle.mesh_run.proofs.input.read_all.Goals as goal
@@ -11,6 +11,16 @@ returns-in-Err-clause-failed g c = λ choice base stands.
     PrintsRead-from choice (g.I.Intake.left c.args.intake.now) (g.I.Intake.left c.read.new.self) base (g.K.Sink.taken c.pieces.out) c.pieces.runner loop.read
     (Consumes-kept (g.I.Intake.left c.args.intake.now) left (g.I.Intake.left c.read.new.self) loop.read loop.took c.in-Err.ensures.bytes) (loop.stands choice base stands)
     (omega (arith, c.pieces.runner.line.ok.0, c.pieces.runner.short)) c.pieces.runner.within
+
+pub pieces-init : goal.pieces-init
+pieces-init g c = record {
+  read = [];
+  took = Consumes-nil (g.I.Intake.left c.args.intake.now);
+  stands = λ choice base stands. stands;
+  somewhere = c.requires.somewhere;
+  reads = omega arith;
+  writes = omega arith;
+}
 
 pub pieces-preserved : goal.pieces-preserved
 pieces-preserved g c =

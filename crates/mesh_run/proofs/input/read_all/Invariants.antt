@@ -1,7 +1,7 @@
 use Rattle.std.proofs.Common.{ℕ, ◌-◌, ◌≤◌, List, [], Option}
 use Rattle.std.specs.Io.KnownBytes.{Consumes}
 use Rattle.mesh_model.specs.declared.frame_choice.FrameChoice.{FrameChoice}
-use Rattle.mesh_scene.specs.SceneStands.{IsSomewhere}
+use Rattle.mesh_scene.specs.StageStands.{IsOnStage}
 use Rattle.mesh_run.specs.Inner.Progress.{Stands}
 use Rattle.mesh_run.proofs.input.read_all.Given as goal
 
@@ -10,7 +10,7 @@ invariant-pieces g l = record {
   read : List ℕ;
   took : Consumes (g.I.Intake.left l.initial.intake) (g.I.Intake.left l.intake) read;
   stands : (choice : FrameChoice) (base : Option (List ℕ)) → Stands choice base (g.K.Sink.taken l.initial.out) l.initial.runner [] → Stands choice base (g.K.Sink.taken l.out) l.runner read;
-  somewhere : IsSomewhere l.runner.scene;
+  somewhere : IsOnStage l.runner.stage;
   reads : g.I.Intake.faults l.initial.intake ≤ g.I.Intake.faults l.intake;
   writes : g.K.Sink.faults l.initial.out ≤ g.K.Sink.faults l.out;
 }

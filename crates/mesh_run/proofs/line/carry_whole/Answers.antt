@@ -1,7 +1,8 @@
 use Rattle.std.proofs.Common.{arith, ℕ, List, sym, subst}
 use Rattle.std.specs.Io.KnownBytes.{Appends}
+use Rattle.mesh_model.specs.Net.Limits.{scenario_setup}
 use Rattle.mesh_model.specs.Run.Outcome.{Outcome, reached}
-use Rattle.mesh_model.specs.Run.Rules.{carried_out, iv_setup}
+use Rattle.mesh_model.specs.Run.Rules.{carried_out}
 use Rattle.mesh_model.specs.Run.State.{text_of}
 use Rattle.mesh_laws.proofs.Lines.Printing.{grows}
 use Rattle.mesh_run.specs.Outcome.{AppendsLess}
@@ -11,7 +12,7 @@ use Rattle.mesh_run.proofs.line.carry_whole.Goals as goal
 
 pub returns-in-Err-clause-failed : goal.returns-in-Err-clause-failed
 returns-in-Err-clause-failed g c = λ base state stands. rw c.at.ensures
-    (line_fails base (g.K.Sink.taken c.args.out.now) state (carried_out iv_setup state c.args.command) c.args.number c.in-Err.fault (grows iv_setup state c.args.command)
+    (line_fails base (g.K.Sink.taken c.args.out.now) state (carried_out (scenario_setup g.A.Algo.queries) state c.args.command) c.args.number c.in-Err.fault (grows (scenario_setup g.A.Algo.queries) state c.args.command)
     stands.printed (c.in-Err.ensures.refused state stands.scene_is))
 
 pub returns-in-Err-clause-faults : goal.returns-in-Err-clause-faults
@@ -32,14 +33,14 @@ pub returns-clause-ok : goal.returns-clause-ok
 returns-clause-ok g c = λ base state stands.
     let old = g.K.Sink.taken c.args.out.now in
     let new = g.K.Sink.taken c.put_text.new.sink in
-    let A : List ℕ → Type 0 = λ text. Appends old new text in
+    let T : List ℕ → Type 0 = λ text. Appends old new text in
     let carries = c.in_default.ensures.ok state stands.scene_is in
     record {
       after = carries.after;
       carried = carries.carried;
-      stands = record {
-        scene_is = carries.stands;
+      standing = record {
+        scene_is = carries.standing;
         printed = appends-after base old new (text_of state) c.carry_out.new.text.items (text_of carries.after) stands.printed
-            (subst A c.as_slice.ensures.value c.in_default-put_text.ensures.whole) carries.text;
+            (subst T c.as_slice.ensures.value c.in_default-put_text.ensures.whole) carries.text;
       };
     }

@@ -3,6 +3,7 @@ use Rattle.std.proofs.lemmas.Result.{err_from_is_err_and}
 use Rattle.mesh_model.specs.Scenario.Commands.{command_of_line}
 use Rattle.mesh_model.specs.Scenario.Lines.{without_carriage_return}
 use Rattle.mesh_model.specs.Run.PlainRun.{after_lines, after_reading, start}
+use Rattle.mesh_scene.specs.StageStands.{StageStands}
 use Rattle.mesh_run.specs.Inner.Lines.{Carried, CarryFails}
 use Rattle.mesh_run.proofs.FaultLemmas.{Fails-newline}
 use Rattle.mesh_run.proofs.ProgressLemmas.{Stands-newline}
@@ -28,7 +29,7 @@ returns-clause-ok g c = λ choice base read stands.
     let said : c.without_return-line.result.now ≡ without_carriage_return runner.line.items =
     c.without_return-line.ensures ∙ ap without_carriage_return c.as_slice.ensures.value in
     let state = (after_lines (start choice) stands.lines).state in
-    let P : List ℕ → Type 0 = λ line. Carried (after_reading state (command_of_line line)) base (g.K.Sink.taken c.carry_line.new.out) c.carry_line.new.scene in
+    let P : List ℕ → Type 0 = λ line. Carried StageStands (after_reading state (command_of_line line)) base (g.K.Sink.taken c.carry_line.new.out) c.carry_line.new.stage in
     Stands-newline choice base (g.K.Sink.taken c.args.out.now) (g.K.Sink.taken c.carry_line.new.out) runner _ read stands
     (omega (arith, runner.line.ok.0, runner.short)) c.requires.within
     (subst P said (c.in_ok-carry_line.ensures.ok base state stands.at))

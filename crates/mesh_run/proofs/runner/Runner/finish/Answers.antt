@@ -3,6 +3,7 @@ use Rattle.std.proofs.lemmas.Bool.{eqb-true, eqb-false}
 use Rattle.std.proofs.lemmas.Result.{err_from_is_err_and}
 use Rattle.mesh_model.specs.Scenario.Commands.{command_of_line}
 use Rattle.mesh_model.specs.Run.PlainRun.{after_lines, after_reading, start}
+use Rattle.mesh_scene.specs.StageStands.{StageStands}
 use Rattle.mesh_run.specs.Inner.Lines.{Carried, CarryFails}
 use Rattle.mesh_run.proofs.EndLemmas.{FailsIn-last, Finishes-empty, Finishes-last, nil-from_length}
 use Rattle.mesh_run.proofs.runner.Runner.finish.Goals as goal
@@ -34,7 +35,7 @@ returns-clause-ok g c = λ choice base read stands.
     let new = g.K.Sink.taken c.carry_line.new.out in
     let state = (after_lines (start choice) stands.lines).state in
     let some : vec_len runner.line ≢ 0 = eqb-false (vec_len runner.line) 0 (sym c.is_empty.ensures ∙ c.if-is_empty.false) in
-    let P : List ℕ → Type 0 = λ line. Carried (after_reading state (command_of_line line)) base new c.carry_line.new.scene in
-    Finishes-last choice base old new runner c.carry_line.new.scene read stands (omega (arith, runner.line.ok.0, runner.short))
+    let P : List ℕ → Type 0 = λ line. Carried StageStands (after_reading state (command_of_line line)) base new c.carry_line.new.stage in
+    Finishes-last choice base old new runner c.carry_line.new.stage read stands (omega (arith, runner.line.ok.0, runner.short))
     (omega (arith, runner.line.ok.0, some)) runner.within
     (subst P c.as_slice-line.ensures.value (c.in_ok-carry_line.ensures.ok base state stands.at))
