@@ -25,12 +25,7 @@ use tt_global::Globals;
 use tt_sync::Sync;
 
 /// Of the originators that announced something, the row of the one at a place, where it is live.
-fn live_row_at<A: Algo>(
-    algo: &A,
-    globals: &Globals,
-    now: Millis,
-    place: usize,
-) -> Option<GlobalRow>
+fn live_row_at<A: Algo>(algo: &A, globals: &Globals, now: Millis, place: usize) -> Option<GlobalRow>
     ensures { (me : Mac) (known : Knowledge) →
         A.stands algo.now me known.routes → GlobalsStand globals.now known.tables →
         result ≡ option_and_then (live_row (A.queries me) known now)
