@@ -8,9 +8,9 @@ use std::test::Fail;
 /// Two nodes with a link each way.
 const DUO: &str = "node A 02:00:00:00:00:0a\nnode B 02:00:00:00:00:0b\nlink A B\nlink B A\n";
 
-/// The words of a call, the lines behind those of two nodes, the status, and what is written to out
+/// The words of a call, the lines behind the first ones, the status, and what is written to out
 /// and to err.
-type Row<'a> = (&'a [&'a str], &'a str, u8, &'a str, &'a str);
+pub type Row<'a> = (&'a [&'a str], &'a str, u8, &'a str, &'a str);
 
 /// The words of a call.
 fn words_of(alloc: Global, words: &[&str]) -> Result<Vec<String>, Fail> {
@@ -21,11 +21,16 @@ fn words_of(alloc: Global, words: &[&str]) -> Result<Vec<String>, Fail> {
     Ok(owned)
 }
 
-/// Carries the lines of each row out.
-fn carry_out(rt: &impl Abort, alloc: Global, rows: &[Row<'_>]) -> Result<(), Fail> {
+/// Carries the lines of each row out behind the first ones.
+pub fn carry_behind(
+    rt: &impl Abort,
+    alloc: Global,
+    first: &str,
+    rows: &[Row<'_>],
+) -> Result<(), Fail> {
     for (words, lines, status, printed, told) in rows {
         let words = words_of(alloc, *words)?;
-        let mut input = String::from_str(alloc, DUO)?;
+        let mut input = String::from_str(alloc, first)?;
         input.push_str(*lines)?;
         let mut intake = MemIntake::new(alloc, input.as_bytes(), 5000, &[])?;
         let mut out = MemSink::new(alloc, ROOM, 5000, &[])?;
@@ -36,6 +41,11 @@ fn carry_out(rt: &impl Abort, alloc: Global, rows: &[Row<'_>]) -> Result<(), Fai
         assert_eq!(rt; err.taken(), told.as_bytes());
     }
     Ok(())
+}
+
+/// Carries the lines of each row out behind those of two nodes.
+fn carry_out(rt: &impl Abort, alloc: Global, rows: &[Row<'_>]) -> Result<(), Fail> {
+    carry_behind(rt, alloc, DUO, rows)
 }
 
 #[test]
