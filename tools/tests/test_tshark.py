@@ -8,7 +8,7 @@ from common import (
     DATA, EXAMPLES, PROGRAM, Folder, load_tool, needs_command, needs_dpkt, needs_program, run_tool,
     running,
 )
-from tshark_lines import as_told_by_both, read_packets
+from tshark_lines import as_told_by_both, can_be_read, read_packets
 
 to_pcap = load_tool("to_pcap")
 
@@ -46,7 +46,7 @@ class Tshark(Folder):
 
     @needs_program
     def test_each_frame_of_each_example_is_read_as_decode_prints_it(self):
-        sent, frames = 0, {}
+        sent, unread, frames = 0, 0, {}
         for scenario in sorted([*EXAMPLES.glob("*.scn"), *EXAMPLES.glob("linux/*.scn")]):
             for frame, packet in sent_packets(scenario.read_text()):
                 sent += 1
@@ -54,8 +54,12 @@ class Tshark(Folder):
         read = self.read(frames)
         printed = decoded("".join(f"decode {packet[14:].hex()}\n" for packet in frames))
         for head, lines, texts in zip(frames.values(), read, printed, strict=True):
-            self.assertEqual(lines, as_told_by_both(texts), head)
-        print(f"tshark read {sent} frames as decode does, {len(frames)} different", flush=True)
+            if can_be_read(texts):
+                self.assertEqual(lines, as_told_by_both(texts), head)
+            else:
+                unread += 1
+        print(f"of {sent} frames, {len(frames)} different, tshark read all but {unread} as decode does",
+              flush=True)
 
 
 def sent_packets(text):

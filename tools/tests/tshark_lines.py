@@ -5,7 +5,8 @@ import subprocess
 import xml.etree.ElementTree as ElementTree
 
 # For each packet type: the word of its line, tshark's prefix, and the fields by the line's names.
-# tshark tells no length of what follows a packet's head, so `data=` isn't among them.
+# tshark tells no length of what follows a packet's head, so `data=` isn't among them. An OGM of
+# algorithm V isn't there: tshark 4.0 stops at its flags, by a bug that it tells of itself.
 KINDS = {
     0x00: ("iv_ogm", "iv_ogm", {
         "ttl": "ttl", "flags": "flags", "seq": "seq", "orig": "orig", "prev": "prev_sender",
@@ -37,6 +38,11 @@ def read_packets(capture):
             if packet.tag == "packet":
                 yield _packet_lines(packet)
                 packet.clear()
+
+
+def can_be_read(lines):
+    """Whether tshark can read the packets that `decode` prints so."""
+    return not any(line.startswith("packet ogm2 ") for line in lines)
 
 
 def as_told_by_both(lines):
