@@ -4,7 +4,7 @@
 ghost use Rattle.std.specs.Prelude.{[], ◌∷◌, ◌++◌, codes};
 ghost use Rattle.mesh_model.specs.declared.ending.Refusal.TheVariants.{AlgoAfterNode, ExtraWord, MissingWord, OutOfRange};
 ghost use Rattle.mesh_model.specs.declared.ending.Stop.TheVariants.{Refused};
-ghost use Rattle.mesh_model.specs.declared.frame_choice.FrameChoice.TheVariants.{Hidden, Ogm};
+ghost use Rattle.mesh_model.specs.declared.frame_choice.FrameChoice.TheVariants.{Client, Hidden, Ogm};
 ghost use Rattle.mesh_rows.specs.AlgorithmLines.{chain_under_v, duo_under_v, elp_line, known_line, throughput_line};
 ghost use Rattle.mesh_rows.specs.NetLines.{duo};
 ghost use Rattle.mesh_rows.specs.NetRows.{EndsAt, Prints};
@@ -119,4 +119,17 @@ pub fn pings_and_tables_go_under_v()
         ∷ codes "t 02:00:00:00:00:0a held=- told=1 state=none entries=0"
         ∷ codes "tg B count=1" ∷ codes "t 02:00:00:00:00:0a held=1 told=1 state=ok entries=1"
         ∷ codes "e 02:00:00:00:01:01 - --" ∷ []) }
+{}
+
+/// A client frame goes to the node in whose table its client is, as under algorithm IV: behind five
+/// ELPs of each node, two OGMs of each, both sent on by the other, a request and its answer.
+pub fn a_client_frame_goes_by_table_under_v()
+    ensures { Prints Client
+        (duo_under_v ++ codes "frame B 02:00:00:00:01:02 02:00:00:00:01:09 - x"
+        ∷ codes "run 2500" ∷ codes "frame A 02:00:00:00:01:01 02:00:00:00:01:02 - hi"
+        ∷ codes "run 1" ∷ [])
+        (codes "lost 0 B - 02:00:00:00:01:02 02:00:00:00:01:09 unknown"
+        ∷ (codes "f21 2500 A>B unicast by=table "
+        ++ codes "400f320102000000000b02000000010202000000010188b56869")
+        ∷ codes "recv 2501 B - 02:00:00:00:01:01 02:00:00:00:01:02 hi" ∷ []) }
 {}
