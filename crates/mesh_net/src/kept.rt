@@ -66,8 +66,8 @@ impl Kept {
         Ok(())
     }
 
-    // Puts a sending behind the others. The store is never full: the frames of a sending are at
-    // least one and passed no limit before it was sent.
+    // Puts a sending behind the others. A full store would be told as want of memory; the limits on
+    // frames and bytes, which are looked at before anything is sent, are met no later than its own.
     fn push(&mut self, sending: &Sending) -> Result<(), NoMemory>
         ensures { OnOk result (self.new ≡ self.old ++ sending.now ∷ []) }
     {
