@@ -247,7 +247,7 @@ line_next : (me : Mac) (log : Log) (now : ℕ) (line : LineGiven) (acts : List A
     → LogFits me (record { moment = now; given = Line line; acts = acts } ∷ log)
 line_next me log now (Attach lan gateways) acts fits late names none = log_stays me log now (Line (Attach lan gateways)) acts fits late refl refl
 line_next me log now (Frame src dst vid text) acts fits late names none =
-    one_mention me log (record { moment = now; given = Line (Frame src dst vid text); acts = acts }) (record { moment = now; key = key_of src vid; news = sighted_after log }) fits late refl (sighted_fits log (key_of src vid) names) refl refl none
+    one_mention me log (record { moment = now; given = Line (Frame src dst vid text); acts = acts }) (record { moment = now; key = key_of src vid; news = sighted_after log }) fits late refl (sighted_fits log (key_of src vid) names.0) refl refl none
 line_next me log now (Gone key) acts fits late names none =
     one_mention me log (record { moment = now; given = Line (Gone key); acts = acts }) (record { moment = now; key = key; news = Departed }) fits late refl tt refl refl none
 line_next me log now (Join key) acts fits late names none =

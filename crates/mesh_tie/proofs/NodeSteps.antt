@@ -263,7 +263,7 @@ line_row orig log root w q me mine now (Frame src dst vid text) of whole k =
     let frame : ClientFrame = record { dst = dst; src = src; vid = vid; text = text } in
     let known = after_sighting q me mine now (key_of src vid) (knowledge q me mine) in
     let ms = next_mentions me mine (mentions me mine) now (Line (Frame src dst vid text)) in
-    each_appended (Sayable orig log root w) (sighting_acts q me mine now (key_of src vid)) (client_acts q me mine now frame) (sighting_row orig log root w q me mine now (key_of src vid) whole k of.fits)
+    each_appended (Sayable orig log root w) (sighting_acts q me mine now (key_of src vid)) (client_acts q me mine now frame) (sighting_row orig log root w q me mine now (key_of src vid) whole k of.0.fits)
     (calm_row orig log root w (client_acts q me mine now frame) (calm_frame q known ms (record { me = me; now = now }) frame))
 line_row orig log root w q me mine now (Gone key) of whole k = tt
 line_row orig log root w q me mine now (Join key) of whole k = tt

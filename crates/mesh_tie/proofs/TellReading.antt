@@ -7,7 +7,7 @@ use Rattle.std.specs.Map.{lookup}
 use Rattle.std.proofs.lemmas.Bool.{eqb-true}
 use Rattle.std.proofs.lemmas.Bool.Decides.{nat_tests}
 use Rattle.hex.specs.Hex.{hex_digit_value}
-use Rattle.mesh_base.specs.Address.{byte_of_pair, bytes_of_pairs, is_broadcast, is_group, is_unicast, mac_of_bytes, mac_of_text, option_both}
+use Rattle.mesh_base.specs.Address.{byte_of_pair, bytes_of_pairs, is_broadcast, is_group, is_unicast, is_zero, mac_of_bytes, mac_of_text, option_both}
 use Rattle.mesh_base.specs.declared.address.Mac.{Mac}
 use Rattle.mesh_base.specs.declared.client.Key.{Key}
 use Rattle.mesh_base.specs.declared.client.Vid.{Vid}
@@ -20,7 +20,7 @@ use Rattle.mesh_model.specs.declared.line_form.Command.{Command}
 use Rattle.mesh_model.specs.declared.line_form.Command.TheVariants.{Nothing, Node, Lan, Frame, Gone, Join, Leave, Arp, Dhcp, GwOff, GwClient}
 use Rattle.mesh_model.specs.Scenario.AlfredForms.{read_alfred, read_alfred_form, read_get, read_mode, read_put}
 use Rattle.mesh_model.specs.Scenario.Commands.{command_of_line, command_of_words, is_comment, node_forms, read_form}
-use Rattle.mesh_model.specs.Scenario.Fields.{group_field, mac_field, passing, unicast_field, vid_field, word_field}
+use Rattle.mesh_model.specs.Scenario.Fields.{group_field, mac_field, passing, target_field, unicast_field, vid_field, word_field}
 use Rattle.mesh_model.specs.Scenario.LinkOptions.{LinkOptions, after_options, link_with, options_of, the_options}
 use Rattle.mesh_model.specs.Scenario.NetForms.{net_forms, the_gateways}
 use Rattle.mesh_model.specs.Scenario.Readings.{Reading, a_field, a_key, a_text, a_text_up_to, after_field, listed_form, the_end}
@@ -109,6 +109,9 @@ passed_if false x value e = cc
 passed : {A : Type 0} (test : A → Bool) (read : Result A Refusal) (value : A) → passing test read ≡ Ok value → read ≡ Ok value
 passed test (Ok x) value is = passed_if (test x) x value is
 passed test (Err refusal) value is = cc
+
+target_tells : Gives Tells target_field
+target_tells word mac is = mac_tells word mac (ok_is (mac_of_text word) BadMac mac (passed (λ m. not (is_zero m)) (mac_field word) mac is))
 
 unicast_tells : Gives Tells unicast_field
 unicast_tells word mac is = mac_tells word mac (ok_is (mac_of_text word) BadMac mac (passed is_unicast (mac_field word) mac is))
@@ -271,7 +274,8 @@ all_forms = (
                   (
                     field _ _ (λ a. end _ tt),
                     (
-                      field _ _ (λ a. field_with Tells unicast_field _ unicast_tells (λ src tells. field _ _ (λ dst. field_with SmallVid vid_field _ vid_small (λ vid small. text (λ t. Frame a src dst vid t) (λ t. client_of src vid tells small))))),
+                      field _ _ (λ a. field_with Tells unicast_field _ unicast_tells (λ src tells. field_with Tells target_field _ target_tells (λ dst told.
+                          field_with SmallVid vid_field _ vid_small (λ vid small. text (λ t. Frame a src dst vid t) (λ t. (client_of src vid tells small, told.whole)))))),
                       (
                         field _ _ (λ a. key unicast_field (λ k. the_end (Gone a k)) unicast_tells (λ k client. end (Gone a k) client)),
                         (

@@ -21,14 +21,16 @@ use Rattle.mesh_tie.specs.Steps.{TellsClient}
 use Rattle.mesh_tie.specs.Tie.{known_at_node}
 use Rattle.mesh_tie.specs.TieLaws.{HoldsTheTold}
 
--- the client that an input names, where it names one, is such as records can tell
+-- the client that an input names, where it names one, is such as records can tell, and its client
+-- frame goes to a whole address
 abbrev pub NamesClients : Given → Type 0
 NamesClients (Tick index) = ⊤
 NamesClients (LinkFrame number from throughput bytes) = ⊤
 NamesClients (LanFrame bytes) = ⊤
 NamesClients (Line line) = TellsClient line
 
--- nodes have whole addresses, each its own, and were given clients that records can tell
+-- nodes have whole addresses, each its own, and were given clients that records can tell, with
+-- frames to whole addresses
 pub record IsTellable (mesh : Mesh) : Type 0 where
   pub whole : (place : ℕ) (node : NodeLog) → slice_get mesh.nodes place ≡ Some node →
       IsWhole node.mac

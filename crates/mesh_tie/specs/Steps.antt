@@ -2,13 +2,13 @@
 -- frame that was sent comes to a node. A frame may come to any node, at any later moment, over and
 -- over or never, so whatever a network loses, repeats, holds or delivers late is a list of these
 -- steps. The main words are `Steps` and `IsReachable`.
-use Rattle.std.specs.Prelude.{◌≡◌, ◌≤◌, ◌<◌, ◌^◌, ℕ, suc, List, [], ◌∷◌, ◌++◌, slice_get, Some, Ok, IfSome}
+use Rattle.std.specs.Prelude.{◌≡◌, ◌≤◌, ◌<◌, ◌^◌, ℕ, suc, List, [], ◌∷◌, ◌++◌, slice_get, Some, Ok, ⊤}
 use Rattle.std.specs.List.{AllByRecursion}
 use Rattle.mesh_base.specs.declared.address.Mac.{Mac}
 use Rattle.mesh_base.specs.declared.client.Key.{Key}
 use Rattle.mesh_model.specs.declared.happening.Happening.{Happening}
-use Rattle.mesh_model.specs.Clients.Log.{Tick, LinkFrame, Line, LineGiven, Log}
-use Rattle.mesh_model.specs.Clients.Mentions.{client_of}
+use Rattle.mesh_model.specs.Clients.Log.{Tick, LinkFrame, Line, LineGiven, Attach, Frame, Gone, Join, Leave, Arp, Dhcp, Sets, Put, Get, Ping, Trace, Log}
+use Rattle.mesh_model.specs.Clients.Mentions.{key_of}
 use Rattle.mesh_model.specs.Net.Due.{ticks_in}
 use Rattle.mesh_model.specs.Net.Inputs.{given_to}
 use Rattle.mesh_model.specs.Net.Limits.{scenario_setup}
@@ -22,9 +22,21 @@ pub record IsClient (key : Key) : Type 0 where
   pub fits : FitsKey key
   pub bytes : AllByRecursion (λ byte. byte < 2 ^ 8) key.mac.0
 
--- the client that a line names, where it names one, is such as records can tell
+-- the client that a line names, where it names one, is such as records can tell; and its client
+-- frame, where it has one, goes to an address of six bytes
 abbrev pub TellsClient : LineGiven → Type 0
-TellsClient line = IfSome (client_of line) IsClient
+TellsClient (Attach lan gateways) = ⊤
+TellsClient (Frame src dst vid text) = IsClient (key_of src vid) × IsWhole dst
+TellsClient (Gone key) = IsClient key
+TellsClient (Join key) = IsClient key
+TellsClient (Leave key) = IsClient key
+TellsClient (Arp mac own_ip asked_ip vid) = IsClient (key_of mac vid)
+TellsClient (Dhcp key text) = IsClient key
+TellsClient (Sets setting) = ⊤
+TellsClient (Put type_no version text) = ⊤
+TellsClient (Get type_no) = ⊤
+TellsClient (Ping target) = ⊤
+TellsClient (Trace target) = ⊤
 
 -- the moment of the newest entry of a log, 0 where there is none
 abbrev pub newest_moment : Log → ℕ
