@@ -24,22 +24,22 @@ use Rattle.mesh_model.specs.Routes.Queries.{Queries, is_elp}
 use Rattle.mesh_model.specs.Routes.RouteLog.{RouteLog}
 use Rattle.mesh_tie.specs.Sources.{KeepsOriginators}
 use Rattle.mesh_tie.proofs.EntryLemmas.{each_appended}
-use Rattle.mesh_tie.proofs.HeadLemmas.{bcast_frame, elp_frame, icmp_frame, unicast_frame}
+use Rattle.mesh_tie.proofs.KindLemmas.{bcast_frame, elp_frame, icmp_frame, unicast_frame}
 use Rattle.mesh_tie.proofs.ProbeActs.{AreProbing, IsProbing, icmp_puts, puts_message, puts_pinged, puts_traced, session_puts}
 use Rattle.mesh_tie.proofs.Sayable.{IsCalm}
 
 -- ---- packets that carry client frames
 pub calm_bcast : (ttl seq : ℕ) (orig : Mac) (tail : List ℕ) → IsCalm (sent_to_all (Bcast ttl seq orig) tail)
-calm_bcast ttl seq orig tail = bcast_frame (drop 2 (spelling (Bcast ttl seq orig) tail))
+calm_bcast ttl seq orig tail = bcast_frame (drop 1 (spelling (Bcast ttl seq orig) tail))
 
 pub calm_unicast : (next : Mac) (reason : Option Reason) (ttl ttvn : ℕ) (dst : Mac) (tail : List ℕ) → IsCalm (sent_to next reason (Unicast ttl ttvn dst) tail)
-calm_unicast next reason ttl ttvn dst tail = unicast_frame (drop 2 (spelling (Unicast ttl ttvn dst) tail))
+calm_unicast next reason ttl ttvn dst tail = unicast_frame (drop 1 (spelling (Unicast ttl ttvn dst) tail))
 
 -- ---- ELPs
 calm_elp : (head : Head) → is_elp head ≡ true → IsCalm (sent_to_all head [])
 calm_elp (IvOgm ttl flags seq orig prev tq) is = cc
 calm_elp (Bcast ttl seq orig) is = cc
-calm_elp (Elp orig seq interval) is = elp_frame (drop 2 (spelling (Elp orig seq interval) []))
+calm_elp (Elp orig seq interval) is = elp_frame (drop 1 (spelling (Elp orig seq interval) []))
 calm_elp (Ogm2 ttl flags seq orig throughput) is = cc
 calm_elp (Unicast ttl ttvn dst) is = cc
 calm_elp (Frag ttl number priority dst orig seq total) is = cc
@@ -116,7 +116,7 @@ calm_frame q known ms at frame =
 
 -- ---- ping and traceroute
 calm_probe : (act : Act) → IsProbing act → IsCalm act
-calm_probe _ (puts_message next m) = icmp_frame (drop 2 (spelling (icmp_head m) []))
+calm_probe _ (puts_message next m) = icmp_frame (drop 1 (spelling (icmp_head m) []))
 calm_probe _ (puts_pinged node target seq result) = λ me n e is. cc
 calm_probe _ (puts_traced node target result) = λ me n e is. cc
 

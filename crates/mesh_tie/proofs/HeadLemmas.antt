@@ -1,5 +1,5 @@
 -- What is spelled of a packet is read again: its word, its addresses and its containers.
-use Rattle.std.proofs.Common.{◌≡◌, inl, inr, ℕ, ◌+◌, ◌*◌, ◌/◌, ◌%◌, ◌<◌, ◌≤◌, List, [], ◌∷◌, length, take, drop, refl, sym, ap, ap₂, subst, ◌∙◌, arith, Bool, true, false, cond, nat_lt, Option, Some, None, Result, Ok, Err}
+use Rattle.std.proofs.Common.{◌≡◌, ℕ, ◌+◌, ◌*◌, ◌/◌, ◌%◌, ◌<◌, ◌≤◌, List, [], ◌∷◌, length, take, drop, refl, sym, ap, ap₂, subst, ◌∙◌, arith, false, cond, nat_lt, Option, Some, None, Result, Ok, Err}
 use Rattle.std.proofs.lemmas.List.{drop_all, take_all}
 use Rattle.mesh_base.specs.declared.address.Mac.{Mac}
 use Rattle.mesh_model.specs.declared.link_frame.NoPacket.{NoPacket}
@@ -7,25 +7,24 @@ use Rattle.mesh_model.specs.declared.link_frame.NoPacket.TheVariants.{Short, Len
 use Rattle.mesh_model.specs.declared.link_frame.Ending.TheVariants.{Rest}
 use Rattle.mesh_model.specs.declared.link_frame.TvlvErr.{TvlvErr}
 use Rattle.mesh_model.specs.Packets.LinkFrame.{LinkFrame, behind, frame_from, is_followed, link_frame, only_ending, packet_flaw}
-use Rattle.mesh_model.specs.Packets.Shapes.{bcast, elp, icmp, shape_of, unicast}
+use Rattle.mesh_model.specs.Packets.Shapes.{shape_of}
 use Rattle.mesh_laws.proofs.FrameLemmas.{link_frame-first}
 use Rattle.mesh_model.specs.declared.packet.Head.{Head}
-use Rattle.mesh_model.specs.declared.packet.Head.TheVariants.{IvOgm, Ogm2, Utvlv}
-use Rattle.mesh_model.specs.Packets.FirstPacket.{Front, Packet, first_packet, head_in, packet_cut, packet_of_fields}
+use Rattle.mesh_model.specs.declared.packet.Head.TheVariants.{IvOgm, Bcast, Ogm2, Unicast, Utvlv}
+use Rattle.mesh_model.specs.Packets.FirstPacket.{Front, Packet, first_packet, packet_cut}
 use Rattle.mesh_model.specs.Packets.Layout.{spelling}
-use Rattle.mesh_model.specs.Net.Next.{Has}
 use Rattle.mesh_laws.proofs.FirstPacketLemmas.{ltb-from_le}
-use Rattle.mesh_tie.specs.Sources.{ContainersOf, HasWholeAddresses, IsWhole, Nothing, word_of}
+use Rattle.mesh_tie.specs.Sources.{ContainersOf, HasWholeAddresses, IsWhole, word_of}
 
 -- an address of six bytes, byte by byte
-record Six (mac : Mac) : Type 0 where
-  a : ℕ
-  b : ℕ
-  c : ℕ
-  d : ℕ
-  e : ℕ
-  f : ℕ
-  is : mac ≡ record { 0 = a ∷ b ∷ c ∷ d ∷ e ∷ f ∷ [] }
+pub record Six (mac : Mac) : Type 0 where
+  pub a : ℕ
+  pub b : ℕ
+  pub c : ℕ
+  pub d : ℕ
+  pub e : ℕ
+  pub f : ℕ
+  pub is : mac ≡ record { 0 = a ∷ b ∷ c ∷ d ∷ e ∷ f ∷ [] }
 
 six_of : (bytes : List ℕ) → length bytes ≡ 6 → Six (record { 0 = bytes })
 six_of [] h = absurd (omega (arith, h))
@@ -37,20 +36,20 @@ six_of (a ∷ b ∷ c ∷ d ∷ e ∷ []) h = absurd (omega (arith, h))
 six_of (a ∷ b ∷ c ∷ d ∷ e ∷ f ∷ []) h = record { a = a; b = b; c = c; d = d; e = e; f = f; is = refl }
 six_of (a ∷ b ∷ c ∷ d ∷ e ∷ f ∷ g ∷ more) h = absurd (omega (arith, h))
 
-six : (mac : Mac) → IsWhole mac → Six mac
+pub six : (mac : Mac) → IsWhole mac → Six mac
 six mac h = six_of mac.0 h
 
-abbrev mac6 : ℕ → ℕ → ℕ → ℕ → ℕ → ℕ → Mac
+abbrev pub mac6 : ℕ → ℕ → ℕ → ℕ → ℕ → ℕ → Mac
 mac6 a b c d e f = record { 0 = a ∷ b ∷ c ∷ d ∷ e ∷ f ∷ [] }
 
 -- a number in one byte, in two and in four, as it is read again
-abbrev one_read : ℕ → ℕ
+abbrev pub one_read : ℕ → ℕ
 one_read n = (n % 256) * 1 + 0
 
 abbrev two_read : ℕ → ℕ
 two_read n = (n / 256 % 256) * 256 + (n % 256 * 1 + 0)
 
-abbrev four_read : ℕ → ℕ
+abbrev pub four_read : ℕ → ℕ
 four_read n = (n / 16777216 % 256) * 16777216 + ((n / 65536 % 256) * 65536 + ((n / 256 % 256) * 256 + (n % 256 * 1 + 0)))
 
 -- a test of the length that isn't met
@@ -196,67 +195,36 @@ utvlv_cut ttl dst src tail o p =
 pub utvlv_frame : (ttl : ℕ) (dst src : Mac) (tail : List ℕ) → IsWhole dst → IsWhole src → IsOneOrCut (spelling (Utvlv ttl dst src) tail) src tail
 utvlv_frame ttl dst src tail d s = utvlv_cut ttl dst src tail (six dst d) (six src s)
 
--- ---- packets that are nothing to tables
--- every packet of a frame is nothing to tables
-abbrev pub TellsNothing : List ℕ → Type 0
-TellsNothing bytes = (packet : Packet) → Has (link_frame bytes).packets packet → word_of packet.head ≡ Nothing
+-- ---- packets whose tail is all the rest
+rest_read : (head sent : Head) (tail : List ℕ) → first_packet (spelling head tail) ≡ packet_cut sent (length tail) tail → is_followed (shape_of sent) [] ≡ false
+    → (link_frame (spelling head tail)).packets ≡ record { head = sent; tail = tail } ∷ []
+rest_read head sent tail first alone =
+    let all : take (length tail) tail ≡ tail = take_all (length tail) tail (omega arith) in
+    let none : drop (length tail) tail ≡ [] = drop_all (length tail) tail (omega arith) in
+    one_packet (spelling head tail) (record { packet = record { head = sent; tail = tail }; rest = [] })
+    (first ∙ cut_there sent (length tail) tail (omega arith) ∙ ap₂ (λ (t rest : List ℕ). Ok (record { packet = record { head = sent; tail = t }; rest = rest })) all none) alone
 
-nothing_cut : (head : Head) (len : ℕ) (after : List ℕ) (packet : Packet) → word_of head ≡ Nothing → ((rest : List ℕ) → is_followed (shape_of head) rest ≡ false)
-    → Has (frame_from link_frame (packet_cut head len after)).packets packet → word_of packet.head ≡ Nothing
-nothing_cut head len after packet word none has = go (nat_lt (length after) len) has
-  where
-    front : Front
-    front = record { packet = record { head = head; tail = take len after }; rest = drop len after }
-
-    first : Has (front.packet ∷ []) packet → word_of packet.head ≡ Nothing
-    first (inl is) = ap (λ (p : Packet). word_of p.head) is ∙ word
-    first (inr none) = absurd none
-
-    go : (b : Bool) → Has (frame_from link_frame (cond b (Err (Length len (length after))) (Ok front))).packets packet → word_of packet.head ≡ Nothing
-    go true is = absurd is
-    go false is = first (subst (λ ps. Has (front.packet ∷ ps) packet) (nothing_behind link_frame front (packet_flaw front.packet) (none front.rest)) is)
-
-unicast_fields : (bytes fields after : List ℕ) (packet : Packet) → Has (frame_from link_frame (packet_of_fields unicast fields after)).packets packet → word_of packet.head ≡ Nothing
-unicast_fields bytes fields after packet has = nothing_cut (head_in unicast.fields unicast.head fields) (length after) after packet refl (λ rest. refl) has
-
-bcast_fields : (bytes fields after : List ℕ) (packet : Packet) → Has (frame_from link_frame (packet_of_fields bcast fields after)).packets packet → word_of packet.head ≡ Nothing
-bcast_fields bytes fields after packet has = nothing_cut (head_in bcast.fields bcast.head fields) (length after) after packet refl (λ rest. refl) has
-
-elp_fields : (bytes fields after : List ℕ) (packet : Packet) → Has (frame_from link_frame (packet_of_fields elp fields after)).packets packet → word_of packet.head ≡ Nothing
-elp_fields bytes fields after packet has = nothing_cut (head_in elp.fields elp.head fields) 0 after packet refl (λ rest. refl) has
-
-icmp_fields : (bytes fields after : List ℕ) (packet : Packet) → Has (frame_from link_frame (packet_of_fields icmp fields after)).packets packet → word_of packet.head ≡ Nothing
-icmp_fields bytes fields after packet has = nothing_cut (head_in icmp.fields icmp.head fields) 0 after packet refl (λ rest. refl) has
-
-by_length : (short : NoPacket) (b : Bool) (found : Result Front NoPacket) (packet : Packet) → (Has (frame_from link_frame found).packets packet → word_of packet.head ≡ Nothing)
-    → Has (frame_from link_frame (cond b (Err short) found)).packets packet → word_of packet.head ≡ Nothing
-by_length short true found packet more has = absurd has
-by_length short false found packet more has = more has
-
-pub unicast_frame : (fields : List ℕ) → TellsNothing (64 ∷ 15 ∷ fields)
+bcast_computes : (ttl seq a b c d e f : ℕ) (tail : List ℕ) → first_packet (spelling (Bcast ttl seq (mac6 a b c d e f)) tail) ≡ packet_cut (Bcast (one_read ttl) (four_read seq) (mac6 a b c d e f)) (length tail) tail
 unfolding first_packet
-unicast_frame fields packet has =
-    let bytes = 64 ∷ 15 ∷ fields in
-    by_length (Short (length bytes) 10) (nat_lt (length bytes) 10) (packet_of_fields unicast (drop 2 bytes) (drop 10 bytes)) packet (unicast_fields bytes (drop 2 bytes) (drop 10 bytes) packet)
-    (subst (λ (f : LinkFrame). Has f.packets packet) (link_frame-first bytes) has)
+bcast_computes ttl seq a b c d e f tail =
+    let bytes = spelling (Bcast ttl seq (mac6 a b c d e f)) tail in
+    long_enough (length bytes) 14 (Err (Short (length bytes) 14)) (packet_cut (Bcast (one_read ttl) (four_read seq) (mac6 a b c d e f)) (length tail) tail) (omega arith)
 
-pub bcast_frame : (fields : List ℕ) → TellsNothing (1 ∷ 15 ∷ fields)
+unicast_computes : (ttl ttvn a b c d e f : ℕ) (tail : List ℕ) → first_packet (spelling (Unicast ttl ttvn (mac6 a b c d e f)) tail) ≡ packet_cut (Unicast (one_read ttl) (one_read ttvn) (mac6 a b c d e f)) (length tail) tail
 unfolding first_packet
-bcast_frame fields packet has =
-    let bytes = 1 ∷ 15 ∷ fields in
-    by_length (Short (length bytes) 14) (nat_lt (length bytes) 14) (packet_of_fields bcast (drop 2 bytes) (drop 14 bytes)) packet (bcast_fields bytes (drop 2 bytes) (drop 14 bytes) packet)
-    (subst (λ (f : LinkFrame). Has f.packets packet) (link_frame-first bytes) has)
+unicast_computes ttl ttvn a b c d e f tail =
+    let bytes = spelling (Unicast ttl ttvn (mac6 a b c d e f)) tail in
+    long_enough (length bytes) 10 (Err (Short (length bytes) 10)) (packet_cut (Unicast (one_read ttl) (one_read ttvn) (mac6 a b c d e f)) (length tail) tail) (omega arith)
 
-pub elp_frame : (fields : List ℕ) → TellsNothing (3 ∷ 15 ∷ fields)
-unfolding first_packet
-elp_frame fields packet has =
-    let bytes = 3 ∷ 15 ∷ fields in
-    by_length (Short (length bytes) 16) (nat_lt (length bytes) 16) (packet_of_fields elp (drop 2 bytes) (drop 16 bytes)) packet (elp_fields bytes (drop 2 bytes) (drop 16 bytes) packet)
-    (subst (λ (f : LinkFrame). Has f.packets packet) (link_frame-first bytes) has)
+-- a broadcast and a packet for one node are read with their tails
+pub bcast_read : (ttl seq : ℕ) (orig : Mac) (tail : List ℕ) → IsWhole orig → (link_frame (spelling (Bcast ttl seq orig) tail)).packets ≡ record { head = Bcast (one_read ttl) (four_read seq) orig; tail = tail } ∷ []
+bcast_read ttl seq orig tail whole =
+    let o = six orig whole in
+    subst (λ x. (link_frame (spelling (Bcast ttl seq x) tail)).packets ≡ record { head = Bcast (one_read ttl) (four_read seq) x; tail = tail } ∷ []) (sym o.is)
+    (rest_read (Bcast ttl seq (mac6 o.a o.b o.c o.d o.e o.f)) (Bcast (one_read ttl) (four_read seq) (mac6 o.a o.b o.c o.d o.e o.f)) tail (bcast_computes ttl seq o.a o.b o.c o.d o.e o.f tail) refl)
 
-pub icmp_frame : (fields : List ℕ) → TellsNothing (67 ∷ 15 ∷ fields)
-unfolding first_packet
-icmp_frame fields packet has =
-    let bytes = 67 ∷ 15 ∷ fields in
-    by_length (Short (length bytes) 20) (nat_lt (length bytes) 20) (packet_of_fields icmp (drop 2 bytes) (drop 20 bytes)) packet (icmp_fields bytes (drop 2 bytes) (drop 20 bytes) packet)
-    (subst (λ (f : LinkFrame). Has f.packets packet) (link_frame-first bytes) has)
+pub unicast_read : (ttl ttvn : ℕ) (dst : Mac) (tail : List ℕ) → IsWhole dst → (link_frame (spelling (Unicast ttl ttvn dst) tail)).packets ≡ record { head = Unicast (one_read ttl) (one_read ttvn) dst; tail = tail } ∷ []
+unicast_read ttl ttvn dst tail whole =
+    let o = six dst whole in
+    subst (λ x. (link_frame (spelling (Unicast ttl ttvn x) tail)).packets ≡ record { head = Unicast (one_read ttl) (one_read ttvn) x; tail = tail } ∷ []) (sym o.is)
+    (rest_read (Unicast ttl ttvn (mac6 o.a o.b o.c o.d o.e o.f)) (Unicast (one_read ttl) (one_read ttvn) (mac6 o.a o.b o.c o.d o.e o.f)) tail (unicast_computes ttl ttvn o.a o.b o.c o.d o.e o.f tail) refl)

@@ -1,5 +1,6 @@
 -- What the laws rest on.
 pub mod HeadLemmas
+pub mod KindLemmas
 pub mod SumLemmas
 pub mod TableLemmas
 pub mod EntryLemmas

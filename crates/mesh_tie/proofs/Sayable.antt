@@ -27,7 +27,8 @@ use Rattle.std.proofs.lemmas.Bool.{true≢false}
 use Rattle.mesh_tie.specs.Sayings.{FrameSays, IsAnnounced, IsAnswered, PacketSays, WordSays, saying_of}
 use Rattle.mesh_tie.specs.Sources.{ContainersOf, HasWholeAddresses, IsMessageOf, IsWhole, MessageOf, Nothing, Word, word_of}
 use Rattle.mesh_laws.specs.HeldLaws.{stamp_of_commit}
-use Rattle.mesh_tie.proofs.HeadLemmas.{IsOnePacket, TellsNothing, iv_frame, ogm2_frame, utvlv_frame}
+use Rattle.mesh_tie.proofs.HeadLemmas.{IsOnePacket, iv_frame, ogm2_frame, utvlv_frame}
+use Rattle.mesh_tie.proofs.KindLemmas.{TellsNothing}
 use Rattle.mesh_tie.proofs.TableLemmas.{HoldsNoAnswer, IsToldAgain, answers_again}
 
 -- two addresses are one, or they aren't
