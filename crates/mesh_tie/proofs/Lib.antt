@@ -17,6 +17,10 @@ pub mod SentLemmas
 pub mod LogLemmas
 pub mod MeshSteps
 pub mod FitLemmas
+pub mod CarriedHeads
+pub mod CarriedRows
+pub mod CarriedSteps
+pub mod CarriedClients
 pub mod IvLemmas
 pub mod VLemmas
 pub mod NamesRows

@@ -8,6 +8,7 @@ pub mod Sayings
 pub mod Tie
 pub mod TieLaws
 pub mod ByTable
+pub mod Carried
 pub mod PlainRuns
 pub mod AliasesSeen
 pub mod FullAnswers

@@ -1,6 +1,8 @@
-//! What was ever sent of an originator's tables, while no two of its commits are an alias.
+//! What was ever sent of an originator's tables, while no two of its commits are an alias; and what
+//! was ever carried for clients, whatever the aliases.
 
 ghost use Rattle.mesh_tie.specs.ByTable.{FramesByTable};
+ghost use Rattle.mesh_tie.specs.Carried.{CarriesClients};
 ghost use Rattle.mesh_tie.specs.TieLaws.{AnswersCarry, MessagesAnnounce};
 
 /// Every originator message announces the commit of its root: its byte, its sums, and its changes
@@ -19,4 +21,10 @@ pub fn answers_carry_commits()
 /// the last message announced that the node had accepted when it sent the frame.
 pub fn frames_by_table_are_for_named_clients()
     ensures { FramesByTable }
+{}
+
+/// Every client frame that a broadcast or a packet for one node ever carried is from a client that
+/// records can tell: its address is of six bytes, and its VLAN's wire number fits two.
+pub fn carried_frames_are_from_clients()
+    ensures { CarriesClients }
 {}

@@ -1,0 +1,226 @@
+-- What the rows send carries payloads that came, or that a line begins.
+use Rattle.std.proofs.Common.{◌≡◌, ◌-◌, ℕ, suc, Bool, true, false, cond, ◌||◌, ◌==◌, nat_le, List, [], ◌∷◌, ◌++◌, length, drop, Option, Some, None, refl}
+use Rattle.std.specs.Option.{unwrap_or}
+use Rattle.mesh_base.specs.Address.{is_broadcast, is_group}
+use Rattle.mesh_base.specs.declared.address.Mac.{Mac}
+use Rattle.mesh_base.specs.declared.client.Key.{Key}
+use Rattle.mesh_base.specs.declared.event.LossReason.{LossReason}
+use Rattle.mesh_base.specs.declared.event.LossReason.TheVariants.{Ttl, NoRoute}
+use Rattle.mesh_base.specs.declared.event.Reason.TheVariants.{Fwd}
+use Rattle.mesh_model.specs.declared.act.Act.{Act}
+use Rattle.mesh_model.specs.declared.packet.Head.{Head}
+use Rattle.mesh_model.specs.declared.packet.Head.TheVariants.{IvOgm, Bcast, Elp, Ogm2, Unicast, Frag, Unicast4, Icmp, Utvlv}
+use Rattle.mesh_model.specs.declared.table_outcome.Request.{Request}
+use Rattle.mesh_model.specs.Acts.FrameRows.{Place, addressed, advert_acts, arrived, broadcast_acts, broadcast_on, frame_acts, handed_out, handed_out_if, here_acts, is_present, lost, lost_if, on_route, on_way, passed_frame, readdressed}
+use Rattle.mesh_model.specs.Acts.OwnContainers.{own_containers}
+use Rattle.mesh_model.specs.Acts.Packing.{reply_containers, request_containers, roaming_container, sent_over, sent_to_all}
+use Rattle.mesh_model.specs.Acts.ProbeRows.{IcmpMessage, icmp_head, session_acts}
+use Rattle.mesh_model.specs.Acts.Rows.{Own, accepted_acts, alias_acts, alias_event, commit_acts, elp_acts, head_acts, icmp_acts, message_acts, ogm_acts, packet_acts, place_at, taken_acts, tick_acts}
+use Rattle.mesh_model.specs.Acts.TableRows.{on_the_way, other_containers, own_answer, request_acts, way_reply}
+use Rattle.mesh_model.specs.Clients.Mentions.{Mention, key_of}
+use Rattle.mesh_model.specs.Commits.Aliases.{last_alias}
+use Rattle.mesh_model.specs.Commits.Announcements.{announcement}
+use Rattle.mesh_model.specs.Commits.History.{History, committed, is_commit_tick, present_table}
+use Rattle.mesh_model.specs.Knowledge.Addressee.{Way, addressee}
+use Rattle.mesh_model.specs.Knowledge.Known.{Broadcast, Knowledge, is_new_broadcast, told_at}
+use Rattle.mesh_model.specs.Knowledge.Steps.{Coming, before_announcement, request_out}
+use Rattle.mesh_model.specs.Knowledge.Told.{Message, TableMessage, Asks, Answers, Neither, message_in, message_of, message_with, stamp_told}
+use Rattle.mesh_model.specs.Packets.Containers.{containers_of, containers_spelling}
+use Rattle.mesh_model.specs.Packets.Contents.{first_table}
+use Rattle.mesh_model.specs.Packets.FirstPacket.{Packet}
+use Rattle.mesh_model.specs.Packets.Layout.{spelling}
+use Rattle.mesh_model.specs.Packets.Payload.{ClientFrame, client_frame_of, payload_spelling}
+use Rattle.mesh_model.specs.Routes.Addresses.{same_mac}
+use Rattle.mesh_model.specs.Routes.Queries.{Queries, is_elp}
+use Rattle.mesh_model.specs.Routes.RouteLog.{RouteLog}
+use Rattle.mesh_model.specs.Tables.Answers.{Reply, own_reply}
+use Rattle.mesh_tie.specs.Sources.{HasWholeAddresses, IsMessageOf, IsWhole, KeepsOriginators, MessageOf, word_of}
+use Rattle.mesh_tie.specs.Tie.{KnowsWhole}
+use Rattle.mesh_tie.proofs.EntryLemmas.{each_appended}
+use Rattle.mesh_tie.proofs.KnowsLemmas.{IfWay, addressee_whole}
+use Rattle.mesh_tie.proofs.ProbeActs.{AreProbing, IsProbing, icmp_puts, puts_message, puts_pinged, puts_traced, session_puts}
+use Rattle.mesh_tie.proofs.CarriedHeads.{ActHas, ActsHave, HeadHas, PacketHas, bcast_has, elp_none, icmp_none, iv_none, ogm2_none, unicast_has, utvlv_none}
+
+-- ---- rows that carry none
+over_none : (P : List ℕ → Type 0) (next : Option Mac) (ttl : ℕ) (dst src : Mac) (tail : List ℕ) → ActsHave P (sent_over next (Utvlv ttl dst src) tail)
+over_none P None ttl dst src tail = tt
+over_none P (Some to) ttl dst src tail = (utvlv_none P (drop 1 (spelling (Utvlv ttl dst src) tail)), tt)
+
+message_none : (P : List ℕ → Type 0) (source : Mac) (head : Head) (tail : List ℕ) → word_of head ≡ MessageOf source → ActHas P (sent_to_all head tail)
+message_none P source (IvOgm ttl flags seq orig prev tq) tail is = iv_none P (drop 1 (spelling (IvOgm ttl flags seq orig prev tq) tail))
+message_none P source (Bcast ttl seq orig) tail is = cc
+message_none P source (Elp orig seq interval) tail is = cc
+message_none P source (Ogm2 ttl flags seq orig throughput) tail is = ogm2_none P (drop 1 (spelling (Ogm2 ttl flags seq orig throughput) tail))
+message_none P source (Unicast ttl ttvn dst) tail is = cc
+message_none P source (Frag ttl number priority dst orig seq total) tail is = cc
+message_none P source (Unicast4 ttl ttvn dst src subtype) tail is = cc
+message_none P source (Icmp ttl msg dst orig uid seq) tail is = cc
+message_none P source (Utvlv ttl dst src) tail is = cc
+
+messages_none : (P : List ℕ → Type 0) (source : Mac) (o : Option Head) (tail : List ℕ) → ((head : Head) → o ≡ Some head → IsMessageOf source head) → ActsHave P (message_acts o tail)
+unfolding message_acts
+messages_none P source None tail of = tt
+messages_none P source (Some head) tail of = (message_none P source head tail (of head refl).word, tt)
+
+elp_acts_none : (P : List ℕ → Type 0) (head : Head) → is_elp head ≡ true → ActHas P (sent_to_all head [])
+elp_acts_none P (IvOgm ttl flags seq orig prev tq) is = cc
+elp_acts_none P (Bcast ttl seq orig) is = cc
+elp_acts_none P (Elp orig seq interval) is = elp_none P (drop 1 (spelling (Elp orig seq interval) []))
+elp_acts_none P (Ogm2 ttl flags seq orig throughput) is = cc
+elp_acts_none P (Unicast ttl ttvn dst) is = cc
+elp_acts_none P (Frag ttl number priority dst orig seq total) is = cc
+elp_acts_none P (Unicast4 ttl ttvn dst src subtype) is = cc
+elp_acts_none P (Icmp ttl msg dst orig uid seq) is = cc
+elp_acts_none P (Utvlv ttl dst src) is = cc
+
+elps_none : (P : List ℕ → Type 0) (o : Option Head) → ((head : Head) → o ≡ Some head → is_elp head ≡ true) → ActsHave P (message_acts o [])
+unfolding message_acts
+elps_none P None of = tt
+elps_none P (Some head) of = (elp_acts_none P head (of head refl), tt)
+
+probe_none : (P : List ℕ → Type 0) (acts : List Act) → AreProbing acts → ActsHave P acts
+probe_none P [] all = tt
+probe_none P (act ∷ acts) all = (one act all.0, probe_none P acts all.1)
+  where
+    one : (act : Act) → IsProbing act → ActHas P act
+    one _ (puts_message next m) = icmp_none P (drop 1 (spelling (icmp_head m) []))
+    one _ (puts_pinged node target seq result) = tt
+    one _ (puts_traced node target result) = tt
+
+have_if : (P : List ℕ → Type 0) (b : Bool) (xs ys : List Act) → ActsHave P xs → ActsHave P ys → ActsHave P (cond b xs ys)
+have_if P true xs ys a b = a
+have_if P false xs ys a b = b
+
+request_none : (P : List ℕ → Type 0) (me : Mac) (next : Option Mac) (message : Message) (o : Option Request) → ActsHave P (request_acts me next message o)
+request_none P me next message None = tt
+request_none P me next message (Some request) = over_none P next 50 message.orig me (request_containers request (stamp_told message.table))
+
+pub session_has : (P : List ℕ → Type 0) (q : Queries) (known : Knowledge) (at : Place) (target : Mac) (trace : Bool) → ActsHave P (session_acts q known at target trace)
+session_has P q known at target trace = probe_none P (session_acts q known at target trace) (session_puts q known at target trace)
+
+pub advert_has : (P : List ℕ → Type 0) (me : Mac) (key : Key) (o : Option Way) → ActsHave P (advert_acts me key o)
+advert_has P me key None = tt
+advert_has P me key (Some way) = (utvlv_none P (drop 1 (spelling (Utvlv 50 way.orig me) (containers_spelling (roaming_container key ∷ [])))), tt)
+
+own_has : (P : List ℕ → Type 0) (q : Queries) (me : Mac) (known : Knowledge) (now : ℕ) (own : Own) (asker : Mac) (message : TableMessage) → ActsHave P (own_answer q me known now own.last own.told asker message)
+unfolding own_answer
+own_has P q me known now own asker (Asks full stamp) = over_none P (q.route known.routes now asker) 50 asker me (reply_containers (own_reply full stamp.byte own.last own.told))
+own_has P q me known now own asker (Answers stamp carried) = tt
+own_has P q me known now own asker Neither = tt
+
+other_has : (P : List ℕ → Type 0) (q : Queries) (known : Knowledge) (now ttl : ℕ) (dst src : Mac) (tail : List ℕ) → ActsHave P (other_containers q known now ttl dst src tail)
+unfolding other_containers
+other_has P q known now ttl dst src tail = go (way_reply q known now dst (message_in (first_table (containers_of tail))))
+  where
+    go : (o : Option Reply) → ActsHave P (on_the_way q known now ttl dst src tail o)
+    go None = have_if P (nat_le ttl 1) [] (sent_over (q.route known.routes now dst) (Utvlv (ttl - 1) dst src) tail) tt (over_none P (q.route known.routes now dst) (ttl - 1) dst src tail)
+    go (Some reply) = over_none P (q.route known.routes now src) 50 src dst (reply_containers reply)
+
+ogm_has : (P : List ℕ → Type 0) (q : Queries) (me : Mac) (came : Coming) (head : Head) (source : Mac) (message : Message) (tail : List ℕ) (known : Knowledge) → KeepsOriginators me q → IsWhole came.from → IsMessageOf source head
+    → ActsHave P (ogm_acts q me came head message tail known)
+unfolding ogm_acts
+ogm_has P q me came head source message tail known keeps from is =
+    let heard = q.hear known.routes came.now came.from came.throughput head in
+    let before = before_announcement q came head message.orig known in
+    each_appended (ActHas P) (message_acts heard.forward tail) (cond heard.accepted (accepted_acts q me came head message known) [])
+    (messages_none P source heard.forward tail (λ sent e. keeps.onward known.routes came.now came.from came.throughput head sent source from is e))
+    (have_if P heard.accepted (accepted_acts q me came head message known) [] (request_none P me (q.route before.routes came.now message.orig) message (request_out q before came.now message)) tt)
+
+-- ---- client frames
+handed_has : (P : List ℕ → Type 0) (at : Place) (o : Option ClientFrame) → ActsHave P (handed_out_if at o)
+handed_has P at None = tt
+handed_has P at (Some frame) = (tt, tt)
+
+lost_has : (P : List ℕ → Type 0) (at : Place) (reason : LossReason) (o : Option ClientFrame) → ActsHave P (lost_if at reason o)
+lost_has P at reason None = tt
+lost_has P at reason (Some frame) = (tt, tt)
+
+broadcast_has : (P : List ℕ → Type 0) (known : Knowledge) (at : Place) (ttl : ℕ) (broadcast : Broadcast) (tail : List ℕ) → IsWhole broadcast.orig → P tail → ActsHave P (broadcast_acts known at ttl broadcast tail)
+unfolding broadcast_acts
+broadcast_has P known at ttl broadcast tail whole p = have_if P (is_new_broadcast at.me broadcast known.taken) (handed_out_if at (client_frame_of tail) ++ broadcast_on ttl broadcast tail) []
+    (each_appended (ActHas P) (handed_out_if at (client_frame_of tail)) (broadcast_on ttl broadcast tail) (handed_has P at (client_frame_of tail))
+    (have_if P (nat_le ttl 1) [] (sent_to_all (Bcast (ttl - 1) broadcast.number broadcast.orig) tail ∷ []) tt (bcast_has P (ttl - 1) broadcast.number broadcast.orig tail whole p, tt))) tt
+
+passed_has : (P : List ℕ → Type 0) (q : Queries) (known : Knowledge) (at : Place) (ttl ttvn : ℕ) (dst : Mac) (tail : List ℕ) → IsWhole dst → P tail → ActsHave P (passed_frame q known at ttl ttvn dst tail)
+unfolding passed_frame
+passed_has P q known at ttl ttvn dst tail whole p = have_if P (nat_le ttl 1) (lost_if at Ttl (client_frame_of tail)) (on_route at ttl ttvn dst tail (q.route known.routes at.now dst))
+    (lost_has P at Ttl (client_frame_of tail)) (go (q.route known.routes at.now dst))
+  where
+    go : (next : Option Mac) → ActsHave P (on_route at ttl ttvn dst tail next)
+    go None = lost_has P at NoRoute (client_frame_of tail)
+    go (Some next) = (unicast_has P next (Some Fwd) (ttl - 1) ttvn dst tail whole p, tt)
+
+addressed_has : (P : List ℕ → Type 0) (q : Queries) (known : Knowledge) (now ttl : ℕ) (way : Way) (tail : List ℕ) → IsWhole way.orig → P tail → ActHas P (addressed q known now ttl way tail)
+addressed_has P q known now ttl way tail whole p = unicast_has P way.next (Some way.reason) ttl (unwrap_or (told_at q known now way.orig) 0) way.orig tail whole p
+
+here_has : (P : List ℕ → Type 0) (q : Queries) (known : Knowledge) (ms : List Mention) (at : Place) (ttl : ℕ) (tail : List ℕ) → KnowsWhole known → P tail → ActsHave P (here_acts q known ms at ttl tail)
+unfolding here_acts
+here_has P q known ms at ttl tail k p = go (client_frame_of tail)
+  where
+    anew : (frame : ClientFrame) (way : Option Way) → IfWay way → ActsHave P (readdressed q known at ttl frame tail way)
+    anew frame None whole = (tt, tt)
+    anew frame (Some way) whole = have_if P (nat_le ttl 1) (lost at Ttl frame ∷ []) (addressed q known at.now (ttl - 1) way tail ∷ []) (tt, tt) (addressed_has P q known at.now (ttl - 1) way tail (whole way refl) p, tt)
+
+    go : (o : Option ClientFrame) → ActsHave P (arrived q known ms at ttl tail o)
+    go None = tt
+    go (Some frame) =
+        let key = key_of frame.dst frame.vid in
+        let way = addressee q known at.now key in
+        have_if P (is_group frame.dst || is_present ms at.now key) (handed_out at frame ∷ []) (readdressed q known at ttl frame tail way) (tt, tt) (anew frame way (addressee_whole q known at.now key k))
+
+pub frame_has : (P : List ℕ → Type 0) (q : Queries) (known : Knowledge) (ms : List Mention) (at : Place) (frame : ClientFrame) → IsWhole at.me → KnowsWhole known → P (payload_spelling frame) → ActsHave P (frame_acts q known ms at frame)
+unfolding frame_acts
+frame_has P q known ms at frame mine k p =
+    let key = key_of frame.dst frame.vid in
+    let way = addressee q known at.now key in
+    let sent = on_way q known at frame way in
+    let handed = cond (is_present ms at.now key) (handed_out at frame ∷ []) sent in
+    have_if P (is_broadcast frame.dst) (sent_to_all (Bcast 50 (suc known.sent) at.me) (payload_spelling frame) ∷ []) (cond (is_group frame.dst) [] handed)
+    (bcast_has P 50 (suc known.sent) at.me (payload_spelling frame) mine p, tt)
+    (have_if P (is_group frame.dst) [] handed tt (have_if P (is_present ms at.now key) (handed_out at frame ∷ []) sent (tt, tt) (go way (addressee_whole q known at.now key k))))
+  where
+    go : (way : Option Way) → IfWay way → ActsHave P (on_way q known at frame way)
+    go None whole = (tt, tt)
+    go (Some way) whole = (addressed_has P q known at.now 50 way (payload_spelling frame) (whole way refl) p, tt)
+
+-- ---- packets
+pub packet_has : (P : List ℕ → Type 0) (q : Queries) (me : Mac) (own : Own) (came : Coming) (packet : Packet) (known : Knowledge) → KeepsOriginators me q → IsWhole came.from → KnowsWhole known → HasWholeAddresses packet.head → PacketHas P packet
+    → ActsHave P (packet_acts q me own came known packet)
+unfolding packet_acts
+packet_has P q me own came packet known keeps from k whole has = go packet.head packet.tail whole has
+  where
+    taken : (head : Head) (source : Mac) (tail : List ℕ) (o : Option Message) → IsMessageOf source head → ActsHave P (taken_acts q me came head o tail known)
+    taken head source tail None is = tt
+    taken head source tail (Some message) is = ogm_has P q me came head source message tail known keeps from is
+
+    go : (head : Head) (tail : List ℕ) → HasWholeAddresses head → HeadHas P tail head → ActsHave P (head_acts q me own came known (message_of (record { head = head; tail = tail })) tail head)
+    go (IvOgm ttl flags seq o prev tq) tail w h = taken (IvOgm ttl flags seq o prev tq) o tail (message_with o (first_table (containers_of tail))) (record { word = refl; addresses = w })
+    go (Bcast ttl seq o) tail w h = broadcast_has P known (place_at me came) ttl (record { orig = o; number = seq }) tail h.0 h.1
+    go (Elp o seq interval) tail w h = tt
+    go (Ogm2 ttl flags seq o throughput) tail w h = taken (Ogm2 ttl flags seq o throughput) o tail (message_with o (first_table (containers_of tail))) (record { word = refl; addresses = w })
+    go (Unicast ttl ttvn dst) tail w h = have_if P (same_mac dst me) (here_acts q known own.mentions (place_at me came) ttl tail) (passed_frame q known (place_at me came) ttl ttvn dst tail)
+        (here_has P q known own.mentions (place_at me came) ttl tail k h.1) (passed_has P q known (place_at me came) ttl ttvn dst tail h.0 h.1)
+    go (Frag ttl number priority dst o seq total) tail w h = tt
+    go (Unicast4 ttl ttvn dst src subtype) tail w h = tt
+    go (Icmp ttl msg dst o uid seq) tail w h =
+        let m : IcmpMessage = record { ttl = ttl; kind = msg; dst = dst; orig = o; uid = uid; seq = seq } in
+        probe_none P (icmp_acts q known (place_at me came) m) (icmp_puts q known (place_at me came) m)
+    go (Utvlv ttl dst src) tail w h = have_if P (same_mac dst me) (own_answer q me known came.now own.last own.told src (message_in (first_table (containers_of tail)))) (other_containers q known came.now ttl dst src tail)
+        (own_has P q me known came.now own src (message_in (first_table (containers_of tail)))) (other_has P q known came.now ttl dst src tail)
+
+-- ---- ticks
+pub tick_has : (P : List ℕ → Type 0) (q : Queries) (me : Mac) (routes : RouteLog) (ms : List Mention) (before : History) (now index : ℕ) → KeepsOriginators me q → IsWhole me → ActsHave P (tick_acts q me routes ms before now index)
+unfolding tick_acts
+tick_has P q me routes ms before now index keeps whole =
+    let after = committed (present_table ms now) before in
+    let tail = containers_spelling (own_containers (announcement after)) in
+    each_appended (ActHas P) (elp_acts q routes index) (cond (is_commit_tick index) (commit_acts q me routes index before after) [])
+    (elps_none P (q.beats routes index).elp (λ head is. keeps.elps routes index head is))
+    (have_if P (is_commit_tick index) (commit_acts q me routes index before after) []
+    (each_appended (ActHas P) (alias_acts me before.commits after.commits) (message_acts (q.beats routes index).ogm tail)
+    (have_if P (length after.commits == length before.commits) [] (alias_event me (length before.commits) (last_alias after.commits)) tt (event (last_alias after.commits)))
+    (messages_none P me (q.beats routes index).ogm tail (λ head is. keeps.own routes index head whole is))) tt)
+  where
+    event : (o : Option ℕ) → ActsHave P (alias_event me (length before.commits) o)
+    event None = tt
+    event (Some earlier) = (tt, tt)
