@@ -1,4 +1,5 @@
--- Each client frame that is carried is from a client that records can tell.
+-- Each payload that is carried is a client frame that a line gave; and the client frame that it is
+-- read as is from a client that records can tell.
 use Rattle.std.proofs.Common.{◌≡◌, ◌<◌, ◌≤◌, ◌^◌, ◌+◌, ℕ, Bool, true, false, cond, nat_lt, List, length, drop, Option, Some, None, option_map, refl, sym, subst, ◌∙◌, arith}
 use Rattle.std.proofs.lemmas.Bool.Decides.{nat_tests}
 use Rattle.byteorder.specs.Endian.{big_number}
@@ -9,10 +10,10 @@ use Rattle.mesh_model.specs.Packets.Ethernet.{EtherFrame, address_in, begin_type
 use Rattle.mesh_model.specs.Packets.Numbers.{client_ethertype, vlan_ethertype}
 use Rattle.mesh_model.specs.Packets.Payload.{ClientFrame, client_frame, payload_spelling}
 use Rattle.mesh_model.specs.Routes.Queries.{Queries}
-use Rattle.mesh_tie.specs.Carried.{CarriesClients, IsFromClient, IsKept}
+use Rattle.mesh_tie.specs.Carried.{CarriesClients, CarriesGivenFrames, IsFromClient, IsGivenFrame, IsKept}
 use Rattle.mesh_tie.specs.Sources.{IsWhole}
 use Rattle.mesh_tie.specs.Steps.{IsClient}
-use Rattle.mesh_tie.proofs.CarriedSteps.{carried_on}
+use Rattle.mesh_tie.proofs.CarriedSteps.{carried_on, was_given}
 use Rattle.mesh_tie.proofs.HeadLemmas.{mac6, six}
 
 -- ---- reading
@@ -76,10 +77,21 @@ client_from src vid bytes (Some one) frame client at from is =
 clients_kept : (queries : Mac → Queries) → IsKept queries (λ mesh payload. IsFromClient payload)
 clients_kept queries = record {
   stays = λ mesh after payload s is. is;
-  begun = λ mesh frame tells found is.
+  begun = λ mesh frame was found is.
       let bytes = payload_spelling frame in
+      let tells = was.tells in
       client_from frame.src frame.vid bytes (ether_frame_of client_ethertype bytes) found tells.0 (src_read frame.dst frame.src frame.vid frame.text tells.1 tells.0.fits.address) (frame_from bytes) is;
 }
 
 pub carries_clients : CarriesClients
 carries_clients queries keep mesh r = carried_on queries keep (λ m payload. IsFromClient payload) (clients_kept queries) mesh r
+
+-- ---- what lines gave
+frames_kept : (queries : Mac → Queries) → IsKept queries IsGivenFrame
+frames_kept queries = record {
+  stays = λ mesh after payload s is. (is.0, was_given queries mesh after is.0 s is.1, is.2);
+  begun = λ mesh frame was. (frame, was, refl);
+}
+
+pub carries_given_frames : CarriesGivenFrames
+carries_given_frames queries keep mesh r = carried_on queries keep IsGivenFrame (frames_kept queries) mesh r

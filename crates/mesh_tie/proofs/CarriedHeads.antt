@@ -1,77 +1,102 @@
 -- What spelled packets carry: a broadcast and a packet for one node their tail, all others nothing.
-use Rattle.std.proofs.Common.{◌≡◌, inl, inr, ℕ, List, [], ◌∷◌, Option, refl, sym, subst}
+use Rattle.std.proofs.Common.{◌≡◌, ◌⊎◌, inl, inr, ℕ, List, [], ◌∷◌, Option, refl, sym, subst}
 use Rattle.std.specs.List.{AllByRecursion}
 use Rattle.mesh_base.specs.declared.address.Mac.{Mac}
+use Rattle.mesh_base.specs.declared.client.Vid.{Vid}
+use Rattle.mesh_base.specs.declared.event.Event.{Event}
+use Rattle.mesh_base.specs.declared.event.Event.TheVariants.{Received}
 use Rattle.mesh_base.specs.declared.event.Reason.{Reason}
 use Rattle.mesh_model.specs.declared.act.Act.{Act}
 use Rattle.mesh_model.specs.declared.act.Act.TheVariants.{Link, Lan, Print}
 use Rattle.mesh_model.specs.declared.packet.Head.{Head}
 use Rattle.mesh_model.specs.declared.packet.Head.TheVariants.{IvOgm, Bcast, Elp, Ogm2, Unicast, Frag, Unicast4, Icmp, Utvlv}
+use Rattle.mesh_model.specs.Acts.FrameRows.{Place, handed_out}
 use Rattle.mesh_model.specs.Acts.Packing.{sent_to, sent_to_all}
 use Rattle.mesh_model.specs.Net.Next.{Has}
 use Rattle.mesh_model.specs.Packets.FirstPacket.{Packet}
 use Rattle.mesh_model.specs.Packets.Layout.{spelling}
 use Rattle.mesh_model.specs.Packets.LinkFrame.{link_frame}
+use Rattle.mesh_model.specs.Packets.Payload.{ClientFrame}
 use Rattle.mesh_model.specs.Packets.Shapes.{Shape, elp, icmp, iv_ogm, ogm2, utvlv}
+use Rattle.mesh_tie.specs.Carried.{IsReadOf}
 use Rattle.mesh_tie.specs.Sources.{IsWhole}
 use Rattle.mesh_tie.proofs.HeadLemmas.{bcast_read, four_read, one_read, unicast_read}
 use Rattle.mesh_tie.proofs.KindLemmas.{EachPacket, IsKind, kind_each}
 
+-- what holds of payloads that are carried, and of client frames that lines gave
+pub record Kept : Type 1 where
+  pub carried : List ℕ → Type 0
+  pub given : ClientFrame → Type 0
+
+-- a client frame is given, or read of what is carried
+abbrev pub IsCarried : Kept → ClientFrame → Type 0
+IsCarried P frame = P.given frame ⊎ IsReadOf P.carried frame
+
+-- an event of a client frame that is handed out tells of one that is carried
+abbrev pub Tells : Kept → Event → Type 0
+Tells P event = (moment : ℕ) (node : Mac) (vid : Vid) (src dst : Mac) (text : List ℕ) → event ≡ Received moment node vid src dst text → IsCarried P (record { dst = dst; src = src; vid = vid; text = text })
+
 -- a packet that carries a payload is addressed by a whole address, and its payload has a property
-abbrev pub HeadHas : (List ℕ → Type 0) → List ℕ → Head → Type 0
+abbrev pub HeadHas : Kept → List ℕ → Head → Type 0
 HeadHas P tail (IvOgm ttl flags seq orig prev tq) = Unit {0}
-HeadHas P tail (Bcast ttl seq orig) = IsWhole orig × P tail
+HeadHas P tail (Bcast ttl seq orig) = IsWhole orig × P.carried tail
 HeadHas P tail (Elp orig seq interval) = Unit {0}
 HeadHas P tail (Ogm2 ttl flags seq orig throughput) = Unit {0}
-HeadHas P tail (Unicast ttl ttvn dst) = IsWhole dst × P tail
+HeadHas P tail (Unicast ttl ttvn dst) = IsWhole dst × P.carried tail
 HeadHas P tail (Frag ttl number priority dst orig seq total) = Unit {0}
 HeadHas P tail (Unicast4 ttl ttvn dst src subtype) = Unit {0}
 HeadHas P tail (Icmp ttl msg dst orig uid seq) = Unit {0}
 HeadHas P tail (Utvlv ttl dst src) = Unit {0}
 
-abbrev pub PacketHas : (List ℕ → Type 0) → Packet → Type 0
+abbrev pub PacketHas : Kept → Packet → Type 0
 PacketHas P packet = HeadHas P packet.tail packet.head
 
-abbrev pub FrameHas : (List ℕ → Type 0) → List ℕ → Type 0
+abbrev pub FrameHas : Kept → List ℕ → Type 0
 FrameHas P bytes = EachPacket (PacketHas P) bytes
 
-abbrev pub ActHas : (List ℕ → Type 0) → Act → Type 0
+abbrev pub ActHas : Kept → Act → Type 0
 ActHas P (Link to reason bytes) = FrameHas P bytes
 ActHas P (Lan bytes) = Unit {0}
-ActHas P (Print event) = Unit {0}
+ActHas P (Print event) = Tells P event
 
-abbrev pub ActsHave : (List ℕ → Type 0) → List Act → Type 0
+abbrev pub ActsHave : Kept → List Act → Type 0
 ActsHave P acts = AllByRecursion (ActHas P) acts
 
+-- a client frame that is handed out
+pub handed_has : (P : Kept) (at : Place) (frame : ClientFrame) → IsCarried P frame → ActHas P (handed_out at frame)
+handed_has P at frame carried moment node vid src dst text is =
+    let same : ◌≡◌ {A = ClientFrame} (record { dst = frame.dst; src = frame.src; vid = frame.vid; text = frame.text }) (record { dst = dst; src = src; vid = vid; text = text }) = cc in
+    subst (IsCarried P) same carried
+
 -- ---- spelled packets
-one_has : (P : List ℕ → Type 0) (bytes : List ℕ) (one : Packet) → (link_frame bytes).packets ≡ one ∷ [] → PacketHas P one → FrameHas P bytes
+one_has : (P : Kept) (bytes : List ℕ) (one : Packet) → (link_frame bytes).packets ≡ one ∷ [] → PacketHas P one → FrameHas P bytes
 one_has P bytes one is h packet has = go (subst (λ ps. Has ps packet) is has)
   where
     go : Has (one ∷ []) packet → PacketHas P packet
     go (inl same) = subst (PacketHas P) (sym same) h
     go (inr none) = absurd none
 
-pub bcast_has : (P : List ℕ → Type 0) (ttl seq : ℕ) (orig : Mac) (tail : List ℕ) → IsWhole orig → P tail → ActHas P (sent_to_all (Bcast ttl seq orig) tail)
+pub bcast_has : (P : Kept) (ttl seq : ℕ) (orig : Mac) (tail : List ℕ) → IsWhole orig → P.carried tail → ActHas P (sent_to_all (Bcast ttl seq orig) tail)
 bcast_has P ttl seq orig tail whole p = one_has P (spelling (Bcast ttl seq orig) tail) (record { head = Bcast (one_read ttl) (four_read seq) orig; tail = tail }) (bcast_read ttl seq orig tail whole) (whole, p)
 
-pub unicast_has : (P : List ℕ → Type 0) (next : Mac) (reason : Option Reason) (ttl ttvn : ℕ) (dst : Mac) (tail : List ℕ) → IsWhole dst → P tail → ActHas P (sent_to next reason (Unicast ttl ttvn dst) tail)
+pub unicast_has : (P : Kept) (next : Mac) (reason : Option Reason) (ttl ttvn : ℕ) (dst : Mac) (tail : List ℕ) → IsWhole dst → P.carried tail → ActHas P (sent_to next reason (Unicast ttl ttvn dst) tail)
 unicast_has P next reason ttl ttvn dst tail whole p = one_has P (spelling (Unicast ttl ttvn dst) tail) (record { head = Unicast (one_read ttl) (one_read ttvn) dst; tail = tail }) (unicast_read ttl ttvn dst tail whole) (whole, p)
 
 -- a frame of a kind that carries none
-none_of : (P : List ℕ → Type 0) (s : Shape) → IsKind s (PacketHas P) → (fields : List ℕ) → FrameHas P (s.kind ∷ fields)
+none_of : (P : Kept) (s : Shape) → IsKind s (PacketHas P) → (fields : List ℕ) → FrameHas P (s.kind ∷ fields)
 none_of P s k fields = kind_each s (PacketHas P) k (s.kind ∷ fields) refl
 
-pub iv_none : (P : List ℕ → Type 0) (fields : List ℕ) → FrameHas P (0 ∷ fields)
+pub iv_none : (P : Kept) (fields : List ℕ) → FrameHas P (0 ∷ fields)
 iv_none P fields = none_of P iv_ogm (record { by_type = refl; heads = λ f. refl; each = λ f tail. tt }) fields
 
-pub elp_none : (P : List ℕ → Type 0) (fields : List ℕ) → FrameHas P (3 ∷ fields)
+pub elp_none : (P : Kept) (fields : List ℕ) → FrameHas P (3 ∷ fields)
 elp_none P fields = none_of P elp (record { by_type = refl; heads = λ f. refl; each = λ f tail. tt }) fields
 
-pub ogm2_none : (P : List ℕ → Type 0) (fields : List ℕ) → FrameHas P (4 ∷ fields)
+pub ogm2_none : (P : Kept) (fields : List ℕ) → FrameHas P (4 ∷ fields)
 ogm2_none P fields = none_of P ogm2 (record { by_type = refl; heads = λ f. refl; each = λ f tail. tt }) fields
 
-pub icmp_none : (P : List ℕ → Type 0) (fields : List ℕ) → FrameHas P (67 ∷ fields)
+pub icmp_none : (P : Kept) (fields : List ℕ) → FrameHas P (67 ∷ fields)
 icmp_none P fields = none_of P icmp (record { by_type = refl; heads = λ f. refl; each = λ f tail. tt }) fields
 
-pub utvlv_none : (P : List ℕ → Type 0) (fields : List ℕ) → FrameHas P (68 ∷ fields)
+pub utvlv_none : (P : Kept) (fields : List ℕ) → FrameHas P (68 ∷ fields)
 utvlv_none P fields = none_of P utvlv (record { by_type = refl; heads = λ f. refl; each = λ f tail. tt }) fields

@@ -1,11 +1,11 @@
 -- What the rows send carries payloads that came, or that a line begins.
-use Rattle.std.proofs.Common.{◌≡◌, ◌-◌, ℕ, suc, Bool, true, false, cond, ◌||◌, ◌==◌, nat_le, List, [], ◌∷◌, ◌++◌, length, drop, Option, Some, None, refl}
+use Rattle.std.proofs.Common.{inl, inr, ◌≡◌, ◌-◌, ℕ, suc, Bool, true, false, cond, ◌||◌, ◌==◌, nat_le, List, [], ◌∷◌, ◌++◌, length, drop, Option, Some, None, refl}
 use Rattle.std.specs.Option.{unwrap_or}
 use Rattle.mesh_base.specs.Address.{is_broadcast, is_group}
 use Rattle.mesh_base.specs.declared.address.Mac.{Mac}
 use Rattle.mesh_base.specs.declared.client.Key.{Key}
 use Rattle.mesh_base.specs.declared.event.LossReason.{LossReason}
-use Rattle.mesh_base.specs.declared.event.LossReason.TheVariants.{Ttl, NoRoute}
+use Rattle.mesh_base.specs.declared.event.LossReason.TheVariants.{Unknown, Ttl, NoRoute}
 use Rattle.mesh_base.specs.declared.event.Reason.TheVariants.{Fwd}
 use Rattle.mesh_model.specs.declared.act.Act.{Act}
 use Rattle.mesh_model.specs.declared.packet.Head.{Head}
@@ -39,14 +39,14 @@ use Rattle.mesh_tie.specs.Tie.{KnowsWhole}
 use Rattle.mesh_tie.proofs.EntryLemmas.{each_appended}
 use Rattle.mesh_tie.proofs.KnowsLemmas.{IfWay, addressee_whole}
 use Rattle.mesh_tie.proofs.ProbeActs.{AreProbing, IsProbing, icmp_puts, puts_message, puts_pinged, puts_traced, session_puts}
-use Rattle.mesh_tie.proofs.CarriedHeads.{ActHas, ActsHave, HeadHas, PacketHas, bcast_has, elp_none, icmp_none, iv_none, ogm2_none, unicast_has, utvlv_none}
+use Rattle.mesh_tie.proofs.CarriedHeads.{Kept, handed_has, ActHas, ActsHave, HeadHas, PacketHas, bcast_has, elp_none, icmp_none, iv_none, ogm2_none, unicast_has, utvlv_none}
 
 -- ---- rows that carry none
-over_none : (P : List ℕ → Type 0) (next : Option Mac) (ttl : ℕ) (dst src : Mac) (tail : List ℕ) → ActsHave P (sent_over next (Utvlv ttl dst src) tail)
+over_none : (P : Kept) (next : Option Mac) (ttl : ℕ) (dst src : Mac) (tail : List ℕ) → ActsHave P (sent_over next (Utvlv ttl dst src) tail)
 over_none P None ttl dst src tail = tt
 over_none P (Some to) ttl dst src tail = (utvlv_none P (drop 1 (spelling (Utvlv ttl dst src) tail)), tt)
 
-message_none : (P : List ℕ → Type 0) (source : Mac) (head : Head) (tail : List ℕ) → word_of head ≡ MessageOf source → ActHas P (sent_to_all head tail)
+message_none : (P : Kept) (source : Mac) (head : Head) (tail : List ℕ) → word_of head ≡ MessageOf source → ActHas P (sent_to_all head tail)
 message_none P source (IvOgm ttl flags seq orig prev tq) tail is = iv_none P (drop 1 (spelling (IvOgm ttl flags seq orig prev tq) tail))
 message_none P source (Bcast ttl seq orig) tail is = cc
 message_none P source (Elp orig seq interval) tail is = cc
@@ -57,12 +57,12 @@ message_none P source (Unicast4 ttl ttvn dst src subtype) tail is = cc
 message_none P source (Icmp ttl msg dst orig uid seq) tail is = cc
 message_none P source (Utvlv ttl dst src) tail is = cc
 
-messages_none : (P : List ℕ → Type 0) (source : Mac) (o : Option Head) (tail : List ℕ) → ((head : Head) → o ≡ Some head → IsMessageOf source head) → ActsHave P (message_acts o tail)
+messages_none : (P : Kept) (source : Mac) (o : Option Head) (tail : List ℕ) → ((head : Head) → o ≡ Some head → IsMessageOf source head) → ActsHave P (message_acts o tail)
 unfolding message_acts
 messages_none P source None tail of = tt
 messages_none P source (Some head) tail of = (message_none P source head tail (of head refl).word, tt)
 
-elp_acts_none : (P : List ℕ → Type 0) (head : Head) → is_elp head ≡ true → ActHas P (sent_to_all head [])
+elp_acts_none : (P : Kept) (head : Head) → is_elp head ≡ true → ActHas P (sent_to_all head [])
 elp_acts_none P (IvOgm ttl flags seq orig prev tq) is = cc
 elp_acts_none P (Bcast ttl seq orig) is = cc
 elp_acts_none P (Elp orig seq interval) is = elp_none P (drop 1 (spelling (Elp orig seq interval) []))
@@ -73,42 +73,42 @@ elp_acts_none P (Unicast4 ttl ttvn dst src subtype) is = cc
 elp_acts_none P (Icmp ttl msg dst orig uid seq) is = cc
 elp_acts_none P (Utvlv ttl dst src) is = cc
 
-elps_none : (P : List ℕ → Type 0) (o : Option Head) → ((head : Head) → o ≡ Some head → is_elp head ≡ true) → ActsHave P (message_acts o [])
+elps_none : (P : Kept) (o : Option Head) → ((head : Head) → o ≡ Some head → is_elp head ≡ true) → ActsHave P (message_acts o [])
 unfolding message_acts
 elps_none P None of = tt
 elps_none P (Some head) of = (elp_acts_none P head (of head refl), tt)
 
-probe_none : (P : List ℕ → Type 0) (acts : List Act) → AreProbing acts → ActsHave P acts
+probe_none : (P : Kept) (acts : List Act) → AreProbing acts → ActsHave P acts
 probe_none P [] all = tt
 probe_none P (act ∷ acts) all = (one act all.0, probe_none P acts all.1)
   where
     one : (act : Act) → IsProbing act → ActHas P act
     one _ (puts_message next m) = icmp_none P (drop 1 (spelling (icmp_head m) []))
-    one _ (puts_pinged node target seq result) = tt
-    one _ (puts_traced node target result) = tt
+    one _ (puts_pinged node target seq result) = λ moment n vid src dst text is. cc
+    one _ (puts_traced node target result) = λ moment n vid src dst text is. cc
 
-have_if : (P : List ℕ → Type 0) (b : Bool) (xs ys : List Act) → ActsHave P xs → ActsHave P ys → ActsHave P (cond b xs ys)
+have_if : (P : Kept) (b : Bool) (xs ys : List Act) → ActsHave P xs → ActsHave P ys → ActsHave P (cond b xs ys)
 have_if P true xs ys a b = a
 have_if P false xs ys a b = b
 
-request_none : (P : List ℕ → Type 0) (me : Mac) (next : Option Mac) (message : Message) (o : Option Request) → ActsHave P (request_acts me next message o)
+request_none : (P : Kept) (me : Mac) (next : Option Mac) (message : Message) (o : Option Request) → ActsHave P (request_acts me next message o)
 request_none P me next message None = tt
 request_none P me next message (Some request) = over_none P next 50 message.orig me (request_containers request (stamp_told message.table))
 
-pub session_has : (P : List ℕ → Type 0) (q : Queries) (known : Knowledge) (at : Place) (target : Mac) (trace : Bool) → ActsHave P (session_acts q known at target trace)
+pub session_has : (P : Kept) (q : Queries) (known : Knowledge) (at : Place) (target : Mac) (trace : Bool) → ActsHave P (session_acts q known at target trace)
 session_has P q known at target trace = probe_none P (session_acts q known at target trace) (session_puts q known at target trace)
 
-pub advert_has : (P : List ℕ → Type 0) (me : Mac) (key : Key) (o : Option Way) → ActsHave P (advert_acts me key o)
+pub advert_has : (P : Kept) (me : Mac) (key : Key) (o : Option Way) → ActsHave P (advert_acts me key o)
 advert_has P me key None = tt
 advert_has P me key (Some way) = (utvlv_none P (drop 1 (spelling (Utvlv 50 way.orig me) (containers_spelling (roaming_container key ∷ [])))), tt)
 
-own_has : (P : List ℕ → Type 0) (q : Queries) (me : Mac) (known : Knowledge) (now : ℕ) (own : Own) (asker : Mac) (message : TableMessage) → ActsHave P (own_answer q me known now own.last own.told asker message)
+own_has : (P : Kept) (q : Queries) (me : Mac) (known : Knowledge) (now : ℕ) (own : Own) (asker : Mac) (message : TableMessage) → ActsHave P (own_answer q me known now own.last own.told asker message)
 unfolding own_answer
 own_has P q me known now own asker (Asks full stamp) = over_none P (q.route known.routes now asker) 50 asker me (reply_containers (own_reply full stamp.byte own.last own.told))
 own_has P q me known now own asker (Answers stamp carried) = tt
 own_has P q me known now own asker Neither = tt
 
-other_has : (P : List ℕ → Type 0) (q : Queries) (known : Knowledge) (now ttl : ℕ) (dst src : Mac) (tail : List ℕ) → ActsHave P (other_containers q known now ttl dst src tail)
+other_has : (P : Kept) (q : Queries) (known : Knowledge) (now ttl : ℕ) (dst src : Mac) (tail : List ℕ) → ActsHave P (other_containers q known now ttl dst src tail)
 unfolding other_containers
 other_has P q known now ttl dst src tail = go (way_reply q known now dst (message_in (first_table (containers_of tail))))
   where
@@ -116,7 +116,7 @@ other_has P q known now ttl dst src tail = go (way_reply q known now dst (messag
     go None = have_if P (nat_le ttl 1) [] (sent_over (q.route known.routes now dst) (Utvlv (ttl - 1) dst src) tail) tt (over_none P (q.route known.routes now dst) (ttl - 1) dst src tail)
     go (Some reply) = over_none P (q.route known.routes now src) 50 src dst (reply_containers reply)
 
-ogm_has : (P : List ℕ → Type 0) (q : Queries) (me : Mac) (came : Coming) (head : Head) (source : Mac) (message : Message) (tail : List ℕ) (known : Knowledge) → KeepsOriginators me q → IsWhole came.from → IsMessageOf source head
+ogm_has : (P : Kept) (q : Queries) (me : Mac) (came : Coming) (head : Head) (source : Mac) (message : Message) (tail : List ℕ) (known : Knowledge) → KeepsOriginators me q → IsWhole came.from → IsMessageOf source head
     → ActsHave P (ogm_acts q me came head message tail known)
 unfolding ogm_acts
 ogm_has P q me came head source message tail known keeps from is =
@@ -127,21 +127,27 @@ ogm_has P q me came head source message tail known keeps from is =
     (have_if P heard.accepted (accepted_acts q me came head message known) [] (request_none P me (q.route before.routes came.now message.orig) message (request_out q before came.now message)) tt)
 
 -- ---- client frames
-handed_has : (P : List ℕ → Type 0) (at : Place) (o : Option ClientFrame) → ActsHave P (handed_out_if at o)
-handed_has P at None = tt
-handed_has P at (Some frame) = (tt, tt)
+handed_if : (P : Kept) (at : Place) (tail : List ℕ) → P.carried tail → ActsHave P (handed_out_if at (client_frame_of tail))
+handed_if P at tail p = go (client_frame_of tail) refl
+  where
+    go : (o : Option ClientFrame) → client_frame_of tail ≡ o → ActsHave P (handed_out_if at o)
+    go None is = tt
+    go (Some frame) is = (handed_has P at frame (inr (tail, p, is)), tt)
 
-lost_has : (P : List ℕ → Type 0) (at : Place) (reason : LossReason) (o : Option ClientFrame) → ActsHave P (lost_if at reason o)
+lost_one : (P : Kept) (at : Place) (reason : LossReason) (frame : ClientFrame) → ActHas P (lost at reason frame)
+lost_one P at reason frame = λ moment node vid src dst text is. cc
+
+lost_has : (P : Kept) (at : Place) (reason : LossReason) (o : Option ClientFrame) → ActsHave P (lost_if at reason o)
 lost_has P at reason None = tt
-lost_has P at reason (Some frame) = (tt, tt)
+lost_has P at reason (Some frame) = (lost_one P at reason frame, tt)
 
-broadcast_has : (P : List ℕ → Type 0) (known : Knowledge) (at : Place) (ttl : ℕ) (broadcast : Broadcast) (tail : List ℕ) → IsWhole broadcast.orig → P tail → ActsHave P (broadcast_acts known at ttl broadcast tail)
+broadcast_has : (P : Kept) (known : Knowledge) (at : Place) (ttl : ℕ) (broadcast : Broadcast) (tail : List ℕ) → IsWhole broadcast.orig → P.carried tail → ActsHave P (broadcast_acts known at ttl broadcast tail)
 unfolding broadcast_acts
 broadcast_has P known at ttl broadcast tail whole p = have_if P (is_new_broadcast at.me broadcast known.taken) (handed_out_if at (client_frame_of tail) ++ broadcast_on ttl broadcast tail) []
-    (each_appended (ActHas P) (handed_out_if at (client_frame_of tail)) (broadcast_on ttl broadcast tail) (handed_has P at (client_frame_of tail))
+    (each_appended (ActHas P) (handed_out_if at (client_frame_of tail)) (broadcast_on ttl broadcast tail) (handed_if P at tail p)
     (have_if P (nat_le ttl 1) [] (sent_to_all (Bcast (ttl - 1) broadcast.number broadcast.orig) tail ∷ []) tt (bcast_has P (ttl - 1) broadcast.number broadcast.orig tail whole p, tt))) tt
 
-passed_has : (P : List ℕ → Type 0) (q : Queries) (known : Knowledge) (at : Place) (ttl ttvn : ℕ) (dst : Mac) (tail : List ℕ) → IsWhole dst → P tail → ActsHave P (passed_frame q known at ttl ttvn dst tail)
+passed_has : (P : Kept) (q : Queries) (known : Knowledge) (at : Place) (ttl ttvn : ℕ) (dst : Mac) (tail : List ℕ) → IsWhole dst → P.carried tail → ActsHave P (passed_frame q known at ttl ttvn dst tail)
 unfolding passed_frame
 passed_has P q known at ttl ttvn dst tail whole p = have_if P (nat_le ttl 1) (lost_if at Ttl (client_frame_of tail)) (on_route at ttl ttvn dst tail (q.route known.routes at.now dst))
     (lost_has P at Ttl (client_frame_of tail)) (go (q.route known.routes at.now dst))
@@ -150,41 +156,41 @@ passed_has P q known at ttl ttvn dst tail whole p = have_if P (nat_le ttl 1) (lo
     go None = lost_has P at NoRoute (client_frame_of tail)
     go (Some next) = (unicast_has P next (Some Fwd) (ttl - 1) ttvn dst tail whole p, tt)
 
-addressed_has : (P : List ℕ → Type 0) (q : Queries) (known : Knowledge) (now ttl : ℕ) (way : Way) (tail : List ℕ) → IsWhole way.orig → P tail → ActHas P (addressed q known now ttl way tail)
+addressed_has : (P : Kept) (q : Queries) (known : Knowledge) (now ttl : ℕ) (way : Way) (tail : List ℕ) → IsWhole way.orig → P.carried tail → ActHas P (addressed q known now ttl way tail)
 addressed_has P q known now ttl way tail whole p = unicast_has P way.next (Some way.reason) ttl (unwrap_or (told_at q known now way.orig) 0) way.orig tail whole p
 
-here_has : (P : List ℕ → Type 0) (q : Queries) (known : Knowledge) (ms : List Mention) (at : Place) (ttl : ℕ) (tail : List ℕ) → KnowsWhole known → P tail → ActsHave P (here_acts q known ms at ttl tail)
+here_has : (P : Kept) (q : Queries) (known : Knowledge) (ms : List Mention) (at : Place) (ttl : ℕ) (tail : List ℕ) → KnowsWhole known → P.carried tail → ActsHave P (here_acts q known ms at ttl tail)
 unfolding here_acts
-here_has P q known ms at ttl tail k p = go (client_frame_of tail)
+here_has P q known ms at ttl tail k p = go (client_frame_of tail) refl
   where
     anew : (frame : ClientFrame) (way : Option Way) → IfWay way → ActsHave P (readdressed q known at ttl frame tail way)
-    anew frame None whole = (tt, tt)
-    anew frame (Some way) whole = have_if P (nat_le ttl 1) (lost at Ttl frame ∷ []) (addressed q known at.now (ttl - 1) way tail ∷ []) (tt, tt) (addressed_has P q known at.now (ttl - 1) way tail (whole way refl) p, tt)
+    anew frame None whole = (lost_one P at Unknown frame, tt)
+    anew frame (Some way) whole = have_if P (nat_le ttl 1) (lost at Ttl frame ∷ []) (addressed q known at.now (ttl - 1) way tail ∷ []) (lost_one P at Ttl frame, tt) (addressed_has P q known at.now (ttl - 1) way tail (whole way refl) p, tt)
 
-    go : (o : Option ClientFrame) → ActsHave P (arrived q known ms at ttl tail o)
-    go None = tt
-    go (Some frame) =
+    go : (o : Option ClientFrame) → client_frame_of tail ≡ o → ActsHave P (arrived q known ms at ttl tail o)
+    go None is = tt
+    go (Some frame) is =
         let key = key_of frame.dst frame.vid in
         let way = addressee q known at.now key in
-        have_if P (is_group frame.dst || is_present ms at.now key) (handed_out at frame ∷ []) (readdressed q known at ttl frame tail way) (tt, tt) (anew frame way (addressee_whole q known at.now key k))
+        have_if P (is_group frame.dst || is_present ms at.now key) (handed_out at frame ∷ []) (readdressed q known at ttl frame tail way) (handed_has P at frame (inr (tail, p, is)), tt) (anew frame way (addressee_whole q known at.now key k))
 
-pub frame_has : (P : List ℕ → Type 0) (q : Queries) (known : Knowledge) (ms : List Mention) (at : Place) (frame : ClientFrame) → IsWhole at.me → KnowsWhole known → P (payload_spelling frame) → ActsHave P (frame_acts q known ms at frame)
+pub frame_has : (P : Kept) (q : Queries) (known : Knowledge) (ms : List Mention) (at : Place) (frame : ClientFrame) → IsWhole at.me → KnowsWhole known → P.given frame → P.carried (payload_spelling frame) → ActsHave P (frame_acts q known ms at frame)
 unfolding frame_acts
-frame_has P q known ms at frame mine k p =
+frame_has P q known ms at frame mine k given p =
     let key = key_of frame.dst frame.vid in
     let way = addressee q known at.now key in
     let sent = on_way q known at frame way in
     let handed = cond (is_present ms at.now key) (handed_out at frame ∷ []) sent in
     have_if P (is_broadcast frame.dst) (sent_to_all (Bcast 50 (suc known.sent) at.me) (payload_spelling frame) ∷ []) (cond (is_group frame.dst) [] handed)
     (bcast_has P 50 (suc known.sent) at.me (payload_spelling frame) mine p, tt)
-    (have_if P (is_group frame.dst) [] handed tt (have_if P (is_present ms at.now key) (handed_out at frame ∷ []) sent (tt, tt) (go way (addressee_whole q known at.now key k))))
+    (have_if P (is_group frame.dst) [] handed tt (have_if P (is_present ms at.now key) (handed_out at frame ∷ []) sent (handed_has P at frame (inl given), tt) (go way (addressee_whole q known at.now key k))))
   where
     go : (way : Option Way) → IfWay way → ActsHave P (on_way q known at frame way)
-    go None whole = (tt, tt)
+    go None whole = (lost_one P at Unknown frame, tt)
     go (Some way) whole = (addressed_has P q known at.now 50 way (payload_spelling frame) (whole way refl) p, tt)
 
 -- ---- packets
-pub packet_has : (P : List ℕ → Type 0) (q : Queries) (me : Mac) (own : Own) (came : Coming) (packet : Packet) (known : Knowledge) → KeepsOriginators me q → IsWhole came.from → KnowsWhole known → HasWholeAddresses packet.head → PacketHas P packet
+pub packet_has : (P : Kept) (q : Queries) (me : Mac) (own : Own) (came : Coming) (packet : Packet) (known : Knowledge) → KeepsOriginators me q → IsWhole came.from → KnowsWhole known → HasWholeAddresses packet.head → PacketHas P packet
     → ActsHave P (packet_acts q me own came known packet)
 unfolding packet_acts
 packet_has P q me own came packet known keeps from k whole has = go packet.head packet.tail whole has
@@ -209,7 +215,7 @@ packet_has P q me own came packet known keeps from k whole has = go packet.head 
         (own_has P q me known came.now own src (message_in (first_table (containers_of tail)))) (other_has P q known came.now ttl dst src tail)
 
 -- ---- ticks
-pub tick_has : (P : List ℕ → Type 0) (q : Queries) (me : Mac) (routes : RouteLog) (ms : List Mention) (before : History) (now index : ℕ) → KeepsOriginators me q → IsWhole me → ActsHave P (tick_acts q me routes ms before now index)
+pub tick_has : (P : Kept) (q : Queries) (me : Mac) (routes : RouteLog) (ms : List Mention) (before : History) (now index : ℕ) → KeepsOriginators me q → IsWhole me → ActsHave P (tick_acts q me routes ms before now index)
 unfolding tick_acts
 tick_has P q me routes ms before now index keeps whole =
     let after = committed (present_table ms now) before in
@@ -223,4 +229,4 @@ tick_has P q me routes ms before now index keeps whole =
   where
     event : (o : Option ℕ) → ActsHave P (alias_event me (length before.commits) o)
     event None = tt
-    event (Some earlier) = (tt, tt)
+    event (Some earlier) = ((λ moment node vid src dst text is. cc), tt)

@@ -1,15 +1,18 @@
 -- What frames carry for clients: the payloads of broadcasts and of packets for one node. A payload
--- is passed on as it came, whoever readdresses it. So what holds of payloads and goes on to hold
+-- is passed on as it came, whoever addresses it anew. So what holds of payloads and goes on to hold
 -- with each step holds of all that was ever sent, if it holds of those that are begun: the client
--- frames of lines. That each client frame in them is from a client that records can tell is such a
--- thing. The main words are `Carries` and `CarriesClients`.
-use Rattle.std.specs.Prelude.{◌≡◌, ℕ, List, slice_get, Some, ⊤}
+-- frames that lines give. That each is one of these, as it was spelled, is such a thing, and that
+-- each client frame in them is from a client that records can tell. The main words are `Carries`,
+-- `CarriesGivenFrames` and `CarriesClients`.
+use Rattle.std.specs.Prelude.{◌≡◌, ◌⊎◌, ℕ, List, slice_get, Some, ⊤}
 use Rattle.mesh_base.specs.declared.address.Mac.{Mac}
+use Rattle.mesh_base.specs.declared.client.Vid.{Vid}
+use Rattle.mesh_base.specs.declared.event.Event.TheVariants.{Received}
 use Rattle.mesh_model.specs.declared.packet.Head.{Head}
 use Rattle.mesh_model.specs.declared.packet.Head.TheVariants.{IvOgm, Bcast, Elp, Ogm2, Unicast, Frag, Unicast4, Icmp, Utvlv}
-use Rattle.mesh_model.specs.Clients.Log.{Frame}
+use Rattle.mesh_model.specs.Clients.Log.{Line, Frame, LogEntry}
 use Rattle.mesh_model.specs.Clients.Mentions.{key_of}
-use Rattle.mesh_model.specs.Net.Mesh.{SentFrame, Mesh}
+use Rattle.mesh_model.specs.Net.Mesh.{NodeLog, SentFrame, Mesh}
 use Rattle.mesh_model.specs.Net.Next.{Has}
 use Rattle.mesh_model.specs.Packets.FirstPacket.{Packet}
 use Rattle.mesh_model.specs.Packets.LinkFrame.{link_frame}
@@ -35,20 +38,52 @@ abbrev pub FrameCarries : (List ℕ → Type 0) → List ℕ → Type 0
 FrameCarries P bytes = (packet : Packet) → Has (link_frame bytes).packets packet →
     TailHas P packet.tail packet.head
 
--- it holds of each payload that was ever sent
-abbrev pub Carries : (Mesh → List ℕ → Type 0) → Mesh → Type 0
-Carries P mesh = (place : ℕ) (frame : SentFrame) → slice_get mesh.frames place ≡ Some frame →
-    FrameCarries (P mesh) frame.bytes
+-- a line gave a node of a mesh a client frame, with a client that records can tell
+pub record WasGiven (mesh : Mesh) (frame : ClientFrame) : Type 0 where
+  pub place : ℕ
+  pub node : NodeLog
+  pub found : slice_get mesh.nodes place ≡ Some node
+  pub entry : LogEntry
+  pub noted : Has node.log entry
+  pub given : entry.given ≡ Line (Frame frame.src frame.dst frame.vid frame.text)
+  pub tells : TellsClient (Frame frame.src frame.dst frame.vid frame.text)
 
--- it goes on to hold with each step, and holds of the client frames that lines begin
+-- a client frame is read of a payload of which something holds
+abbrev pub IsReadOf : (List ℕ → Type 0) → ClientFrame → Type 0
+IsReadOf P frame =
+    (payload : List ℕ) × P payload × (client_frame_of payload ≡ Some frame)
+
+-- it holds of each payload that was ever sent; and each client frame that was ever handed out is
+-- read of such a one, unless a line gave it
+pub record Carries (P : Mesh → List ℕ → Type 0) (mesh : Mesh) : Type 0 where
+  pub frames : (place : ℕ) (frame : SentFrame) → slice_get mesh.frames place ≡ Some frame →
+      FrameCarries (P mesh) frame.bytes
+  pub handed_out : (moment : ℕ) (node : Mac) (vid : Vid) (src dst : Mac) (text : List ℕ) →
+      Has mesh.events (Received moment node vid src dst text) →
+      WasGiven mesh (record { dst = dst; src = src; vid = vid; text = text })
+      ⊎ IsReadOf (P mesh) (record { dst = dst; src = src; vid = vid; text = text })
+
+-- it goes on to hold with each step, and holds of the client frames that lines gave, as they are
+-- spelled
 pub record IsKept (queries : Mac → Queries) (P : Mesh → List ℕ → Type 0) : Type 0 where
   pub stays : (mesh after : Mesh) (payload : List ℕ) → Steps queries mesh after →
       P mesh payload → P after payload
-  pub begun : (mesh : Mesh) (frame : ClientFrame) →
-      TellsClient (Frame frame.src frame.dst frame.vid frame.text) →
+  pub begun : (mesh : Mesh) (frame : ClientFrame) → WasGiven mesh frame →
       P mesh (payload_spelling frame)
 
--- ---- client frames
+-- ---- what lines gave
+
+-- a payload is the client frame that a line gave some node, as it is spelled
+abbrev pub IsGivenFrame : Mesh → List ℕ → Type 0
+IsGivenFrame mesh payload =
+    (frame : ClientFrame) × WasGiven mesh frame × (payload ≡ payload_spelling frame)
+
+-- so is all that was ever sent
+abbrev pub CarriesGivenFrames : Type 0
+CarriesGivenFrames = (queries : Mac → Queries) → AllKeep queries → (mesh : Mesh) →
+    IsReachable queries mesh → Carries IsGivenFrame mesh
+
+-- ---- clients
 
 -- the client frame that a payload is, where it is one, is from a client that records can tell
 abbrev pub IsFromClient : List ℕ → Type 0

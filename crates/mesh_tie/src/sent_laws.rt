@@ -2,7 +2,7 @@
 //! was ever carried for clients, whatever the aliases.
 
 ghost use Rattle.mesh_tie.specs.ByTable.{FramesByTable};
-ghost use Rattle.mesh_tie.specs.Carried.{CarriesClients};
+ghost use Rattle.mesh_tie.specs.Carried.{CarriesClients, CarriesGivenFrames};
 ghost use Rattle.mesh_tie.specs.TieLaws.{AnswersCarry, MessagesAnnounce};
 
 /// Every originator message announces the commit of its root: its byte, its sums, and its changes
@@ -23,8 +23,11 @@ pub fn frames_by_table_are_for_named_clients()
     ensures { FramesByTable }
 {}
 
-/// Every client frame that a broadcast or a packet for one node ever carried is from a client that
-/// records can tell: its address is of six bytes, and its VLAN's wire number fits two.
-pub fn carried_frames_are_from_clients()
-    ensures { CarriesClients }
+/// Every payload that a broadcast or a packet for one node ever carried is a client frame that a line
+/// gave some node, as it is spelled; and so is each that a node handed out, unless a line gave it to
+/// that node's clients. The client frame that a payload is read as is from a client that records can
+/// tell.
+pub fn carried_frames_were_given()
+    ensures given { CarriesGivenFrames }
+    ensures clients { CarriesClients }
 {}
