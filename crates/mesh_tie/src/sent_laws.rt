@@ -23,10 +23,10 @@ pub fn frames_by_table_are_for_named_clients()
     ensures { FramesByTable }
 {}
 
-/// Every payload that a broadcast or a packet for one node ever carried is a client frame that a line
-/// gave some node, as it is spelled; and so is each that a node handed out, unless a line gave it to
-/// that node's clients. The client frame that a payload is read as is from a client that records can
-/// tell.
+/// Every payload that a broadcast or a packet for one node ever carried is a client frame that a
+/// line gave some node, as it is spelled; and each client frame that a node hands out is read of
+/// such a payload, or a line gave it. The client frame that a payload is read as is from a client
+/// that records can tell.
 pub fn carried_frames_were_given()
     ensures given { CarriesGivenFrames }
     ensures clients { CarriesClients }
