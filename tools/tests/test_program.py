@@ -1,6 +1,8 @@
 """What the program says of broken input, where it is built: each ends, with its status and text."""
 
 import os
+import pty
+import socket
 import subprocess
 import threading
 
@@ -70,6 +72,15 @@ class Broken(Folder):
         self.addCleanup(os.close, given)
         self.assertEqual(self.ending(given=given), (3, b"", "batmesh: read fault\n"))
 
+    def test_a_blank_at_the_end_of_a_name_belongs_to_it(self):
+        self.write("given", NODE)
+        for name in (b"given ", b" given", b" "):
+            self.write(name.decode(), LINES)
+            ended = self.ending(self.folder / name.decode())
+            self.assertEqual(ended, (0, TABLE, ""))
+        ended = self.ending(self.folder / "given  ")
+        self.assertEqual(ended, (3, b"", "batmesh: read fault\n"))
+
     def test_an_output_that_is_full_or_closed_is_a_write_fault(self):
         scenario = EXAMPLES / "two_nodes.scn"
         read, write = os.pipe()
@@ -92,3 +103,45 @@ class Broken(Folder):
                 self.assertEqual((status, said), (1, "batmesh: line 1: unknown command\n"))
             else:
                 self.assertEqual((status, said), (1, "batmesh: line 1: bad utf-8\n"))
+
+
+@needs_program
+class Order(Folder):
+    """When the program reads and writes."""
+
+    def test_each_line_is_written_before_the_next_is_begun(self):
+        """Of lines that come in one piece each has a write of its own."""
+        ours, its = socket.socketpair(socket.AF_UNIX, socket.SOCK_SEQPACKET)
+        with ours, its:
+            done = subprocess.run(
+                [PROGRAM], input=LINES + b"show A n\ndecode 00\n\nx\nshow A o\n", stdout=its,
+                stderr=subprocess.PIPE, check=False, timeout=SECONDS,
+            )
+            its.shutdown(socket.SHUT_WR)
+            texts = list(iter(lambda: ours.recv(4096), b""))
+        printed = [TABLE, b"n A algo=iv count=0\n", b"bad short have=1 need=2\n"]
+        self.assertEqual((done.returncode, texts), (1, printed))
+        self.assertEqual(done.stderr, b"batmesh: line 6: unknown command\n")
+
+    def test_each_line_is_answered_before_the_next_comes(self):
+        with subprocess.Popen(
+            [PROGRAM], stdin=subprocess.PIPE, stdout=subprocess.PIPE, bufsize=0
+        ) as running:
+            for line, answer in ((LINES, TABLE), (b"decode 00\n", b"bad short have=1 need=2\n")):
+                running.stdin.write(line)
+                self.assertEqual(running.stdout.read(4096), answer)
+            running.stdin.close()
+            self.assertEqual(running.wait(timeout=SECONDS), 0)
+
+    def test_nothing_is_read_past_the_end(self):
+        """At a terminal a read of no bytes is the end, and what comes later can be read too."""
+        ours, its = pty.openpty()
+        self.addCleanup(os.close, ours)
+        self.addCleanup(os.close, its)
+        end = b"\x04"
+        os.write(ours, LINES + end + NODE)
+        done = subprocess.run(
+            [PROGRAM], stdin=its, stdout=subprocess.PIPE, check=False, timeout=SECONDS
+        )
+        self.assertEqual((done.returncode, done.stdout), (0, TABLE))
+        self.assertEqual(os.read(its, 4096), NODE)

@@ -1,0 +1,150 @@
+"""Runs that go far: long, of many clients, of large texts, and meshes that the program makes."""
+
+import unittest
+
+from common import needs_program
+from scenarios import (
+    A, ALL, B, DUO, client, finished, frame, node_mac, received, run_lines, text_of,
+)
+
+STEP, PLUS, WRAP = 1_103_515_245, 12_345, 2**31
+
+
+class Draws:
+    """The draws of a generated mesh: each multiplies, adds and keeps 31 bits."""
+
+    def __init__(self, nodes):
+        self.state = nodes
+
+    def below(self, most):
+        self.state = (STEP * self.state + PLUS) % WRAP
+        return self.state // 65_536 % most
+
+
+def generated_lines(nodes):
+    """The lines that `--generate` carries out: a ring, and clients for 60 seconds."""
+    lines = ["algo iv", *(f"node n{number} {node_mac(number)}" for number in range(nodes))]
+    for number in range(nodes):
+        other = (number + 1) % nodes
+        lines.append(f"link n{number} n{other} pattern=.........x")
+        lines.append(f"link n{other} n{number} pattern=.........x")
+    draws = Draws(nodes)
+    for second in range(1, 61):
+        number = draws.below(4 * nodes)
+        node = f"n{draws.below(nodes)}"
+        lines.append(f"frame {node} 02:00:00:00:01:{number:02x} {ALL} - g{second}")
+        lines.append("run 1000")
+    return lines
+
+
+def counted(nodes):
+    """What the run of the lines prints and shows in the end, counted."""
+    shows = [f"show n{number} {table}" for number in range(nodes) for table in ("tg", "tl")]
+    status, printed, told = run_lines(generated_lines(nodes) + shows, "--frames", "all")
+    assert (status, told) == (0, ""), told
+    lines = [line.split() for line in printed.splitlines()]
+    frames = sum(line[0][0] == "f" and line[0][1:].isdigit() for line in lines)
+    recv = sum(line[0] == "recv" for line in lines)
+    # A node has no more commits than seconds, so its version is their number.
+    commits = sum(int(line[2].removeprefix("version=")) for line in lines if line[0] == "tl")
+    agreed = sum(line[0] == "t" and line[4] == "state=ok" for line in lines)
+    return (
+        f"generated nodes={nodes} frames={frames} recv={recv} commits={commits} ok={agreed}"
+        f" of={nodes * (nodes - 1)}"
+    )
+
+
+class Generated(unittest.TestCase):
+    """A mesh that is generated has the counts of its lines' run."""
+
+    @needs_program
+    def test_meshes_are_those_of_their_lines(self):
+        for nodes in (3, 9, 63):
+            ended = run_lines([], "--generate", str(nodes))
+            self.assertEqual(ended, finished([counted(nodes)]))
+
+    @needs_program
+    def test_the_choice_of_frames_changes_nothing(self):
+        """The line of eight nodes is one that another program counted too."""
+        line = "generated nodes=8 frames=6950 recv=375 commits=74 ok=56 of=56"
+        for choice in ("ogm", "none", "client", "all"):
+            ended = run_lines([], "--frames", choice, "--generate", "8")
+            self.assertEqual(ended, finished([line]))
+
+
+class Long(unittest.TestCase):
+    """More seconds than two bytes count, and more commits than one."""
+
+    @needs_program
+    def test_two_nodes_for_100_002_seconds(self):
+        """Message 100,001 came 999 ms ago. Of the last 64 all came, and all own ones but the
+        newest were back: so the link is floor(255 * 63 / 64) = 251, the penalty none, and the
+        value floor(255 * 251 * 255 / 65,025) = 251."""
+        rows = [
+            "o A algo=iv count=1",
+            f"o {B} seq=100001 seen=999 next={B} metric=251",
+            "n A algo=iv count=1",
+            f"n {B} rq=64 eq=63",
+        ]
+        ended = run_lines([*DUO, "run 100002000", "show A o", "show A n"])
+        self.assertEqual(ended, finished(rows))
+
+    @needs_program
+    def test_an_alias_above_commit_100_000(self):
+        """Commit 1 has clients 1 and 2, commit 100,097 has 5 and 6: 1 xor 2 is 5 xor 6, so both
+        have one checksum, and 391 * 256 is between them, so one byte. Each commit between them has
+        one client, which comes again after 1,001 commits: so never in 256,000 under one byte."""
+        last = 391 * 256 + 1
+        tables = {1: [1, 2], last: [5, 6]}
+        lines, present = [f"node A {A}"], []
+        for commit in range(1, last + 1):
+            table = tables.get(commit, [7 + commit % 1001])
+            lines += [f"gone A {client(number)} -" for number in present]
+            lines += [frame("A", number) for number in table]
+            lines.append("run 1000")
+            present = table
+        self.assertEqual(run_lines(lines), finished([f"alias A {last} 1"]))
+
+
+class Many(unittest.TestCase):
+    """Large texts, tables, and many marks and probes."""
+
+    @needs_program
+    def test_a_text_of_4_000_bytes_is_handed_out(self):
+        text = "0123456789" * 400
+        lines = [*DUO, frame("A", 1, text), "run 1"]
+        self.assertEqual(run_lines(lines), finished([received(1, "B", 1, text)]))
+
+    @needs_program
+    def test_a_full_answer_of_1_024_records(self):
+        """B hears A at 1001 without a route to it, asks at 2001, and A answers at 2002."""
+        clients = range(1, 1025)
+        lines = DUO[:2] + [frame("A", number) for number in clients] + DUO[2:]
+        before = ["tg B count=1", f"t {A} held=- told=1 state=none entries=0"]
+        after = ["tg B count=1", f"t {A} held=1 told=1 state=ok entries=1024"]
+        after += [f"e {client(number)} - --" for number in clients]
+        ended = run_lines([*lines, "run 2002", "show B tg", "run 1", "show B tg"])
+        self.assertEqual(ended, finished(before + after))
+
+    @needs_program
+    def test_101_clients_roam(self):
+        """Each is seen at B, which knows it at A and tells A so; A has a mark of each."""
+        clients = range(1, 102)
+        lines = DUO + [frame("A", number) for number in clients] + ["run 5000"]
+        lines += [frame("B", number) for number in clients] + ["run 1", "show A tg", "show A tl"]
+        printed = [received(1, "B", number) for number in clients]
+        printed += [received(5001, "A", number) for number in clients]
+        printed += ["tg A count=1", f"t {B} held=0 told=0 state=ok entries=0"]
+        printed += [f"r {client(number)} - to={B}" for number in clients]
+        ended = run_lines(lines)
+        shown = text_of(printed) + "tl A version=1 clients=0\n"
+        self.assertEqual(ended[0], 0)
+        # The last commit still has them all, so a checksum stands below.
+        self.assertTrue(ended[1].startswith(shown), ended[1][-300:])
+
+    @needs_program
+    def test_a_traceroute_while_40_pings_are_open(self):
+        lines = [*DUO, "run 3000", *["ping A B"] * 40, "traceroute A B", "run 2"]
+        printed = [f"ping A B seq={seq} reply ttl=50 rtt=2" for seq in range(1, 41)]
+        printed += ["trace A B hop=1 B rtt=2 end"]
+        self.assertEqual(run_lines(lines), finished(printed))

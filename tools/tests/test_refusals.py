@@ -1,0 +1,89 @@
+"""Each text by which a line or the words are refused."""
+
+import unittest
+
+from common import needs_program
+from scenarios import A, ALL, B, DUO, finished, frame, run_bytes, run_lines
+
+NODE = [f"node A {A}"]
+TABLE = "tl A version=0 clients=0"
+
+# The lines before, and the line that is refused for this reason.
+REFUSED = [
+    ("unknown command", [], "x"),
+    ("unknown command", NODE, "Node B " + B),
+    ("missing word", [], "run"),
+    ("missing word", NODE, f"frame A 02:00:00:00:01:01 {ALL} -"),
+    ("bad name", [], "show 1"),
+    ("bad mac", [], "node A x"),
+    ("bad number", [], "run x"),
+    ("bad number", NODE, f"frame A 02:00:00:00:01:01 {ALL} 4095 x"),
+    ("bad number", DUO[:2], "link A B loss=10"),
+    ("out of range", [], "run 0"),
+    ("out of range", [], f"node A {ALL}"),
+    ("out of range", NODE, "show A local"),
+    ("extra word", [], "run 1 x"),
+    ("extra word", DUO[:2], "link A B tp=1 delay=1 pattern=. x"),
+    ("not built", NODE, "alfred A get 64"),
+    ("unknown name", [], "show A tl"),
+    ("unknown name", NODE, "ping A B"),
+    ("name taken", NODE, f"node A {B}"),
+    ("address taken", NODE, f"node B {A}"),
+    ("same node", NODE, "link A A"),
+    ("same node", NODE, "ping A A"),
+    ("same node", NODE, "traceroute A A"),
+    ("link taken", DUO, "link A B"),
+    ("algo after node", NODE, "algo iv"),
+    ("no such frame", [], "deliver 0"),
+    ("no such frame", [], "deliver 1"),
+    ("no such frame", [*DUO, frame("A", 1)], "deliver 2"),
+]
+
+# Words that aren't taken: from one to five of them.
+NOT_TAKEN = [
+    ["--help"],
+    ["--frames"],
+    ["--frames=some"],
+    ["--generate=2"],
+    ["x", "y"],
+    ["--frames", "some"],
+    ["--generate", "65"],
+    ["--generate", "x"],
+    ["--generate", "3", "x"],
+    ["--frames", "all", "--generate", "2"],
+    ["--frames", "all", "--frames", "none"],
+    ["--generate", "3", "--generate", "3"],
+    ["--frames", "ogm", "--generate", "8", "x"],
+    ["--frames", "all", "x", "--generate", "8"],
+    ["--frames", "all", "x", "y", "z"],
+]
+
+
+class Lines(unittest.TestCase):
+    @needs_program
+    def test_each_reason(self):
+        for reason, before, line in REFUSED:
+            with self.subTest(line=line):
+                number = len(before) + 1
+                said = f"batmesh: line {number}: {reason}\n"
+                self.assertEqual(run_lines([*before, line, "decode 00"]), (1, "", said))
+
+    @needs_program
+    def test_bytes_that_are_no_text(self):
+        for line in (b"\xff", b"# \xff", b"node \xff"):
+            ended = run_bytes(f"node A {A}\nshow A tl\n".encode() + line + b"\nshow A tl\n")
+            said = "batmesh: line 3: bad utf-8\n"
+            self.assertEqual(ended, (1, TABLE + "\n", said))
+
+    @needs_program
+    def test_a_frame_that_was_sent_comes_again(self):
+        lines = [*DUO, frame("A", 1), "deliver 1"]
+        self.assertEqual(run_lines(lines), finished([f"recv 0 B - 02:00:00:00:01:01 {ALL} x"]))
+
+
+class Words(unittest.TestCase):
+    @needs_program
+    def test_words_that_are_not_taken(self):
+        for words in NOT_TAKEN:
+            with self.subTest(words=words):
+                self.assertEqual(run_lines([], *words), (2, "", "batmesh: usage\n"))
