@@ -19,10 +19,19 @@ use mesh_v::V;
 use std::alloc::Global;
 
 /// The scene of a scenario, under the routing algorithm that is chosen.
-#[derive(Drop)]
 pub enum Stage {
     Iv(Scene<Iv>),
     V(Scene<V>),
+}
+
+/// The scene goes. Written out, it is one call where a stage goes, and not the parts of two scenes.
+impl Drop for Stage {
+    fn drop(self) {
+        match self {
+            Stage::Iv(_scene) => {}
+            Stage::V(_scene) => {}
+        }
+    }
 }
 
 impl Stage {
