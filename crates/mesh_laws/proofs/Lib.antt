@@ -5,6 +5,7 @@ pub mod CutLemmas
 pub mod RunLemmas
 pub mod HaltLemmas
 pub mod KeyLists
+pub mod ListedInOrder
 pub mod NumberLemmas
 pub mod WindowLemmas
 pub mod KeyTables
