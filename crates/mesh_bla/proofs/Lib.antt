@@ -1,0 +1,2 @@
+-- What the methods of `Claims` rest on.
+pub mod ClaimLemmas

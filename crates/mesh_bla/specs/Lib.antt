@@ -1,0 +1,3 @@
+-- What the contracts cite: first what callers see, then inner words.
+pub mod Claims
+pub mod Holds
