@@ -1,5 +1,5 @@
 -- The first three of nodes with one more, by how it stands to those that are first.
-use Rattle.std.proofs.Common.{◌≡◌, ℕ, true, false, List, [], ◌∷◌, Option, Some, None, slice_get, refl, arith}
+use Rattle.std.proofs.Common.{◌≡◌, ℕ, true, false, List, [], ◌∷◌, Some, None, slice_get, refl, arith}
 use Rattle.mesh_base.specs.declared.address.Mac.{Mac}
 use Rattle.mesh_model.specs.Services.ArpTable.{insert_near, is_nearer}
 use Rattle.mesh_dat.specs.Candidates.{first_three}

@@ -3,7 +3,10 @@
 
 #![tactic(auto)]
 
+mod cache;
+mod kept;
 mod nearest;
 
+pub use cache::Cache;
+pub use mesh_model::{ArpRow, Pair};
 pub use nearest::candidates;
-pub use mesh_model::ArpRow;

@@ -21,8 +21,16 @@ pub enum Fan {
     Flood,
 }
 
-/// A pair of the distributed ARP table: an IP address, as a number, and a VLAN, the address that they
-/// have, and how long ago that was learned.
+/// A pair of the distributed ARP table: an IP address, as a number, and a VLAN. Pairs are ordered by
+/// the IP address, then by the wire number.
+#[derive(Clone, Copy, Debug, PartialEq, Eq, PartialOrd, Ord, Hash)]
+pub struct Pair {
+    pub ip: u32,
+    pub vid: Vid,
+}
+
+/// A row of the distributed ARP table: a pair, the address that it has, and how long ago that was
+/// learned.
 #[derive(Clone, Copy, Debug, PartialEq, Eq)]
 pub struct ArpRow {
     pub ip: u32,

@@ -10,6 +10,7 @@ use Rattle.mesh_base.specs.Ordered.{in_order}
 use Rattle.mesh_base.specs.declared.address.Mac.{Mac}
 use Rattle.mesh_base.specs.declared.client.Vid.{Vid}
 use Rattle.mesh_model.specs.declared.service.ArpRow.{ArpRow}
+use Rattle.mesh_model.specs.declared.service.Pair.{Pair}
 use Rattle.mesh_model.specs.Routes.Addresses.{is_smaller}
 use Rattle.mesh_model.specs.Tables.Checksum.{crc32c}
 
@@ -43,25 +44,23 @@ pair_address learned now ip vid =
 
 -- ---- rows
 
--- a pair
-pub record Pair : Type 0 where
-  pub ip : ℕ
-  pub vid : Vid
-
 -- how two pairs stand to one another: by IP address, then by the VLAN's wire number
 abbrev pub pair_order : Pair → Pair → Ordering
 pair_order a b = ordering_then (nat_cmp a.ip b.ip) (nat_cmp a.vid.0 b.vid.0)
 
+-- the row of what was learned, at a moment
+abbrev pub row_of_learned : ℕ → Learned → ArpRow
+row_of_learned now learned = record {
+  ip = learned.ip;
+  vid = learned.vid;
+  mac = learned.mac;
+  age = now - learned.moment;
+}
+
 -- the row of a pair at a moment, where it is known
 abbrev pub row_of_pair : List Learned → ℕ → Pair → Option ArpRow
-row_of_pair learned now pair = option_map
-    (λ (known : Learned). record {
-      ip = known.ip;
-      vid = known.vid;
-      mac = known.mac;
-      age = now - known.moment;
-    })
-    (known_pair learned now pair.ip pair.vid)
+row_of_pair learned now pair =
+    option_map (row_of_learned now) (known_pair learned now pair.ip pair.vid)
 
 -- the pairs that are known at a moment, by IP address, then by VLAN
 abbrev pub pairs_at : List Learned → ℕ → List ArpRow
