@@ -147,6 +147,21 @@ class OfFrames(unittest.TestCase):
         self.assertEqual(run_lines(within), limited(len(within), "frames"))
 
     @needs_program
+    def test_what_is_named_first(self):
+        """Frames of 128 bytes fill both limits at once: `frames` is named, and `clients` before
+        it, since a client is seen before its frame is sent."""
+        self.assertEqual(FRAME_BYTES, 128 * FRAMES)
+        seen = [frame("n0", number) for number in range(3, CLIENTS + 2)]
+        self.lines[NODES:NODES] = seen
+        within = self.give(66_576, 16, "x" * 100)
+        self.assertEqual(run_lines(within), finished([]))
+        number = len(within) + 1
+        for line in (frame("n0", 1), frame("n1", 2)):
+            self.assertEqual(run_lines([*within, line]), limited(number, "frames"))
+        line = frame("n0", CLIENTS + 2)
+        self.assertEqual(run_lines([*within, line]), limited(number, "clients"))
+
+    @needs_program
     def test_frames_in_a_run(self):
         within = self.give(66_575, 15, "x", "run 1000", "run 999")
         self.assertEqual(run_lines(within), finished([]))

@@ -2,6 +2,7 @@
 
 import os
 import pty
+import select
 import socket
 import subprocess
 import threading
@@ -144,4 +145,5 @@ class Order(Folder):
             [PROGRAM], stdin=its, stdout=subprocess.PIPE, check=False, timeout=SECONDS
         )
         self.assertEqual((done.returncode, done.stdout), (0, TABLE))
+        self.assertTrue(select.select([its], [], [], 0)[0], "what came later was read")
         self.assertEqual(os.read(its, 4096), NODE)
