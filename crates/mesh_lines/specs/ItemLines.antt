@@ -1,0 +1,67 @@
+-- The lines of what a run prints at once, each with its newline: a table has its first line, and
+-- then one for each row; what is decoded has those of its packets; an event that the choice shows
+-- has one. The main word is `item_lines`.
+use Rattle.std.specs.Prelude.{ℕ, List, [], ◌∷◌, ◌++◌, length, flat_map, map, codes, if◌then◌else◌, ⊤}
+use Rattle.mesh_model.specs.declared.frame_choice.FrameChoice.{FrameChoice}
+use Rattle.mesh_model.specs.Net.Next.{Has}
+use Rattle.mesh_model.specs.Run.State.{Printed, Decoded, GlobalsShown, Happened, LocalsShown, NeighborsShown, OriginatorsShown}
+use Rattle.mesh_model.specs.Text.Decode.{decode_lines}
+use Rattle.mesh_model.specs.Text.Events.{event_line, is_shown}
+use Rattle.mesh_model.specs.Text.GlobalTables.{GlobalPart, GlobalTable, entry_line, global_header, global_line, mark_line}
+use Rattle.mesh_model.specs.Text.Tables.{LinkTable, LocalTable, OrigTable, local_header, local_line, neighbor_line, orig_line, route_header, vlan_line}
+use Rattle.mesh_lines.specs.LineWords.{AreNamed, HasPlainText, IsWord}
+
+-- the lines of a node's local table
+abbrev pub local_lines : LocalTable → List (List ℕ)
+local_lines table = local_header table.name table.version (length table.rows)
+    ∷ map vlan_line table.sums ++ map local_line table.rows
+
+-- the lines of a node's originators
+abbrev pub orig_lines : OrigTable → List (List ℕ)
+orig_lines table = route_header (codes "o") table.name table.algorithm (length table.rows)
+    ∷ map orig_line table.rows
+
+-- the lines of a node's neighbours
+abbrev pub link_lines : LinkTable → List (List ℕ)
+link_lines table = route_header (codes "n") table.name table.algorithm (length table.rows)
+    ∷ map neighbor_line table.rows
+
+-- the line of an originator, and those of its entries
+abbrev pub part_lines : GlobalPart → List (List ℕ)
+part_lines part = global_line part.row (length part.entries) ∷ map entry_line part.entries
+
+-- the first line of what a node knows of the others' clients
+abbrev pub global_first : GlobalTable → List ℕ
+global_first table = global_header table.name (length table.parts)
+
+-- the lines of what a node knows of the others' clients
+abbrev pub global_lines : GlobalTable → List (List ℕ)
+global_lines table =
+    global_first table ∷ flat_map part_lines table.parts ++ map mark_line table.marks
+
+-- the lines of what is printed at once
+abbrev pub item_lines : FrameChoice → Printed → List (List ℕ)
+item_lines choice (LocalsShown table) = local_lines table
+item_lines choice (OriginatorsShown table) = orig_lines table
+item_lines choice (NeighborsShown table) = link_lines table
+item_lines choice (GlobalsShown table) = global_lines table
+item_lines choice (Decoded bytes) = decode_lines bytes
+item_lines choice (Happened names event) =
+    if is_shown choice event then event_line names event ∷ [] else []
+
+-- the lines of what is printed in this order
+abbrev pub lines_printed : FrameChoice → List Printed → List (List ℕ)
+lines_printed choice printed = flat_map (item_lines choice) printed
+
+-- the names and the text of what is printed at once have no newline
+abbrev pub IsPlain : Printed → Type 0
+IsPlain (LocalsShown table) = IsWord table.name
+IsPlain (OriginatorsShown table) = IsWord table.name
+IsPlain (NeighborsShown table) = IsWord table.name
+IsPlain (GlobalsShown table) = IsWord table.name
+IsPlain (Decoded bytes) = ⊤
+IsPlain (Happened names event) = AreNamed names × HasPlainText event
+
+-- so it is of all that is printed
+abbrev pub ArePlain : List Printed → Type 0
+ArePlain printed = (item : Printed) → Has printed item → IsPlain item
