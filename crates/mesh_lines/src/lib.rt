@@ -3,3 +3,6 @@
 //! the text.
 
 #![tactic(auto)]
+
+pub mod line_laws;
+pub mod text_laws;

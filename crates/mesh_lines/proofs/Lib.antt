@@ -1,0 +1,23 @@
+-- What the laws rest on.
+pub mod Words
+pub mod LineParts
+pub mod PacketParts
+pub mod EventParts
+pub mod ItemLemmas
+pub mod Found
+pub mod SourceLemmas
+pub mod PlainReading
+pub mod InputLines
+pub mod PayloadTexts
+pub mod LogFits
+pub mod PlainTexts
+pub mod NodeNames
+pub mod NameSteps
+pub mod NameLemmas
+pub mod RowFields
+pub mod CommitSizes
+pub mod TableTextLemmas
+pub mod FrameFields
+pub mod FrameTextLemmas
+pub mod TextLawLemmas
+pub mod FieldLemmas
