@@ -9,7 +9,6 @@ pub mod ReadLemmas
 pub mod InputLemmas
 pub mod TimeLemmas
 pub mod SliceLemmas
-pub mod Right
 pub mod GeneratedLemmas
 pub mod RightlyLemmas
 pub mod StageLemmas

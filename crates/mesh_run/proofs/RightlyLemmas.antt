@@ -1,105 +1,53 @@
 -- Whatever its status, a run prints of tables and frames what is right.
-use Rattle.std.proofs.Common.{◌≡◌, ℕ, ◌≤◌, ◌==◌, Bool, true, false, inl, inr, List, [], ◌∷◌, ◌++◌, length, take, Option, Some, None, IfSome, refl, sym, ap, ◌∙◌, subst, append-nil, eqb-true, arith}
-use Rattle.std.specs.List.{concat}
-use Rattle.std.specs.Io.KnownBytes.{Appends, Consumes, Keeps}
+use Rattle.std.proofs.Common.{ℕ, inl, inr, List, [], ◌++◌, length, take, drop, take-append-drop, Option, Some, None, IfSome, refl, sym, subst, append-nil, arith}
+use Rattle.std.specs.Io.KnownBytes.{Appends, Keeps}
 use Rattle.std.proofs.KnownBytes.{Appends-kept, Appends-nil}
 use Rattle.std.proofs.lemmas.List.{take_all}
 use Rattle.mesh_base.specs.Writes.{AppendsFront}
-use Rattle.mesh_laws.specs.Cuts.{AreLines, IsCut, IsLine}
-use Rattle.mesh_laws.proofs.CutLemmas.{IsCut-start, complete_lines-cut, lines_of-cut}
 use Rattle.mesh_model.specs.declared.frame_choice.FrameChoice.{FrameChoice}
 use Rattle.mesh_model.specs.Run.PlainRun.{after_lines, output, plain_run, start}
-use Rattle.mesh_model.specs.Scenario.Lines.{complete_lines, lines_of, newline}
+use Rattle.mesh_model.specs.Scenario.Lines.{complete_lines, lines_of}
+use Rattle.mesh_lines.specs.TextLaws.{AreFirst, IsFrontOf}
+use Rattle.mesh_lines.proofs.InputLines.{front_lines}
+use Rattle.mesh_lines.proofs.TextLawLemmas.{texts_show_commits, texts_show_right_frames}
 use Rattle.mesh_run.specs.Inner.Reading.{RunFails}
-use Rattle.mesh_run.specs.Outcome.{Finishes, HaltsNear, PrintsFrontOf, PrintsLessOf, PrintsRightly, PrintsTaken}
+use Rattle.mesh_run.specs.Outcome.{Finishes, PrintsRightly, PrintsTaken}
 use Rattle.mesh_run.specs.declared.fault.Fault.{Fault}
 use Rattle.mesh_run.specs.declared.fault.Fault.TheVariants.{Halted, Read, Write, Memory}
-use Rattle.mesh_run.proofs.Right.{frames, tables}
-
--- ---- where bytes are cut
-
-record Cut (bytes : List ℕ) : Type 0 where
-  lines : List (List ℕ)
-  rest : List ℕ
-  is : IsCut bytes lines rest
-
-cut_newline : (b : ℕ) (bs : List ℕ) → (b == newline) ≡ true → Cut bs → Cut (b ∷ bs)
-cut_newline b bs e c = record {
-  lines = (b ∷ []) ∷ c.lines;
-  rest = c.rest;
-  is = record {
-    whole = (record { text = []; unbroken = tt; line_is = ap (λ x. x ∷ []) (eqb-true b newline e) }, c.is.whole);
-    unbroken = c.is.unbroken;
-    bytes_are = ap (λ more. b ∷ more) c.is.bytes_are;
-  };
-}
-
-longer_line : (b : ℕ) (line : List ℕ) → (b == newline) ≡ false → IsLine line → IsLine (b ∷ line)
-longer_line b line e is = record { text = b ∷ is.text; unbroken = (e, is.unbroken); line_is = ap (λ more. b ∷ more) is.line_is }
-
-cut_more : (b : ℕ) (bs rest : List ℕ) (lines : List (List ℕ)) → (b == newline) ≡ false → IsCut bs lines rest → Cut (b ∷ bs)
-cut_more b bs rest [] e is = record { lines = []; rest = b ∷ rest; is = record { whole = tt; unbroken = (e, is.unbroken); bytes_are = ap (λ more. b ∷ more) is.bytes_are } }
-cut_more b bs rest (line ∷ lines) e is = record {
-  lines = (b ∷ line) ∷ lines;
-  rest = rest;
-  is = record {
-    whole = (longer_line b line e is.whole.0, is.whole.1);
-    unbroken = is.unbroken;
-    bytes_are = ap (λ more. b ∷ more) is.bytes_are;
-  };
-}
-
-cut_step : (b : ℕ) (bs : List ℕ) → Cut bs → (test : Bool) → (b == newline) ≡ test → Cut (b ∷ bs)
-cut_step b bs c true e = cut_newline b bs e c
-cut_step b bs c false e = cut_more b bs c.rest c.lines e c.is
-
-cut : (bytes : List ℕ) → Cut bytes
-cut [] = record { lines = []; rest = []; is = IsCut-start }
-cut (b ∷ bs) = cut_step b bs (cut bs) (b == newline) refl
-
--- the complete lines of what was read are the first of all
-pub read_first : (read more : List ℕ) → (later : List (List ℕ)) × (lines_of (read ++ more) ≡ complete_lines read ++ later)
-read_first read more =
-    let c = cut read in
-    (lines_of (c.rest ++ more), lines_of-cut read c.lines c.rest more c.is ∙ ap (λ first. first ++ lines_of (c.rest ++ more)) (sym (complete_lines-cut read c.lines c.rest c.is)))
 
 -- ---- what is printed
 
 whole_front : (old new : Option (List ℕ)) (bytes : List ℕ) → Appends old new bytes → AppendsFront old new bytes
 whole_front old new bytes all = (length bytes, omega arith, subst (Appends old new) (sym (take_all (length bytes) bytes (omega arith))) all)
 
+-- what is a front of what the first lines print is right
+rightly : (choice : FrameChoice) (old new : Option (List ℕ)) (input : List ℕ) (lines : List (List ℕ)) (text : List ℕ) → AreFirst input lines → Appends old new text → IsFrontOf (after_lines (start choice) lines) text → PrintsRightly choice old new input
+rightly choice old new input lines text first took front = record {
+  lines = lines;
+  first = first;
+  text = text;
+  took = took;
+  front = front;
+  tables = texts_show_commits choice input lines first text front;
+  frames = texts_show_right_frames choice input lines first text front;
+}
+
 of_whole : (choice : FrameChoice) (old new : Option (List ℕ)) (input : List ℕ) → AppendsFront old new (output (plain_run choice input)) → PrintsRightly choice old new input
 unfolding plain_run
-of_whole choice old new input printed = record {
-  lines = lines_of input;
-  later = [];
-  of_input = sym (append-nil (lines_of input));
-  printed = printed;
-  tables = tables choice (lines_of input);
-  frames = frames choice (lines_of input);
-}
+of_whole choice old new input printed =
+    let all = output (plain_run choice input) in
+    rightly choice old new input (lines_of input) (take printed.0 all) (record { later = []; of_input = sym (append-nil (lines_of input)) }) printed.2
+    (record { rest = drop printed.0 all; is = sym (take-append-drop printed.0 all) })
 
 of_first : (choice : FrameChoice) (old new : Option (List ℕ)) (read more : List ℕ) → Appends old new (output (after_lines (start choice) (complete_lines read))) → PrintsRightly choice old new (read ++ more)
 of_first choice old new read more printed =
-    let first = read_first read more in
-    record {
-      lines = complete_lines read;
-      later = first.0;
-      of_input = first.1;
-      printed = whole_front old new (output (after_lines (start choice) (complete_lines read))) printed;
-      tables = tables choice (complete_lines read);
-      frames = frames choice (complete_lines read);
-    }
+    let first = front_lines read more in
+    let all = output (after_lines (start choice) (complete_lines read)) in
+    rightly choice old new (read ++ more) (complete_lines read) all (record { later = first.0; of_input = first.1 }) printed (record { rest = []; is = sym (append-nil all) })
 
 of_none : (choice : FrameChoice) (old new : Option (List ℕ)) (input : List ℕ) → Keeps old new → PrintsRightly choice old new input
-of_none choice old new input keeps = record {
-  lines = [];
-  later = lines_of input;
-  of_input = refl;
-  printed = (0, omega arith, Appends-kept old old new [] (Appends-nil old) keeps);
-  tables = tables choice [];
-  frames = frames choice [];
-}
+of_none choice old new input keeps =
+    rightly choice old new input [] [] (record { later = lines_of input; of_input = refl }) (Appends-kept old old new [] (Appends-nil old) keeps) (record { rest = output (start choice); is = refl })
 
 of_taken : (choice : FrameChoice) (old new first left : Option (List ℕ)) (input : List ℕ) → PrintsTaken choice old new first left input → PrintsRightly choice old new input
 of_taken choice old new first left input (inl un) = of_none choice old new input un.unprinted

@@ -3,7 +3,7 @@
 -- `PrintsLessOf` and `PrintsFrontOf`, each over the choice of frames and the bytes of the input,
 -- `PrintsSummary` for lines that are generated, `TellsStatus`, and `PrintsRightly`, which holds at
 -- every status.
-use Rattle.std.specs.Prelude.{◌≡◌, ◌≢◌, ℕ, ◌+◌, ◌<◌, ◌≤◌, ◌⊎◌, List, ◌++◌, length, take, Option, Some, None, IfSome, option_and_then}
+use Rattle.std.specs.Prelude.{◌≡◌, ◌≢◌, ℕ, ◌+◌, ◌<◌, ◌≤◌, ◌⊎◌, List, length, take, Option, Some, None, IfSome, option_and_then}
 use Rattle.std.specs.Io.KnownBytes.{Appends, Consumes, Keeps}
 use Rattle.mesh_base.specs.Writes.{AppendsFront}
 use Rattle.mesh_model.specs.declared.ending.LimitName.{LimitName}
@@ -11,15 +11,16 @@ use Rattle.mesh_model.specs.declared.ending.Refusal.{Refusal}
 use Rattle.mesh_model.specs.declared.ending.Stop.TheVariants.{Refused, Limit}
 use Rattle.mesh_model.specs.declared.frame_choice.FrameChoice.{FrameChoice}
 use Rattle.mesh_model.specs.Scenario.Halt.{Halt}
-use Rattle.mesh_model.specs.Scenario.Lines.{complete_lines, lines_of}
+use Rattle.mesh_model.specs.Scenario.Lines.{complete_lines}
 use Rattle.mesh_model.specs.Text.Messages.{halt_text, memory_text, read_fault_text, usage_text, write_fault_text}
 use Rattle.mesh_model.specs.Run.CommandLine.{Invocation, Source, FromInput, FromFile, Generated}
 use Rattle.mesh_model.specs.Run.Generated.{generated_input, generated_text}
 use Rattle.mesh_model.specs.Run.Halting.{GoesOn, halting_byte}
 use Rattle.mesh_model.specs.Run.PlainRun.{start, after_lines, plain_run, output}
 use Rattle.mesh_model.specs.Run.Statuses.{finished_status, limited_status, memory_status, read_fault_status, refused_status, stop_status, usage_status, write_fault_status}
-use Rattle.mesh_tie.specs.LinesByTable.{PrintsRightFrames}
-use Rattle.mesh_tie.specs.ShownTables.{PrintsCommits}
+use Rattle.mesh_lines.specs.FrameText.{TableFramesAreRight}
+use Rattle.mesh_lines.specs.TableText.{OkLinesAreCommitted}
+use Rattle.mesh_lines.specs.TextLaws.{AreFirst, IsFrontOf}
 
 -- ---- the lines that words ask for
 
@@ -160,14 +161,15 @@ pub record TellsStatus (choice : FrameChoice) (status : ℕ) (named old new : Op
 
 -- ---- tables and frames
 
--- whatever the status: what out took since the call is what the first lines of the input print, or a
--- front of that; and of what these lines print, each table that is shown as `ok` and each frame that
--- is sent by table is right
+-- whatever the status: what out took since the call is what the first lines of the input print, or
+-- a front of that; and each whole line in it of an originator in agreement, and of a link frame
+-- that was sent by table, is right
 pub record PrintsRightly (choice : FrameChoice) (old new : Option (List ℕ)) (input : List ℕ)
     : Type 0 where
   pub lines : List (List ℕ)
-  pub later : List (List ℕ)
-  pub of_input : lines_of input ≡ lines ++ later
-  pub printed : AppendsFront old new (output (after_lines (start choice) lines))
-  pub tables : PrintsCommits choice lines
-  pub frames : PrintsRightFrames choice lines
+  pub first : AreFirst input lines
+  pub text : List ℕ
+  pub took : Appends old new text
+  pub front : IsFrontOf (after_lines (start choice) lines) text
+  pub tables : OkLinesAreCommitted choice lines text
+  pub frames : TableFramesAreRight choice lines text

@@ -1,6 +1,6 @@
 //! The program: the words of the call, the lines that they ask for, and the status at its end.
 
-ghost use Rattle.std.specs.Prelude.{◌≡◌, ◌≢◌, ◌<◌, ◌≤◌, ◌⊎◌, ℕ, List, None, Some, IfNone, IfSome, IsSome};
+ghost use Rattle.std.specs.Prelude.{◌≡◌, ◌≢◌, ◌<◌, ◌≤◌, ◌⊎◌, None, Some, IfNone, IfSome, IsSome};
 ghost use Rattle.std.specs.Io.KnownBytes.{Appends, IsAtEnd};
 ghost use Rattle.std.specs.Option.{option_copied};
 ghost use Rattle.mesh_base.specs.Faults.{Rose};
@@ -10,8 +10,6 @@ ghost use Rattle.mesh_model.specs.Run.Generated.{generated_input, generated_run}
 ghost use Rattle.mesh_model.specs.Run.PlainRun.{plain_run};
 ghost use Rattle.mesh_model.specs.Run.Statuses.{IsStatus, finished_status, limited_status, memory_status, plain_status, read_fault_status, refused_status, usage_status, write_fault_status};
 ghost use Rattle.mesh_run.specs.Inner.Reading.{fault_status, fault_text};
-ghost use Rattle.mesh_tie.specs.LinesByTable.{PrintsRightFrames};
-ghost use Rattle.mesh_tie.specs.ShownTables.{PrintsCommits};
 ghost use Rattle.mesh_run.specs.Outcome.{Finishes, IsLimited, IsRefused, IsStatusOr, PrintsFrontOf, PrintsLessOf, PrintsRightly, PrintsSummary, PrintsTaken, TellsStatus, nodes_asked, read_input, told_input};
 ghost use Rattle.mesh_words.specs.Words.{texts};
 
@@ -146,7 +144,6 @@ fn carry_generated<K: Sink, E: Sink>(alloc: Global, nodes: u8, out: &mut K, err:
 /// printed, `none`, `all`, `client` or `ogm`; and FILE, or `--generate` and a number of nodes.
 /// Without both the lines come from standard input. `out` takes what they print, or of a generated
 /// mesh the line of its counts, `err` one line for each status other than `FINISHED`.
-#[tactic(auto, using(crate::proofs::Right::tables, crate::proofs::Right::frames))]
 pub fn batmesh<I: Intake, K: Sink, E: Sink>(
     alloc: Global,
     words: &[String],
@@ -217,21 +214,15 @@ pub fn batmesh<I: Intake, K: Sink, E: Sink>(
         (E.taken err.old) (E.taken err.new) }
     ensures silent { result ≡ finished_status → err.new ≡ err.old }
 
-    // Whatever the status, out took what the first lines of the input print, or a front of that; and
-    // what is printed there as `ok` of an originator was committed by it for the message that the
-    // shown node accepted last, and a frame that is printed there as sent by table goes to a node
-    // whose table names its client, each unless an alias of that node was printed before.
+    // Whatever the status, out took what the first lines of the input print, or a front of that. A
+    // whole line in it of an originator in agreement, `t ORIG held=B told=B state=ok entries=N`, is
+    // that of the commit that the originator made for the message that the shown node accepted
+    // last, and the lines of its entries follow, as far as they were taken. A whole line of a link
+    // frame with `by=table` is of bytes that the node of that name sent then, for a client that the
+    // addressed node's commit names, as the sender was told last. Each of these unless a line
+    // before it tells of an alias of that node.
     ensures right { IfSome (read_input (I.named intake.old) (words_of (texts words.now)))
         (PrintsRightly (choice_of (texts words.now)) (K.taken out.old) (K.taken out.new)) }
-
-    // Whatever lines are carried out, those of the input or those that came before a fault: what is
-    // printed as `ok` of an originator was committed by it for the message that the shown node
-    // accepted last, and a frame that is printed as sent by table goes to a node whose table names
-    // its client, as committed for the message that the sender had accepted last when it sent the
-    // frame; each unless an alias of that node was printed before.
-    ensures ok { (lines : List (List ℕ)) → PrintsCommits (choice_of (texts words.now)) lines }
-    ensures by_table { (lines : List (List ℕ)) →
-        PrintsRightFrames (choice_of (texts words.now)) lines }
 {
     let call = match read_words(alloc, words) {
         Ok(call) => call,
