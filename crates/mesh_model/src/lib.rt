@@ -35,7 +35,7 @@ pub use packet::Head;
 pub use probe::{OpenProbe, Probe, Told};
 pub use roaming_mark::RoamingMark;
 pub use route::{Beats, Hearing, LinkRow, Meeting, OrigRow};
-pub use service::{ArpRow, Fact, Fan, GwRow, Mark, Pair, PrimaryRow};
+pub use service::{ArpRow, Fact, FactKey, Fan, GwRow, KeptFact, Mark, Pair, PrimaryRow};
 pub use table_change::Change;
 pub use table_outcome::{Difference, Heard, Request, Taken};
 pub use table_row::{GlobalRow, LocalRow};

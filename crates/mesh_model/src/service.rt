@@ -66,3 +66,19 @@ pub enum Mark {
     /// Another node sent it.
     Synced,
 }
+
+/// A fact as it is kept: since when, and how the node came by it.
+#[derive(Debug, Drop)]
+pub struct KeptFact {
+    pub moment: Millis,
+    pub mark: Mark,
+    pub fact: Fact,
+}
+
+/// The source and the type of a fact, which are one fact's. They are ordered by the source, then by
+/// the type.
+#[derive(Clone, Copy, Debug, PartialEq, Eq, PartialOrd, Ord, Hash)]
+pub struct FactKey {
+    pub source: Mac,
+    pub type_no: u8,
+}

@@ -9,6 +9,8 @@ use Rattle.std.specs.declared.cmp.Ordering.{Ordering}
 use Rattle.mesh_base.specs.Ordered.{in_order}
 use Rattle.mesh_base.specs.declared.address.Mac.{Mac}
 use Rattle.mesh_model.specs.declared.service.Fact.{Fact}
+use Rattle.mesh_model.specs.declared.service.FactKey.{FactKey}
+use Rattle.mesh_model.specs.declared.service.KeptFact.{KeptFact}
 use Rattle.mesh_model.specs.declared.service.Mark.{Mark}
 use Rattle.mesh_model.specs.declared.service.Mark.TheVariants.{Local, First, Synced}
 use Rattle.mesh_model.specs.Routes.Addresses.{mac_order, same_mac}
@@ -17,12 +19,6 @@ use Rattle.mesh_model.specs.Routes.Addresses.{mac_order, same_mac}
 pub data FactCall : Type 0 where
   WasPut : (now : ℕ) → Fact → FactCall
   CameFrom : (now : ℕ) → (sender : Mac) → Fact → FactCall
-
--- a fact as it is kept
-pub record KeptFact : Type 0 where
-  pub moment : ℕ
-  pub mark : Mark
-  pub fact : Fact
 
 -- how long a fact is live, in milliseconds
 abbrev pub fact_age : ℕ
@@ -72,11 +68,6 @@ kept_fact (call ∷ older) source type_no =
     next_fact source type_no call (kept_fact older source type_no)
 
 -- ---- rows
-
--- a source and a type
-pub record FactKey : Type 0 where
-  pub source : Mac
-  pub type_no : ℕ
 
 -- how two of these stand to one another: by source, then by type
 abbrev pub fact_order : FactKey → FactKey → Ordering

@@ -1,0 +1,8 @@
+//! Tests of alfred_core: each of its calls once.
+
+#![tactic(auto)]
+
+#[cfg(test)]
+mod facts;
+#[cfg(test)]
+mod primaries;
