@@ -1,18 +1,20 @@
 -- The walk over the rows of one originator, which stand together in the order of pairs.
-use Rattle.std.proofs.Common.{◌≡◌, ◌⊎◌, inl, inr, ⊎_elim, ℕ, zero, suc, ◌<◌, ◌≤◌, true, false, cond, List, [], ◌∷◌, length, get_or, drop, Option, is_eq, is_lt, arith, refl, sym, ap, ◌∙◌, Ordering, Less, Equal, Greater}
+use Rattle.std.proofs.Common.{◌≡◌, ◌⊎◌, inl, inr, ⊎_elim, ℕ, zero, suc, ◌-◌, ◌<◌, ◌≤◌, nat_lt, Bool, true, false, cond, ◌&&◌, List, [], ◌∷◌, length, slice_get, get_or, drop, Option, is_eq, is_lt, arith, refl, sym, ap, ap₂, ◌∙◌, Ordering, Less, Equal, Greater}
 use Rattle.std.specs.List.{AllByRecursion}
 use Rattle.std.specs.List.Sorted.{IsStrictlySortedBy, IsPartitionedBy}
 use Rattle.std.specs.Map.{keys_of}
 use Rattle.std.specs.Ordering.{ordering_then, ordering_reverse}
-use Rattle.std.proofs.lemmas.Bool.{false≢true, true≢false}
+use Rattle.std.proofs.lemmas.Bool.{cases_Bool, lt-ltb, false≢true, true≢false}
 use Rattle.std.proofs.lemmas.Cmp.{alike_right}
+use Rattle.std.proofs.lemmas.List.{get_or-map, length-map}
+use Rattle.std.proofs.lemmas.Map.Keys.{Less-from_sorted}
 use Rattle.mesh_base.specs.declared.address.Mac.{Mac}
 use Rattle.mesh_model.specs.Routes.Addresses.{mac_order, same_mac, is_smaller}
-use Rattle.mesh_laws.proofs.MacLemmas.{mac_total, same_by_order, other_by_order}
+use Rattle.mesh_laws.proofs.MacLemmas.{mac_total, same_by_order, same_exact, other_by_order}
 use Rattle.mesh_algo.specs.declared.best.Best.{Best}
 use Rattle.mesh_algo.specs.declared.pair.Pair.{Pair}
 use Rattle.mesh_algo.specs.Pairs.{pair_order}
-use Rattle.mesh_algo.specs.Walk.{walk, walk_front, better_row}
+use Rattle.mesh_algo.specs.Walk.{is_row_of, walk, walk_front, better_row}
 
 -- ---- originators in the order of pairs
 first_then : (r s : Ordering) → ordering_then r s ≡ Less → (r ≡ Less) ⊎ (r ≡ Equal)
@@ -97,3 +99,50 @@ module _ {X : Type 0} (score : Mac → X → ℕ) (orig : Mac) where
   partitioned (e ∷ rows) sorted zero (suc j) d le lt below = head_below e.0 rows sorted.0 j d (omega (arith, lt)) below
   partitioned (e ∷ rows) sorted (suc i) zero d le lt below = absurd (omega (arith, le))
   partitioned (e ∷ rows) sorted (suc i) (suc j) d le lt below = partitioned rows sorted.1 i j d (omega (arith, le)) (omega (arith, lt)) below
+
+  -- ---- the first row of the originator, from a row of it back
+  same_there : (rows : List (Pair × X)) (i : ℕ) → is_row_of orig (slice_get rows i) ≡ true → (d : Pair × X) → same_mac (get_or rows i d).0.orig orig ≡ true
+  same_there [] i t d = absurd (false≢true t)
+  same_there (e ∷ rows) zero t d = t
+  same_there (e ∷ rows) (suc i) t d = same_there rows i t d
+
+  there : (rows : List (Pair × X)) (i : ℕ) → is_row_of orig (slice_get rows i) ≡ true → i < length rows
+  there [] i t = absurd (false≢true t)
+  there (e ∷ rows) zero t = omega arith
+  there (e ∷ rows) (suc i) t = let lt = there rows i t in omega (arith, lt)
+
+  other_there : (rows : List (Pair × X)) (i : ℕ) → i < length rows → is_row_of orig (slice_get rows i) ≡ false → (d : Pair × X) → same_mac (get_or rows i d).0.orig orig ≡ false
+  other_there [] i lt f d = absurd (omega (arith, lt))
+  other_there (e ∷ rows) zero lt f d = f
+  other_there (e ∷ rows) (suc i) lt f d = other_there rows i (omega (arith, lt)) f d
+
+  -- a row before one of the originator is of a smaller one, if it isn't the originator's
+  smaller_before : (a b : Pair) → pair_order a b ≡ Less → same_mac b.orig orig ≡ true → same_mac a.orig orig ≡ false → is_smaller a.orig orig ≡ true
+  smaller_before a b less own other =
+      let b_is = same_exact b.orig orig own in
+      ⊎_elim (λ lt. ap is_lt (sym (ap (λ o. mac_order a.orig o) b_is) ∙ lt))
+      (λ eq. absurd (false≢true (sym other ∙ sym (same_by_order a.orig orig) ∙ ap is_eq (sym (ap (λ o. mac_order a.orig o) b_is) ∙ eq)))) (orig_upto a b less)
+
+  not_smaller : (a : Mac) → same_mac a orig ≡ true → is_smaller a orig ≡ true → ⊥
+  not_smaller a own below = false≢true (sym (not_below a below) ∙ own)
+
+  pub back_walk : (best : Option Best) (rows : List (Pair × X)) (i : ℕ) → IsStrictlySortedBy pair_order (keys_of rows)
+      → is_row_of orig (slice_get rows i) ≡ true → (nat_lt 0 i && is_row_of orig (slice_get rows (i - 1))) ≡ false
+      → walk_front score orig best (drop i rows) ≡ walk score orig best rows
+  back_walk best rows i sorted own before =
+      let within = there rows i own in
+      let parted = partitioned rows sorted in
+      front_walk best rows i sorted (omega (arith, within))
+      (λ j d lt. parted j (i - 1) d (omega (arith, lt)) (omega (arith, lt, within))
+      (smaller_before (get_or rows (i - 1) d).0 (get_or rows i d).0 (keys_less rows sorted i d (omega (arith, lt)) within) (same_there rows i own d)
+      (other_there rows (i - 1) (omega (arith, within)) (other_before i _ (omega (arith, lt)) before) d)))
+      (λ j d low lt. ⊎_elim (λ t. absurd (not_smaller (get_or rows i d).0.orig (same_there rows i own d) (parted i j d low lt t))) (λ f. f) (cases_Bool (is_smaller (get_or rows j d).0.orig orig)))
+    where
+      other_before : (i : ℕ) (b : Bool) → 0 < i → (nat_lt 0 i && b) ≡ false → b ≡ false
+      other_before i b pos f = sym (ap (λ t. t && b) (lt-ltb 0 i pos)) ∙ f
+
+      keys_less : (rows : List (Pair × X)) → IsStrictlySortedBy pair_order (keys_of rows) → (i : ℕ) (d : Pair × X) → 0 < i → i < length rows → pair_order (get_or rows (i - 1) d).0 (get_or rows i d).0 ≡ Less
+      keys_less rows sorted i d pos lt =
+          let many = length-map rows (λ (e : Pair × X). e.0) in
+          ap₂ (λ a b. pair_order a b) (sym (get_or-map (λ (e : Pair × X). e.0) rows (i - 1) d d.0 (omega (arith, lt)))) (sym (get_or-map (λ (e : Pair × X). e.0) rows i d d.0 lt))
+          ∙ Less-from_sorted pair_order (keys_of rows) (i - 1) i d.0 sorted (omega (arith, pos)) (omega (arith, many, lt))

@@ -29,6 +29,11 @@ abbrev pub better_row : Option Best → Mac → ℕ → Option Best
 better_row best k score =
     if is_better best k score then Some (record { from = k; score = score }) else best
 
+-- whether a row, if there is one, is an originator's
+abbrev pub is_row_of : {X : Type 0} → Mac → Option (Pair × X) → Bool
+is_row_of orig None = false
+is_row_of orig (Some e) = same_mac e.0.orig orig
+
 -- the best of an originator's rows, after what is best before, by the score of each neighbour's row
 abbrev pub walk : {X : Type 0} → (Mac → X → ℕ) → Mac → Option Best → List (Pair × X) → Option Best
 walk score orig best [] = best

@@ -1,10 +1,10 @@
-ghost use Rattle.std.specs.Prelude.{◌≡◌, ◌<◌, ◌≤◌, ℕ, Option, Some, drop, IsOk, OnOk, OnErr, if◌then◌else◌};
+ghost use Rattle.std.specs.Prelude.{◌≡◌, ◌-◌, ◌<◌, ◌≤◌, ◌&&◌, ℕ, nat_lt, true, Option, Some, drop, slice_get, IfSome, IsOk, OnOk, OnErr, if◌then◌else◌};
 ghost use Rattle.std.specs.List.Sorted.{IsStrictlySortedBy};
 ghost use Rattle.std.specs.Map.{lookup};
-ghost use Rattle.indexmap.specs.IndexMap.{keys, spare, Updates};
+ghost use Rattle.indexmap.specs.IndexMap.{get, index_of, keys, spare, Updates};
 ghost use Rattle.mesh_base.specs.declared.address.Mac.{Mac};
 ghost use Rattle.mesh_algo.specs.Pairs.{pair_order, rows_kept, same_pair};
-ghost use Rattle.mesh_algo.specs.Walk.{walk, walk_front};
+ghost use Rattle.mesh_algo.specs.Walk.{is_row_of, walk, walk_front};
 ghost use Rattle.mesh_algo.specs.declared.best.Best.{Best};
 ghost use Rattle.mesh_algo.specs.declared.pair.Pair.{Pair};
 
@@ -34,9 +34,71 @@ pub fn put<K: Copy + Ord + Hash, V: Copy>(
     Ok(())
 }
 
-/// Puts the row of a pair; the originator's others go if a life of it begins.
+/// The place of a key's row, where it has one.
+pub fn place_of<K: Copy + Ord + Hash, V: Copy>(table: &IndexMap<K, V>, key: K) -> usize
+    ensures { IfSome (index_of K.eq table.now key) (λ place. result ≡ place) }
+{
+    match table.get_index_of(&key) {
+        None => table.len(),
+        Some(place) => place,
+    }
+}
+
+/// The row of a key. It is looked for first at a place where it may stand.
+pub fn row_near<K: Copy + Ord + Hash, V: Copy>(
+    table: &IndexMap<K, V>,
+    near: usize,
+    key: K,
+) -> Option<V>
+    ensures { result ≡ get K.eq table.now key }
+{
+    if let Some((other, row)) = table.get_index(near) {
+        if key == *other {
+            return Some(*row);
+        }
+    }
+    table.get(&key).copied()
+}
+
+/// Puts a row as `put` does. The row before it is looked for first at a place where it may stand.
+pub fn put_near<K: Copy + Ord + Hash, V: Copy>(
+    table: &mut IndexMap<K, V>,
+    near: usize,
+    key: K,
+    value: V,
+) -> Result<(), NoMemory>
+    ensures updated { OnOk result ((q : K) → get K.eq table.new q
+        ≡ (if K.eq key q then Some value else get K.eq table.old q)) }
+    ensures rises { OnOk result (IsStrictlySortedBy K.cmp (keys table.old) →
+        IsStrictlySortedBy K.cmp (keys table.new)) }
+    ensures room { 0 < spare table.old → IsOk result }
+    ensures err { OnErr result (table.new.entries ≡ table.old.entries) }
+{
+    if !stands_at(table, near, key) {
+        put(table, key, value)?;
+        return Ok(());
+    }
+    let (_key, row) = table.pair_mut(near);
+    *row = value;
+    Ok(())
+}
+
+// Whether the row of a key stands at a place.
+fn stands_at<K: Copy + Ord + Hash, V: Copy>(table: &IndexMap<K, V>, place: usize, key: K) -> bool
+    ensures { result ≡ true → (other : K) × (row : V)
+        × (slice_get table.now.entries place ≡ Some (other, row)) × (K.eq key other ≡ true) }
+{
+    match table.get_index(place) {
+        None => false,
+        Some((other, _)) => key == *other,
+    }
+}
+
+/// Puts the row of a pair, which may stand at a place; the originator's others go if a life of it
+/// begins.
 pub fn put_path<V: Copy>(
     paths: &mut IndexMap<Pair, V>,
+    near: usize,
     pair: Pair,
     begins: bool,
     row: V,
@@ -47,9 +109,11 @@ pub fn put_path<V: Copy>(
     ensures rises { OnOk result (IsStrictlySortedBy pair_order (keys paths.old) →
         IsStrictlySortedBy pair_order (keys paths.new)) }
     ensures room { 0 < spare paths.old → IsOk result }
+    ensures err { OnErr result (paths.new.entries
+        ≡ rows_kept begins pair.orig paths.old.entries) }
 {
     drop_paths(paths, pair.orig, begins);
-    put(paths, pair, row)?;
+    put_near(paths, near, pair, row)?;
     Ok(())
 }
 
@@ -72,4 +136,39 @@ pub fn first_path<V: Copy>(paths: &IndexMap<Pair, V>, orig: Mac) -> usize
         ≡ walk score orig best paths.now.entries }
 {
     paths.partition_point(|pair, _| pair.orig.cmp(&orig).is_lt())
+}
+
+/// The same place. It is looked for first from a place on where a row of the originator may stand.
+pub fn first_path_near<V: Copy>(paths: &IndexMap<Pair, V>, near: usize, orig: Mac) -> usize
+    ensures { IsStrictlySortedBy pair_order (keys paths.now) →
+        (score : Mac → V → ℕ) (best : Option Best) →
+        walk_front score orig best (drop result paths.now.entries)
+        ≡ walk score orig best paths.now.entries }
+{
+    if !is_path_of(paths, near, orig) {
+        return first_path(paths, orig);
+    }
+    let mut first = near;
+    while is_path_before(paths, first, orig) {
+        first -= 1;
+    }
+    first
+}
+
+// Whether a row of an originator stands before a place.
+fn is_path_before<V: Copy>(paths: &IndexMap<Pair, V>, place: usize, orig: Mac) -> bool
+    ensures { result
+        ≡ (nat_lt 0 place && is_row_of orig (slice_get paths.now.entries (place - 1))) }
+{
+    place > 0 && is_path_of(paths, place - 1, orig)
+}
+
+// Whether a row of an originator stands at a place.
+fn is_path_of<V: Copy>(paths: &IndexMap<Pair, V>, place: usize, orig: Mac) -> bool
+    ensures { result ≡ is_row_of orig (slice_get paths.now.entries place) }
+{
+    match paths.get_index(place) {
+        None => false,
+        Some((pair, _)) => pair.orig == orig,
+    }
 }

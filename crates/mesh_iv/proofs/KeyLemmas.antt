@@ -1,10 +1,10 @@
 -- Where hearings and echoes come from: each is of an OGM in the log.
-use Rattle.std.proofs.Common.{◌≡◌, ⊎_elim, ℕ, ◌-◌, nat_lt, Bool, true, false, cond, ◌&&◌, ◌||◌, List, [], ◌∷◌, is_some, IsSome, Option, Some, None, refl, sym, ap, ap₂, ◌∙◌}
+use Rattle.std.proofs.Common.{◌≡◌, ⊎_elim, ℕ, Bool, true, false, cond, ◌&&◌, ◌||◌, List, [], ◌∷◌, is_some, IsSome, Option, Some, None, refl, sym, ap, ◌∙◌}
 use Rattle.std.proofs.lemmas.Bool.{cases_Bool, and_parts, or_cases, false≢true}
 use Rattle.mesh_base.specs.declared.address.Mac.{Mac}
 use Rattle.mesh_model.specs.Routes.Addresses.{same_mac}
 use Rattle.mesh_model.specs.Routes.Hearings.{hearing, heard, heard_with}
-use Rattle.mesh_model.specs.Routes.Life.{HeardOgm, life_span, of, since, life, is_live, numbers_from}
+use Rattle.mesh_model.specs.Routes.Life.{HeardOgm, of, is_live}
 use Rattle.mesh_model.specs.Routes.Ogm.{Ogm, ogm_of_head, is_echo, passes}
 use Rattle.mesh_model.specs.Routes.Quality.{echo_quality, echoes_with, echoes_from, own_ogms}
 use Rattle.mesh_model.specs.Routes.RouteLog.{RouteLog, OwnTick, HeadCame}

@@ -21,8 +21,13 @@ pub(crate) fn best_of(paths: &IndexMap<Pair, Path>, orig: Mac, newest: u32) -> O
     best_from(paths, first_path(paths, orig), orig, newest)
 }
 
-// The best of the rows from this place on, up to the first of another originator.
-fn best_from(paths: &IndexMap<Pair, Path>, first: usize, orig: Mac, newest: u32) -> Option<Best>
+/// The best of the rows from this place on, up to the first of another originator.
+pub(crate) fn best_from(
+    paths: &IndexMap<Pair, Path>,
+    first: usize,
+    orig: Mac,
+    newest: u32,
+) -> Option<Best>
     ensures { result
         ≡ walk_front (path_score newest) orig None (drop first paths.now.entries) }
 {

@@ -13,12 +13,12 @@ ghost use Rattle.mesh_algo.specs.LifeRows.{newest_by};
 ghost use Rattle.mesh_algo.specs.declared.life.Life.{Life};
 
 use crate::iv::Iv;
-use crate::ogm::OgmCame;
+use crate::ogm::{OgmCame, Places};
 use crate::path::Path;
 use crate::quality::transmit_quality;
 use crate::writing::write;
 use mesh_algo::life::{going_on, is_accepted, meeting, newest_of};
-use mesh_algo::table::put;
+use mesh_algo::table::{place_of, put, put_near};
 use mesh_algo::{Hearing, Life, Pair};
 use mesh_base::NoMemory;
 
@@ -46,15 +46,19 @@ impl Iv {
             self.note_echo(ogm)?;
             return Ok(UNHEARD);
         }
-        let lived = self.life(ogm.moment, ogm.orig);
+        let near = Places {
+            life: place_of(&self.lives, ogm.orig),
+            path: place_of(&self.paths, ogm.pair()),
+        };
+        let lived = self.life_near(near.life, ogm.moment, ogm.orig);
         let met = meeting(ogm.moment, ogm.seq, &lived);
         let life = going_on(lived, met);
-        let path = self.path_before(ogm, &life);
+        let path = self.path_before(ogm, near, &life);
         if met.late || path.heard.has(ogm.seq) {
-            self.touch(ogm, &life)?;
+            self.touch(ogm, near, &life)?;
             return Ok(UNHEARD);
         }
-        let hearing = self.hear_first(ogm, &life, &path)?;
+        let hearing = self.hear_first(ogm, near, &life, &path)?;
         Ok(hearing)
     }
 
@@ -79,22 +83,18 @@ impl Iv {
     }
 
     // The row of the neighbour, in the originator's life if there is one.
-    fn path_before(&self, ogm: &OgmCame, life: &Option<Life>) -> Path
+    fn path_before(&self, ogm: &OgmCame, near: Places, life: &Option<Life>) -> Path
         ensures { (me : Mac) (log : RouteLog) → IsHeard me self.now log ogm.now life.now →
             result ≡ kept_row ogm.now.from (life_before me log ogm.now) }
     {
         if life.is_none() {
             return Path::new();
         }
-        let pair = Pair {
-            orig: ogm.orig,
-            from: ogm.from,
-        };
-        self.path(pair).unwrap_or(Path::new())
+        self.path_near(near.path, ogm.pair()).unwrap_or(Path::new())
     }
 
     // Notes that an originator was heard, where nothing else is to be noted.
-    fn touch(&mut self, ogm: &OgmCame, life: &Option<Life>) -> Result<(), NoMemory>
+    fn touch(&mut self, ogm: &OgmCame, near: Places, life: &Option<Life>) -> Result<(), NoMemory>
         ensures noted { OnOk result ((me : Mac) (log : RouteLog) (tp : ℕ) →
             IsHeard me self.old log ogm.now life.now →
             is_first (hearing_of me log ogm.now) (life_before me log ogm.now) ≡ false →
@@ -109,7 +109,7 @@ impl Iv {
             newest: life.newest,
             forwarded: life.forwarded,
         };
-        put(&mut self.lives, ogm.orig, life)?;
+        put_near(&mut self.lives, near.life, ogm.orig, life)?;
         Ok(())
     }
 
@@ -117,6 +117,7 @@ impl Iv {
     fn hear_first(
         &mut self,
         ogm: &OgmCame,
+        near: Places,
         life: &Option<Life>,
         path: &Path,
     ) -> Result<Hearing, NoMemory>
@@ -131,7 +132,15 @@ impl Iv {
         let newest = newest_of(life).max(ogm.seq);
         let value = self.value(ogm, path, newest);
         let row = path.with(ogm.seq, value);
-        let forward = write(&mut self.lives, &mut self.paths, ogm, life, row, value)?;
+        let forward = write(
+            &mut self.lives,
+            &mut self.paths,
+            ogm,
+            near,
+            life,
+            row,
+            value,
+        )?;
         Ok(Hearing {
             accepted: is_accepted(ogm.seq, life),
             began: life.is_none(),

@@ -12,6 +12,7 @@ ghost use Rattle.mesh_iv.specs.Answers.{count_of};
 use crate::best::best_of;
 use crate::path::Path;
 use indexmap::IndexMap;
+use mesh_algo::table::row_near;
 use mesh_algo::{Best, Life, Pair};
 use mesh_base::{Mac, Millis};
 use std::alloc::Global;
@@ -65,12 +66,28 @@ impl Iv {
         self.lives.get(&orig)?.at(now)
     }
 
+    // The life of an originator, whose row may stand at a place.
+    pub(crate) fn life_near(&self, near: usize, now: Millis, orig: Mac) -> Option<Life>
+        ensures { (me : Mac) (log : RouteLog) → StandsFor me self.now log →
+            result ≡ life_row (iv_life me log now orig) }
+    {
+        row_near(&self.lives, near, orig)?.at(now)
+    }
+
     // The row of an originator and a neighbour.
     pub(crate) fn path(&self, pair: Pair) -> Option<Path>
         ensures { (me : Mac) (log : RouteLog) → StandsFor me self.now log →
             result ≡ path_at me (heard me log) (λ k. echoes_from me k log) pair }
     {
         self.paths.get(&pair).copied()
+    }
+
+    // The row of an originator and a neighbour, which may stand at a place.
+    pub(crate) fn path_near(&self, near: usize, pair: Pair) -> Option<Path>
+        ensures { (me : Mac) (log : RouteLog) → StandsFor me self.now log →
+            result ≡ path_at me (heard me log) (λ k. echoes_from me k log) pair }
+    {
+        row_near(&self.paths, near, pair)
     }
 
     // How many of the last numbers of a neighbour were heard from itself.

@@ -1,7 +1,9 @@
 ghost use Rattle.std.specs.Prelude.{◌≡◌, nat_le, ◌+◌};
 ghost use Rattle.mesh_model.specs.Routes.Ogm.{passes, is_echo};
 ghost use Rattle.mesh_iv.specs.Came.{ogm_in};
+ghost use Rattle.mesh_iv.specs.Writing.{pair_of};
 
+use mesh_algo::Pair;
 use mesh_base::{Mac, Millis};
 
 /// The flag of an OGM whose sender isn't the best next hop to the originator.
@@ -22,7 +24,25 @@ pub(crate) struct OgmCame {
     pub(crate) tq: u8,
 }
 
+/// Where the rows of an OGM may stand in the two tables: a look-up begins there, and finds a row
+/// wherever it stands.
+#[derive(Clone, Copy, Debug)]
+pub(crate) struct Places {
+    pub(crate) life: usize,
+    pub(crate) path: usize,
+}
+
 impl OgmCame {
+    /// The originator and the neighbour.
+    pub(crate) fn pair(&self) -> Pair
+        ensures { result ≡ pair_of self.now }
+    {
+        Pair {
+            orig: self.orig,
+            from: self.from,
+        }
+    }
+
     /// Whether it is heard at the node of this address.
     pub(crate) fn passes(&self, me: Mac) -> bool
         ensures { result ≡ passes me (ogm_in self.now) }

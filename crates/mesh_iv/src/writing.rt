@@ -6,14 +6,14 @@ ghost use Rattle.mesh_algo.specs.Pairs.{pair_order};
 ghost use Rattle.mesh_iv.specs.Hears.{goes_on, sent_on_as};
 ghost use Rattle.mesh_iv.specs.Writing.{IsWritten, is_over_after};
 
-use crate::best::best_of;
+use crate::best::best_from;
 use crate::forward::{goes_on, head_on};
-use crate::ogm::OgmCame;
+use crate::ogm::{OgmCame, Places};
 use crate::path::Path;
 use indexmap::IndexMap;
 use mesh_algo::best::is_best;
 use mesh_algo::life::{life_after, newest_of};
-use mesh_algo::table::{put, put_path};
+use mesh_algo::table::{first_path_near, put_near, put_path};
 use mesh_algo::{Head, Life, Pair};
 use mesh_base::{Mac, NoMemory};
 
@@ -23,6 +23,7 @@ pub(crate) fn write(
     lives: &mut IndexMap<Mac, Life>,
     paths: &mut IndexMap<Pair, Path>,
     ogm: &OgmCame,
+    near: Places,
     life: &Option<Life>,
     row: Path,
     value: u8,
@@ -37,20 +38,23 @@ pub(crate) fn write(
 {
     lives.reserve(1)?;
     paths.reserve(1)?;
-    let pair = Pair {
-        orig: ogm.orig,
-        from: ogm.from,
-    };
-    put_path(paths, pair, life.is_none(), row)?;
-    let over = is_over(paths, ogm, life, value);
+    put_path(paths, near.path, ogm.pair(), life.is_none(), row)?;
+    let over = is_over(paths, ogm, near, life, value);
     let sent = goes_on(ogm, value, life, over);
-    put(lives, ogm.orig, life_after(ogm.moment, ogm.seq, life, sent))?;
+    let after = life_after(ogm.moment, ogm.seq, life, sent);
+    put_near(lives, near.life, ogm.orig, after)?;
     Ok(sent.then_some(head_on(ogm, value, over)))
 }
 
 // Whether the best neighbour is that from which an OGM came. It is looked for only where the OGM is
 // sent on if it is.
-fn is_over(paths: &IndexMap<Pair, Path>, ogm: &OgmCame, life: &Option<Life>, value: u8) -> bool
+fn is_over(
+    paths: &IndexMap<Pair, Path>,
+    ogm: &OgmCame,
+    near: Places,
+    life: &Option<Life>,
+    value: u8,
+) -> bool
     ensures { IsStrictlySortedBy pair_order (keys paths.now) →
         result ≡ (goes_on ogm.now value (forwarded_by life.now) true
         && is_over_after ogm.now life.now paths.now.entries) }
@@ -59,5 +63,6 @@ fn is_over(paths: &IndexMap<Pair, Path>, ogm: &OgmCame, life: &Option<Life>, val
         return false;
     }
     let newest = newest_of(life).max(ogm.seq);
-    is_best(ogm.from, &best_of(paths, ogm.orig, newest))
+    let first = first_path_near(paths, near.path, ogm.orig);
+    is_best(ogm.from, &best_from(paths, first, ogm.orig, newest))
 }

@@ -29,8 +29,8 @@ pub(crate) fn best_of(
     best_from(origs, paths, first_path(paths, orig), now, orig, newest)
 }
 
-// The best of the rows from this place on, up to the first of another originator.
-fn best_from(
+/// The best of the rows from this place on, up to the first of another originator.
+pub(crate) fn best_from(
     origs: &IndexMap<Mac, Orig>,
     paths: &IndexMap<Pair, Path>,
     first: usize,

@@ -13,14 +13,14 @@ ghost use Rattle.mesh_v.specs.Tables.{StandsFor, orig_at};
 ghost use Rattle.mesh_v.specs.declared.row.LastElp.{LastElp};
 
 use crate::best::is_up_at;
-use crate::ogm::OgmCame;
+use crate::ogm::{OgmCame, Places};
 use crate::path::Path;
 use crate::row::{LastElp, Orig, elp_in, is_up, life_in};
 use crate::v::V;
 use crate::writing::write;
 use mesh_algo::life::{going_on, is_accepted, meeting};
-use mesh_algo::table::put;
-use mesh_algo::{Hearing, Life, Pair};
+use mesh_algo::table::{place_of, put, put_near};
+use mesh_algo::{Hearing, Life};
 use mesh_base::{Mac, Millis, NoMemory};
 
 /// What is made of a head that isn't heard.
@@ -70,7 +70,11 @@ impl V {
             ogm.now.link (Some (ogm_in ogm.now)) (heard_v me log)) }
         ensures err { OnErr result (self.new ≡ self.old) }
     {
-        let orig = self.orig(ogm.orig);
+        let near = Places {
+            orig: place_of(&self.origs, ogm.orig),
+            path: place_of(&self.paths, ogm.pair()),
+        };
+        let orig = self.orig_near(near.orig, ogm.orig);
         if !self.passes(ogm, &orig) {
             return Ok(UNHEARD);
         }
@@ -78,12 +82,12 @@ impl V {
         let met = meeting(ogm.moment, ogm.seq, &lived);
         let life = going_on(lived, met);
         let elp = elp_in(&orig);
-        let path = self.path_before(ogm, &life);
+        let path = self.path_before(ogm, near, &life);
         if met.late || path.heard.has(ogm.seq) {
-            self.touch(ogm, elp, &life)?;
+            self.touch(ogm, near, elp, &life)?;
             return Ok(UNHEARD);
         }
-        let hearing = self.hear_first(ogm, elp, &life, &path)?;
+        let hearing = self.hear_first(ogm, near, elp, &life, &path)?;
         Ok(hearing)
     }
 
@@ -111,7 +115,7 @@ impl V {
     }
 
     // The row of the neighbour, in the originator's life if there is one.
-    fn path_before(&self, ogm: &OgmCame, life: &Option<Life>) -> Path
+    fn path_before(&self, ogm: &OgmCame, near: Places, life: &Option<Life>) -> Path
         ensures { (me : Mac) (log : RouteLog) (elp : Option LastElp) →
             IsHeard me self.now log ogm.now elp life.now →
             result ≡ kept_row ogm.now.from (life_before me log ogm.now) }
@@ -119,17 +123,14 @@ impl V {
         if life.is_none() {
             return Path::new();
         }
-        let pair = Pair {
-            orig: ogm.orig,
-            from: ogm.from,
-        };
-        self.path(pair).unwrap_or(Path::new())
+        self.path_near(near.path, ogm.pair()).unwrap_or(Path::new())
     }
 
     // Notes that an originator was heard, where nothing else is to be noted.
     fn touch(
         &mut self,
         ogm: &OgmCame,
+        near: Places,
         elp: Option<LastElp>,
         life: &Option<Life>,
     ) -> Result<(), NoMemory>
@@ -151,7 +152,7 @@ impl V {
             life: Some(life),
             elp,
         };
-        put(&mut self.origs, ogm.orig, row)?;
+        put_near(&mut self.origs, near.orig, ogm.orig, row)?;
         Ok(())
     }
 
@@ -159,6 +160,7 @@ impl V {
     fn hear_first(
         &mut self,
         ogm: &OgmCame,
+        near: Places,
         elp: Option<LastElp>,
         life: &Option<Life>,
         path: &Path,
@@ -174,7 +176,16 @@ impl V {
     {
         let value = ogm.throughput.min(ogm.link);
         let row = path.with(ogm.seq, value);
-        let forward = write(&mut self.origs, &mut self.paths, ogm, elp, life, row, value)?;
+        let forward = write(
+            &mut self.origs,
+            &mut self.paths,
+            ogm,
+            near,
+            elp,
+            life,
+            row,
+            value,
+        )?;
         Ok(Hearing {
             accepted: is_accepted(ogm.seq, life),
             began: life.is_none(),

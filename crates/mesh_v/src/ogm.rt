@@ -1,3 +1,7 @@
+ghost use Rattle.std.specs.Prelude.{◌≡◌};
+ghost use Rattle.mesh_v.specs.Writing.{pair_of};
+
+use mesh_algo::Pair;
 use mesh_base::{Mac, Millis};
 
 /// An OGM that came from a neighbour over a link of a throughput, 0 where there is no such link.
@@ -11,4 +15,24 @@ pub(crate) struct OgmCame {
     pub(crate) seq: u32,
     pub(crate) orig: Mac,
     pub(crate) throughput: u32,
+}
+
+/// Where the rows of an OGM may stand in the two tables: a look-up begins there, and finds a row
+/// wherever it stands.
+#[derive(Clone, Copy, Debug)]
+pub(crate) struct Places {
+    pub(crate) orig: usize,
+    pub(crate) path: usize,
+}
+
+impl OgmCame {
+    /// The originator and the neighbour.
+    pub(crate) fn pair(&self) -> Pair
+        ensures { result ≡ pair_of self.now }
+    {
+        Pair {
+            orig: self.orig,
+            from: self.from,
+        }
+    }
 }

@@ -13,6 +13,7 @@ use crate::best::best_of;
 use crate::path::Path;
 use crate::row::{Orig, life_in};
 use indexmap::IndexMap;
+use mesh_algo::table::row_near;
 use mesh_algo::{Best, Life, Pair};
 use mesh_base::{Mac, Millis};
 use std::alloc::Global;
@@ -69,6 +70,14 @@ impl V {
         self.origs.get(&orig).copied()
     }
 
+    // The row of an originator, which may stand at a place.
+    pub(crate) fn orig_near(&self, near: usize, orig: Mac) -> Option<Orig>
+        ensures { (me : Mac) (log : RouteLog) → StandsFor me self.now log →
+            result ≡ orig_at (heard_v me log) log orig }
+    {
+        row_near(&self.origs, near, orig)
+    }
+
     // The life of an originator.
     pub(crate) fn life(&self, now: Millis, orig: Mac) -> Option<Life>
         ensures { (me : Mac) (log : RouteLog) → StandsFor me self.now log →
@@ -77,12 +86,12 @@ impl V {
         life_in(&self.orig(orig))?.at(now)
     }
 
-    // The row of an originator and a neighbour.
-    pub(crate) fn path(&self, pair: Pair) -> Option<Path>
+    // The row of an originator and a neighbour, which may stand at a place.
+    pub(crate) fn path_near(&self, near: usize, pair: Pair) -> Option<Path>
         ensures { (me : Mac) (log : RouteLog) → StandsFor me self.now log →
             result ≡ path_row pair.from (latest (of pair.orig (heard_v me log))) }
     {
-        self.paths.get(&pair).copied()
+        row_near(&self.paths, near, pair)
     }
 
     // The best neighbour to an originator.

@@ -6,15 +6,15 @@ ghost use Rattle.mesh_algo.specs.Pairs.{pair_order};
 ghost use Rattle.mesh_v.specs.Hears.{goes_on, sent_on_as};
 ghost use Rattle.mesh_v.specs.Writing.{IsWritten, is_over_after};
 
-use crate::best::best_of;
+use crate::best::best_from;
 use crate::forward::head_on;
-use crate::ogm::OgmCame;
+use crate::ogm::{OgmCame, Places};
 use crate::path::Path;
 use crate::row::{LastElp, Orig};
 use indexmap::IndexMap;
 use mesh_algo::best::is_best;
 use mesh_algo::life::{forwarded_of, life_after, newest_of};
-use mesh_algo::table::{put, put_path};
+use mesh_algo::table::{first_path_near, put_near, put_path};
 use mesh_algo::{Head, Life, Pair};
 use mesh_base::{Mac, NoMemory};
 
@@ -24,6 +24,7 @@ pub(crate) fn write(
     origs: &mut IndexMap<Mac, Orig>,
     paths: &mut IndexMap<Pair, Path>,
     ogm: &OgmCame,
+    near: Places,
     elp: Option<LastElp>,
     life: &Option<Life>,
     row: Path,
@@ -39,18 +40,14 @@ pub(crate) fn write(
 {
     origs.reserve(1)?;
     paths.reserve(1)?;
-    let pair = Pair {
-        orig: ogm.orig,
-        from: ogm.from,
-    };
-    put_path(paths, pair, life.is_none(), row)?;
-    let sent = is_sent_on(origs, paths, ogm, life, value);
+    put_path(paths, near.path, ogm.pair(), life.is_none(), row)?;
+    let sent = is_sent_on(origs, paths, ogm, near, life, value);
     let life = life_after(ogm.moment, ogm.seq, life, sent);
     let row = Orig {
         life: Some(life),
         elp,
     };
-    put(origs, ogm.orig, row)?;
+    put_near(origs, near.orig, ogm.orig, row)?;
     Ok(sent.then_some(head_on(ogm, value)))
 }
 
@@ -60,6 +57,7 @@ fn is_sent_on(
     origs: &IndexMap<Mac, Orig>,
     paths: &IndexMap<Pair, Path>,
     ogm: &OgmCame,
+    near: Places,
     life: &Option<Life>,
     value: u32,
 ) -> bool
@@ -71,6 +69,7 @@ fn is_sent_on(
         return false;
     }
     let newest = newest_of(life).max(ogm.seq);
-    let best = best_of(origs, paths, ogm.moment, ogm.orig, newest);
+    let first = first_path_near(paths, near.path, ogm.orig);
+    let best = best_from(origs, paths, first, ogm.moment, ogm.orig, newest);
     is_best(ogm.from, &best)
 }

@@ -7,10 +7,10 @@ use Rattle.mesh_algo.proofs.table.put_path.Goals as goal
 
 pub returns-clause-updated : goal.returns-clause-updated
 returns-clause-updated g c =
-    λ key. c.in_ok-put.ensures.updated.0 key
+    λ key. c.in_ok-put_near.ensures.updated key
     ∙ ap (λ rows. cond (same_pair c.args.pair key) (Some c.args.row) (lookup (same_pair key) rows)) c.drop_paths.ensures.kept
 
 pub returns-clause-rises : goal.returns-clause-rises
 returns-clause-rises g c =
-    λ sorted. c.in_ok-put.ensures.rises (subst (λ rows. IsStrictlySortedBy pair_order (keys_of rows)) (sym c.drop_paths.ensures.kept)
+    λ sorted. c.in_ok-put_near.ensures.rises (subst (λ rows. IsStrictlySortedBy pair_order (keys_of rows)) (sym c.drop_paths.ensures.kept)
     (kept_sorted c.args.begins c.args.pair.orig c.args.paths.now.entries sorted))

@@ -3,7 +3,7 @@ use Rattle.std.specs.List.Sorted.{IsStrictlySortedBy}
 use Rattle.std.specs.Map.{keys_of, lookup}
 use Rattle.mesh_model.specs.Routes.Addresses.{mac_order, same_mac}
 use Rattle.mesh_algo.specs.LifeRows.{forwarded_by, life_with}
-use Rattle.mesh_algo.specs.Pairs.{pair_order, rows_kept}
+use Rattle.mesh_algo.specs.Pairs.{pair_order, rows_kept, same_pair}
 use Rattle.mesh_iv.specs.Hears.{goes_on}
 use Rattle.mesh_iv.specs.Writing.{is_over_after, life_then, path_put}
 use Rattle.mesh_iv.proofs.AskLemmas.{asked_goes}
@@ -20,11 +20,13 @@ returns-clause-written c =
     = λ sorted. c.in_ok-put_path.ensures.rises (subst (λ rows. IsStrictlySortedBy pair_order (keys_of rows)) (sym same_paths) sorted) in
     let over : IsStrictlySortedBy pair_order (keys_of c.args.paths.now.entries) → c.is_over-over.result ≡ (goes_on came c.args.value (forwarded_by life) true && is_over_after came life c.put_path.new.paths.entries)
     = λ sorted. c.is_over-over.ensures (rises sorted) in
-    let row : IsStrictlySortedBy pair_order (keys_of c.args.paths.now.entries) → c.life_after.result ≡ life_then came life c.args.value c.put_path.new.paths.entries
-    = λ sorted. c.life_after.ensures ∙ ap (λ b. life_with came.moment came.seq life b) (c.goes_on-sent.ensures ∙ ap (λ b. goes_on came c.args.value (forwarded_by life) b) (over sorted) ∙ asked_goes came c.args.value (forwarded_by life) (is_over_after came life c.put_path.new.paths.entries)) in
+    let row : IsStrictlySortedBy pair_order (keys_of c.args.paths.now.entries) → c.life_after-after.result ≡ life_then came life c.args.value c.put_path.new.paths.entries
+    = λ sorted. c.life_after-after.ensures ∙ ap (λ b. life_with came.moment came.seq life b) (c.goes_on-sent.ensures ∙ ap (λ b. goes_on came c.args.value (forwarded_by life) b) (over sorted) ∙ asked_goes came c.args.value (forwarded_by life) (is_over_after came life c.put_path.new.paths.entries)) in
     record {
-      paths_are = λ pair. c.in_ok-put_path.ensures.updated pair ∙ ap₂ (λ b rows. path_put came c.args.row (rows_kept b came.orig rows) pair) (none_test life c.is_none.result c.is_none.ensures) same_paths;
+      paths_are = λ pair. c.in_ok-put_path.ensures.updated pair
+          ∙ ap (λ p. cond (same_pair p pair) (Some c.args.row) (lookup (same_pair pair) (rows_kept c.is_none.result p.orig c.reserve-2.new.self.entries))) c.pair.ensures
+          ∙ ap₂ (λ b rows. path_put came c.args.row (rows_kept b came.orig rows) pair) (none_test life c.is_none.result c.is_none.ensures) same_paths;
       paths_rise = rises;
-      lives_are = λ o sorted. c.in_ok-put.ensures.updated.0 o ∙ ap₂ (λ r rows. cond (same_mac came.orig o) (Some r) (lookup (same_mac o) rows)) (row sorted) same_lives;
-      lives_rise = λ sorted. c.in_ok-put.ensures.rises (subst (λ rows. IsStrictlySortedBy mac_order (keys_of rows)) (sym same_lives) sorted);
+      lives_are = λ o sorted. c.in_ok-put_near.ensures.updated o ∙ ap₂ (λ r rows. cond (same_mac came.orig o) (Some r) (lookup (same_mac o) rows)) (row sorted) same_lives;
+      lives_rise = λ sorted. c.in_ok-put_near.ensures.rises (subst (λ rows. IsStrictlySortedBy mac_order (keys_of rows)) (sym same_lives) sorted);
     }

@@ -3,7 +3,7 @@ use Rattle.std.specs.List.Sorted.{IsStrictlySortedBy}
 use Rattle.std.specs.Map.{keys_of, lookup}
 use Rattle.mesh_model.specs.Routes.Addresses.{mac_order, same_mac}
 use Rattle.mesh_algo.specs.LifeRows.{forwarded_by, life_with}
-use Rattle.mesh_algo.specs.Pairs.{pair_order, rows_kept}
+use Rattle.mesh_algo.specs.Pairs.{pair_order, rows_kept, same_pair}
 use Rattle.mesh_algo.proofs.PutLemmas.{none_test}
 use Rattle.mesh_v.specs.Hears.{goes_on}
 use Rattle.mesh_v.specs.Writing.{is_over_after, path_put}
@@ -22,8 +22,10 @@ returns-clause-written c =
     let life_is : IsStrictlySortedBy pair_order (keys_of c.args.paths.now.entries) → c.life_after-life.result ≡ life_with came.moment came.seq life (goes_on came c.args.value (forwarded_by life) (is_over_after came life c.args.origs.now.entries c.put_path.new.paths.entries))
     = λ sorted. c.life_after-life.ensures ∙ ap (λ b. life_with came.moment came.seq life b) (sent sorted) in
     record {
-      paths_are = λ pair. c.in_ok-put_path.ensures.updated pair ∙ ap₂ (λ b rows. path_put came c.args.row (rows_kept b came.orig rows) pair) (none_test life c.is_none.result c.is_none.ensures) same_paths;
+      paths_are = λ pair. c.in_ok-put_path.ensures.updated pair
+          ∙ ap (λ p. cond (same_pair p pair) (Some c.args.row) (lookup (same_pair pair) (rows_kept c.is_none.result p.orig c.reserve-2.new.self.entries))) c.pair.ensures
+          ∙ ap₂ (λ b rows. path_put came c.args.row (rows_kept b came.orig rows) pair) (none_test life c.is_none.result c.is_none.ensures) same_paths;
       paths_rise = rises;
-      origs_are = λ o sorted. c.in_ok-put.ensures.updated.0 o ∙ ap₂ (λ l rows. cond (same_mac came.orig o) (Some (record { life = Some l; elp = c.args.elp })) (lookup (same_mac o) rows)) (life_is sorted) same_origs;
-      origs_rise = λ sorted. c.in_ok-put.ensures.rises (subst (λ rows. IsStrictlySortedBy mac_order (keys_of rows)) (sym same_origs) sorted);
+      origs_are = λ o sorted. c.in_ok-put_near.ensures.updated o ∙ ap₂ (λ l rows. cond (same_mac came.orig o) (Some (record { life = Some l; elp = c.args.elp })) (lookup (same_mac o) rows)) (life_is sorted) same_origs;
+      origs_rise = λ sorted. c.in_ok-put_near.ensures.rises (subst (λ rows. IsStrictlySortedBy mac_order (keys_of rows)) (sym same_origs) sorted);
     }

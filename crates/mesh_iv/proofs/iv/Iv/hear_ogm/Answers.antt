@@ -25,13 +25,13 @@ returns-then-met-clause-noted c =
     let came = c.args.ogm.now in
     let my : c.self.inside.me ≡ me = ap (λ t. t.me) c.self.view_is ∙ stands.me_is in
     let passed : c.passes.result ≡ true = search rules in
-    let lived = c.life-lived.ensures me log stands in
+    let lived = c.life_near-lived.ensures me log stands in
     let met = c.meeting-met.ensures (lived_at me log came) lived in
     let is : IsHeard me c.args.self.now log came c.going_on-life.result
     = record {
       stands = stands;
       passing = sym (c.passes.ensures ∙ ap (λ m. passes m (ogm_in came)) my) ∙ passed;
-      row_is = goes_on_with (hearing_of me log came) (of came.orig (heard me log)) (is_met me log came) c.life-lived.result c.going_on-life.result c.meeting-met.result lived met c.going_on-life.ensures;
+      row_is = goes_on_with (hearing_of me log came) (of came.orig (heard me log)) (is_met me log came) c.life_near-lived.result c.going_on-life.result c.meeting-met.result lived met c.going_on-life.ensures;
     } in
     let path_is = c.path_before-path.ensures me log is in
     let first : is_first (hearing_of me log came) (life_before me log came) ≡ false = elim c.then-met.branch [
@@ -46,13 +46,13 @@ returns-then-met-clause-heard c =
     let came = c.args.ogm.now in
     let my : c.self.inside.me ≡ me = ap (λ t. t.me) c.self.view_is ∙ stands.me_is in
     let passed : c.passes.result ≡ true = search rules in
-    let lived = c.life-lived.ensures me log stands in
+    let lived = c.life_near-lived.ensures me log stands in
     let met = c.meeting-met.ensures (lived_at me log came) lived in
     let is : IsHeard me c.args.self.now log came c.going_on-life.result
     = record {
       stands = stands;
       passing = sym (c.passes.ensures ∙ ap (λ m. passes m (ogm_in came)) my) ∙ passed;
-      row_is = goes_on_with (hearing_of me log came) (of came.orig (heard me log)) (is_met me log came) c.life-lived.result c.going_on-life.result c.meeting-met.result lived met c.going_on-life.ensures;
+      row_is = goes_on_with (hearing_of me log came) (of came.orig (heard me log)) (is_met me log came) c.life_near-lived.result c.going_on-life.result c.meeting-met.result lived met c.going_on-life.ensures;
     } in
     let path_is = c.path_before-path.ensures me log is in
     let first : is_first (hearing_of me log came) (life_before me log came) ≡ false = elim c.then-met.branch [
@@ -68,13 +68,13 @@ returns-clause-noted c =
     let came = c.args.ogm.now in
     let my : c.self.inside.me ≡ me = ap (λ t. t.me) c.self.view_is ∙ stands.me_is in
     let passed : c.passes.result ≡ true = search rules in
-    let lived = c.life-lived.ensures me log stands in
+    let lived = c.life_near-lived.ensures me log stands in
     let met = c.meeting-met.ensures (lived_at me log came) lived in
     let is : IsHeard me c.args.self.now log came c.going_on-life.result
     = record {
       stands = stands;
       passing = sym (c.passes.ensures ∙ ap (λ m. passes m (ogm_in came)) my) ∙ passed;
-      row_is = goes_on_with (hearing_of me log came) (of came.orig (heard me log)) (is_met me log came) c.life-lived.result c.going_on-life.result c.meeting-met.result lived met c.going_on-life.ensures;
+      row_is = goes_on_with (hearing_of me log came) (of came.orig (heard me log)) (is_met me log came) c.life_near-lived.result c.going_on-life.result c.meeting-met.result lived met c.going_on-life.ensures;
     } in
     let path_is = c.path_before-path.ensures me log is in
     let first = first_from (hearing_of me log came) (of came.orig (heard me log)) (is_met me log came) (sym (ap (λ m. m.late) met) ∙ c.if-met.false)
@@ -87,13 +87,13 @@ returns-clause-heard c =
     let came = c.args.ogm.now in
     let my : c.self.inside.me ≡ me = ap (λ t. t.me) c.self.view_is ∙ stands.me_is in
     let passed : c.passes.result ≡ true = search rules in
-    let lived = c.life-lived.ensures me log stands in
+    let lived = c.life_near-lived.ensures me log stands in
     let met = c.meeting-met.ensures (lived_at me log came) lived in
     let is : IsHeard me c.args.self.now log came c.going_on-life.result
     = record {
       stands = stands;
       passing = sym (c.passes.ensures ∙ ap (λ m. passes m (ogm_in came)) my) ∙ passed;
-      row_is = goes_on_with (hearing_of me log came) (of came.orig (heard me log)) (is_met me log came) c.life-lived.result c.going_on-life.result c.meeting-met.result lived met c.going_on-life.ensures;
+      row_is = goes_on_with (hearing_of me log came) (of came.orig (heard me log)) (is_met me log came) c.life_near-lived.result c.going_on-life.result c.meeting-met.result lived met c.going_on-life.ensures;
     } in
     let path_is = c.path_before-path.ensures me log is in
     let first = first_from (hearing_of me log came) (of came.orig (heard me log)) (is_met me log came) (sym (ap (λ m. m.late) met) ∙ c.if-met.false)

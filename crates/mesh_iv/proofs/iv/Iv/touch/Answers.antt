@@ -22,10 +22,10 @@ returns-clause-noted c =
     λ me log tp is first.
     let came = c.args.ogm.now in
     let old : Tables = c.args.self.now in
-    let new : Tables = record { me = c.self.inside.me; sent = c.self.inside.sent; lives = c.put.new.table.entries; paths = c.self.inside.paths.entries } in
+    let new : Tables = record { me = c.self.inside.me; sent = c.self.inside.sent; lives = c.put_near.new.table.entries; paths = c.self.inside.paths.entries } in
     let lives : c.self.inside.lives.entries ≡ old.lives = ap (λ t. t.lives) c.self.view_is in
     let heard : IsHeard me old log came (Some c.in-Some.life) = subst (λ row. IsHeard me old log came row) c.in-Some.is is in
     touch_stands me log came tp c.in-Some.life old new heard first (ap (λ t. t.me) c.self.view_is) (ap (λ t. t.sent) c.self.view_is)
-    (λ q. c.in_ok-put.ensures.updated.0 q ∙ ap (λ rows. cond (same_mac came.orig q) (Some (touched (hearing_of me log came) (life_before me log came) c.in-Some.life)) (lookup (same_mac q) rows)) lives)
-    (c.in_ok-put.ensures.rises (subst (λ rows. IsStrictlySortedBy mac_order (keys_of rows)) (sym lives) is.stands.lives_stand.rise))
+    (λ q. c.in_ok-put_near.ensures.updated q ∙ ap (λ rows. cond (same_mac came.orig q) (Some (touched (hearing_of me log came) (life_before me log came) c.in-Some.life)) (lookup (same_mac q) rows)) lives)
+    (c.in_ok-put_near.ensures.rises (subst (λ rows. IsStrictlySortedBy mac_order (keys_of rows)) (sym lives) is.stands.lives_stand.rise))
     (ap (λ t. t.paths) c.self.view_is)

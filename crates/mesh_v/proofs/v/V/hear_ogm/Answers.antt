@@ -14,15 +14,15 @@ pub returns-then-not-passes-clause-noted : goal.returns-then-not-passes-clause-n
 returns-then-not-passes-clause-noted c =
     λ me log stands.
     let unheard_ogm : c.passes.result ≡ false = search rules in
-    passed_stands me log c.args.ogm.now c.args.self.now stands (sym (c.passes.ensures me log stands (c.orig-orig.ensures me log stands)) ∙ unheard_ogm)
+    passed_stands me log c.args.ogm.now c.args.self.now stands (sym (c.passes.ensures me log stands (c.orig_near-orig.ensures me log stands)) ∙ unheard_ogm)
 
 pub returns-then-met-clause-noted : goal.returns-then-met-clause-noted
 returns-then-met-clause-noted c =
     λ me log stands.
     let came = c.args.ogm.now in
-    let orig_is = c.orig-orig.ensures me log stands in
+    let orig_is = c.orig_near-orig.ensures me log stands in
     let passed : c.passes.result ≡ true = search rules in
-    let known = is_heard me log came c.args.self.now stands (sym (c.passes.ensures me log stands orig_is) ∙ passed) c.orig-orig.result orig_is
+    let known = is_heard me log came c.args.self.now stands (sym (c.passes.ensures me log stands orig_is) ∙ passed) c.orig_near-orig.result orig_is
     c.lived-lived.result c.going_on-life.result c.meeting-met.result c.elp_in-elp.result c.lived-lived.ensures c.meeting-met.ensures c.going_on-life.ensures c.elp_in-elp.ensures in
     let is = known.0 in
     let met = known.1 in
@@ -37,9 +37,9 @@ pub returns-then-met-clause-heard : goal.returns-then-met-clause-heard
 returns-then-met-clause-heard c =
     λ me log stands.
     let came = c.args.ogm.now in
-    let orig_is = c.orig-orig.ensures me log stands in
+    let orig_is = c.orig_near-orig.ensures me log stands in
     let passed : c.passes.result ≡ true = search rules in
-    let known = is_heard me log came c.args.self.now stands (sym (c.passes.ensures me log stands orig_is) ∙ passed) c.orig-orig.result orig_is
+    let known = is_heard me log came c.args.self.now stands (sym (c.passes.ensures me log stands orig_is) ∙ passed) c.orig_near-orig.result orig_is
     c.lived-lived.result c.going_on-life.result c.meeting-met.result c.elp_in-elp.result c.lived-lived.ensures c.meeting-met.ensures c.going_on-life.ensures c.elp_in-elp.ensures in
     let is = known.0 in
     let met = known.1 in
@@ -55,9 +55,9 @@ pub returns-clause-noted : goal.returns-clause-noted
 returns-clause-noted c =
     λ me log stands.
     let came = c.args.ogm.now in
-    let orig_is = c.orig-orig.ensures me log stands in
+    let orig_is = c.orig_near-orig.ensures me log stands in
     let passed : c.passes.result ≡ true = search rules in
-    let known = is_heard me log came c.args.self.now stands (sym (c.passes.ensures me log stands orig_is) ∙ passed) c.orig-orig.result orig_is
+    let known = is_heard me log came c.args.self.now stands (sym (c.passes.ensures me log stands orig_is) ∙ passed) c.orig_near-orig.result orig_is
     c.lived-lived.result c.going_on-life.result c.meeting-met.result c.elp_in-elp.result c.lived-lived.ensures c.meeting-met.ensures c.going_on-life.ensures c.elp_in-elp.ensures in
     let is = known.0 in
     let met = known.1 in
@@ -70,9 +70,9 @@ pub returns-clause-heard : goal.returns-clause-heard
 returns-clause-heard c =
     λ me log stands.
     let came = c.args.ogm.now in
-    let orig_is = c.orig-orig.ensures me log stands in
+    let orig_is = c.orig_near-orig.ensures me log stands in
     let passed : c.passes.result ≡ true = search rules in
-    let known = is_heard me log came c.args.self.now stands (sym (c.passes.ensures me log stands orig_is) ∙ passed) c.orig-orig.result orig_is
+    let known = is_heard me log came c.args.self.now stands (sym (c.passes.ensures me log stands orig_is) ∙ passed) c.orig_near-orig.result orig_is
     c.lived-lived.result c.going_on-life.result c.meeting-met.result c.elp_in-elp.result c.lived-lived.ensures c.meeting-met.ensures c.going_on-life.ensures c.elp_in-elp.ensures in
     let is = known.0 in
     let met = known.1 in

@@ -1,5 +1,9 @@
-use Rattle.std.proofs.Common.{◌∙◌, ap₂, unwrap_or}
+use Rattle.std.proofs.Common.{◌∙◌, ap, ap₂, unwrap_or}
+use Rattle.mesh_model.specs.Routes.HearingsV.{heard_v}
+use Rattle.mesh_model.specs.Routes.Life.{of}
+use Rattle.mesh_algo.specs.LifeRows.{latest}
 use Rattle.mesh_algo.proofs.LifeRows.{none_is}
+use Rattle.mesh_v.specs.Rows.{path_row}
 use Rattle.mesh_v.proofs.StepLemmas.{kept_none, kept_some}
 use Rattle.mesh_v.proofs.v.V.path_before.Goals as goal
 
@@ -10,5 +14,5 @@ returns-then-is_none c =
 pub returns : goal.returns
 returns c =
     λ me log elp is.
-    c.unwrap_or.ensures ∙ ap₂ (λ p b. unwrap_or p b) (c.path.ensures me log is.stands) c.new-2.ensures
+    c.unwrap_or.ensures ∙ ap₂ (λ p b. unwrap_or p b) (c.path_near.ensures me log is.stands ∙ ap (λ p. path_row p.from (latest (of p.orig (heard_v me log)))) c.pair.ensures) c.new-2.ensures
     ∙ kept_some me log c.args.ogm.now c.args.self.now elp c.args.life.now c.is_none.result is c.is_none.ensures c.if-is_none.false

@@ -21,11 +21,11 @@ returns-clause-noted c =
     λ me log is first.
     let came = c.args.ogm.now in
     let old : Tables = c.args.self.now in
-    let new : Tables = record { me = c.self.inside.me; ogms = c.self.inside.ogms; elps = c.self.inside.elps; origs = c.put.new.table.entries; paths = c.self.inside.paths.entries } in
+    let new : Tables = record { me = c.self.inside.me; ogms = c.self.inside.ogms; elps = c.self.inside.elps; origs = c.put_near.new.table.entries; paths = c.self.inside.paths.entries } in
     let origs = ap (λ t. t.origs) c.self.view_is in
     let heard : IsHeard me old log came c.args.elp (Some c.in-Some.life) = subst (λ row. IsHeard me old log came c.args.elp row) c.in-Some.is is in
     touch_stands me log came c.args.elp c.in-Some.life old new heard first (ap (λ t. t.me) c.self.view_is) (ap (λ t. t.ogms) c.self.view_is) (ap (λ t. t.elps) c.self.view_is)
-    (λ q. c.in_ok-put.ensures.updated.0 q
+    (λ q. c.in_ok-put_near.ensures.updated q
     ∙ ap (λ rows. cond (same_mac came.orig q) (Some (record { life = Some (touched (hearing_of me log came) (life_before me log came) c.in-Some.life); elp = c.args.elp })) (lookup (same_mac q) rows)) origs)
-    (c.in_ok-put.ensures.rises (subst (λ rows. IsStrictlySortedBy mac_order (keys_of rows)) (sym origs) is.stands.origs_stand.rise))
+    (c.in_ok-put_near.ensures.rises (subst (λ rows. IsStrictlySortedBy mac_order (keys_of rows)) (sym origs) is.stands.origs_stand.rise))
     (ap (λ t. t.paths) c.self.view_is)
