@@ -15,7 +15,7 @@ use Rattle.mesh_model.specs.Tables.Versions.{Version}
 use Rattle.mesh_model.specs.Routes.Addresses.{same_mac}
 use Rattle.mesh_laws.proofs.MacLemmas.{same_exact, same_self}
 use Rattle.mesh_laws.proofs.MachineInvariant.{last_numbered, number_below, numbered_kept}
-use Rattle.tt_local.specs.Journal.{AreAliasesAt, AreNumbered, HasSums, HasTable}
+use Rattle.tt_local.specs.Journal.{AreAliasesAt, AreNumbered, HasSums, HasTable, HasTableOf, IsPassed}
 use Rattle.tt_local.proofs.CommitLemmas.{from_same_table, same_from_equal}
 use Rattle.tt_local.proofs.NumberedLemmas.{newest_or_not, older_number}
 
@@ -167,6 +167,24 @@ tables_tell cs numbered number earlier s t a b answer same has others none table
         go : (y : Bool) → same_table a b ≡ y → y ≡ false
         go true e = absurd (false≢true (p.1 (from_same_table a b e)))
         go false e = refl
+
+-- ---- commits that have the table of another
+-- where one of them isn't an alias, none of them is
+pub passed_by : (cs : List Version) → AreNumbered cs → (number earlier twin : ℕ) (v : Version) → commit_numbered earlier cs ≡ Some v → earlier % 256 ≡ number % 256 → HasTableOf twin earlier cs → AreAliasesAt false number earlier cs → IsPassed number (Some twin) cs
+passed_by cs numbered number earlier twin v there same twins are = λ n again twin_too one other is at.
+    let mine : HasTable twin v.table cs = twins v.table (ap (option_map (λ (w : Version). w.table)) there) in
+    let its : HasTable twin other.table cs = twin_too other.table (ap (option_map (λ (w : Version). w.table)) at) in
+    let both : Some v.table ≡ Some other.table = sym mine ∙ its in
+    let tables : v.table ≡ other.table = cc in
+    let bytes : v.byte ≡ other.byte = byte_at cs numbered earlier v there ∙ same ∙ sym again ∙ sym (byte_at cs numbered n other at) in
+    are one v is there ∙ ap₂ (λ (b : ℕ) (t : List Entry). are_aliases one (record { byte = b; table = t })) bytes tables
+
+-- the last table is that of the commit before it, if they are one
+pub twin_of_last : (cs : List Version) (last before twin : ℕ) (mine its : List Entry) → HasTable last mine cs → HasTable before its cs → mine ≡ its → HasTableOf twin before cs → HasTableOf twin last cs
+twin_of_last cs last before twin mine its has others same twins = λ table is.
+    let both : Some mine ≡ Some table = sym has ∙ is in
+    let tables : mine ≡ table = cc in
+    twins table (subst (λ t. HasTable before t cs) (sym same ∙ tables) others)
 
 -- ---- whether two tables are one
 entry_decides : (a b : Entry) → Decides ((same_mac a.key.mac b.key.mac && nat_eq a.key.vid.0 b.key.vid.0) && nat_eq a.flags b.flags) (a ≡ b)

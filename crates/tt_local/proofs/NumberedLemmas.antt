@@ -55,7 +55,7 @@ table_below n t cs has = let at = version_at n t cs has in number_below n cs at.
 pub table_kept : (c : Version) (n : ℕ) (t : List Entry) (older : List Version) → HasTable n t older → HasTable n t (c ∷ older)
 table_kept c n t older has = ap (option_map (λ (v : Version). v.table)) (older_number c n older (table_below n t older has)) ∙ has
 
-table_before : (c : Version) (n : ℕ) (t : List Entry) (older : List Version) → n < length older → HasTable n t (c ∷ older) → HasTable n t older
+pub table_before : (c : Version) (n : ℕ) (t : List Entry) (older : List Version) → n < length older → HasTable n t (c ∷ older) → HasTable n t older
 table_before c n t older below has = ap (option_map (λ (v : Version). v.table)) (sym (older_number c n older below)) ∙ has
 
 newest_table : (c : Version) (n : ℕ) (older : List Version) → n ≡ length older → HasTable n c.table (c ∷ older)

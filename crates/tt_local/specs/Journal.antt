@@ -1,7 +1,7 @@
 -- How what a journal keeps stands for a node's history. It keeps the last commit with its changes,
--- the changes and checksums of each commit before it, and the whole table of each 32nd of these.
--- The main word is `JournalStands`.
-use Rattle.std.specs.Prelude.{◌≡◌, ℕ, ◌+◌, ◌%◌, ◌/◌, ◌==◌, min, List, [], ◌∷◌, ◌++◌, drop, length, slice_get, Bool, if◌then◌else◌, Option, None, Some, Ok, option_map}
+-- the changes and checksums of each commit before it, a commit that has the same table, and the
+-- whole table of each 32nd of these. The main word is `JournalStands`.
+use Rattle.std.specs.Prelude.{◌≡◌, ℕ, ◌+◌, ◌%◌, ◌/◌, ◌==◌, min, List, [], ◌∷◌, ◌++◌, drop, length, slice_get, Bool, false, if◌then◌else◌, Option, None, Some, Ok, option_map}
 use Rattle.mesh_base.specs.declared.client.Entry.{Entry}
 use Rattle.mesh_model.specs.Packets.Bodies.{VlanSum}
 use Rattle.mesh_model.specs.Tables.Changes.{IsInKeyOrder}
@@ -19,11 +19,13 @@ pub record PastCommit : Type 0 where
   pub sums : List VlanSum
 
 -- what a journal keeps: the last commit's table and changes, the commits before it, oldest first,
--- each 32nd of their tables, and how many messages have announced the last commit, at most three
+-- of each of them a commit that has its table, each 32nd of their tables, and how many messages have
+-- announced the last commit, at most three
 pub record JournalView : Type 0 where
   pub table : List Entry
   pub changes : List Change
   pub past : List PastCommit
+  pub twins : List ℕ
   pub snapshots : List (List Entry)
   pub sent : ℕ
 
@@ -62,6 +64,21 @@ abbrev pub new_number : List Entry → History → Option ℕ
 new_number table history = if same_table (last_commit history.commits).table table then None
     else Some (length history.commits)
 
+-- the commit of a number has this table
+abbrev pub HasTable : ℕ → List Entry → List Version → Type 0
+HasTable number table commits =
+    option_map (λ version. version.table) (commit_numbered number commits) ≡ Some table
+
+-- a commit has the table of another, by their numbers
+abbrev pub HasTableOf : ℕ → ℕ → List Version → Type 0
+HasTableOf twin number commits =
+    (table : List Entry) → HasTable number table commits → HasTable twin table commits
+
+-- of commits, oldest first, each of these has the table
+abbrev pub AreTwins : List ℕ → List Version → Type 0
+AreTwins twins commits =
+    (number twin : ℕ) → slice_get twins number ≡ Some twin → HasTableOf twin number commits
+
 -- a journal keeps what there is to keep of a history
 pub record JournalStands (view : JournalView) (history : History) : Type 0 where
   pub table : view.table ≡ (last_commit history.commits).table
@@ -69,6 +86,8 @@ pub record JournalStands (view : JournalView) (history : History) : Type 0 where
   pub changes : view.changes ≡ last_changes history.commits
   pub count : length history.commits ≡ length view.past + 1
   pub past : view.past ≡ past_of (drop 1 history.commits)
+  pub twins : AreTwins view.twins history.commits
+  pub twin_count : length view.twins ≡ length view.past
   pub snapshots : view.snapshots ≡ snapshots_of (drop 1 history.commits)
   pub sent : view.sent ≡ min history.sent 3
   pub ordered : AreInKeyOrder history.commits
@@ -82,16 +101,18 @@ pub record HasCommitted (changes : List Change) (old new : JournalView) : Type 0
   pub snapshots : new.snapshots ≡ with_snapshot (length old.past) old.table old.snapshots
   pub sent : new.sent ≡ 0
 
+-- a journal has a commit more that has the table of the one that was the last
+pub record HasTwin (old new : JournalView) : Type 0 where
+  pub twin : ℕ
+  pub twins : new.twins ≡ old.twins ++ twin ∷ []
+  pub twin_is : (history : History) → JournalStands old history →
+      HasTableOf twin (length old.past) history.commits
+
 -- these are tables, of one of each 32 among so many commits
 pub record AreSnapshots (snapshots : List (List Entry)) (commits : ℕ) : Type 0 where
   pub ordered : (place : ℕ) (table : List Entry) → slice_get snapshots place ≡ Some table →
       IsInKeyOrder table
   pub count : length snapshots ≡ (commits + 31) / snapshot_interval
-
--- the commit of a number has this table
-abbrev pub HasTable : ℕ → List Entry → List Version → Type 0
-HasTable number table commits =
-    option_map (λ version. version.table) (commit_numbered number commits) ≡ Some table
 
 -- the table of the commit of a number has these checksums
 abbrev pub HasSums : ℕ → List VlanSum → List Version → Type 0
@@ -103,3 +124,10 @@ abbrev pub AreAliasesAt : Bool → ℕ → ℕ → List Version → Type 0
 AreAliasesAt answer number earlier commits = (one other : Version) →
     commit_numbered number commits ≡ Some one → commit_numbered earlier commits ≡ Some other →
     answer ≡ are_aliases one other
+
+-- no commit that has the table of this one, if there is one, is an alias of the commit of a number
+-- whose byte it has
+abbrev pub IsPassed : ℕ → Option ℕ → List Version → Type 0
+IsPassed number None commits = Unit
+IsPassed number (Some twin) commits = (earlier : ℕ) → earlier % 256 ≡ number % 256 →
+    HasTableOf twin earlier commits → AreAliasesAt false number earlier commits

@@ -1,8 +1,8 @@
-ghost use Rattle.std.specs.Prelude.{◌≡◌, ◌↔◌, ◌+◌, ◌%◌, ◌≤◌, ◌<◌, ℕ, List, length, IfOk, IsTrue};
+ghost use Rattle.std.specs.Prelude.{◌≡◌, ◌↔◌, ◌+◌, ◌%◌, ◌≤◌, ◌<◌, ℕ, List, length, IfOk, OnOk, IsTrue};
 ghost use Rattle.mesh_model.specs.Clients.Mentions.{Mention};
 ghost use Rattle.mesh_model.specs.Commits.Aliases.{alias_of, last_alias};
 ghost use Rattle.mesh_model.specs.Commits.History.{History};
-ghost use Rattle.tt_local.specs.Journal.{AreAliasesAt, HasTable, JournalStands};
+ghost use Rattle.tt_local.specs.Journal.{AreAliasesAt, HasTable, HasTableOf, IsPassed, JournalStands};
 ghost use Rattle.tt_local.specs.Locals.{LocalsStand};
 
 use crate::journal::Journal;
@@ -20,9 +20,10 @@ impl Journal {
             alias ≡ alias_of number history.commits) }
     {
         let table = self.table_at(number)?;
+        let mut passed = None;
         for round in 0..number / BYTES {
             let earlier = number % BYTES + round * BYTES;
-            if self.are_aliases(number, table.as_slice(), earlier)? {
+            if self.is_alias(number, table.as_slice(), earlier, &mut passed)? {
                 return Ok(Some(earlier as u64));
             }
         }
@@ -30,7 +31,40 @@ impl Journal {
     }
 
     // Whether a commit, by its number and its table, and an earlier one of the same byte are
-    // aliases.
+    // aliases. One with the table of a commit that was passed over isn't looked at.
+    fn is_alias(
+        &self,
+        number: usize,
+        table: &[Entry],
+        earlier: usize,
+        passed: &mut Option<usize>,
+    ) -> Result<bool, NoMemory>
+        requires made { number ≤ length self.now.past }
+        requires earlier { earlier < number }
+        requires byte { earlier % 256 ≡ number % 256 }
+        ensures answer { IfOk result (λ answer. (history : History) →
+            JournalStands self.now history → HasTable number table.now history.commits →
+            IsPassed number passed.old history.commits →
+            AreAliasesAt answer number earlier history.commits) }
+        ensures passed { OnOk result ((history : History) →
+            JournalStands self.now history → HasTable number table.now history.commits →
+            IsPassed number passed.old history.commits →
+            IsPassed number passed.new history.commits) }
+    {
+        let twin = self.twin_at(earlier);
+        if let Some(known) = *passed {
+            if known == twin {
+                return Ok(false);
+            }
+        }
+        if self.are_aliases(number, table, earlier)? {
+            return Ok(true);
+        }
+        *passed = Some(twin);
+        Ok(false)
+    }
+
+    // Whether they are, by their checksums and their tables.
     fn are_aliases(&self, number: usize, table: &[Entry], earlier: usize) -> Result<bool, NoMemory>
         requires made { number ≤ length self.now.past }
         requires earlier { earlier < number }
@@ -45,6 +79,40 @@ impl Journal {
         }
         let other = self.table_at(earlier)?;
         Ok(!is_same(table, other.as_slice()))
+    }
+}
+
+impl Journal {
+    /// The number of a commit that has the last one's table: that which the commit before it of its
+    /// byte has, where their tables are one, else the last.
+    pub(crate) fn twin(&self) -> Result<usize, NoMemory>
+        ensures { IfOk result (λ twin. (history : History) → JournalStands self.now history →
+            HasTableOf twin (length self.now.past) history.commits) }
+    {
+        let last = self.last();
+        let Some(before) = last.checked_sub(BYTES) else {
+            return Ok(last);
+        };
+        let sums = self.sums_at(last);
+        if sums.first_difference(self.sums_at(before)).is_some() {
+            return Ok(last);
+        }
+        let table = self.table_at(before)?;
+        if !is_same(self.table.as_slice(), table.as_slice()) {
+            return Ok(last);
+        }
+        Ok(self.twin_at(before))
+    }
+
+    // The number of a commit that has a commit's table.
+    fn twin_at(&self, number: usize) -> usize
+        ensures { (history : History) → JournalStands self.now history →
+            HasTableOf result number history.commits }
+    {
+        match self.twins.get(number) {
+            None => number,
+            Some(twin) => *twin,
+        }
     }
 }
 

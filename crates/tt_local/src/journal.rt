@@ -5,7 +5,7 @@ ghost use Rattle.mesh_model.specs.Tables.Changes.{IsInKeyOrder};
 ghost use Rattle.mesh_model.specs.Tables.Strict.{apply_strictly};
 ghost use Rattle.mesh_model.specs.Commits.Announcements.{carried_changes, carrying_messages, told_changes};
 ghost use Rattle.mesh_model.specs.Commits.History.{History};
-ghost use Rattle.tt_local.specs.Journal.{HasCommitted, JournalStands, snapshot_interval};
+ghost use Rattle.tt_local.specs.Journal.{HasCommitted, HasTwin, JournalStands, snapshot_interval};
 
 use mesh_base::{Entry, NoMemory, Steps};
 use std::alloc::Global;
@@ -37,6 +37,9 @@ pub(crate) struct Past {
 pub(crate) struct Journal {
     pub(crate) alloc: Global,
     pub(crate) past: Vec<Past>,
+    /// Of each commit before the last one the number of a commit that has its table: itself, or an
+    /// earlier one of its byte.
+    pub(crate) twins: Vec<usize>,
     pub(crate) snapshots: Vec<RcSlice<Entry>>,
     pub(crate) table: Table,
     changes: Changes,
@@ -55,6 +58,7 @@ impl Model for Journal {
       table = j.table.entries;
       changes = j.changes;
       past = map (λ p. record { changes = p.changes; sums = named_sums p.sums }) j.past.items;
+      twins = j.twins.items;
       snapshots = map rc_slice_items j.snapshots.items;
       sent = j.sent;
     } };
@@ -66,12 +70,19 @@ impl Model for Journal {
 impl Journal {
     /// Commit 0, the empty table.
     pub(crate) fn new(alloc: Global) -> Journal
-        ensures { result
-            ≡ record { table = []; changes = []; past = []; snapshots = []; sent = 0 } }
+        ensures { result ≡ record {
+          table = [];
+          changes = [];
+          past = [];
+          twins = [];
+          snapshots = [];
+          sent = 0;
+        } }
     {
         Journal {
             alloc,
             past: Vec::new(alloc),
+            twins: Vec::new(alloc),
             snapshots: Vec::new(alloc),
             table: Table::new(alloc),
             changes: Changes::new(alloc),
@@ -103,11 +114,14 @@ impl Journal {
         requires strict { (table : List Entry)
             × (apply_strictly self.old.table changes ≡ Ok table) }
         ensures committed { OnOk result (HasCommitted changes self.old self.new) }
+        ensures twin { OnOk result (HasTwin self.old self.new) }
         ensures err { OnErr result (self.new ≡ self.old) }
         ensures steps { steps.new ≤ steps.old + length changes }
     {
         let sums = self.table.sums().copy()?;
         let snapshot = self.snapshot()?;
+        let twin = self.twin()?;
+        self.twins.reserve(1)?;
         self.past.reserve(1)?;
         self.snapshots.reserve(1)?;
         match self.table.apply(&changes, steps) {
@@ -116,6 +130,7 @@ impl Journal {
             Err(ApplyErr::Missing { .. } | ApplyErr::Present { .. }) => unreachable!(),
         }
         let changes = mem::replace(&mut self.changes, changes);
+        self.twins.push(twin).unwrap();
         self.past.push(Past { changes, sums }).unwrap();
         if let Some(snapshot) = snapshot {
             self.snapshots.push(snapshot).unwrap();

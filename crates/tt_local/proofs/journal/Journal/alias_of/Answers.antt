@@ -7,6 +7,7 @@ use Rattle.tt_local.proofs.journal.Journal.alias_of.Goals as goal
 pub loop-round-init : goal.loop-round-init
 loop-round-init c = record {
   none = λ history stands. subst (λ n. HasNoneBelow n c.args.number history.commits) (omega arith) (none_at_first history.commits stands.numbered c.args.number);
+  passed = λ history stands. tt;
 }
 
 pub returns-then-branch : goal.returns-then-branch
@@ -19,7 +20,7 @@ returns-then-branch c = λ history stands.
     let one = number_made c.args.self.now history stands number made in
     let other = number_made c.args.self.now history stands earlier (omega (arith, below, made)) in
     let table = subst (λ t. HasTable number t history.commits) (sym c.as_slice.ensures.value) (c.in_ok-table.ensures history stands) in
-    let are = subst (λ b. AreAliasesAt b number earlier history.commits) c.if-branch.true (c.in_ok-are_aliases.ensures history stands table) in
+    let are = subst (λ b. AreAliasesAt b number earlier history.commits) c.if-branch.true (c.in_ok-is_alias.ensures.answer history stands table (c.loop-round.invariant.passed history stands)) in
     sym (one_found history.commits number earlier one.0 other.0 one.1 other.1 below are (c.loop-round.invariant.none history stands))
 
 pub loop-round-preserved : goal.loop-round-preserved
@@ -28,8 +29,11 @@ loop-round-preserved c = record {
       let number = c.args.number in
       let earlier = number % 256 + c.loop-round.round * 256 in
       let table = subst (λ t. HasTable number t history.commits) (sym c.as_slice.ensures.value) (c.in_ok-table.ensures history stands) in
-      let are = subst (λ b. AreAliasesAt b number earlier history.commits) c.if-branch.false (c.in_ok-are_aliases.ensures history stands table) in
+      let are = subst (λ b. AreAliasesAt b number earlier history.commits) c.if-branch.false (c.in_ok-is_alias.ensures.answer history stands table (c.loop-round.invariant.passed history stands)) in
       none_at_next history.commits stands.numbered number c.loop-round.round earlier refl are (c.loop-round.invariant.none history stands);
+  passed = λ history stands.
+      let table = subst (λ t. HasTable c.args.number t history.commits) (sym c.as_slice.ensures.value) (c.in_ok-table.ensures history stands) in
+      c.in_ok-is_alias.ensures.passed history stands table (c.loop-round.invariant.passed history stands);
 }
 
 pub returns : goal.returns
