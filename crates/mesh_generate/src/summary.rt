@@ -1,8 +1,9 @@
-ghost use Rattle.std.specs.Prelude.{◌≡◌, ◌<◌, ◌++◌, OnOk};
+ghost use Rattle.std.specs.Prelude.{◌≡◌, ◌<◌, IfOk};
 ghost use Rattle.mesh_model.specs.Run.Generated.{is_received, received_lines, summary_line};
 
 use crate::terms::put_named_number;
 use mesh_base::NoMemory;
+use std::alloc::Global;
 
 /// Whether a line is that of a frame that reached clients.
 fn is_received(line: &[u8]) -> bool
@@ -35,20 +36,21 @@ pub struct Counts {
     pub ok: u128,
 }
 
-/// Appends the line of these counts.
+/// The line of these counts.
 #[tactic(auto, unfolding(mesh_model::specs::Run::Generated::summary_line))]
-pub fn summary_line(out: &mut Vec<u8>, counts: Counts) -> Result<(), NoMemory>
+pub fn summary_line(alloc: Global, counts: Counts) -> Result<Vec<u8>, NoMemory>
     requires { 0 < counts.nodes }
-    ensures { OnOk result (out.new.items ≡ out.old.items
-        ++ summary_line counts.nodes counts.frames counts.received counts.commits counts.ok) }
+    ensures { IfOk result (λ line. line.items
+        ≡ summary_line counts.nodes counts.frames counts.received counts.commits counts.ok) }
 {
+    let mut line = Vec::new(alloc);
     let nodes = u128::from(counts.nodes);
-    put_named_number(out, b"generated nodes=", nodes)?;
-    put_named_number(out, b" frames=", u128::from(counts.frames))?;
-    put_named_number(out, b" recv=", counts.received as u128)?;
-    put_named_number(out, b" commits=", counts.commits)?;
-    put_named_number(out, b" ok=", counts.ok)?;
-    put_named_number(out, b" of=", nodes * (nodes - 1))?;
-    out.extend_from_slice(b"\n")?;
-    Ok(())
+    put_named_number(&mut line, b"generated nodes=", nodes)?;
+    put_named_number(&mut line, b" frames=", u128::from(counts.frames))?;
+    put_named_number(&mut line, b" recv=", counts.received as u128)?;
+    put_named_number(&mut line, b" commits=", counts.commits)?;
+    put_named_number(&mut line, b" ok=", counts.ok)?;
+    put_named_number(&mut line, b" of=", nodes * (nodes - 1))?;
+    line.extend_from_slice(b"\n")?;
+    Ok(line)
 }

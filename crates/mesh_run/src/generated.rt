@@ -39,8 +39,7 @@ fn summary_of(alloc: Global, nodes: u8) -> Result<Vec<u8>, Fault>
         return Err(kept_fault(fault));
     }
     let counts = runner.stage.counts(nodes, kept.text.as_slice())?;
-    let mut line = Vec::new(alloc);
-    summary_line(&mut line, counts)?;
+    let line = summary_line(alloc, counts)?;
     Ok(line)
 }
 

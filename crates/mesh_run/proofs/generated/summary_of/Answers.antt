@@ -1,6 +1,5 @@
-use Rattle.std.proofs.Common.{◌∙◌, ℕ, List, [], ◌++◌, Some, sym, ap, subst, append-nil}
+use Rattle.std.proofs.Common.{◌∙◌, ℕ, List, [], ◌++◌, Some, sym, subst, append-nil}
 use Rattle.mesh_model.specs.declared.frame_choice.FrameChoice.TheVariants.{Hidden}
-use Rattle.mesh_model.specs.Run.Generated.{summary_line}
 use Rattle.mesh_model.specs.Run.PlainRun.{after_lines, start}
 use Rattle.mesh_scene.specs.Counts.{HasCounts}
 use Rattle.mesh_run.specs.Inner.Progress.{Stands}
@@ -27,6 +26,4 @@ returns-clause-summary c =
     let Counted : List ℕ → Type 0 = λ printed. HasCounts c.args.nodes state printed c.in_ok-counts.counts in
     let has = subst Counted c.as_slice-2.ensures.value (c.in_ok-counts.ensures state stands.at.scene_is) in
     let counts = c.in_ok-counts.counts in
-    let line = summary_line counts.nodes counts.frames counts.received counts.commits counts.ok in
-    summarized c.args.nodes text c.summary_line.new.out.items runner counts stands has
-    (c.in_ok-summary_line.ensures ∙ ap (λ front. front ++ line) c.new-line.ensures.items)
+    summarized c.args.nodes text c.in_ok-line.line.items runner counts stands has c.in_ok-line.ensures
