@@ -1,6 +1,10 @@
--- A node that is shown, and its tables as text. The main words are `IsNodeAt` and `AppendsTable`.
-use Rattle.std.specs.Prelude.{◌≡◌, ℕ, ◌≤◌, List, ◌++◌, IfSome}
+-- A node that is shown, its tables as text, and what a refusal leaves of the lines of events. The
+-- main words are `IsNodeAt` and `AppendsTable`.
+use Rattle.std.specs.Prelude.{◌≡◌, ℕ, ◌<◌, ◌≤◌, List, ◌++◌, IfSome, flat_map, length, take}
 use Rattle.mesh_base.specs.declared.address.Mac.{Mac}
+use Rattle.mesh_base.specs.declared.event.Event.{Event}
+use Rattle.mesh_base.specs.declared.names.NodeName.{NodeName}
+use Rattle.mesh_model.specs.Text.Events.{event_line}
 use Rattle.mesh_model.specs.declared.frame_choice.FrameChoice.{FrameChoice}
 use Rattle.mesh_model.specs.declared.line_form.Algorithm.{Algorithm}
 use Rattle.mesh_model.specs.declared.line_form.Table.{Table}
@@ -24,3 +28,10 @@ pub record IsNodeAt {A : Type 0} (queries : Mac → Queries) (stands : A → Mac
 abbrev pub AppendsTable : Algorithm → Table → ℕ → NodeLog → (old new : List ℕ) → Type 0
 AppendsTable algorithm table now row old new = (choice : FrameChoice)
     → IfSome (shown table) (λ print. new ≡ old ++ printed_text choice (print algorithm now row))
+
+-- a text gains the lines of the first events, whole lines, and not those of all events
+pub record AppendsFirst (nodes : List NodeName) (events : List Event) (old new : List ℕ) : Type 0
+  where
+    pub count : ℕ
+    pub fewer : count < length events
+    pub gained : new ≡ old ++ flat_map (event_line nodes) (take count events)
