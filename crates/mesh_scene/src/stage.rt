@@ -1,6 +1,6 @@
 //! The stage: the scene of a scenario, under the routing algorithm that is chosen.
 
-ghost use Rattle.std.specs.Prelude.{◌≡◌, ◌≤◌, false, length, nat_lt, [], IfOk};
+ghost use Rattle.std.specs.Prelude.{◌≡◌, ◌≤◌, false, length, nat_lt, [], IfOk, OnErr};
 ghost use Rattle.mesh_model.specs.declared.line_form.Command.TheVariants as command;
 ghost use Rattle.mesh_model.specs.Net.Limits.{clock_limit};
 ghost use Rattle.mesh_model.specs.Net.Mesh.{empty_mesh};
@@ -57,6 +57,7 @@ impl Stage {
             (outcome_on_stage (command.Algo algorithm)) [] result }
         ensures refused { FailsFrom StageStands self.old
             (outcome_on_stage (command.Algo algorithm)) result }
+        ensures err { OnErr result (self.new ≡ self.old) }
     {
         if self.has_nodes() {
             return Err(refused(Refusal::AlgoAfterNode));

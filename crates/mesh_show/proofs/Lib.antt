@@ -1,3 +1,4 @@
 -- What the proofs rest on.
 pub mod RowLemmas
 pub mod KnownLemmas
+pub mod TableLemmas

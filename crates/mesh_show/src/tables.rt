@@ -1,6 +1,6 @@
 //! A table of a node, whichever of those that are built.
 
-ghost use Rattle.std.specs.Prelude.{◌≡◌, is_some, true, OnOk};
+ghost use Rattle.std.specs.Prelude.{◌≡◌, is_some, true, OnOk, OnErr};
 ghost use Rattle.mesh_model.specs.Net.Mesh.{NodeLog};
 ghost use Rattle.mesh_model.specs.Run.Shown.{shown};
 ghost use Rattle.mesh_show.specs.Shown.{AppendsTable, IsNodeAt};
@@ -25,8 +25,8 @@ pub fn is_built(table: Table) -> bool
     }
 }
 
-/// Appends a table of a node of this name.
-pub fn show_table<A: Choosable>(
+/// Appends a table of a node of this name, line by line.
+fn put_shown<A: Choosable>(
     alloc: Global,
     node: &Node<A>,
     name: &[u8],
@@ -47,5 +47,25 @@ pub fn show_table<A: Choosable>(
             unreachable!()
         }
     }
+    Ok(())
+}
+
+/// Appends a table of a node of this name, the whole of it or nothing.
+pub fn show_table<A: Choosable>(
+    alloc: Global,
+    node: &Node<A>,
+    name: &[u8],
+    table: Table,
+    now: Millis,
+    out: &mut Vec<u8>,
+) -> Result<(), NoMemory>
+    requires built { is_some (shown table) ≡ true }
+    ensures ok { (row : NodeLog) → IsNodeAt A.queries A.stands node.now name.now now row →
+        OnOk result (AppendsTable A.algorithm table now row out.old.items out.new.items) }
+    ensures err { OnErr result (out.new.items ≡ out.old.items) }
+{
+    let mut text = Vec::new(alloc);
+    put_shown(alloc, node, name, table, now, &mut text)?;
+    out.extend_from_slice(text.as_slice())?;
     Ok(())
 }

@@ -1,6 +1,6 @@
 //! The containers that a node makes.
 
-ghost use Rattle.std.specs.Prelude.{◌≡◌, ◌≤◌, ◌+◌, ◌*◌, ◌∷◌, ◌++◌, [], ℕ, length, flat_map, map, IfOk, OnOk};
+ghost use Rattle.std.specs.Prelude.{◌≡◌, ◌≤◌, ◌+◌, ◌*◌, ◌∷◌, ◌++◌, [], ℕ, length, flat_map, map, IfOk, OnOk, OnErr};
 ghost use Rattle.mesh_model.specs.Commits.Announcements.{record_of_change};
 ghost use Rattle.mesh_model.specs.Acts.OwnContainers.{own_containers};
 ghost use Rattle.mesh_model.specs.Acts.Packing.{reply_containers, request_containers, request_flags, table_container, table_told, with_full};
@@ -95,6 +95,7 @@ pub fn put_table(
         (table_container (table_told flags (stamp byte sums.now) records.now) ∷ [])) }
     ensures longer { OnOk result (length out.new.items ≡ length out.old.items
         + (8 + 8 * length (named_sums sums.now) + 12 * length records.now)) }
+    ensures err { OnErr result (out.new.items ≡ out.old.items) }
 {
     let body = table_body(alloc, flags, byte, sums, records)?;
     write_container(out, TT, VERSION, body.as_slice())?;

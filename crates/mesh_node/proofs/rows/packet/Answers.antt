@@ -19,4 +19,4 @@ returns-in_ok-elp-in-Elp-clause-noted g c = λ known number stands.
     let came = coming c.args.came number in
     let packet = seen c.args.packet.now in
     subst (λ (head : Head). KnowledgeStands g.A.Algo.stands c.elp.new.kept c.args.me (after_head (g.A.Algo.queries c.args.me) c.args.me came (message_of packet) packet.tail head known)) (sym c.in-Elp.is)
-    (subst (λ (head : Head). KnowledgeStands g.A.Algo.stands c.elp.new.kept c.args.me (with_head came head known)) c.in-Elp.is (c.in_ok-elp-in-Elp.ensures c.args.me known number stands))
+    (subst (λ (head : Head). KnowledgeStands g.A.Algo.stands c.elp.new.kept c.args.me (with_head came head known)) c.in-Elp.is (c.in_ok-elp-in-Elp.ensures.ok c.args.me known number stands))
