@@ -25,8 +25,26 @@ const QUESTIONS: &str = "run 120000\nshow A tg\nping A E\ntraceroute A E\nrun 10
 const ANSWERS: &str = "trace A E hop=1 B rtt=2\ntrace A E hop=2 C rtt=4\n\
     ping A E seq=1 reply ttl=47 rtt=8\ntrace A E hop=3 D rtt=6\ntrace A E hop=4 E rtt=8 end\n";
 
-/// Room for all that the chain prints, which takes 42 writes.
+/// Room for all that the chain prints.
 const CHAIN_ROOM: usize = 5000;
+
+/// How many bytes a client's frame prints, which is lost.
+const LOST_LENGTH: usize = 55;
+
+/// How many bytes the table of the others' clients prints.
+const TABLE_LENGTH: usize = 1_025;
+
+/// How many bytes a read of the chain's lines gives at most.
+const READ_PIECE: usize = 50;
+
+/// How many bytes a write of what they print takes at most.
+const WRITE_PIECE: usize = 7;
+
+/// The calls of the intake: one opens, 44 give bytes, and one finds the end.
+const READ_CALLS: u64 = 46;
+
+/// The writes: 8 for each of 40 lost frames, 147 for the table, 20 for the answers.
+const WRITES: u64 = 8 * 40 + 147 + 20;
 
 /// The lines of the chain, with eight clients at each node.
 fn chain_lines(alloc: Global) -> Result<String, Fail> {
@@ -69,43 +87,90 @@ fn chain_text(alloc: Global) -> Result<String, Fail> {
     Ok(text)
 }
 
-/// A run of the chain, whose intake fails at this call and whose output at this write, where they
-/// come to it.
-fn run_chain(alloc: Global, call: u64, write: u64) -> Result<Ended, Fail> {
-    let lines = chain_lines(alloc)?;
-    let intake = MemIntake::new(alloc, lines.as_bytes(), 50, &[call])?;
-    let out = MemSink::new(alloc, CHAIN_ROOM, CHAIN_ROOM, &[write])?;
+/// A run of the chain, read in pieces of 50 bytes and written in pieces of 7, whose intake fails at
+/// this call and whose output at this write, where they come to it.
+fn run_chain(alloc: Global, lines: &str, call: u64, write: u64) -> Result<Ended, Fail> {
+    let intake = MemIntake::new(alloc, lines.as_bytes(), READ_PIECE, &[call])?;
+    let out = MemSink::new(alloc, CHAIN_ROOM, WRITE_PIECE, &[write])?;
     let err = MemSink::new(alloc, ROOM, ROOM, &[])?;
     Ok(run_over(alloc, intake, out, err))
+}
+
+/// How many bytes a line of the chain prints: each client's frame is lost, and the probes are
+/// answered in the last 100 milliseconds.
+fn printed_by(line: &[u8]) -> usize {
+    if line.starts_with(b"frame ") {
+        LOST_LENGTH
+    } else if line == b"show A tg".as_slice() {
+        TABLE_LENGTH
+    } else if line == b"run 100".as_slice() {
+        ANSWERS.len()
+    } else {
+        0
+    }
+}
+
+/// How many bytes the complete lines among these bytes print.
+fn printed_by_lines(bytes: &[u8]) -> usize {
+    let mut printed = 0_usize;
+    let mut rest = bytes;
+    while let Some(end) = rest.iter().position(|byte| *byte == b'\n') {
+        printed = printed.saturating_add(printed_by(&rest[..end]));
+        rest = &rest[end + 1..];
+    }
+    printed
 }
 
 #[test]
 fn a_chain_knows_its_clients_and_answers_probes(rt: HostRuntime) -> Result<(), Fail> {
     let text = chain_text(rt.alloc())?;
-    let ended = run_chain(rt.alloc(), 0, 0)?;
+    let lines = chain_lines(rt.alloc())?;
+    let ended = run_chain(rt.alloc(), lines.as_str(), 0, 0)?;
     assert_eq!(rt; ended.status, FINISHED);
     assert_eq!(rt; ended.out.taken(), text.as_bytes());
+    assert_eq!(rt; printed_by_lines(lines.as_bytes()), text.len());
     Ok(())
 }
 
 #[test]
-fn a_chain_that_can_not_be_read_or_written_leaves_a_front(rt: HostRuntime) -> Result<(), Fail> {
+fn a_chain_that_can_not_be_read_prints_its_complete_lines(rt: HostRuntime) -> Result<(), Fail> {
     let text = chain_text(rt.alloc())?;
-    for call in 1..=46 {
-        let ended = run_chain(rt.alloc(), call, 0)?;
+    let lines = chain_lines(rt.alloc())?;
+    // Call 1 opens, each later one gives 50 bytes, and the last finds the end.
+    let mut given = lines.as_bytes().get(..0).unwrap_or(&[]);
+    for call in 1..=READ_CALLS {
+        let ended = run_chain(rt.alloc(), lines.as_str(), call, 0)?;
         assert_eq!(rt; ended.status, READ_FAULT, "at call {call}");
-        assert!(rt;
-            text.as_bytes().starts_with(ended.out.taken()),
-            "at call {call}"
-        );
+        let printed = text.as_bytes().get(..printed_by_lines(given));
+        assert_eq!(rt; Some(ended.out.taken()), printed, "at call {call}");
+        if call > 1 {
+            let more = given.len().saturating_add(READ_PIECE);
+            given = lines.as_bytes().get(..more).unwrap_or(lines.as_bytes());
+        }
     }
-    for write in 1..=42 {
-        let ended = run_chain(rt.alloc(), 0, write)?;
-        assert_eq!(rt; ended.status, WRITE_FAULT, "at write {write}");
+    let ended = run_chain(rt.alloc(), lines.as_str(), READ_CALLS + 1, 0)?;
+    assert_eq!(rt; ended.status, FINISHED);
+    Ok(())
+}
+
+#[test]
+fn a_chain_that_can_not_be_written_leaves_a_front(rt: HostRuntime) -> Result<(), Fail> {
+    let text = chain_text(rt.alloc())?;
+    let lines = chain_lines(rt.alloc())?;
+    // Only one write fails: what is written after it would not continue the front.
+    for write in 1..=WRITES {
+        let ended = run_chain(rt.alloc(), lines.as_str(), 0, write)?;
+        assert_eq!(rt;
+            (ended.status, ended.out.faults()),
+            (WRITE_FAULT, 1),
+            "at write {write}"
+        );
         assert!(rt;
             text.as_bytes().starts_with(ended.out.taken()),
             "at write {write}"
         );
     }
+    let ended = run_chain(rt.alloc(), lines.as_str(), 0, WRITES + 1)?;
+    assert_eq!(rt; ended.status, FINISHED);
     Ok(())
 }
