@@ -19,8 +19,8 @@ pub record PastCommit : Type 0 where
   pub sums : List VlanSum
 
 -- what a journal keeps: the last commit's table and changes, the commits before it, oldest first,
--- of each of them a commit that has its table, each 32nd of their tables, and how many messages have
--- announced the last commit, at most three
+-- of each of them a commit that has its table, each 32nd of their tables, and how many messages
+-- have announced the last commit, at most three
 pub record JournalView : Type 0 where
   pub table : List Entry
   pub changes : List Change
