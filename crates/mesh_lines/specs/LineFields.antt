@@ -21,6 +21,7 @@ pub record AreSameOk (orig other : Mac) (held told entries h t n : ℕ) : Type 0
   pub told_is : told ≡ t
   pub entries_are : entries ≡ n
 
+-- so it is where two such lines are the same
 abbrev pub OkLinesTellFields : Type 0
 OkLinesTellFields = (orig other : Mac) (held told entries h t n : ℕ) → AreBytes orig.0 →
     held < 2 ^ 64 → told < 2 ^ 64 → entries < 2 ^ 64 → h < 2 ^ 64 → t < 2 ^ 64 → n < 2 ^ 64 →
@@ -33,6 +34,7 @@ pub record AreSameEntry (one other : Entry) : Type 0 where
   pub vid : one.key.vid ≡ other.key.vid
   pub flags : flags_text one.flags ≡ flags_text other.flags
 
+-- so it is where two such lines are the same, of wire numbers of two bytes
 abbrev pub EntryLinesTellFields : Type 0
 EntryLinesTellFields = (one other : Entry) → AreBytes one.key.mac.0 →
     one.key.vid.0 < 2 ^ 16 → other.key.vid.0 < 2 ^ 16 → entry_line one ≡ entry_line other →
@@ -45,6 +47,7 @@ pub record AreSameAlias (names others : List NodeName) (orig other : Mac)
   pub number_is : number ≡ n
   pub earlier_is : earlier ≡ e
 
+-- so it is where two such lines are the same, by names that are words
 abbrev pub AliasLinesTellFields : Type 0
 AliasLinesTellFields = (names others : List NodeName) (orig other : Mac)
     (number earlier n e : ℕ) → AreNamed names → AreNamed others →
@@ -60,6 +63,7 @@ pub record AreSameFrame (number moment n m : ℕ) (from to bytes a b bs : List �
   pub to_is : to ≡ b
   pub bytes_are : bytes ≡ bs
 
+-- so it is where two such lines are the same, of ends that are words
 abbrev pub FrameLinesTellFields : Type 0
 FrameLinesTellFields = (number moment n m : ℕ) (from to bytes a b bs : List ℕ) →
     number < 2 ^ 64 → moment < 2 ^ 64 → n < 2 ^ 64 → m < 2 ^ 64 →
