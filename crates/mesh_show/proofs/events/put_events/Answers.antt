@@ -18,7 +18,7 @@ pub returns-in_err-line-clause-err : goal.returns-in_err-line-clause-err
 returns-in_err-line-clause-err c =
     let p = err_from_is_err_and c.from_residual.result c.from_residual.ensures.1 in
     let found = sym c.at.ensures ∙ ap (option_map (λ e. e.now)) c.in-Some.is in
-    rw (p.1, p.2)
+    rw p.1
     (record {
       count = c.loop-done.done;
       fewer = slice_get_within c.args.events.now c.loop-done.done c.in-Some.event.now found;
