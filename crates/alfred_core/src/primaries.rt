@@ -45,7 +45,8 @@ fn best_row(now: Millis, rows: &[PrimaryRow]) -> Option<PrimaryRow>
 }
 
 /// The primary to which a node speaks: of those that announced themselves less than 60,000 ms ago
-/// the one of the greatest metric above 0, in a tie that of the smaller address. It takes no memory.
+/// the one of the greatest metric above 0, in a tie that of the smaller address. It takes no
+/// memory.
 pub fn primary_of(now: Millis, rows: &[PrimaryRow]) -> Option<Mac>
     ensures { result ≡ best_primary now rows.now }
 {

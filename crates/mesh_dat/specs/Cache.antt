@@ -1,5 +1,5 @@
--- How what a node keeps of pairs stands for all that it learned: of each pair the last, the pairs in
--- their order. The main word is `CacheStands`.
+-- How what a node keeps of pairs stands for all that it learned: of each pair the last, the pairs
+-- in their order. The main word is `CacheStands`.
 use Rattle.std.specs.Prelude.{◌≡◌, List, Option, find, option_map}
 use Rattle.std.specs.List.Sorted.{IsStrictlySortedBy}
 use Rattle.std.specs.Map.{keys_of, lookup}
