@@ -22,7 +22,7 @@ struct FullPort {
 }
 
 impl Port for FullPort {
-    ghost use Rattle.std.specs.Prelude.{Some};
+    ghost use Rattle.std.specs.Prelude.{Some, ⊤};
     ghost use Rattle.mesh_model.specs.declared.ending.LimitName.TheVariants.{Frames};
 
     ghost takes = { λ _ _ _. ⊥ };
