@@ -122,6 +122,11 @@ fn printed_by_lines(bytes: &[u8]) -> usize {
     printed
 }
 
+/// The first bytes, so many; all where there are fewer.
+fn front_of(bytes: &[u8], length: usize) -> &[u8] {
+    bytes.get(..length).unwrap_or(bytes)
+}
+
 #[test]
 fn a_chain_knows_its_clients_and_answers_probes(rt: HostRuntime) -> Result<(), Fail> {
     let text = chain_text(rt.alloc())?;
@@ -138,15 +143,18 @@ fn a_chain_that_can_not_be_read_prints_its_complete_lines(rt: HostRuntime) -> Re
     let text = chain_text(rt.alloc())?;
     let lines = chain_lines(rt.alloc())?;
     // Call 1 opens, each later one gives 50 bytes, and the last finds the end.
-    let mut given = lines.as_bytes().get(..0).unwrap_or(&[]);
+    let mut given = 0_usize;
     for call in 1..=READ_CALLS {
         let ended = run_chain(rt.alloc(), lines.as_str(), call, 0)?;
         assert_eq!(rt; ended.status, READ_FAULT, "at call {call}");
-        let printed = text.as_bytes().get(..printed_by_lines(given));
-        assert_eq!(rt; Some(ended.out.taken()), printed, "at call {call}");
+        let printed = printed_by_lines(front_of(lines.as_bytes(), given));
+        assert_eq!(rt;
+            ended.out.taken(),
+            front_of(text.as_bytes(), printed),
+            "at call {call}"
+        );
         if call > 1 {
-            let more = given.len().saturating_add(READ_PIECE);
-            given = lines.as_bytes().get(..more).unwrap_or(lines.as_bytes());
+            given = given.saturating_add(READ_PIECE);
         }
     }
     let ended = run_chain(rt.alloc(), lines.as_str(), READ_CALLS + 1, 0)?;
