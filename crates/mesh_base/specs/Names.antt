@@ -22,6 +22,10 @@ node_name nodes mac = option_map (λ (node : NodeName). node.name)
 abbrev pub is_node_name : List ℕ → NodeName → Bool
 is_node_name name node = bytes_eq node.name name
 
+-- whether a LAN has this name
+abbrev pub is_lan_name : List ℕ → List ℕ → Bool
+is_lan_name name lan = bytes_eq lan name
+
 -- the name of the LAN of this number, from 1
 abbrev pub lan_name : List (List ℕ) → ℕ → Option (List ℕ)
 lan_name lans number = if number == 0 then None else slice_get lans (number - 1)

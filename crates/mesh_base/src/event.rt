@@ -60,7 +60,38 @@ pub enum TraceResult {
     Unreachable { hop: u8, from: Mac },
 }
 
-/// What happens in a run and has a line of its own. Nodes are named by their addresses.
+/// What came of a question for an IP address.
+#[derive(Clone, Copy, Debug, PartialEq, Eq)]
+pub enum ArpResult {
+    /// `off`: the node takes no part in the ARP table.
+    Off,
+    /// `none`: the node doesn't know the address, and no other node is asked.
+    Unknown,
+    /// `is MAC cache`: the node knows the address.
+    Cached { mac: Mac },
+    /// `is MAC dht`: a node that was asked answered.
+    Found { mac: Mac },
+}
+
+/// What came of a question for the facts of a type.
+#[derive(Debug, Drop)]
+pub enum FactResult {
+    /// `off`: the node has no part in the fact store.
+    Off,
+    /// `noprimary`: a secondary knows no primary.
+    NoPrimary,
+    /// `empty`: there are none.
+    Empty,
+    /// `MAC VERSION TEXT`: a fact with its source.
+    Fact {
+        source: Mac,
+        version: u8,
+        text: Bytes,
+    },
+}
+
+/// What happens in a run and has a line of its own. Nodes are named by their addresses, LANs by
+/// their numbers, from 1.
 #[derive(Debug, Drop)]
 pub enum Event {
     /// `fN T A>B KIND HEX`: a link frame is sent. A reason stands exactly with a packet of kind
@@ -77,6 +108,22 @@ pub enum Event {
     Received {
         moment: Millis,
         node: Mac,
+        vid: Vid,
+        src: Mac,
+        dst: Mac,
+        text: Bytes,
+    },
+    /// `lN T LAN KIND HEX`: a frame is put on a LAN.
+    LanSent {
+        number: u32,
+        moment: Millis,
+        lan: u32,
+        bytes: Bytes,
+    },
+    /// `recv T LAN VID SRC DST TEXT`: a client frame that a gateway put on a LAN reaches it.
+    Bridged {
+        moment: Millis,
+        lan: u32,
         vid: Vid,
         src: Mac,
         dst: Mac,
@@ -110,5 +157,17 @@ pub enum Event {
         node: Mac,
         target: Mac,
         result: TraceResult,
+    },
+    /// `arp NODE IP RESULT`: what came of a client's question for an IP address, as a number.
+    Arp {
+        node: Mac,
+        ip: u32,
+        result: ArpResult,
+    },
+    /// `alfred NODE get TYPE RESULT`: what came of a question for the facts of a type.
+    Alfred {
+        node: Mac,
+        type_no: u8,
+        result: FactResult,
     },
 }

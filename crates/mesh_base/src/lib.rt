@@ -26,7 +26,7 @@ pub mod transfer;
 pub use address::Mac;
 pub use byte_list::Bytes;
 pub use client::{Entry, Key, Millis, Vid};
-pub use event::{Event, LossReason, PingResult, Reason, TraceResult};
+pub use event::{ArpResult, Event, FactResult, LossReason, PingResult, Reason, TraceResult};
 pub use event_list::Events;
 pub use failure::{Failed, NoMemory, OpenErr};
 pub use memory_intake::MemIntake;

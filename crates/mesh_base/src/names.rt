@@ -1,5 +1,5 @@
 ghost use Rattle.std.specs.Prelude.{◌≡◌, ◌++◌, ◌∷◌, [], position, option_map, OnOk, OnErr};
-ghost use Rattle.mesh_base.specs.Names.{NamesGiven, no_names, node_name, is_node_name, lan_name};
+ghost use Rattle.mesh_base.specs.Names.{NamesGiven, no_names, node_name, is_node_name, is_lan_name, lan_name};
 
 use crate::address::Mac;
 use crate::byte_list::Bytes;
@@ -81,6 +81,13 @@ impl Names {
         self.nodes
             .iter()
             .position(|node| node.name.as_slice() == name)
+    }
+
+    /// The place of the first LAN with this name, from 0, or `None` where there is none.
+    pub fn lan_place(&self, name: &[u8]) -> Option<usize>
+        ensures { result ≡ position (is_lan_name name.now) self.now.lans }
+    {
+        self.lans.iter().position(|lan| lan.as_slice() == name)
     }
 
     /// The name of the LAN with this number, from 1, or `None` where there is none.

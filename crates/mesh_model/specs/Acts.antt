@@ -1,10 +1,13 @@
 -- What a node puts when it is given something: the packets that it makes, the rows, each a
--- definition of its own, and the choice of the row. It stands on the rooms Clients, Commits and
--- Knowledge. The main word is `acts_of`, in Choosing.
+-- definition of its own, the choice of the row, and where among the acts a limit is looked at. It
+-- stands on the rooms Bridges, Clients, Commits and Knowledge. The main words are `acts_of`, in
+-- Choosing, and `node_limit`, in NodeLimits.
 pub mod Packing
 pub mod OwnContainers
+pub mod BridgeRows
 pub mod TableRows
 pub mod FrameRows
 pub mod ProbeRows
 pub mod Rows
 pub mod Choosing
+pub mod NodeLimits

@@ -1,7 +1,8 @@
--- A node's settings and its log, the mentions of clients in it, who is present, and how many may be.
--- The main word is `present_clients`, in Present.
+-- A node's settings and its log, its LAN where it is a gateway, the mentions of clients in the log,
+-- who is present, and how many may be. The main word is `present_clients`, in Present.
 pub mod Settings
 pub mod Log
+pub mod Lans
 pub mod Mentions
 pub mod Present
 pub mod Limits

@@ -37,6 +37,8 @@ pub enum Refusal {
     AlgoAfterNode,
     /// `no such frame`: no link frame of this number was sent.
     NoSuchFrame,
+    /// `attached`: a node is a gateway already where a line makes it one, or names it as a place.
+    Attached,
 }
 
 /// A quantity with a limit, by the name that is printed.
@@ -50,6 +52,8 @@ pub enum LimitName {
     Nodes,
     /// `links`: 512 links.
     Links,
+    /// `lans`: 16 LANs.
+    Lans,
     /// `clients`: 1,024 clients present at a node, joined groups included.
     Clients,
     /// `vlans`: 16 VLANs with clients present at a node.

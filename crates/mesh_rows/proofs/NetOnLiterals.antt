@@ -13,10 +13,12 @@ use Rattle.mesh_model.specs.Net.Runs.{going_on}
 use Rattle.mesh_model.specs.Packets.Bodies.{pieces}
 use Rattle.mesh_model.specs.Packets.Containers.{first_containers, containers_of}
 use Rattle.mesh_model.specs.Packets.FirstPacket.{first_packet}
+use Rattle.mesh_model.specs.Packets.LanFrames.{lan_message_of}
 use Rattle.mesh_model.specs.Packets.LinkFrame.{frame_within, link_frame}
 use Rattle.mesh_model.specs.Scenario.Commands.{command_of_line}
 use Rattle.mesh_model.specs.Text.GlobalTables.{entry_line, global_header, global_line, mark_line}
-use Rattle.mesh_model.specs.Text.Events.{client_frame_line, event_line}
+use Rattle.mesh_model.specs.Text.Claims.{claim_header, claim_line}
+use Rattle.mesh_model.specs.Text.Events.{client_frame_line, event_line, ip_text}
 use Rattle.mesh_model.specs.Text.Tables.{age_text, flags_text, local_header, local_line, sum_text, vid_text, vlan_line}
 use Rattle.mesh_rows.proofs.RoutesOnLiterals.{routes_on_literals}
 use Rattle.mesh_rows.proofs.TablesOnLiterals.{tables_on_literals}
@@ -25,5 +27,5 @@ unfoldable pub net_on_literals : ⊤
 unfolding encode digits chars is_utf8 encode_with message_acts tick_acts ogm_acts packet_acts packets_acts
     broadcast_acts frame_acts here_acts passed_frame icmp_here passed_icmp session_acts other_containers own_answer entry_line global_header global_line mark_line
     pieces first_containers containers_of first_packet frame_within link_frame routes_on_literals tables_on_literals going_on command_of_line client_frame_line event_line age_text flags_text
-    local_header local_line sum_text vid_text vlan_line
+    local_header local_line sum_text vid_text vlan_line lan_message_of claim_header claim_line ip_text
 net_on_literals = tt

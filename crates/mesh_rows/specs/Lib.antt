@@ -4,6 +4,7 @@ pub mod Rows
 pub mod DecodeRows
 pub mod NetRows
 pub mod NetLines
+pub mod LanLines
 pub mod AlgorithmLines
 pub mod TableRows
 pub mod CommitRows

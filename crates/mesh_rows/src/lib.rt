@@ -12,6 +12,7 @@ pub mod container_rows;
 pub mod decode_rows;
 pub mod event_rows;
 pub mod generated_rows;
+pub mod lan_rows;
 pub mod line_rows;
 pub mod mark_rows;
 pub mod net_rows;

@@ -72,8 +72,8 @@ pub fn a_second_node_of_an_address_is_refused()
 {}
 
 /// A form that isn't built is refused before a name that isn't known.
-pub fn a_lan_is_not_built()
-    ensures { HaltsAt (lines (codes "lan L A" ∷ [])) [] 1 (Refused NotBuilt) }
+pub fn a_fact_is_not_built()
+    ensures { HaltsAt (lines (codes "alfred A get 64" ∷ [])) [] 1 (Refused NotBuilt) }
 {}
 
 /// The words of a line are looked at from left to right.

@@ -1,17 +1,23 @@
 -- What a node puts when it is given something: the row of the input, by what the node knows. A
--- sighting comes first, with its advertisement. A setting, a joining, a leaving and a departure put
--- nothing, nor do, in this version, frames of a LAN and facts. The main word is `acts_of`.
-use Rattle.std.specs.Prelude.{ℕ, Bool, true, false, List, [], ◌++◌}
+-- sighting comes first, with its advertisement; before the sighting of a client on a LAN comes its
+-- claim. A LAN that is joined, a setting, a joining, a leaving and a departure put nothing, nor do,
+-- in this version, facts. The main word is `acts_of`.
+use Rattle.std.specs.Prelude.{ℕ, Bool, true, false, List, [], ◌++◌, Option, Some, None, if◌then◌else◌}
 use Rattle.mesh_base.specs.declared.address.Mac.{Mac}
 use Rattle.mesh_base.specs.declared.client.Key.{Key}
 use Rattle.mesh_model.specs.declared.act.Act.{Act}
+use Rattle.mesh_model.specs.Acts.BridgeRows.{claim_acts}
 use Rattle.mesh_model.specs.Acts.FrameRows.{advert_acts, frame_acts}
 use Rattle.mesh_model.specs.Acts.ProbeRows.{session_acts}
 use Rattle.mesh_model.specs.Acts.Rows.{own_by, packets_acts, tick_acts}
+use Rattle.mesh_model.specs.Bridges.Verdicts.{verdict_from_lan}
+use Rattle.mesh_model.specs.Clients.Lans.{LanOf, bridge}
 use Rattle.mesh_model.specs.Clients.Log.{Given, Tick, LinkFrame, LanFrame, Line, LineGiven, Attach, Frame, Gone, Join, Leave, Arp, Dhcp, Sets, Put, Get, Ping, Trace, Log}
-use Rattle.mesh_model.specs.Clients.Mentions.{key_of, mentions, next_mentions}
+use Rattle.mesh_model.specs.Clients.Mentions.{Mention, key_of, mentions, next_mentions, passed_from_lan}
 use Rattle.mesh_model.specs.Commits.History.{history}
-use Rattle.mesh_model.specs.Knowledge.Steps.{advertised, after_sighting, knowledge}
+use Rattle.mesh_model.specs.Knowledge.Known.{Knowledge}
+use Rattle.mesh_model.specs.Knowledge.Steps.{advertised, after_sighting, knowledge, stays_on_lan}
+use Rattle.mesh_model.specs.Packets.LanFrames.{client_frame_in, lan_message_of}
 use Rattle.mesh_model.specs.Packets.LinkFrame.{link_frame}
 use Rattle.mesh_model.specs.Packets.Payload.{ClientFrame}
 use Rattle.mesh_model.specs.Routes.Queries.{Queries}
@@ -34,6 +40,45 @@ abbrev pub probing_acts : Queries → Mac → Log → ℕ → Mac → Bool → L
 probing_acts q me log now target trace =
     session_acts q (knowledge q me log) (record { me = me; now = now }) target trace
 
+-- ---- frames of a LAN
+
+-- the claim of a client frame's source on the LAN that it came from
+abbrev pub claiming_acts : Mac → Log → ℕ → ClientFrame → Option LanOf → List Act
+claiming_acts me log now frame None = []
+claiming_acts me log now frame (Some lan) =
+    claim_acts (record { me = me; now = now }) lan (key_of frame.src frame.vid)
+    (verdict_from_lan me (bridge log).claims now (key_of frame.src frame.vid)).claim
+
+-- the same, where a client frame came
+abbrev pub claimed_first : Mac → Log → ℕ → Option ClientFrame → List Act
+claimed_first me log now None = []
+claimed_first me log now (Some frame) = claiming_acts me log now frame (bridge log).lan
+
+-- a client frame from a LAN, behind its sighting, by what is known and mentioned then: it goes on,
+-- unless it stays there
+abbrev pub on_from_lan : Queries → Mac → Log → ℕ → Knowledge → List Mention → ClientFrame → List Act
+on_from_lan q me log now known after frame =
+    if stays_on_lan q after (bridge log).lan now (key_of frame.dst frame.vid) known then []
+    else frame_acts q known after (record { me = me; now = now }) frame
+
+-- a client frame that a gateway passes of its LAN, where it passes one, with the mentions behind
+-- its sighting
+abbrev pub from_lan_acts : Queries → Mac → Log → ℕ → List Mention → Option ClientFrame → List Act
+from_lan_acts q me log now after None = []
+from_lan_acts q me log now after (Some frame) =
+    sighting_acts q me log now (key_of frame.src frame.vid)
+    ++ on_from_lan q me log now
+    (after_sighting q me log now (key_of frame.src frame.vid) (knowledge q me log)) after frame
+
+-- the acts, in order, of a frame on the LAN of a gateway
+abbrev pub lan_acts : Queries → Mac → Log → ℕ → List ℕ → List Act
+lan_acts q me log now bytes =
+    claimed_first me log now (client_frame_in (lan_message_of bytes))
+    ++ from_lan_acts q me log now (next_mentions me log (mentions me log) now (LanFrame bytes))
+    (passed_from_lan me log now (client_frame_in (lan_message_of bytes)))
+
+-- ---- the choice
+
 -- the acts, in order, of what a line gives a node at a moment
 abbrev pub line_acts : Queries → Mac → Log → ℕ → LineGiven → List Act
 line_acts q me log now (Attach lan gateways) = []
@@ -55,10 +100,10 @@ line_acts q me log now (Trace target) = probing_acts q me log now target true
 -- moment
 abbrev pub acts_of : Queries → Mac → Log → ℕ → Given → List Act
 acts_of q me log now (Tick index) = tick_acts q me (knowledge q me log).routes (mentions me log)
-    (history me log) now index
+    (history me log) (bridge log) now index
 acts_of q me log now (LinkFrame number from throughput bytes) =
     packets_acts q me (own_by me log)
     (record { now = now; from = from; throughput = throughput; number = number })
     (knowledge q me log) (link_frame bytes).packets
-acts_of q me log now (LanFrame bytes) = []
+acts_of q me log now (LanFrame bytes) = lan_acts q me log now bytes
 acts_of q me log now (Line line) = line_acts q me log now line

@@ -1,23 +1,25 @@
--- The rows of client frames: what a node puts for a client frame that a line gives it, for a
--- broadcast, and for a packet that carries a client frame to it or past it. A sighting comes first,
--- with its advertisement. What is for a client that is present is handed out; else it is sent where
--- the client is known to be, or is lost. What is carried may be no client frame: then nothing is
--- printed of it, and a broadcast of it is sent on all the same. The main words are `frame_acts`,
--- `broadcast_acts`, `here_acts` and `passed_frame`.
+-- The rows of client frames: what a node puts for a client frame that a line or its LAN gives it,
+-- for a broadcast, and for a packet that carries a client frame to it or past it. A sighting comes
+-- first, with its advertisement. What is for a client that is present is handed out, at a gateway
+-- to its LAN by its verdict; else it is sent where the client is known to be, or is lost. What is
+-- carried may be no client frame: then nothing is printed of it, and a broadcast of it is sent on
+-- all the same. The main words are `frame_acts`, `broadcast_acts`, `here_acts` and `passed_frame`.
 use Rattle.mesh_model.specs.Packets.Numbers.{first_ttl}
 use Rattle.std.specs.Prelude.{ℕ, suc, ◌-◌, ◌||◌, nat_le, Bool, List, [], ◌∷◌, ◌++◌, Option, Some, None, is_some, if◌then◌else◌}
 use Rattle.std.specs.Option.{unwrap_or}
 use Rattle.mesh_base.specs.Address.{is_broadcast, is_group}
 use Rattle.mesh_base.specs.declared.address.Mac.{Mac}
 use Rattle.mesh_base.specs.declared.client.Key.{Key}
-use Rattle.mesh_base.specs.declared.event.Event.TheVariants.{Received, Lost}
+use Rattle.mesh_base.specs.declared.event.Event.TheVariants.{Lost}
 use Rattle.mesh_base.specs.declared.event.LossReason.{LossReason}
 use Rattle.mesh_base.specs.declared.event.LossReason.TheVariants.{Unknown, Ttl, NoRoute}
 use Rattle.mesh_base.specs.declared.event.Reason.TheVariants.{Fwd}
 use Rattle.mesh_model.specs.declared.act.Act.{Act}
 use Rattle.mesh_model.specs.declared.act.Act.TheVariants.{Print}
 use Rattle.mesh_model.specs.declared.packet.Head.TheVariants.{Bcast, Unicast, Utvlv}
+use Rattle.mesh_model.specs.Acts.BridgeRows.{Place, handed_out, out_acts, spread_of_broadcast, spread_of_packet}
 use Rattle.mesh_model.specs.Acts.Packing.{roaming_container, sent_to, sent_to_all}
+use Rattle.mesh_model.specs.Clients.Lans.{Bridge}
 use Rattle.mesh_model.specs.Clients.Mentions.{Mention, key_of}
 use Rattle.mesh_model.specs.Clients.Present.{present_row}
 use Rattle.mesh_model.specs.Knowledge.Addressee.{Way, addressee}
@@ -26,25 +28,18 @@ use Rattle.mesh_model.specs.Packets.Containers.{containers_spelling}
 use Rattle.mesh_model.specs.Packets.Payload.{ClientFrame, client_frame_of, payload_spelling}
 use Rattle.mesh_model.specs.Routes.Queries.{Queries}
 
--- where and when a client frame is at a node
-pub record Place : Type 0 where
-  pub me : Mac
-  pub now : ℕ
-
 -- ---- what is printed
-
--- a client frame reaches the clients of a node
-abbrev pub handed_out : Place → ClientFrame → Act
-handed_out at frame = Print (Received at.now at.me frame.vid frame.src frame.dst frame.text)
 
 -- a client frame is lost at a node
 abbrev pub lost : Place → LossReason → ClientFrame → Act
 lost at reason frame = Print (Lost at.now at.me frame.vid frame.src frame.dst reason)
 
--- what is carried is handed out, where it is a client frame
-abbrev pub handed_out_if : Place → Option ClientFrame → List Act
-handed_out_if at None = []
-handed_out_if at (Some frame) = handed_out at frame ∷ []
+-- what a broadcast of an originator carries goes to the clients of a node, where it is a client
+-- frame
+abbrev pub handed_out_if : Bridge → Place → Mac → Option ClientFrame → List Act
+handed_out_if bridge at orig None = []
+handed_out_if bridge at orig (Some frame) =
+    out_acts bridge at (spread_of_broadcast bridge orig frame) frame
 
 -- what is carried is lost, where it is a client frame
 abbrev pub lost_if : Place → LossReason → Option ClientFrame → List Act
@@ -64,7 +59,7 @@ advert_acts me key None = []
 advert_acts me key (Some way) = sent_to way.next None (Utvlv first_ttl way.orig me)
     (containers_spelling (roaming_container key ∷ [])) ∷ []
 
--- ---- client frames of lines
+-- ---- client frames of clients
 
 -- a client frame that a client of the node sends on a way, or loses where there is none
 abbrev pub on_way : Queries → Knowledge → Place → ClientFrame → Option Way → List Act
@@ -94,10 +89,12 @@ broadcast_on ttl broadcast tail = if nat_le ttl 1 then []
     else sent_to_all (Bcast (ttl - 1) broadcast.number broadcast.orig) tail ∷ []
 
 -- a broadcast: it is handed out and then sent on, once
-unfoldable pub broadcast_acts : Knowledge → Place → ℕ → Broadcast → List ℕ → List Act
-broadcast_acts known at ttl broadcast tail =
+unfoldable pub broadcast_acts : Knowledge → Bridge → Place → ℕ → Broadcast → List ℕ → List Act
+broadcast_acts known bridge at ttl broadcast tail =
     if is_new_broadcast at.me broadcast known.taken
-    then handed_out_if at (client_frame_of tail) ++ broadcast_on ttl broadcast tail else []
+    then handed_out_if bridge at broadcast.orig (client_frame_of tail)
+    ++ broadcast_on ttl broadcast tail
+    else []
 
 -- ---- packets for one node
 
@@ -109,19 +106,20 @@ readdressed q known at ttl frame tail (Some way) = if nat_le ttl 1 then lost at 
     else addressed q known at.now (ttl - 1) way tail ∷ []
 
 -- a client frame at the node to which it was addressed
-abbrev pub arrived : Queries → Knowledge → List Mention → Place → ℕ → List ℕ → Option ClientFrame
-    → List Act
-arrived q known mentions at ttl tail None = []
-arrived q known mentions at ttl tail (Some frame) =
+abbrev pub arrived : Queries → Knowledge → List Mention → Bridge → Place → ℕ → List ℕ
+    → Option ClientFrame → List Act
+arrived q known mentions bridge at ttl tail None = []
+arrived q known mentions bridge at ttl tail (Some frame) =
     if is_group frame.dst || is_present mentions at.now (key_of frame.dst frame.vid)
-    then handed_out at frame ∷ []
+    then out_acts bridge at (spread_of_packet frame) frame
     else readdressed q known at ttl frame tail
     (addressee q known at.now (key_of frame.dst frame.vid))
 
 -- a packet for this node
-unfoldable pub here_acts : Queries → Knowledge → List Mention → Place → ℕ → List ℕ → List Act
-here_acts q known mentions at ttl tail =
-    arrived q known mentions at ttl tail (client_frame_of tail)
+unfoldable pub here_acts : Queries → Knowledge → List Mention → Bridge → Place → ℕ → List ℕ
+    → List Act
+here_acts q known mentions bridge at ttl tail =
+    arrived q known mentions bridge at ttl tail (client_frame_of tail)
 
 -- a packet that goes on to a neighbour, or is lost where there is none
 abbrev pub on_route : Place → ℕ → ℕ → Mac → List ℕ → Option Mac → List Act

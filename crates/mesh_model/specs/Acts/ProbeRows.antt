@@ -19,7 +19,7 @@ use Rattle.mesh_model.specs.declared.probe.OpenProbe.{OpenProbe}
 use Rattle.mesh_model.specs.declared.probe.Probe.{Probe}
 use Rattle.mesh_model.specs.declared.probe.Told.{Told}
 use Rattle.mesh_model.specs.declared.probe.Told.TheVariants.{Unknown, Done, Next}
-use Rattle.mesh_model.specs.Acts.FrameRows.{Place}
+use Rattle.mesh_model.specs.Acts.BridgeRows.{Place}
 use Rattle.mesh_model.specs.Acts.Packing.{sent_over, sent_to}
 use Rattle.mesh_model.specs.Knowledge.Known.{Knowledge}
 use Rattle.mesh_model.specs.Packets.Numbers.{destination_unreachable, echo_reply, echo_request, ttl_exceeded, first_ttl}

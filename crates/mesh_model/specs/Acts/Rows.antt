@@ -8,11 +8,13 @@ use Rattle.mesh_model.specs.declared.act.Act.TheVariants.{Print}
 use Rattle.mesh_model.specs.declared.packet.Head.{Head}
 use Rattle.mesh_model.specs.declared.packet.Head.TheVariants.{IvOgm, Bcast, Elp, Ogm2, Unicast, Frag, Unicast4, Icmp, Utvlv}
 use Rattle.mesh_model.specs.declared.table_change.Change.{Change}
-use Rattle.mesh_model.specs.Acts.FrameRows.{Place, broadcast_acts, here_acts, passed_frame}
+use Rattle.mesh_model.specs.Acts.BridgeRows.{Place, round_acts, unclaim_acts}
+use Rattle.mesh_model.specs.Acts.FrameRows.{broadcast_acts, here_acts, passed_frame}
 use Rattle.mesh_model.specs.Acts.OwnContainers.{own_containers}
 use Rattle.mesh_model.specs.Acts.Packing.{sent_to_all}
 use Rattle.mesh_model.specs.Acts.ProbeRows.{IcmpMessage, icmp_here, passed_icmp}
 use Rattle.mesh_model.specs.Acts.TableRows.{other_containers, own_answer, request_acts}
+use Rattle.mesh_model.specs.Clients.Lans.{Bridge, bridge}
 use Rattle.mesh_model.specs.Clients.Log.{Log}
 use Rattle.mesh_model.specs.Clients.Mentions.{Mention, mentions}
 use Rattle.mesh_model.specs.Commits.Aliases.{last_alias}
@@ -23,7 +25,7 @@ use Rattle.mesh_model.specs.Knowledge.Known.{Knowledge}
 use Rattle.mesh_model.specs.Knowledge.Steps.{Coming, after_packet, before_announcement, request_out}
 use Rattle.mesh_model.specs.Knowledge.Told.{Message, message_in, message_of}
 use Rattle.mesh_model.specs.Packets.Containers.{containers_of, containers_spelling}
-use Rattle.mesh_model.specs.Packets.Contents.{first_table}
+use Rattle.mesh_model.specs.Packets.Contents.{first_roaming, first_table}
 use Rattle.mesh_model.specs.Packets.FirstPacket.{Packet}
 use Rattle.mesh_model.specs.Routes.Addresses.{same_mac}
 use Rattle.mesh_model.specs.Routes.Queries.{Queries}
@@ -58,20 +60,25 @@ commit_acts q me routes index before after = alias_acts me before.commits after.
     (containers_spelling (own_containers (announcement after)))
 
 -- a tick: the node sends an ELP on all links, if its algorithm has one; at each second tick it then
--- commits its clients, tells of an alias, and sends its originator message on all links
-unfoldable pub tick_acts : Queries → Mac → RouteLog → List Mention → History → ℕ → ℕ → List Act
-tick_acts q me routes mentions before now index = elp_acts q routes index
-    ++ (if is_commit_tick index
+-- commits its clients, tells of an alias, and sends its originator message on all links; at each
+-- twentieth a gateway then tells its LAN how many claims it holds
+unfoldable pub tick_acts : Queries → Mac → RouteLog → List Mention → History → Bridge → ℕ → ℕ
+    → List Act
+tick_acts q me routes mentions before bridge now index = elp_acts q routes index
+    ++ ((if is_commit_tick index
     then commit_acts q me routes index before (committed (present_table mentions now) before)
     else [])
+    ++ round_acts (record { me = me; now = now }) bridge index)
 
 -- ---- packets
 
--- the clients of a node: the mentions of them, its last commit, and the changes that are told of it
+-- the clients of a node: the mentions of them, its last commit, and the changes that are told of
+-- it; and the node as a gateway
 pub record Own : Type 0 where
   pub mentions : List Mention
   pub last : Version
   pub told : Option (List Change)
+  pub bridge : Bridge
 
 -- the clients of the node of an address by its log
 abbrev pub own_by : Mac → Log → Own
@@ -79,6 +86,7 @@ own_by me log = record {
   mentions = mentions me log;
   last = last_commit (history me log).commits;
   told = told_changes (history me log).commits;
+  bridge = bridge log;
 }
 
 -- the request after an originator message, where its announcement is accepted
@@ -117,12 +125,13 @@ abbrev pub head_acts : Queries → Mac → Own → Coming → Knowledge → Opti
 head_acts q me own came known message tail (IvOgm ttl flags seq orig prev tq) =
     taken_acts q me came (IvOgm ttl flags seq orig prev tq) message tail known
 head_acts q me own came known message tail (Bcast ttl seq orig) =
-    broadcast_acts known (place_at me came) ttl (record { orig = orig; number = seq }) tail
+    broadcast_acts known own.bridge (place_at me came) ttl (record { orig = orig; number = seq })
+    tail
 head_acts q me own came known message tail (Elp orig seq interval) = []
 head_acts q me own came known message tail (Ogm2 ttl flags seq orig throughput) =
     taken_acts q me came (Ogm2 ttl flags seq orig throughput) message tail known
 head_acts q me own came known message tail (Unicast ttl ttvn dst) = if same_mac dst me
-    then here_acts q known own.mentions (place_at me came) ttl tail
+    then here_acts q known own.mentions own.bridge (place_at me came) ttl tail
     else passed_frame q known (place_at me came) ttl ttvn dst tail
 head_acts q me own came known message tail (Frag ttl number priority dst orig seq total) = []
 head_acts q me own came known message tail (Unicast4 ttl ttvn dst src subtype) = []
@@ -132,6 +141,7 @@ head_acts q me own came known message tail (Icmp ttl msg dst orig uid seq) =
 head_acts q me own came known message tail (Utvlv ttl dst src) = if same_mac dst me
     then own_answer q me known came.now own.last own.told src
     (message_in (first_table (containers_of tail)))
+    ++ unclaim_acts (place_at me came) own.bridge (first_roaming (containers_of tail))
     else other_containers q known came.now ttl dst src tail
 
 -- a packet of a link frame

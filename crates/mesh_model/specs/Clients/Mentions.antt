@@ -1,7 +1,8 @@
 -- The mentions of clients in a node's log, newest first: sightings with their flags, departures,
 -- roaming advertisements taken, and the joining and leaving of groups. A client frame, an ARP
--- question and a call for a gateway are sightings of their source. A sighting's flags are WIFI
--- where the node's clients were set to be wireless before it, else 0. The main word is `mentions`.
+-- question and a call for a gateway are sightings of their source, and so is a client frame from a
+-- LAN that its gateway passes; one that is held back is none. A sighting's flags are WIFI where the
+-- node's clients were set to be wireless before it, else 0. The main word is `mentions`.
 use Rattle.std.specs.Prelude.{ℕ, Bool, List, [], ◌∷◌, ◌++◌, filter_map, Option, Some, None, option_map, if◌then◌else◌}
 use Rattle.mesh_base.specs.declared.address.Mac.{Mac}
 use Rattle.mesh_base.specs.declared.client.Key.{Key}
@@ -11,9 +12,13 @@ use Rattle.mesh_model.specs.declared.packet.Head.TheVariants.{IvOgm, Bcast, Elp,
 use Rattle.mesh_model.specs.Packets.Containers.{containers_of}
 use Rattle.mesh_model.specs.Packets.Contents.{first_roaming}
 use Rattle.mesh_model.specs.Packets.FirstPacket.{Packet}
+use Rattle.mesh_model.specs.Packets.LanFrames.{client_frame_in, lan_message_of}
 use Rattle.mesh_model.specs.Packets.LinkFrame.{link_frame}
 use Rattle.mesh_model.specs.Packets.Numbers.{wifi_flag}
+use Rattle.mesh_model.specs.Packets.Payload.{ClientFrame}
 use Rattle.mesh_model.specs.Routes.Addresses.{same_mac}
+use Rattle.mesh_model.specs.Bridges.Verdicts.{verdict_from_lan}
+use Rattle.mesh_model.specs.Clients.Lans.{bridge}
 use Rattle.mesh_model.specs.Clients.Log.{Given, Tick, LinkFrame, LanFrame, Line, LineGiven, Attach, Frame, Gone, Join, Leave, Arp, Dhcp, Sets, Put, Get, Ping, Trace, Log, settings}
 
 -- what a mention says of its key
@@ -98,12 +103,26 @@ line_mentions sighted moment (Get type_no) = []
 line_mentions sighted moment (Ping target) = []
 line_mentions sighted moment (Trace target) = []
 
+-- the client frame that the gateway of an address passes of one on its LAN, right after a log
+abbrev pub passed_from_lan : Mac → Log → ℕ → Option ClientFrame → Option ClientFrame
+passed_from_lan me older moment None = None
+passed_from_lan me older moment (Some frame) =
+    if (verdict_from_lan me (bridge older).claims moment (key_of frame.src frame.vid)).pass
+    then Some frame else None
+
+-- the sighting of the source of a client frame that is passed, where one is
+abbrev pub passed_mentions : News → ℕ → Option ClientFrame → List Mention
+passed_mentions sighted moment None = []
+passed_mentions sighted moment (Some frame) =
+    mention moment (key_of frame.src frame.vid) sighted
+
 -- the mentions that an input right after a log makes at the node of an address, with their news
 abbrev pub mentions_by : Mac → Log → ℕ → Given → List Mention
 mentions_by me older moment (Tick index) = []
 mentions_by me older moment (LinkFrame number from throughput bytes) =
     filter_map (roamed_by me moment) (link_frame bytes).packets
-mentions_by me older moment (LanFrame bytes) = []
+mentions_by me older moment (LanFrame bytes) = passed_mentions (sighted_after older) moment
+    (passed_from_lan me older moment (client_frame_in (lan_message_of bytes)))
 mentions_by me older moment (Line line) = line_mentions (sighted_after older) moment line
 
 -- the mentions after an input, from the log and the mentions before it

@@ -4,9 +4,12 @@
 -- where a life begins; it may release marks, and lead to a request. An answer from a live
 -- originator, or for it, is taken and may release marks too. A client that roamed is marked, with
 -- what its new node was told to have. A sighting ends the client's mark, and is advertised where
--- the client wasn't present just before and was elsewhere. A probe of a ping or a traceroute waits
--- for its answer where it was sent. The main word is `knowledge`.
-use Rattle.std.specs.Prelude.{ℕ, suc, ◌&&◌, Bool, true, false, List, [], ◌∷◌, fold, Option, Some, None, is_none, is_some, if◌then◌else◌}
+-- the client wasn't present just before and was elsewhere. A client frame from a LAN that its
+-- gateway passes is a sighting, and it goes on unless its client is at the gateway or behind
+-- another gateway of the LAN. A probe of a ping or a traceroute waits for its answer where it was
+-- sent. The main word is `knowledge`.
+use Rattle.std.specs.Prelude.{ℕ, suc, ◌&&◌, ◌||◌, Bool, true, false, List, [], ◌∷◌, fold, Option, Some, None, is_none, is_some, if◌then◌else◌}
+use Rattle.std.specs.List.{list_any}
 use Rattle.mesh_base.specs.Address.{is_broadcast}
 use Rattle.mesh_base.specs.declared.address.Mac.{Mac}
 use Rattle.mesh_base.specs.declared.client.Key.{Key}
@@ -17,7 +20,8 @@ use Rattle.mesh_model.specs.declared.probe.Told.{Told}
 use Rattle.mesh_model.specs.declared.probe.Told.TheVariants.{Unknown, Done, Next}
 use Rattle.mesh_model.specs.declared.table_outcome.Request.{Request}
 use Rattle.mesh_model.specs.Clients.Log.{Given, Tick, LinkFrame, LanFrame, Line, LineGiven, Attach, Frame, Gone, Join, Leave, Arp, Dhcp, Sets, Put, Get, Ping, Trace, Log}
-use Rattle.mesh_model.specs.Clients.Mentions.{key_of, mentions}
+use Rattle.mesh_model.specs.Clients.Lans.{LanOf, bridge}
+use Rattle.mesh_model.specs.Clients.Mentions.{Mention, key_of, mentions, next_mentions, passed_from_lan}
 use Rattle.mesh_model.specs.Clients.Present.{present_row}
 use Rattle.mesh_model.specs.Knowledge.Addressee.{Way, addressee}
 use Rattle.mesh_model.specs.Knowledge.Known.{Broadcast, Knowledge, agreed_byte, is_new_broadcast, no_knowledge, told_at}
@@ -28,7 +32,9 @@ use Rattle.mesh_model.specs.Marks.Requests.{too_soon}
 use Rattle.mesh_model.specs.Packets.Containers.{containers_of}
 use Rattle.mesh_model.specs.Packets.Contents.{first_roaming, first_table}
 use Rattle.mesh_model.specs.Packets.FirstPacket.{Packet}
+use Rattle.mesh_model.specs.Packets.LanFrames.{client_frame_in, lan_message_of}
 use Rattle.mesh_model.specs.Packets.LinkFrame.{link_frame}
+use Rattle.mesh_model.specs.Packets.Payload.{ClientFrame}
 use Rattle.mesh_model.specs.Probes.OpenProbes.{ProbeCall, Started, Answered, Closed, first_probe, is_answer, probes_by, told}
 use Rattle.mesh_model.specs.Routes.Addresses.{same_mac}
 use Rattle.mesh_model.specs.Routes.Queries.{Queries}
@@ -242,6 +248,34 @@ abbrev pub after_frame : Mac → Knowledge → Knowledge
 after_frame dst known =
     if is_broadcast dst then record known { sent = suc known.sent } else known
 
+-- ---- client frames from a LAN
+
+-- whether a way leads to a gateway of a LAN
+abbrev pub leads_to_gateway : Option LanOf → Option Way → Bool
+leads_to_gateway None way = false
+leads_to_gateway (Some lan) None = false
+leads_to_gateway (Some lan) (Some way) = list_any (same_mac way.orig) lan.gateways
+
+-- whether a frame for a client stays on the LAN that it came from, by what is known and mentioned
+-- then: the client is present at the gateway, or what is for it goes to a gateway of the LAN
+abbrev pub stays_on_lan : Queries → List Mention → Option LanOf → ℕ → Key → Knowledge → Bool
+stays_on_lan q mentions lan now key known = is_some (present_row mentions now key)
+    || leads_to_gateway lan (addressee q known now key)
+
+-- what is known after a client frame from a LAN, behind its sighting, which may stay there
+abbrev pub after_bridged : Bool → Mac → Knowledge → Knowledge
+after_bridged stays dst known = if stays then known else after_frame dst known
+
+-- what is known after a client frame that a gateway passes of its LAN, where it passes one, by the
+-- mentions behind its sighting
+abbrev pub after_passed :
+    Queries → Mac → Log → Knowledge → ℕ → List Mention → Option ClientFrame → Knowledge
+after_passed q me older known now mentions None = known
+after_passed q me older known now mentions (Some frame) =
+    after_bridged (stays_on_lan q mentions (bridge older).lan now (key_of frame.dst frame.vid)
+    (after_sighting q me older now (key_of frame.src frame.vid) known)) frame.dst
+    (after_sighting q me older now (key_of frame.src frame.vid) known)
+
 -- ---- the log
 
 -- what is known after what a line gives right after a log, from what was known before it
@@ -268,7 +302,9 @@ next_knowledge q me older known now (Tick index) =
 next_knowledge q me older known now (LinkFrame number from throughput bytes) = after_packets q me
     (record { now = now; from = from; throughput = throughput; number = number }) known
     (link_frame bytes).packets
-next_knowledge q me older known now (LanFrame bytes) = known
+next_knowledge q me older known now (LanFrame bytes) = after_passed q me older known now
+    (next_mentions me older (mentions me older) now (LanFrame bytes))
+    (passed_from_lan me older now (client_frame_in (lan_message_of bytes)))
 next_knowledge q me older known now (Line line) = line_knowledge q me older known now line
 
 -- what a node of this address knows by its log

@@ -1,17 +1,18 @@
 -- What is to come. The k-th frame of a link, counted from 0, takes the mark k modulo the pattern's
 -- length: `.` delivers it once, at its sending plus the link's delay; `2` there and again at its
--- sending plus twice the delay; `x` never; `h` never by itself. A node that was made at a moment
--- ticks at that moment plus 500 ms times 1, 2, and so on. The next happening is the earliest after
--- the last one, of the deliveries of all frames that were ever sent and the first tick to come of
--- each node. The main words are `next_happening` and `next_due`.
+-- sending plus twice the delay; `x` never; `h` never by itself. A LAN frame comes 1 ms after it was
+-- put. A node that was made at a moment ticks at that moment plus 500 ms times 1, 2, and so on. The
+-- next happening is the earliest after the last one, of the deliveries of all frames that were ever
+-- sent or put and the first tick to come of each node. The main words are `next_happening` and
+-- `next_due`.
 use Rattle.std.specs.Prelude.{ℕ, suc, ◌+◌, ◌*◌, ◌%◌, ◌==◌, nat_le, List, [], ◌∷◌, ◌++◌, map, filter, length, slice_get, slice_index_or, Option, Some, None, option_and_then, if◌then◌else◌}
 use Rattle.std.specs.Option.{option_map_or}
-use Rattle.mesh_model.specs.declared.happening.Class.TheVariants.{LinkDelivery, NodeTick}
+use Rattle.mesh_model.specs.declared.happening.Class.TheVariants.{LinkDelivery, LanDelivery, NodeTick}
 use Rattle.mesh_model.specs.declared.happening.Happening.{Happening}
 use Rattle.mesh_model.specs.Scenario.Terms.{once_mark, lost_mark, twice_mark, held_mark}
 use Rattle.mesh_model.specs.Clients.Log.{Given, Log, tick_of}
 use Rattle.mesh_model.specs.Net.Happenings.{is_before, earliest}
-use Rattle.mesh_model.specs.Net.Mesh.{NodeLog, NetLink, SentFrame, Mesh}
+use Rattle.mesh_model.specs.Net.Mesh.{NodeLog, NetLink, SentFrame, LanPut, Mesh}
 
 -- the time between two ticks, in milliseconds
 abbrev pub tick_time : ℕ
@@ -61,6 +62,20 @@ deliveries links place [] = []
 deliveries links place (frame ∷ rest) =
     map (delivery_at place) (arrivals links frame) ++ deliveries links (suc place) rest
 
+-- how long a LAN frame is on its way, in milliseconds
+abbrev pub lan_delay : ℕ
+lan_delay = 1
+
+-- the delivery of the LAN frame at a place
+abbrev pub lan_delivery_at : ℕ → LanPut → Happening
+lan_delivery_at place put =
+    record { moment = put.moment + lan_delay; class = LanDelivery; place = place }
+
+-- the deliveries of LAN frames of which the first stands at a place
+abbrev pub lan_deliveries : ℕ → List LanPut → List Happening
+lan_deliveries place [] = []
+lan_deliveries place (put ∷ rest) = lan_delivery_at place put ∷ lan_deliveries (suc place) rest
+
 -- how many ticks an input is
 abbrev pub ticks_by : Given → ℕ
 ticks_by given = option_map_or (λ index. 1) (tick_of given) 0
@@ -83,7 +98,8 @@ first_ticks place (node ∷ rest) =
 
 -- all deliveries, and the first tick to come of each node
 abbrev pub candidates : Mesh → List Happening
-candidates mesh = deliveries mesh.links 0 mesh.frames ++ first_ticks 0 mesh.nodes
+candidates mesh = deliveries mesh.links 0 mesh.frames
+    ++ (lan_deliveries 0 mesh.puts ++ first_ticks 0 mesh.nodes)
 
 -- the next happening, whenever it is
 abbrev pub next_happening : Mesh → Option Happening

@@ -1,18 +1,18 @@
 -- The order of happenings: by moment, then class, then place. Of one moment, link frames are
--- delivered first, in the order of sending; then nodes tick, in the order of their lines. The
--- number 1 between the two classes is kept for deliveries on a LAN. The main words are `Before` and
--- `earliest`.
+-- delivered first, in the order of sending; then LAN frames, in the order of putting; then nodes
+-- tick, in the order of their lines. The main words are `Before` and `earliest`.
 use Rattle.std.specs.Prelude.{◌≡◌, ℕ, Bool, List, [], ◌∷◌, Option, Some, None, if◌then◌else◌}
 use Rattle.std.specs.Ordering.{nat_cmp, ordering_then, is_lt}
 use Rattle.std.specs.declared.cmp.Ordering.{Ordering}
 use Rattle.std.specs.declared.cmp.Ordering.TheVariants.{Less}
 use Rattle.mesh_model.specs.declared.happening.Class.{Class}
-use Rattle.mesh_model.specs.declared.happening.Class.TheVariants.{LinkDelivery, NodeTick}
+use Rattle.mesh_model.specs.declared.happening.Class.TheVariants.{LinkDelivery, LanDelivery, NodeTick}
 use Rattle.mesh_model.specs.declared.happening.Happening.{Happening}
 
 -- a class's place in the order of one moment
 abbrev pub class_number : Class → ℕ
 class_number LinkDelivery = 0
+class_number LanDelivery = 1
 class_number NodeTick = 2
 
 -- the order of two happenings

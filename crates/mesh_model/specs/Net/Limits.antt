@@ -1,10 +1,10 @@
 -- The limits of a net, and what every scenario's mesh is run with. There are at most 64 nodes, 512
--- links, 4,194,304 frames that were sent, 536,870,912 bytes of them, and 1,099,511,627,776
--- milliseconds. The main word is `scenario_setup`.
+-- links, 16 LANs, 4,194,304 frames that were sent on links or put on LANs, 536,870,912 bytes of
+-- them, and 1,099,511,627,776 milliseconds. The main word is `scenario_setup`.
 use Rattle.std.specs.Prelude.{ℕ}
 use Rattle.mesh_base.specs.declared.address.Mac.{Mac}
 use Rattle.mesh_model.specs.Acts.Choosing.{acts_of}
-use Rattle.mesh_model.specs.Clients.Limits.{passed_limit}
+use Rattle.mesh_model.specs.Acts.NodeLimits.{node_limit}
 use Rattle.mesh_model.specs.Net.Mesh.{Setup}
 use Rattle.mesh_model.specs.Routes.Queries.{Queries}
 use Rattle.mesh_model.specs.Scenario.NetForms.{time_limit}
@@ -16,6 +16,10 @@ nodes_limit = 64
 -- the most links
 abbrev pub links_limit : ℕ
 links_limit = 512
+
+-- the most LANs
+abbrev pub lans_limit : ℕ
+lans_limit = 16
 
 -- the most frames
 abbrev pub frames_limit : ℕ
@@ -33,7 +37,7 @@ clock_limit = time_limit
 abbrev pub scenario_setup : (Mac → Queries) → Setup
 scenario_setup queries = record {
   acts = λ me. acts_of (queries me) me;
-  client_limit = passed_limit;
+  node_limit = node_limit;
   frames_limit = frames_limit;
   bytes_limit = frame_bytes_limit;
 }

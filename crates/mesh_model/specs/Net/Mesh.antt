@@ -1,13 +1,14 @@
--- The state of a mesh. A node keeps its log alone; a link carries frames one way; a frame stays for
--- ever, and its number is its place in the order of sending, from 1. The main word is `Mesh`.
+-- The state of a mesh. A node keeps its log alone; a link carries frames one way, a LAN to all its
+-- gateways; a frame stays for ever, and its number is its place in the order of sending, from 1.
+-- Frames on LANs are numbered apart. The main word is `Mesh`.
 use Rattle.std.specs.Prelude.{ℕ, Bool, List, [], bytes_eq, replicate, slice_get, Option}
 use Rattle.std.specs.Option.{option_map_or}
 use Rattle.mesh_base.specs.declared.address.Mac.{Mac}
 use Rattle.mesh_base.specs.declared.event.Event.{Event}
 use Rattle.mesh_model.specs.declared.act.Act.{Act}
-use Rattle.mesh_model.specs.declared.ending.LimitName.{LimitName}
 use Rattle.mesh_model.specs.declared.happening.Class.TheVariants.{LinkDelivery}
 use Rattle.mesh_model.specs.declared.happening.Happening.{Happening}
+use Rattle.mesh_model.specs.Acts.NodeLimits.{NodeLimit}
 use Rattle.mesh_model.specs.Clients.Log.{Given, Log}
 
 -- a node: its name, its address, the moment of its line, and its log
@@ -36,12 +37,27 @@ pub record SentFrame : Type 0 where
   pub bytes : List ℕ
   pub root : ℕ
 
--- nodes and links in the order of their lines, link frames and events in that of their coming, and
--- the last happening that was carried out
+-- a LAN: its name, and the places of its gateways, in rising order
+pub record NetLan : Type 0 where
+  pub name : List ℕ
+  pub gateways : List ℕ
+
+-- a frame on a LAN: the place of the LAN, the moment of putting, the bytes, and the place of the
+-- gateway that put it, where one did
+pub record LanPut : Type 0 where
+  pub lan : ℕ
+  pub moment : ℕ
+  pub bytes : List ℕ
+  pub by : Option ℕ
+
+-- nodes, links and LANs in the order of their lines, link frames, LAN frames and events in that of
+-- their coming, and the last happening that was carried out
 pub record Mesh : Type 0 where
   pub nodes : List NodeLog
   pub links : List NetLink
+  pub lans : List NetLan
   pub frames : List SentFrame
+  pub puts : List LanPut
   pub events : List Event
   pub last : Happening
 
@@ -50,17 +66,19 @@ abbrev pub empty_mesh : Mesh
 empty_mesh = record {
   nodes = [];
   links = [];
+  lans = [];
   frames = [];
+  puts = [];
   events = [];
   last = record { moment = 0; class = LinkDelivery; place = 0 };
 }
 
 -- what a mesh is run with: the acts of a node with this address and log that is given something at
--- a moment, the limit that its clients then pass, and how many frames, and bytes of frames, may be
--- sent
+-- a moment, the limit of its own that it then passes, and how many frames, and bytes of frames, may
+-- be sent
 pub record Setup : Type 0 where
   pub acts : Mac → Log → ℕ → Given → List Act
-  pub client_limit : Mac → Log → ℕ → Given → Option LimitName
+  pub node_limit : Mac → Log → ℕ → Given → Option NodeLimit
   pub frames_limit : ℕ
   pub bytes_limit : ℕ
 

@@ -5,8 +5,8 @@ use Rattle.std.specs.Prelude.{◌≡◌, ℕ, suc, ◌<◌, ◌≤◌, ◌⊎◌
 use Rattle.mesh_model.specs.declared.happening.Class.TheVariants.{LinkDelivery}
 use Rattle.mesh_model.specs.declared.happening.Happening.{Happening}
 use Rattle.mesh_model.specs.Net.Happenings.{Before}
-use Rattle.mesh_model.specs.Net.Mesh.{NodeLog, SentFrame, Mesh}
-use Rattle.mesh_model.specs.Net.Due.{arrivals, tick_at}
+use Rattle.mesh_model.specs.Net.Mesh.{NodeLog, SentFrame, LanPut, Mesh}
+use Rattle.mesh_model.specs.Net.Due.{arrivals, lan_delivery_at, tick_at}
 
 -- a value stands in a list
 abbrev pub Has : {X : Type 0} → List X → X → Type 0
@@ -20,6 +20,12 @@ pub record IsDelivery (mesh : Mesh) (h : Happening) : Type 0 where
   pub found : slice_get mesh.frames h.place ≡ Some frame
   pub arrives : Has (arrivals mesh.links frame) h.moment
 
+-- the delivery of a LAN frame that was put
+pub record IsLanDelivery (mesh : Mesh) (h : Happening) : Type 0 where
+  pub put : LanPut
+  pub found : slice_get mesh.puts h.place ≡ Some put
+  pub is : h ≡ lan_delivery_at h.place put
+
 -- a tick of a node, by an index from 1
 pub record IsTick (mesh : Mesh) (h : Happening) : Type 0 where
   pub node : NodeLog
@@ -30,6 +36,7 @@ pub record IsTick (mesh : Mesh) (h : Happening) : Type 0 where
 -- it can happen, at some moment before or to come
 pub data Happens (mesh : Mesh) (h : Happening) : Type 0 where
   delivers : IsDelivery mesh h → Happens mesh h
+  lan_delivers : IsLanDelivery mesh h → Happens mesh h
   ticks : IsTick mesh h → Happens mesh h
 
 -- the same happening, or one before it

@@ -7,12 +7,13 @@ use Rattle.std.specs.Prelude.{ℕ, suc, zero, ◌||◌, ◌&&◌, nat_eq, Bool, 
 use Rattle.std.specs.Option.{option_map_or}
 use Rattle.mesh_model.specs.declared.ending.LimitName.{LimitName}
 use Rattle.mesh_model.specs.declared.happening.Class.{Class}
-use Rattle.mesh_model.specs.declared.happening.Class.TheVariants.{LinkDelivery, NodeTick}
+use Rattle.mesh_model.specs.declared.happening.Class.TheVariants.{LinkDelivery, LanDelivery, NodeTick}
 use Rattle.mesh_model.specs.declared.happening.Happening.{Happening}
 use Rattle.mesh_model.specs.Clients.Log.{Tick, LinkFrame}
 use Rattle.mesh_model.specs.Net.Mesh.{NodeLog, NetLink, SentFrame, Mesh, Setup, address_at}
 use Rattle.mesh_model.specs.Net.Sending.{Attempt, on_ok}
 use Rattle.mesh_model.specs.Net.Inputs.{given_to}
+use Rattle.mesh_model.specs.Net.Lans.{lan_delivered}
 use Rattle.mesh_model.specs.Net.Due.{ticks_in, next_due}
 
 -- whether a link leads from the node at one place to the node at another
@@ -56,6 +57,7 @@ ticked setup place now mesh = tick_given setup place now (slice_get mesh.nodes p
 -- the mesh after what happens of this class at a place and a moment
 abbrev pub effect : Setup → Class → ℕ → ℕ → Mesh → Attempt
 effect setup LinkDelivery place now mesh = delivered setup place now mesh
+effect setup LanDelivery place now mesh = lan_delivered setup place now mesh
 effect setup NodeTick place now mesh = ticked setup place now mesh
 
 -- the mesh with its last happening

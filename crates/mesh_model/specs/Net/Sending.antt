@@ -1,19 +1,20 @@
 -- What the acts of a node do. A frame on all links is one frame on each link that leaves the node,
 -- in the order of the links; a frame to a neighbour goes on the link to it. Each frame is an event.
 -- An act that would make too many frames, or too many bytes of them, passes `frames` or, looked at
--- behind it, `frame-bytes`. No LAN stands yet, so what is put on one goes nowhere. The main word is
--- `after_acts`.
+-- behind it, `frame-bytes`; frames on links and on LANs are counted together. What a gateway puts
+-- goes on its LAN; a node that is no gateway has none. The main word is `after_acts`.
 use Rattle.std.specs.Prelude.{ℕ, suc, ◌+◌, ◌&&◌, nat_lt, nat_eq, bytes_eq, Bool, true, List, [], ◌∷◌, ◌++◌, length, slice_get, Option, Some, None, Result, Ok, Err, if◌then◌else◌}
+use Rattle.std.specs.List.{list_any}
 use Rattle.std.specs.Option.{option_map_or}
 use Rattle.mesh_base.specs.declared.address.Mac.{Mac}
 use Rattle.mesh_base.specs.declared.event.Event.{Event}
-use Rattle.mesh_base.specs.declared.event.Event.TheVariants.{FrameSent}
+use Rattle.mesh_base.specs.declared.event.Event.TheVariants.{FrameSent, LanSent}
 use Rattle.mesh_base.specs.declared.event.Reason.{Reason}
 use Rattle.mesh_model.specs.declared.act.Act.{Act}
 use Rattle.mesh_model.specs.declared.act.Act.TheVariants.{Link, Lan, Print}
 use Rattle.mesh_model.specs.declared.ending.LimitName.{LimitName}
 use Rattle.mesh_model.specs.declared.ending.LimitName.TheVariants.{Frames, FrameBytes}
-use Rattle.mesh_model.specs.Net.Mesh.{NodeLog, NetLink, SentFrame, Mesh, Setup, address_at}
+use Rattle.mesh_model.specs.Net.Mesh.{NodeLog, NetLan, NetLink, SentFrame, LanPut, Mesh, Setup, address_at}
 
 -- what a step leads to: the mesh after it, or the limit that it would pass
 abbrev pub Attempt : Type 0
@@ -34,6 +35,11 @@ frames_on place (frame ∷ rest) =
 abbrev pub total_bytes : List SentFrame → ℕ
 total_bytes [] = 0
 total_bytes (frame ∷ rest) = length frame.bytes + total_bytes rest
+
+-- how many bytes these LAN frames have
+abbrev pub put_bytes : List LanPut → ℕ
+put_bytes [] = 0
+put_bytes (put ∷ rest) = length put.bytes + put_bytes rest
 
 -- whether a frame goes to the node at a place: to all, or to the one of this address
 abbrev pub goes_to : Option Mac → List NodeLog → ℕ → Bool
@@ -74,8 +80,9 @@ sent_events me reason mesh place (frame ∷ rest) =
 -- the mesh with these frames of a node
 abbrev pub with_frames : Setup → Mac → Option Reason → List SentFrame → Mesh → Attempt
 with_frames setup me reason new mesh =
-    if nat_lt setup.frames_limit (length (mesh.frames ++ new)) then Err Frames
-    else if nat_lt setup.bytes_limit (total_bytes (mesh.frames ++ new)) then Err FrameBytes
+    if nat_lt setup.frames_limit (length (mesh.frames ++ new) + length mesh.puts) then Err Frames
+    else if nat_lt setup.bytes_limit (total_bytes (mesh.frames ++ new) + put_bytes mesh.puts)
+    then Err FrameBytes
     else Ok (record mesh {
       frames = mesh.frames ++ new;
       events = mesh.events ++ sent_events me reason mesh (length mesh.frames) new;
@@ -93,11 +100,46 @@ abbrev pub frames_of : Actor → Option Mac → List ℕ → Mesh → List SentF
 frames_of actor to bytes mesh =
     frames_over (ways mesh.nodes actor.place to 0 mesh.links) mesh.frames actor.now actor.root bytes
 
+-- ---- LANs
+
+-- the place of the LAN of the gateway at a place, of LANs of which the first stands at a place
+abbrev pub lan_from : ℕ → ℕ → List NetLan → Option ℕ
+lan_from gateway place [] = None
+lan_from gateway place (lan ∷ rest) = if list_any (nat_eq gateway) lan.gateways then Some place
+    else lan_from gateway (suc place) rest
+
+-- the place of the LAN of the node at a place, where that is a gateway
+abbrev pub lan_of : ℕ → List NetLan → Option ℕ
+lan_of gateway lans = lan_from gateway 0 lans
+
+-- the event of a LAN frame that joins a mesh
+abbrev pub put_event : Mesh → LanPut → Event
+put_event mesh put = LanSent (suc (length mesh.puts)) put.moment (suc put.lan) put.bytes
+
+-- the mesh with one more LAN frame
+abbrev pub with_put : Setup → LanPut → Mesh → Attempt
+with_put setup put mesh =
+    if nat_lt setup.frames_limit (length mesh.frames + length (mesh.puts ++ put ∷ []))
+    then Err Frames
+    else if nat_lt setup.bytes_limit (total_bytes mesh.frames + put_bytes (mesh.puts ++ put ∷ []))
+    then Err FrameBytes
+    else Ok (record mesh {
+      puts = mesh.puts ++ put ∷ [];
+      events = mesh.events ++ put_event mesh put ∷ [];
+    })
+
+-- the mesh after a node puts bytes on its LAN, where it has one
+abbrev pub put_on : Setup → Actor → List ℕ → Option ℕ → Mesh → Attempt
+put_on setup actor bytes None mesh = Ok mesh
+put_on setup actor bytes (Some lan) mesh = with_put setup
+    (record { lan = lan; moment = actor.now; bytes = bytes; by = Some actor.place }) mesh
+
 -- the mesh after an act
 abbrev pub after_act : Setup → Actor → Act → Mesh → Attempt
 after_act setup actor (Link to reason bytes) mesh =
     with_frames setup actor.mac reason (frames_of actor to bytes mesh) mesh
-after_act setup actor (Lan bytes) mesh = Ok mesh
+after_act setup actor (Lan bytes) mesh =
+    put_on setup actor bytes (lan_of actor.place mesh.lans) mesh
 after_act setup actor (Print event) mesh = Ok (record mesh { events = mesh.events ++ event ∷ [] })
 
 -- the mesh after acts, one after another

@@ -21,7 +21,7 @@ abbrev pub gone_on : State → ℕ → Mesh → State
 gone_on state now mesh = record state {
   mesh = mesh;
   clock = now;
-  printed = state.printed ++ map (Happened (names_of mesh.nodes)) (events_since state.mesh mesh);
+  printed = state.printed ++ map (Happened (names_of mesh)) (events_since state.mesh mesh);
 }
 
 -- the outcome of a course until a moment

@@ -1,7 +1,11 @@
 -- What a line prints at once: the table of a node that is shown, at a moment. The local table, the
--- originators, the neighbours and what is known of the others' clients are built, each asked of the
--- node's log, under the algorithm of the nodes. The main word is `shown`.
-use Rattle.std.specs.Prelude.{ℕ, [], ◌∷◌, ◌++◌, Option, Some, None}
+-- originators, the neighbours, what is known of the others' clients and the claims on a gateway's
+-- LAN are built, each asked of the node's log, under the algorithm of the nodes. The main word is
+-- `shown`.
+use Rattle.std.specs.Prelude.{ℕ, [], ◌∷◌, ◌++◌, Option, Some, None, option_and_then}
+use Rattle.mesh_base.specs.Names.{NamesGiven, lan_name}
+use Rattle.mesh_model.specs.Bridges.Claims.{claims_at}
+use Rattle.mesh_model.specs.Clients.Lans.{LanOf, bridge}
 use Rattle.mesh_model.specs.declared.line_form.Algorithm.{Algorithm}
 use Rattle.mesh_model.specs.declared.line_form.Table.{Table}
 use Rattle.mesh_model.specs.declared.line_form.Table.TheVariants.{Originators, Neighbors, Locals, Globals, Claims, Gateways, Groups, Addresses, Facts}
@@ -15,8 +19,9 @@ use Rattle.mesh_model.specs.Marks.RoamingMarks.{marks_at}
 use Rattle.mesh_model.specs.Net.Mesh.{NodeLog}
 use Rattle.mesh_model.specs.Routes.Algorithms.{queries_of}
 use Rattle.mesh_model.specs.Run.KnownTables.{parts_at}
-use Rattle.mesh_model.specs.Run.State.{Printed, GlobalsShown, LocalsShown, NeighborsShown, OriginatorsShown, State}
+use Rattle.mesh_model.specs.Run.State.{Printed, ClaimsShown, GlobalsShown, LocalsShown, NeighborsShown, OriginatorsShown, State, names_of}
 use Rattle.mesh_model.specs.Tables.Sums.{sums_of}
+use Rattle.mesh_model.specs.Text.Claims.{ClaimTable}
 use Rattle.mesh_model.specs.Text.GlobalTables.{GlobalTable}
 use Rattle.mesh_model.specs.Text.Tables.{LinkTable, LocalTable, OrigTable}
 
@@ -61,13 +66,23 @@ global_table algorithm now node = record {
   marks = marks_at now (known_to algorithm node).marks;
 }
 
--- what is printed of a node at a moment, for each table that is shown
-abbrev pub shown : Table → Option (Algorithm → ℕ → NodeLog → Printed)
-shown Originators = Some (λ algorithm now node. OriginatorsShown (orig_table algorithm now node))
-shown Neighbors = Some (λ algorithm now node. NeighborsShown (link_table algorithm now node))
-shown Locals = Some (λ algorithm now node. LocalsShown (local_table now node))
-shown Globals = Some (λ algorithm now node. GlobalsShown (global_table algorithm now node))
-shown Claims = None
+-- the claims on the LAN of a node at a moment, by these names
+abbrev pub claim_table : NamesGiven → ℕ → NodeLog → ClaimTable
+claim_table names now node = record {
+  name = node.name;
+  lan = option_and_then (λ (lan : LanOf). lan_name names.lans lan.number) (bridge node.log).lan;
+  rows = claims_at (bridge node.log).claims now;
+}
+
+-- what is printed of a node in a state, for each table that is shown
+abbrev pub shown : Table → Option (State → NodeLog → Printed)
+shown Originators =
+    Some (λ state node. OriginatorsShown (orig_table state.algorithm state.clock node))
+shown Neighbors = Some (λ state node. NeighborsShown (link_table state.algorithm state.clock node))
+shown Locals = Some (λ state node. LocalsShown (local_table state.clock node))
+shown Globals = Some (λ state node. GlobalsShown (global_table state.algorithm state.clock node))
+shown Claims =
+    Some (λ state node. ClaimsShown (claim_table (names_of state.mesh) state.clock node))
 shown Gateways = None
 shown Groups = None
 shown Addresses = None

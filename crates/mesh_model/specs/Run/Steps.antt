@@ -1,16 +1,18 @@
 -- The step of each command, from a state to an outcome: an algorithm is chosen for all nodes that
 -- follow; a new node has an empty log and ticks from now on; a link carries frames from now on; a
--- client frame is given to its node, and so is a ping or a traceroute; time passes; a frame is
--- delivered again, now; what is shown or decoded is printed. The limits are looked at here: `nodes`
--- and `links` are passed by one more than 64 and 512, `clock` by the end of a run, before its first
--- happening. A command that has no step isn't built: this version doesn't carry it out. The main
--- word is `step_of`.
-use Rattle.std.specs.Prelude.{ℕ, ◌+◌, ◌-◌, ◌&&◌, not, nat_lt, nat_le, List, [], ◌∷◌, ◌++◌, length, Option, Some, None, option_map, if◌then◌else◌}
+-- LAN joins with its gateways; a client frame is given to its node, and so is a ping or a
+-- traceroute, or it comes on its LAN; a client that is gone from a LAN is gone from each gateway;
+-- time passes; a frame is delivered again, now; what is shown or decoded is printed. The limits are
+-- looked at here: `nodes`, `links` and `lans` are passed by one more than 64, 512 and 16, `clock`
+-- by the end of a run, before its first happening. A command that has no step isn't built: this
+-- version doesn't carry it out. The main word is `step_of`.
+use Rattle.std.specs.Prelude.{ℕ, ◌+◌, ◌-◌, ◌&&◌, not, nat_lt, nat_le, suc, bytes_eq, List, [], ◌∷◌, ◌++◌, length, slice_get, Option, Some, None, option_map, if◌then◌else◌}
+use Rattle.std.specs.List.{list_any}
 use Rattle.std.specs.Option.{option_map_or}
 use Rattle.mesh_base.specs.Address.{is_broadcast, is_group}
 use Rattle.mesh_base.specs.declared.address.Mac.{Mac}
 use Rattle.mesh_model.specs.declared.ending.LimitName.{LimitName}
-use Rattle.mesh_model.specs.declared.ending.LimitName.TheVariants.{Nodes, Links, Clock}
+use Rattle.mesh_model.specs.declared.ending.LimitName.TheVariants.{Nodes, Links, Lans, Clock}
 use Rattle.mesh_model.specs.declared.ending.Stop.TheVariants.{Limit}
 use Rattle.mesh_model.specs.declared.line_form.Algorithm.{Algorithm}
 use Rattle.mesh_model.specs.declared.line_form.Command.{Command}
@@ -18,11 +20,14 @@ use Rattle.mesh_model.specs.declared.line_form.Command.TheVariants.{Nothing, Alg
 use Rattle.mesh_model.specs.Clients.Log.{LineGiven, Line, Sets}
 use Rattle.mesh_model.specs.Clients.Log.{Frame as GivenFrame, Gone as GivenGone, Join as GivenJoin, Leave as GivenLeave, Ping as GivenPing, Trace as GivenTrace}
 use Rattle.mesh_model.specs.Clients.Settings.{Wifi as SetsWifi}
-use Rattle.mesh_model.specs.Net.Mesh.{NodeLog, NetLink, Setup, address_at}
-use Rattle.mesh_model.specs.Net.Inputs.{given_to}
+use Rattle.mesh_model.specs.Net.Mesh.{NodeLog, NetLan, NetLink, Setup, address_at}
+use Rattle.mesh_model.specs.Net.Inputs.{all_given, given_to}
+use Rattle.mesh_model.specs.Net.Lans.{joins_lan}
+use Rattle.mesh_model.specs.Net.Sending.{with_put}
+use Rattle.mesh_model.specs.Packets.Payload.{payload_spelling}
 use Rattle.mesh_model.specs.Net.Runs.{delivered}
-use Rattle.mesh_model.specs.Net.Limits.{nodes_limit, links_limit, clock_limit}
-use Rattle.mesh_model.specs.Run.State.{Printed, Decoded, State, node_named, place_of}
+use Rattle.mesh_model.specs.Net.Limits.{nodes_limit, links_limit, lans_limit, clock_limit}
+use Rattle.mesh_model.specs.Run.State.{Printed, Decoded, State, lan_place_of, node_named, place_of}
 use Rattle.mesh_model.specs.Run.Outcome.{Outcome, Goes, Ends}
 use Rattle.mesh_model.specs.Run.Passing.{run_until, after_attempt}
 use Rattle.mesh_model.specs.Run.Shown.{after_print, shown}
@@ -76,6 +81,42 @@ abbrev pub link_between : List ℕ → List ℕ → (ℕ → ℕ → NetLink) �
 link_between from to link =
     at_node from (λ start. at_node to (λ end. link_step (link start end)))
 
+-- ---- LANs
+
+-- the places of the nodes of these names, in rising order, of nodes of which the first stands at a
+-- place
+abbrev pub places_named : List (List ℕ) → ℕ → List NodeLog → List ℕ
+places_named names place [] = []
+places_named names place (node ∷ rest) =
+    (if list_any (bytes_eq node.name) names then place ∷ [] else [])
+    ++ places_named names (suc place) rest
+
+-- a LAN joins, with the nodes of these names as its gateways
+abbrev pub lan_step : Setup → List ℕ → List (List ℕ) → Step
+lan_step setup name gateways state =
+    if nat_le lans_limit (length state.mesh.lans) then Ends state (Limit Lans)
+    else after_attempt state (joins_lan setup name (places_named gateways 0 state.mesh.nodes)
+    state.clock state.mesh)
+
+-- the step at the LAN of a name, or else at the node of it
+abbrev pub at_place : List ℕ → (ℕ → Step) → (ℕ → Step) → Step
+at_place name on_lan on_node state = option_map_or (λ lan. on_lan lan state)
+    (lan_place_of state name) (at_node name on_node state)
+
+-- a frame that no gateway put comes on the LAN at a place, now
+abbrev pub lan_frame_step : Setup → List ℕ → ℕ → Step
+lan_frame_step setup bytes lan state = after_attempt state (with_put setup
+    (record { lan = lan; moment = state.clock; bytes = bytes; by = None }) state.mesh)
+
+-- the places of the gateways of the LAN at a place
+abbrev pub gateways_at : ℕ → List NetLan → List ℕ
+gateways_at place lans = option_map_or (λ (lan : NetLan). lan.gateways) (slice_get lans place) []
+
+-- a line gives each gateway of the LAN at a place something, now
+abbrev pub gateways_step : Setup → LineGiven → ℕ → Step
+gateways_step setup line lan state = after_attempt state
+    (all_given setup (gateways_at lan state.mesh.lans) state.clock (Line line) state.mesh)
+
 -- ---- inputs and time
 
 -- a line gives a node something, now; what it sends has the root 0
@@ -100,9 +141,8 @@ time_step setup time state =
     else run_until setup (state.clock + time) state
 
 -- something of the node of a name is printed
-abbrev pub show_step : List ℕ → (Algorithm → ℕ → NodeLog → Printed) → Step
-show_step name print state = option_map_or
-    (λ node. Goes (after_print state (print state.algorithm state.clock node)))
+abbrev pub show_step : List ℕ → (State → NodeLog → Printed) → Step
+show_step name print state = option_map_or (λ node. Goes (after_print state (print state node)))
     (node_named state name) (Goes state)
 
 -- ---- the steps
@@ -114,11 +154,15 @@ step_of setup (Algo algorithm) = Some (choice_step algorithm)
 step_of setup (Node name mac) = Some (node_step name mac)
 step_of setup (Link from to delay pattern throughput) = Some (link_between from to (λ start end.
     record { from = start; to = end; delay = delay; pattern = pattern; throughput = throughput }))
-step_of setup (Lan name gateways) = None
+step_of setup (Lan name gateways) = Some (lan_step setup name gateways)
 step_of setup (Frame place src dst vid text) =
     if is_group dst && not (is_broadcast dst) then None
-    else Some (at_node place (input_step setup (GivenFrame src dst vid text)))
-step_of setup (Gone place key) = Some (at_node place (input_step setup (GivenGone key)))
+    else Some (at_place place
+    (lan_frame_step setup
+    (payload_spelling (record { dst = dst; src = src; vid = vid; text = text })))
+    (input_step setup (GivenFrame src dst vid text)))
+step_of setup (Gone place key) = Some
+    (at_place place (gateways_step setup (GivenGone key)) (input_step setup (GivenGone key)))
 step_of setup (Join node key) = Some (at_node node (input_step setup (GivenJoin key)))
 step_of setup (Leave node key) = Some (at_node node (input_step setup (GivenLeave key)))
 step_of setup (Arp node mac own asked vid) = None

@@ -4,9 +4,9 @@
 -- `halt_text`.
 use Rattle.std.specs.Prelude.{ℕ, List, [], ◌∷◌, ◌++◌, codes, decimal}
 use Rattle.mesh_model.specs.declared.ending.LimitName.{LimitName}
-use Rattle.mesh_model.specs.declared.ending.LimitName.TheVariants.{Line, Input, Nodes, Links, Clients, Vlans, Frames, FrameBytes, Clock}
+use Rattle.mesh_model.specs.declared.ending.LimitName.TheVariants.{Line, Input, Nodes, Links, Lans, Clients, Vlans, Frames, FrameBytes, Clock}
 use Rattle.mesh_model.specs.declared.ending.Refusal.{Refusal}
-use Rattle.mesh_model.specs.declared.ending.Refusal.TheVariants.{BadUtf8, UnknownCommand, MissingWord, BadName, BadMac, BadNumber, OutOfRange, ExtraWord, NotBuilt, UnknownName, WrongKind, NameTaken, AddressTaken, SameNode, LinkTaken, AlgoAfterNode, NoSuchFrame}
+use Rattle.mesh_model.specs.declared.ending.Refusal.TheVariants.{BadUtf8, UnknownCommand, MissingWord, BadName, BadMac, BadNumber, OutOfRange, ExtraWord, NotBuilt, UnknownName, WrongKind, NameTaken, AddressTaken, SameNode, LinkTaken, AlgoAfterNode, NoSuchFrame, Attached}
 use Rattle.mesh_model.specs.declared.ending.Stop.{Stop}
 use Rattle.mesh_model.specs.declared.ending.Stop.TheVariants.{Refused, Limit}
 use Rattle.mesh_model.specs.Scenario.Lines.{newline}
@@ -31,6 +31,7 @@ refusal_words SameNode = codes "same node"
 refusal_words LinkTaken = codes "link taken"
 refusal_words AlgoAfterNode = codes "algo after node"
 refusal_words NoSuchFrame = codes "no such frame"
+refusal_words Attached = codes "attached"
 
 -- the name of a limit
 abbrev pub limit_words : LimitName → List ℕ
@@ -38,6 +39,7 @@ limit_words Line = codes "line"
 limit_words Input = codes "input"
 limit_words Nodes = codes "nodes"
 limit_words Links = codes "links"
+limit_words Lans = codes "lans"
 limit_words Clients = codes "clients"
 limit_words Vlans = codes "vlans"
 limit_words Frames = codes "frames"
