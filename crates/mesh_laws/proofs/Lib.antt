@@ -25,6 +25,8 @@ pub mod TableChanges
 pub mod PieceLemmas
 pub mod DifferenceLemmas
 pub mod KnownLemmas
+pub mod LanLemmas
+pub mod Gateways
 pub mod CommitLemmas
 pub mod HeldLemmas
 pub mod MachineInvariant

@@ -7,6 +7,8 @@ pub mod PresentLaws
 pub mod Soundness
 pub mod HappeningLaws
 pub mod MeshLaws
+pub mod LanLaws
+pub mod GatewayLaws
 pub mod LineLaws
 pub mod TableLaws
 pub mod KnownLaws

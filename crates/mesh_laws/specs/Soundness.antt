@@ -1,12 +1,12 @@
 -- What holds of every mesh that lines and happenings lead to: each node had the ticks up to the
--- last happening and no other, places fit 32 bits, each frame was sent over a link, and none
--- arrives at the moment of its sending; and every frame in a log has the bytes that it was sent
--- with. The main words are `IsSound` and `KeepsBytes`.
+-- last happening and no other, places fit 32 bits, each link frame was sent over a link and each
+-- LAN frame put on a LAN, and none arrives at the moment of its sending; and every link frame in a
+-- log has the bytes that it was sent with. The main words are `IsSound` and `KeepsBytes`.
 use Rattle.std.specs.Prelude.{◌≡◌, ℕ, suc, ◌+◌, ◌*◌, ◌-◌, ◌<◌, ◌≤◌, ◌⊎◌, List, length, slice_get, Some, ⊤}
 use Rattle.mesh_model.specs.declared.happening.Happening.{Happening}
 use Rattle.mesh_model.specs.Clients.Log.{Given, Tick, LinkFrame, LanFrame, Line, LogEntry}
 use Rattle.mesh_model.specs.Net.Happenings.{Before, class_number}
-use Rattle.mesh_model.specs.Net.Mesh.{NodeLog, NetLink, SentFrame, Mesh, Setup}
+use Rattle.mesh_model.specs.Net.Mesh.{NodeLog, NetLink, SentFrame, LanPut, Mesh, Setup}
 use Rattle.mesh_model.specs.Net.Due.{ticks_in, tick_at}
 use Rattle.mesh_model.specs.Net.Next.{AtMost, Has}
 
@@ -24,10 +24,13 @@ pub record IsSound (mesh : Mesh) : Type 0 where
   pub ticked : (place : ℕ) (node : NodeLog) → slice_get mesh.nodes place ≡ Some node
       → HadItsTicks mesh.last place node
   pub few_frames : length mesh.frames ≤ places
+  pub few_puts : length mesh.puts ≤ places
   pub few_nodes : length mesh.nodes ≤ places
   pub low_last : mesh.last.place < places
   pub on_links : (place : ℕ) (frame : SentFrame) → slice_get mesh.frames place ≡ Some frame
       → frame.link < length mesh.links
+  pub on_lans : (place : ℕ) (put : LanPut) → slice_get mesh.puts place ≡ Some put
+      → put.lan < length mesh.lans
   pub delays : (place : ℕ) (link : NetLink) → slice_get mesh.links place ≡ Some link
       → 1 ≤ link.delay
 

@@ -7,6 +7,7 @@
 pub mod happening_laws;
 pub mod held_laws;
 pub mod known_laws;
+pub mod lan_laws;
 pub mod line_laws;
 pub mod machine_laws;
 pub mod mark_laws;

@@ -17,7 +17,7 @@ use Rattle.mesh_tie.specs.Originators.{commits_of, log_of}
 use Rattle.mesh_tie.specs.Steps.{IsReachable}
 use Rattle.mesh_tie.proofs.FitLemmas.{commits_always_fit}
 use Rattle.mesh_tie.proofs.LogLemmas.{log_found}
-use Rattle.mesh_tie.proofs.MeshSteps.{reached}
+use Rattle.mesh_tie.proofs.ReachLemmas.{reached}
 use Rattle.mesh_tie.proofs.VLemmas.{algorithms_keep}
 use Rattle.mesh_lines.proofs.NodeNames.{IsAmong, among_or_none}
 
@@ -72,8 +72,8 @@ table_short algorithm mesh r orig version is = go (among_or_none orig mesh.nodes
     go : IsAmong mesh.nodes orig ⊎ (log_of orig mesh.nodes ≡ []) → length version.table ≤ 1024
     go (inl a) =
         let q = queries_of algorithm in
-        let all = reached q (algorithms_keep algorithm) (commits_always_fit q) mesh r in
+        let all = reached q (algorithms_keep algorithm) mesh r in
         let log_is = log_found orig mesh.nodes a.place a.node all.holds.orderly.distinct a.found a.mac_is in
-        (commits_always_fit q mesh r a.place a.node a.found version
+        (commits_always_fit q (algorithms_keep algorithm) mesh r a.place a.node a.found version
         (subst (λ m. IsCommit (commits m a.node.log) version) (sym a.mac_is) (subst (λ log. IsCommit (commits orig log) version) log_is is))).few
     go (inr none) = let first = subst (λ log. IsCommit (commits orig log) version) none is in first_short first.0 version first.1

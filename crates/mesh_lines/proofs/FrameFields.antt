@@ -5,11 +5,11 @@ use Rattle.std.proofs.lemmas.Bool.{eqb-false}
 use Rattle.std.proofs.lemmas.List.{append_cancel_left}
 use Rattle.hex.specs.Hex.{encode_lower, encode_with, hex_digit_value, lower_digits}
 use Rattle.hex.proofs.HexLemmas.{IsDigits-lower_digits}
+use Rattle.mesh_base.specs.Names.{NamesGiven}
 use Rattle.mesh_base.specs.declared.address.Mac.{Mac}
 use Rattle.mesh_base.specs.declared.event.Event.TheVariants.{FrameSent}
 use Rattle.mesh_base.specs.declared.event.Reason.{Reason}
 use Rattle.mesh_base.specs.declared.event.Reason.TheVariants.{Roam, Table, Old, Gw, Mc, Alfred, Fwd}
-use Rattle.mesh_base.specs.declared.names.NodeName.{NodeName}
 use Rattle.mesh_model.specs.Scenario.Lines.{newline}
 use Rattle.mesh_model.specs.Text.Events.{by_text, event_line, kind_word, name_text}
 use Rattle.mesh_lines.specs.FrameText.{table_frame_line}
@@ -107,7 +107,7 @@ frame_told number moment from to reason bytes n m a b told wf wt wa wb e =
     let p4 = words_next to b 32 32 (kind_word bytes ++ behind_kind reason bytes) (kind_word told ++ behind_kind (Some Table) told) end end wt wb refl refl p3.rest in
     record { number_is = p1.word; moment_is = p2.word; from_is = p3.word; to_is = p4.word; by_table_is = by_table reason bytes told p4.rest }
 
-event_frame : (names : List NodeName) (number moment : ℕ) (from to : Mac) (reason : Option Reason) (bytes : List ℕ) → event_line names (FrameSent number moment from to reason bytes) ≡ frame_line number moment (name_text names from) (name_text names to) reason bytes
+event_frame : (names : NamesGiven) (number moment : ℕ) (from to : Mac) (reason : Option Reason) (bytes : List ℕ) → event_line names (FrameSent number moment from to reason bytes) ≡ frame_line number moment (name_text names from) (name_text names to) reason bytes
 unfolding event_line frame_line
 event_frame names number moment from to reason bytes = refl
 
@@ -115,7 +115,7 @@ table_frame : (number moment : ℕ) (from to bytes : List ℕ) → table_frame_l
 unfolding frame_line
 table_frame number moment from to bytes = refl
 
-pub frame_fields : (names : List NodeName) → AreNamed names → (number moment : ℕ) (from to : Mac) (reason : Option Reason) (bytes : List ℕ) (n m : ℕ) (a b told : List ℕ) → IsWord a → IsWord b
+pub frame_fields : (names : NamesGiven) → AreNamed names → (number moment : ℕ) (from to : Mac) (reason : Option Reason) (bytes : List ℕ) (n m : ℕ) (a b told : List ℕ) → IsWord a → IsWord b
     → table_frame_line n m a b told ≡ event_line names (FrameSent number moment from to reason bytes) → SameFrame number moment (name_text names from) (name_text names to) reason bytes n m a b told
 frame_fields names named number moment from to reason bytes n m a b told wa wb e =
     frame_told number moment (name_text names from) (name_text names to) reason bytes n m a b told (name_word names named from) (name_word names named to) wa wb

@@ -2,11 +2,11 @@
 use Rattle.std.proofs.Common.{◌≡◌, ◌<◌, ◌^◌, ℕ, List, ◌∷◌, ◌++◌, Some, refl, sym, ap, subst, ◌∙◌, append_assoc, arith}
 use Rattle.std.specs.Prelude.{decimal}
 use Rattle.std.proofs.lemmas.Fmt.{decimal_injective}
+use Rattle.mesh_base.specs.Names.{NamesGiven}
 use Rattle.mesh_base.specs.declared.address.Mac.{Mac}
 use Rattle.mesh_base.specs.declared.event.Event.{Event}
-use Rattle.mesh_base.specs.declared.event.Event.TheVariants.{FrameSent, Received, Lost, Alias, Pinged, Traced}
+use Rattle.mesh_base.specs.declared.event.Event.TheVariants.{FrameSent, Received, LanSent, Bridged, Lost, Alias, Pinged, Traced, Arp, Alfred}
 use Rattle.mesh_base.specs.declared.event.Reason.TheVariants.{Table}
-use Rattle.mesh_base.specs.declared.names.NodeName.{NodeName}
 use Rattle.mesh_model.specs.declared.frame_choice.FrameChoice.{FrameChoice}
 use Rattle.mesh_model.specs.Net.Next.{Has}
 use Rattle.mesh_model.specs.Run.PlainRun.{after_lines, start}
@@ -27,15 +27,15 @@ use Rattle.mesh_lines.specs.TableText.{names_behind}
 use Rattle.mesh_lines.proofs.Found.{has_at}
 use Rattle.mesh_lines.proofs.FrameFields.{frame_fields}
 use Rattle.mesh_lines.proofs.LogFits.{noted_fits}
-use Rattle.mesh_lines.proofs.NameSteps.{IsNamed}
+use Rattle.mesh_lines.proofs.NamesGoOn.{IsNamed, front_named}
 use Rattle.mesh_lines.proofs.NameLemmas.{runs_are_named}
 use Rattle.mesh_lines.proofs.NodeNames.{name_stays}
 use Rattle.mesh_lines.proofs.SourceLemmas.{frames_have_one_source}
-use Rattle.mesh_lines.proofs.TableTextLemmas.{front_named, front_printed, none_printed, printed_plain, texts_plain}
+use Rattle.mesh_lines.proofs.TableTextLemmas.{front_printed, none_printed, printed_plain, texts_plain}
 use Rattle.mesh_lines.proofs.Words.{hex_from}
 
 -- a frame that was printed as sent by table, by names
-frame_printed : (choice : FrameChoice) (lines : List (List ℕ)) (orig : Mac) (earlier : List Printed) (names : List NodeName) (n m : ℕ) (a b : Mac) (bytes : List ℕ) (later : List Printed) (moment : ℕ) (from : List ℕ)
+frame_printed : (choice : FrameChoice) (lines : List (List ℕ)) (orig : Mac) (earlier : List Printed) (names : NamesGiven) (n m : ℕ) (a b : Mac) (bytes : List ℕ) (later : List Printed) (moment : ℕ) (from : List ℕ)
     → IsNamed (after_lines (start choice) lines).state → (after_lines (start choice) lines).state.printed ≡ earlier ++ Happened names (FrameSent n m a b (Some Table) bytes) ∷ later → PrintedNone orig earlier
     → moment < 2 ^ 64 → decimal m ≡ decimal moment → name_text names a ≡ from → SentByName choice lines orig moment from bytes
 frame_printed choice lines orig earlier names n m a b bytes later moment from is printed none low same called =
@@ -43,13 +43,13 @@ frame_printed choice lines orig earlier names n m a b bytes later moment from is
     let event : Event = FrameSent n m a b (Some Table) bytes in
     let h = is.printed (Happened names event) (subst (λ ps. Has ps (Happened names event)) (sym printed) (has_at earlier (Happened names event) later)) in
     let sent : SentRightlyIn run orig m a bytes = lines_by_table_are_right choice lines orig earlier later names n m a b bytes printed none in
-    let fits = noted_fits run.state.mesh.nodes sent.place sent.node sent.entry is.logs sent.found (subst (λ log. Has log sent.entry) (sym sent.log_is) (has_at sent.newer sent.entry sent.older)) in
+    let fits = noted_fits run.state.mesh.nodes sent.place sent.node sent.entry is.fits.logs sent.found (subst (λ log. Has log sent.entry) (sym sent.log_is) (has_at sent.newer sent.entry sent.older)) in
     let at = sent.moment_is in
     let early = fits.low in
     let moment_is : m ≡ moment = decimal_injective m moment (omega (arith, at, early)) low same in
     record {
       me = a;
-      named = ap (λ ns. name_text ns a) h.0.1 ∙ sym (name_stays names h.0.0 a h.1) ∙ called;
+      named = sym (name_stays names (names_behind choice lines) h.0.more a h.0.nodes h.1) ∙ called;
       sent = subst (λ t. SentRightlyIn run orig t a bytes) moment_is sent;
     }
 
@@ -83,7 +83,7 @@ table_frames_are_right choice lines text plain f before after number moment from
     named : (event : Event) → printed ≡ source.earlier ++ Happened source.names event ∷ source.later → AreNamed source.names
     named event is =
         let h = n.printed (Happened source.names event) (subst (λ ps. Has ps (Happened source.names event)) (sym is) (has_at source.earlier (Happened source.names event) source.later)) in
-        front_named source.names h.0.0 (subst AreNamed h.0.1 n.named)
+        front_named source.names (names_behind choice lines) h.0 n.named
 
     go : (event : Event) → printed ≡ source.earlier ++ Happened source.names event ∷ source.later → line ≡ event_line source.names event → event_kind event ≡ of_frame → SentByName choice lines orig moment from bytes
     go (FrameSent k m a b reason sent) at line_is kind =
@@ -94,7 +94,11 @@ table_frames_are_right choice lines text plain f before after number moment from
         (subst (λ r. printed ≡ source.earlier ++ Happened source.names (FrameSent k m a b r sent) ∷ source.later) fields.by_table_is.reason_is at))
         none_before low fields.moment_is fields.from_is
     go (Received m node vid src dst words) at line_is kind = cc
+    go (LanSent k m lan sent) at line_is kind = cc
+    go (Bridged m lan vid src dst words) at line_is kind = cc
     go (Lost m node vid src dst reason) at line_is kind = cc
     go (Alias node commit earlier) at line_is kind = cc
     go (Pinged node target seq result) at line_is kind = cc
     go (Traced node target result) at line_is kind = cc
+    go (Arp node ip result) at line_is kind = cc
+    go (Alfred node type_no result) at line_is kind = cc

@@ -4,8 +4,9 @@ use Rattle.std.specs.Prelude.{codes, flat_map}
 use Rattle.std.specs.List.{concat}
 use Rattle.mesh_base.specs.declared.client.Entry.{Entry}
 use Rattle.mesh_model.specs.declared.frame_choice.FrameChoice.{FrameChoice}
-use Rattle.mesh_model.specs.Run.State.{Printed, Decoded, GlobalsShown, Happened, LocalsShown, NeighborsShown, OriginatorsShown, printed_text}
+use Rattle.mesh_model.specs.Run.State.{Printed, ClaimsShown, Decoded, GlobalsShown, Happened, LocalsShown, NeighborsShown, OriginatorsShown, printed_text}
 use Rattle.mesh_model.specs.Scenario.Lines.{lines_of}
+use Rattle.mesh_model.specs.Text.Claims.{claim_header, claim_line, name_or_dash}
 use Rattle.mesh_model.specs.Text.Decode.{decode_lines, decode_text}
 use Rattle.mesh_model.specs.Text.Events.{event_line, is_shown}
 use Rattle.mesh_model.specs.Text.GlobalTables.{GlobalPart, entry_line, global_header, global_line, mark_line, part_text}
@@ -14,7 +15,7 @@ use Rattle.mesh_laws.specs.Cuts.{AreLines, IsLine}
 use Rattle.mesh_laws.proofs.CutLemmas.{lines_of-lines_then}
 use Rattle.mesh_lines.specs.ItemLines.{ArePlain, IsPlain, item_lines, lines_printed, part_lines}
 use Rattle.mesh_lines.proofs.EventParts.{event_told}
-use Rattle.mesh_lines.proofs.LineParts.{entry_told, global_header_told, global_told, link_header_told, local_header_told, local_told, mark_told, neighbor_told, orig_header_told, orig_told, unbroken_word, vlan_told}
+use Rattle.mesh_lines.proofs.LineParts.{claim_header_told, claim_told, entry_told, global_header_told, global_told, link_header_told, local_header_told, local_told, mark_told, neighbor_told, orig_header_told, orig_told, unbroken_word, vlan_told}
 use Rattle.mesh_lines.proofs.PacketParts.{AllOther, decoded_other, other_both, other_map}
 
 -- ---- texts
@@ -46,6 +47,7 @@ item_joined choice (LocalsShown table) = three (local_header table.name table.ve
 item_joined choice (OriginatorsShown table) = ap (λ more. route_header (codes "o") table.name table.algorithm (length table.rows) ++ more) (joined_map orig_line table.rows)
 item_joined choice (NeighborsShown table) = ap (λ more. route_header (codes "n") table.name table.algorithm (length table.rows) ++ more) (joined_map neighbor_line table.rows)
 item_joined choice (GlobalsShown table) = three (global_header table.name (length table.parts)) (flat_map part_lines table.parts) (map mark_line table.marks) (flat_map part_text table.parts) (flat_map mark_line table.marks) (joined_flat part_lines part_text part_joined table.parts) (joined_map mark_line table.marks)
+item_joined choice (ClaimsShown table) = ap (λ more. claim_header table.name table.lan (length table.rows) ++ more) (joined_map claim_line table.rows)
 item_joined choice (Decoded bytes) = refl
 item_joined choice (Happened names event) = shown_joined (is_shown choice event) (event_line names event)
 
@@ -81,6 +83,8 @@ item_are_lines choice (GlobalsShown table) plain = (
   (global_header_told table.name (length table.parts) (unbroken_word table.name plain)).whole,
   lines_both (flat_map part_lines table.parts) (map mark_line table.marks) (parts_lines table.parts) (other_lines (map mark_line table.marks) (other_map mark_line mark_told table.marks)),
 )
+item_are_lines choice (ClaimsShown table) plain =
+    ((claim_header_told table.name table.lan (length table.rows) (unbroken_word table.name plain.0) (unbroken_word (name_or_dash table.lan) plain.1)).whole, other_lines (map claim_line table.rows) (other_map claim_line claim_told table.rows))
 item_are_lines choice (Decoded bytes) plain = other_lines (decode_lines bytes) (decoded_other bytes)
 item_are_lines choice (Happened names event) plain = shown_lines (is_shown choice event) (event_line names event) (event_told names plain.0 event plain.1).whole
 

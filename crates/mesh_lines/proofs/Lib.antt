@@ -12,6 +12,7 @@ pub mod PayloadTexts
 pub mod LogFits
 pub mod PlainTexts
 pub mod NodeNames
+pub mod NamesGoOn
 pub mod NameSteps
 pub mod NameLemmas
 pub mod RowFields

@@ -10,6 +10,7 @@ use Rattle.mesh_base.specs.declared.address.Mac.{Mac}
 use Rattle.mesh_base.specs.declared.client.Key.{Key}
 use Rattle.mesh_base.specs.declared.client.Entry.{Entry}
 use Rattle.mesh_base.specs.declared.client.Vid.{Vid}
+use Rattle.mesh_model.specs.declared.claim.ClaimRow.{ClaimRow}
 use Rattle.mesh_model.specs.declared.line_form.Algorithm.{Algorithm}
 use Rattle.mesh_model.specs.declared.line_form.Algorithm.TheVariants.{Iv, V}
 use Rattle.mesh_model.specs.declared.route.LinkRow.{LinkRow}
@@ -19,6 +20,7 @@ use Rattle.mesh_model.specs.declared.table_row.GlobalRow.{GlobalRow}
 use Rattle.mesh_model.specs.declared.table_row.LocalRow.{LocalRow}
 use Rattle.mesh_model.specs.Packets.Bodies.{VlanSum}
 use Rattle.mesh_model.specs.Scenario.Lines.{newline}
+use Rattle.mesh_model.specs.Text.Claims.{claim_header, claim_line, name_or_dash}
 use Rattle.mesh_model.specs.Text.GlobalTables.{agreement_word, byte_text, entry_line, global_header, global_line, mark_line, state_word}
 use Rattle.mesh_model.specs.Text.PacketLines.{line_of, named_address, named_flags, named_number}
 use Rattle.mesh_model.specs.Text.Tables.{address_text, age_text, algorithm_word, flag_text, flags_text, local_header, local_line, neighbor_line, orig_line, route_header, sum_text, vid_text, vlan_line}
@@ -181,3 +183,13 @@ pub mark_told : (mark : Key × Mac) → Told of_other (mark_line mark)
 unfolding mark_line
 mark_told mark = told of_other (named_address (codes "r ") mark.0.mac ∷ codes " " ∷ vid_text mark.0.vid ∷ named_address (codes " to=") mark.1 ∷ [])
     (mac (codes "r ") mark.0.mac refl, (said (codes " ") refl, (vid mark.0.vid, (mac (codes " to=") mark.1 refl, tt)))) refl
+
+pub claim_header_told : (name : List ℕ) (lan : Option (List ℕ)) (count : ℕ) → IsUnbroken name → IsUnbroken (name_or_dash lan) → Told of_other (claim_header name lan count)
+unfolding claim_header
+claim_header_told name lan count plain also = told of_other (codes "cl " ∷ name ∷ codes " lan=" ∷ name_or_dash lan ∷ named_number (codes " count=") count ∷ [])
+    (said (codes "cl ") refl, (plain, (said (codes " lan=") refl, (also, (number (codes " count=") count refl, tt))))) refl
+
+pub claim_told : (row : ClaimRow) → Told of_other (claim_line row)
+unfolding claim_line
+claim_told row = told of_other (named_address (codes "k ") row.key.mac ∷ codes " " ∷ vid_text row.key.vid ∷ named_address (codes " holder=") row.holder ∷ named_number (codes " age=") row.age ∷ [])
+    (mac (codes "k ") row.key.mac refl, (said (codes " ") refl, (vid row.key.vid, (mac (codes " holder=") row.holder refl, (number (codes " age=") row.age refl, tt))))) refl

@@ -3,10 +3,10 @@ use Rattle.std.proofs.Common.{◌≡◌, ◌⊎◌, inl, inr, ℕ, zero, suc, Bo
 use Rattle.std.specs.Prelude.{bytes_eq, find, slice_get}
 use Rattle.std.specs.Option.{unwrap_or}
 use Rattle.mesh_base.specs.Address.{mac_text}
-use Rattle.mesh_base.specs.Names.{node_name}
+use Rattle.mesh_base.specs.Names.{NamesGiven, node_name}
 use Rattle.mesh_base.specs.declared.address.Mac.{Mac}
 use Rattle.mesh_base.specs.declared.event.Event.{Event}
-use Rattle.mesh_base.specs.declared.event.Event.TheVariants.{FrameSent, Received, Lost, Alias, Pinged, Traced}
+use Rattle.mesh_base.specs.declared.event.Event.TheVariants.{FrameSent, Received, LanSent, Bridged, Lost, Alias, Pinged, Traced, Arp, Alfred as AlfredAsked}
 use Rattle.mesh_base.specs.declared.event.Reason.{Reason}
 use Rattle.mesh_base.specs.declared.event.Reason.TheVariants.{Roam, Table, Old, Gw, Mc, Alfred, Fwd}
 use Rattle.mesh_base.specs.declared.names.NodeName.{NodeName}
@@ -17,7 +17,7 @@ use Rattle.mesh_model.specs.Net.Mesh.{Mesh, NodeLog}
 use Rattle.mesh_model.specs.Net.Next.{Has}
 use Rattle.mesh_model.specs.Routes.Addresses.{same_mac}
 use Rattle.mesh_model.specs.Routes.Algorithms.{queries_of}
-use Rattle.mesh_model.specs.Run.State.{names_of}
+use Rattle.mesh_model.specs.Run.State.{node_names}
 use Rattle.mesh_model.specs.Text.Events.{name_text}
 use Rattle.mesh_laws.proofs.MacLemmas.{same_exact, same_self}
 use Rattle.mesh_tie.specs.AliasesSeen.{HasAlias}
@@ -25,8 +25,7 @@ use Rattle.mesh_tie.specs.Originators.{log_of}
 use Rattle.mesh_tie.specs.Sources.{IsWhole}
 use Rattle.mesh_tie.specs.Steps.{IsReachable}
 use Rattle.mesh_tie.proofs.EventLemmas.{events_by_table_are_right}
-use Rattle.mesh_tie.proofs.FitLemmas.{commits_always_fit}
-use Rattle.mesh_tie.proofs.MeshSteps.{reached}
+use Rattle.mesh_tie.proofs.ReachLemmas.{reached}
 use Rattle.mesh_tie.proofs.SeenLemmas.{aliases_are_told}
 use Rattle.mesh_tie.proofs.VLemmas.{algorithms_keep}
 
@@ -96,7 +95,7 @@ table_among algorithm mesh r number moment from to bytes has =
     let q = queries_of algorithm in
     let event : Event = FrameSent number moment from to (Some Table) bytes in
     let p = parted mesh.events event has in
-    let all = reached q (algorithms_keep algorithm) (commits_always_fit q) mesh r in
+    let all = reached q (algorithms_keep algorithm) mesh r in
     let s = events_by_table_are_right q (algorithms_keep algorithm) mesh r nobody p.front p.back number moment from to bytes p.is
     (λ n e told. nobody_none mesh.nodes all.holds.orderly.whole (alias_among algorithm mesh r nobody n e (subst (λ es. Has es (Alias nobody n e)) (sym p.is) (front_has p.front event p.back (Alias nobody n e) told)))) in
     record { place = s.place; node = s.node; found = s.found; mac_is = s.mac_is }
@@ -117,10 +116,14 @@ BySender nodes from (Some Fwd) = Unit {0}
 abbrev pub IsOfNode : List NodeLog → Event → Type 0
 IsOfNode nodes (FrameSent number moment from to reason bytes) = BySender nodes from reason
 IsOfNode nodes (Received moment node vid src dst text) = Unit {0}
+IsOfNode nodes (LanSent number moment lan bytes) = Unit {0}
+IsOfNode nodes (Bridged moment lan vid src dst text) = Unit {0}
 IsOfNode nodes (Lost moment node vid src dst reason) = Unit {0}
 IsOfNode nodes (Alias node commit earlier) = IsAmong nodes node
 IsOfNode nodes (Pinged node target seq result) = Unit {0}
 IsOfNode nodes (Traced node target result) = Unit {0}
+IsOfNode nodes (Arp node ip result) = Unit {0}
+IsOfNode nodes (AlfredAsked node type_no result) = Unit {0}
 
 sender_among : (algorithm : Algorithm) (mesh : Mesh) → IsReachable (queries_of algorithm) mesh → (number moment : ℕ) (from to : Mac) (reason : Option Reason) (bytes : List ℕ) → Has mesh.events (FrameSent number moment from to reason bytes) → BySender mesh.nodes from reason
 sender_among algorithm mesh r number moment from to None bytes has = tt
@@ -139,10 +142,14 @@ AreOfNodes mesh = (event : Event) → Has mesh.events event → IsOfNode mesh.no
 pub events_of_nodes : (algorithm : Algorithm) (mesh : Mesh) → IsReachable (queries_of algorithm) mesh → AreOfNodes mesh
 events_of_nodes algorithm mesh r (FrameSent number moment from to reason bytes) has = sender_among algorithm mesh r number moment from to reason bytes has
 events_of_nodes algorithm mesh r (Received moment node vid src dst text) has = tt
+events_of_nodes algorithm mesh r (LanSent number moment lan bytes) has = tt
+events_of_nodes algorithm mesh r (Bridged moment lan vid src dst text) has = tt
 events_of_nodes algorithm mesh r (Lost moment node vid src dst reason) has = tt
 events_of_nodes algorithm mesh r (Alias node commit earlier) has = alias_among algorithm mesh r node commit earlier has
 events_of_nodes algorithm mesh r (Pinged node target seq result) has = tt
 events_of_nodes algorithm mesh r (Traced node target result) has = tt
+events_of_nodes algorithm mesh r (Arp node ip result) has = tt
+events_of_nodes algorithm mesh r (AlfredAsked node type_no result) has = tt
 
 -- ---- names
 -- a node of these names has an address
@@ -154,15 +161,15 @@ named_first : (b : Bool) (node : NodeName) (o : Option NodeName) (name : List �
 named_first true node o name is = (node.name, refl)
 named_first false node o name is = (name, is)
 
-pub among_named : (nodes : List NodeLog) (place : ℕ) (node : NodeLog) (mac : Mac) → slice_get nodes place ≡ Some node → node.mac ≡ mac → HasName (names_of nodes) mac
+pub among_named : (nodes : List NodeLog) (place : ℕ) (node : NodeLog) (mac : Mac) → slice_get nodes place ≡ Some node → node.mac ≡ mac → HasName (node_names nodes) mac
 among_named [] place node mac got same = cc
 among_named (first ∷ rest) zero node mac got same =
     let is : first ≡ node = cc in
     let true_is : same_mac first.mac mac ≡ true = subst (λ m. same_mac m mac ≡ true) (sym (ap (λ (n : NodeLog). n.mac) is ∙ same)) (same_self mac) in
-    record { name = first.name; is = ap (λ b. option_map (λ (n : NodeName). n.name) (cond b (Some (record { mac = first.mac; name = first.name })) (find (λ n. bytes_eq n.mac.0 mac.0) (names_of rest)))) true_is }
+    record { name = first.name; is = ap (λ b. option_map (λ (n : NodeName). n.name) (cond b (Some (record { mac = first.mac; name = first.name })) (find (λ n. bytes_eq n.mac.0 mac.0) (node_names rest)))) true_is }
 among_named (first ∷ rest) (suc place) node mac got same =
     let h = among_named rest place node mac got same in
-    let p = named_first (same_mac first.mac mac) (record { mac = first.mac; name = first.name }) (find (λ n. bytes_eq n.mac.0 mac.0) (names_of rest)) h.name h.is in
+    let p = named_first (same_mac first.mac mac) (record { mac = first.mac; name = first.name }) (find (λ n. bytes_eq n.mac.0 mac.0) (node_names rest)) h.name h.is in
     record { name = p.0; is = p.1 }
 
 found_more : (test : NodeName → Bool) (names more : List NodeName) (name : List ℕ) → option_map (λ (n : NodeName). n.name) (find test names) ≡ Some name → option_map (λ (n : NodeName). n.name) (find test (names ++ more)) ≡ Some name
@@ -175,9 +182,9 @@ found_more test (first ∷ rest) more name is = go (test first) is (found_more t
     go false is later = later is
 
 -- a name stays where others follow
-pub name_stays : (names more : List NodeName) (mac : Mac) → HasName names mac → name_text names mac ≡ name_text (names ++ more) mac
-name_stays names more mac h =
-    let after = found_more (λ node. bytes_eq node.mac.0 mac.0) names more h.name h.is in
+pub name_stays : (names all : NamesGiven) (more : List NodeName) (mac : Mac) → all.nodes ≡ names.nodes ++ more → HasName names.nodes mac → name_text names mac ≡ name_text all mac
+name_stays names all more mac e h =
+    let after = ap (λ ns. node_name ns mac) e ∙ found_more (λ node. bytes_eq node.mac.0 mac.0) names.nodes more h.name h.is in
     ap (λ o. unwrap_or o (mac_text mac)) h.is ∙ sym (ap (λ o. unwrap_or o (mac_text mac)) after)
 
 -- the sender by table has a name
@@ -195,12 +202,16 @@ NamedSender names from (Some Fwd) = Unit {0}
 abbrev pub IsOfName : List NodeName → Event → Type 0
 IsOfName names (FrameSent number moment from to reason bytes) = NamedSender names from reason
 IsOfName names (Received moment node vid src dst text) = Unit {0}
+IsOfName names (LanSent number moment lan bytes) = Unit {0}
+IsOfName names (Bridged moment lan vid src dst text) = Unit {0}
 IsOfName names (Lost moment node vid src dst reason) = Unit {0}
 IsOfName names (Alias node commit earlier) = HasName names node
 IsOfName names (Pinged node target seq result) = Unit {0}
 IsOfName names (Traced node target result) = Unit {0}
+IsOfName names (Arp node ip result) = Unit {0}
+IsOfName names (AlfredAsked node type_no result) = Unit {0}
 
-sender_named : (nodes : List NodeLog) (from : Mac) (reason : Option Reason) → BySender nodes from reason → NamedSender (names_of nodes) from reason
+sender_named : (nodes : List NodeLog) (from : Mac) (reason : Option Reason) → BySender nodes from reason → NamedSender (node_names nodes) from reason
 sender_named nodes from None a = tt
 sender_named nodes from (Some Roam) a = tt
 sender_named nodes from (Some Table) a = among_named nodes a.place a.node from a.found a.mac_is
@@ -210,10 +221,14 @@ sender_named nodes from (Some Mc) a = tt
 sender_named nodes from (Some Alfred) a = tt
 sender_named nodes from (Some Fwd) a = tt
 
-pub of_name : (nodes : List NodeLog) (event : Event) → IsOfNode nodes event → IsOfName (names_of nodes) event
+pub of_name : (nodes : List NodeLog) (event : Event) → IsOfNode nodes event → IsOfName (node_names nodes) event
 of_name nodes (FrameSent number moment from to reason bytes) a = sender_named nodes from reason a
 of_name nodes (Received moment node vid src dst text) a = tt
+of_name nodes (LanSent number moment lan bytes) a = tt
+of_name nodes (Bridged moment lan vid src dst text) a = tt
 of_name nodes (Lost moment node vid src dst reason) a = tt
 of_name nodes (Alias node commit earlier) a = among_named nodes a.place a.node node a.found a.mac_is
 of_name nodes (Pinged node target seq result) a = tt
 of_name nodes (Traced node target result) a = tt
+of_name nodes (Arp node ip result) a = tt
+of_name nodes (AlfredAsked node type_no result) a = tt

@@ -1,13 +1,14 @@
 -- Each line of what is printed tells where it comes from.
 use Rattle.std.proofs.Common.{◌≡◌, ℕ, Bool, true, false, cond, List, [], ◌∷◌, ◌++◌, length, map, refl, sym, ap, subst, ◌∙◌, append_assoc, append-nil, inl, inr, ◌⊎◌}
 use Rattle.std.specs.Prelude.{flat_map}
+use Rattle.mesh_base.specs.Names.{NamesGiven}
 use Rattle.mesh_base.specs.declared.client.Entry.{Entry}
 use Rattle.mesh_base.specs.declared.event.Event.{Event}
-use Rattle.mesh_base.specs.declared.event.Event.TheVariants.{FrameSent, Received, Lost, Alias, Pinged, Traced}
-use Rattle.mesh_base.specs.declared.names.NodeName.{NodeName}
+use Rattle.mesh_base.specs.declared.event.Event.TheVariants.{FrameSent, Received, LanSent, Bridged, Lost, Alias, Pinged, Traced, Arp, Alfred}
 use Rattle.mesh_model.specs.declared.frame_choice.FrameChoice.{FrameChoice}
 use Rattle.mesh_model.specs.Net.Next.{Has}
-use Rattle.mesh_model.specs.Run.State.{Printed, Decoded, GlobalsShown, Happened, LocalsShown, NeighborsShown, OriginatorsShown}
+use Rattle.mesh_model.specs.Run.State.{Printed, ClaimsShown, Decoded, GlobalsShown, Happened, LocalsShown, NeighborsShown, OriginatorsShown}
+use Rattle.mesh_model.specs.Text.Claims.{claim_line, name_or_dash}
 use Rattle.mesh_model.specs.Text.Events.{event_line, is_shown}
 use Rattle.mesh_model.specs.Text.GlobalTables.{GlobalPart, GlobalTable, entry_line, global_line, mark_line}
 use Rattle.mesh_model.specs.Text.Tables.{local_line, neighbor_line, orig_line, vlan_line}
@@ -17,7 +18,7 @@ use Rattle.mesh_lines.specs.LineSources.{AliasesHaveOneSource, FramesHaveOneSour
 use Rattle.mesh_lines.specs.LineWords.{LineKind, event_kind, kind_of, of_alias, of_entry, of_frame, of_originator, of_other}
 use Rattle.mesh_lines.proofs.EventParts.{event_told}
 use Rattle.mesh_lines.proofs.Found.{Found, Split, found, has_at, heads, in_first, in_second, split}
-use Rattle.mesh_lines.proofs.LineParts.{entry_told, global_header_told, global_told, link_header_told, local_header_told, local_told, mark_told, neighbor_told, orig_header_told, orig_told, unbroken_word, vlan_told}
+use Rattle.mesh_lines.proofs.LineParts.{claim_header_told, claim_told, entry_told, global_header_told, global_told, link_header_told, local_header_told, local_told, mark_told, neighbor_told, orig_header_told, orig_told, unbroken_word, vlan_told}
 use Rattle.mesh_lines.proofs.PacketParts.{AllOther, decoded_other, other_both, other_map}
 
 -- ---- items whose lines are of other kinds
@@ -35,6 +36,7 @@ NoKind (LocalsShown table) = Unit {0}
 NoKind (OriginatorsShown table) = Unit {0}
 NoKind (NeighborsShown table) = Unit {0}
 NoKind (GlobalsShown table) = ⊥
+NoKind (ClaimsShown table) = Unit {0}
 NoKind (Decoded bytes) = Unit {0}
 NoKind (Happened names event) = ⊥
 
@@ -43,6 +45,7 @@ locals_other choice (LocalsShown table) plain none = (local_header_told table.na
 locals_other choice (OriginatorsShown table) plain none = (orig_header_told table.name table.algorithm (length table.rows) (unbroken_word table.name plain), other_map orig_line orig_told table.rows)
 locals_other choice (NeighborsShown table) plain none = (link_header_told table.name table.algorithm (length table.rows) (unbroken_word table.name plain), other_map neighbor_line neighbor_told table.rows)
 locals_other choice (GlobalsShown table) plain none = absurd none
+locals_other choice (ClaimsShown table) plain none = (claim_header_told table.name table.lan (length table.rows) (unbroken_word table.name plain.0) (unbroken_word (name_or_dash table.lan) plain.1), other_map claim_line claim_told table.rows)
 locals_other choice (Decoded bytes) plain none = decoded_other bytes
 locals_other choice (Happened names event) plain none = absurd none
 
@@ -108,7 +111,7 @@ in_table table plain (first ∷ left) line right kind is =
 
 -- ---- events
 -- the line of an event that is shown
-record OfEvent (choice : FrameChoice) (names : List NodeName) (event : Event) (left : List (List ℕ)) (line : List ℕ) (right : List (List ℕ)) : Type 0 where
+record OfEvent (choice : FrameChoice) (names : NamesGiven) (event : Event) (left : List (List ℕ)) (line : List ℕ) (right : List (List ℕ)) : Type 0 where
   shown : is_shown choice event ≡ true
   left_is : left ≡ []
   line_is : line ≡ event_line names event
@@ -118,22 +121,26 @@ no_line : (left : List (List ℕ)) (line : List ℕ) (right : List (List ℕ)) �
 no_line [] line right e = cc
 no_line (first ∷ left) line right e = cc
 
-of_event : (choice : FrameChoice) (names : List NodeName) (event : Event) (left : List (List ℕ)) (line : List ℕ) (right : List (List ℕ)) (b : Bool) → is_shown choice event ≡ b → cond b (event_line names event ∷ []) [] ≡ left ++ line ∷ right → OfEvent choice names event left line right
+of_event : (choice : FrameChoice) (names : NamesGiven) (event : Event) (left : List (List ℕ)) (line : List ℕ) (right : List (List ℕ)) (b : Bool) → is_shown choice event ≡ b → cond b (event_line names event ∷ []) [] ≡ left ++ line ∷ right → OfEvent choice names event left line right
 of_event choice names event left line right false shown is = absurd (no_line left line right is)
 of_event choice names event [] line right true shown is = let h = heads (event_line names event) line [] right is in record { shown = shown; left_is = refl; line_is = sym h.0; right_is = sym h.1 }
 of_event choice names event (first ∷ left) line right true shown is = absurd (no_line left line right (heads (event_line names event) first [] (left ++ line ∷ right) is).1)
 
 -- an event's line is of its kind
-event_kind_is : (choice : FrameChoice) (names : List NodeName) (event : Event) → IsPlain (Happened names event) → (left : List (List ℕ)) (line : List ℕ) (right : List (List ℕ)) → OfEvent choice names event left line right → kind_of line ≡ event_kind event
+event_kind_is : (choice : FrameChoice) (names : NamesGiven) (event : Event) → IsPlain (Happened names event) → (left : List (List ℕ)) (line : List ℕ) (right : List (List ℕ)) → OfEvent choice names event left line right → kind_of line ≡ event_kind event
 event_kind_is choice names event plain left line right o = ap kind_of o.line_is ∙ (event_told names plain.0 event plain.1).kind_is
 
 no_event : (event : Event) → event_kind event ≡ of_originator → ⊥
 no_event (FrameSent number moment from to reason bytes) e = cc
 no_event (Received moment node vid src dst text) e = cc
+no_event (LanSent number moment lan bytes) e = cc
+no_event (Bridged moment lan vid src dst text) e = cc
 no_event (Lost moment node vid src dst reason) e = cc
 no_event (Alias node commit earlier) e = cc
 no_event (Pinged node target seq result) e = cc
 no_event (Traced node target result) e = cc
+no_event (Arp node ip result) e = cc
+no_event (Alfred node type_no result) e = cc
 
 -- ---- the sources
 part_found : (choice : FrameChoice) (printed : List Printed) (before : List (List ℕ)) (line : List ℕ) (after : List (List ℕ)) (earlier : List Printed) (table : GlobalTable) (later : List Printed) (left right : List (List ℕ))
@@ -167,6 +174,7 @@ originators_have_one_source choice printed plain before line after is kind =
     go front (OriginatorsShown table) back left right list p one b a = absurd (none front (OriginatorsShown table) left right p tt one)
     go front (NeighborsShown table) back left right list p one b a = absurd (none front (NeighborsShown table) left right p tt one)
     go front (GlobalsShown table) back left right list p one b a = part_found choice printed before line after front table back left right list b a (in_table table p left line right kind one)
+    go front (ClaimsShown table) back left right list p one b a = absurd (none front (ClaimsShown table) left right p tt one)
     go front (Decoded bytes) back left right list p one b a = absurd (none front (Decoded bytes) left right p tt one)
     go front (Happened names event) back left right list p one b a =
         absurd (no_event event (sym (event_kind_is choice names event p left line right (of_event choice names event left line right (is_shown choice event) refl one)) ∙ kind))
@@ -213,6 +221,7 @@ events_have_one_source choice printed plain before line after is kind =
     go front (OriginatorsShown table) back left right list p one b a = absurd (none (OriginatorsShown table) left right p tt one)
     go front (NeighborsShown table) back left right list p one b a = absurd (none (NeighborsShown table) left right p tt one)
     go front (GlobalsShown table) back left right list p one b a = absurd (table_none table p line (subst (λ ls. Has ls line) (sym one) (has_at left line right)) kind)
+    go front (ClaimsShown table) back left right list p one b a = absurd (none (ClaimsShown table) left right p tt one)
     go front (Decoded bytes) back left right list p one b a = absurd (none (Decoded bytes) left right p tt one)
     go front (Happened names event) back left right list p one b a =
         let o = of_event choice names event left line right (is_shown choice event) refl one in

@@ -2,17 +2,17 @@
 use Rattle.std.proofs.Common.{◌≡◌, inl, inr, ◌≤◌, ◌<◌, ◌^◌, ℕ, true, cond, List, [], ◌∷◌, ◌++◌, length, map, Option, Some, None, is_some, refl, sym, ap, subst, ◌∙◌, append_assoc, arith}
 use Rattle.std.specs.Prelude.{codes, decimal, flat_map}
 use Rattle.std.proofs.lemmas.Fmt.{decimal_injective}
+use Rattle.mesh_base.specs.Names.{NamesGiven}
 use Rattle.mesh_base.specs.declared.address.Mac.{Mac}
 use Rattle.mesh_base.specs.declared.event.Event.{Event}
 use Rattle.mesh_base.specs.declared.event.Event.TheVariants.{Alias}
-use Rattle.mesh_base.specs.declared.names.NodeName.{NodeName}
 use Rattle.mesh_model.specs.declared.frame_choice.FrameChoice.{FrameChoice}
 use Rattle.mesh_model.specs.declared.table_row.GlobalRow.{GlobalRow}
 use Rattle.mesh_model.specs.Net.Next.{Has}
 use Rattle.mesh_model.specs.Run.PlainRun.{Run, after_line, after_lines, after_outcome, line_outcome, output, start}
 use Rattle.mesh_model.specs.Run.Outcome.{Outcome, Ends, Goes, reached}
 use Rattle.mesh_model.specs.Scenario.Halt.{Halt}
-use Rattle.mesh_model.specs.Run.State.{Decoded, GlobalsShown, LocalsShown, NeighborsShown, OriginatorsShown, Happened, Printed, printed_text}
+use Rattle.mesh_model.specs.Run.State.{ClaimsShown, Decoded, GlobalsShown, LocalsShown, NeighborsShown, OriginatorsShown, Happened, Printed, printed_text}
 use Rattle.mesh_model.specs.Scenario.Lines.{complete_lines, lines_of}
 use Rattle.mesh_model.specs.Text.Events.{event_line}
 use Rattle.mesh_model.specs.Text.GlobalTables.{GlobalPart, byte_text, entry_line, global_line}
@@ -33,7 +33,7 @@ use Rattle.mesh_lines.proofs.Found.{has_at, heads}
 use Rattle.mesh_lines.proofs.InputLines.{front_lines}
 use Rattle.mesh_lines.proofs.ItemLemmas.{lines_of_text}
 use Rattle.mesh_lines.proofs.LineParts.{global_told}
-use Rattle.mesh_lines.proofs.NameSteps.{HasNames, IsNamed}
+use Rattle.mesh_lines.proofs.NamesGoOn.{GoOn, HasNames, IsNamed, front_named}
 use Rattle.mesh_lines.proofs.NameLemmas.{runs_are_named}
 use Rattle.mesh_lines.proofs.NodeNames.{HasName, name_stays}
 use Rattle.mesh_lines.proofs.PlainTexts.{event_plain}
@@ -48,17 +48,16 @@ line_among choice [] item line has one = absurd has
 line_among choice (first ∷ rest) item line (inl same) one = has_left (item_lines choice first) (lines_printed choice rest) line (subst (λ x. Has (item_lines choice x) line) same one)
 line_among choice (first ∷ rest) item line (inr has) one = has_right (item_lines choice first) (lines_printed choice rest) line (line_among choice rest item line has one)
 
-alias_line_is : (names more : List NodeName) (mac : Mac) (number earlier : ℕ) → HasName names mac → event_line names (Alias mac number earlier) ≡ event_line (names ++ more) (Alias mac number earlier)
+alias_line_is : (names all : NamesGiven) (mac : Mac) (number earlier : ℕ) → GoOn names all → HasName names.nodes mac → event_line names (Alias mac number earlier) ≡ event_line all (Alias mac number earlier)
 unfolding event_line
-alias_line_is names more mac number earlier h = ap (λ name. line_of (codes "alias " ∷ name ∷ (codes " " ++ decimal number) ∷ (codes " " ++ decimal earlier) ∷ [])) (name_stays names more mac h)
+alias_line_is names all mac number earlier g h = ap (λ name. line_of (codes "alias " ∷ name ∷ (codes " " ++ decimal number) ∷ (codes " " ++ decimal earlier) ∷ [])) (name_stays names all g.more mac g.nodes h)
 
 -- where no line tells of an alias, none was printed
-pub none_printed : (choice : FrameChoice) (all : List NodeName) (events : List Event) (orig : Mac) (printed : List Printed) → ((item : Printed) → Has printed item → HasNames all events item) → TellNoAlias all orig (lines_printed choice printed) → PrintedNone orig printed
+pub none_printed : (choice : FrameChoice) (all : NamesGiven) (events : List Event) (orig : Mac) (printed : List Printed) → ((item : Printed) → Has printed item → HasNames all events item) → TellNoAlias all orig (lines_printed choice printed) → PrintedNone orig printed
 none_printed choice all events orig printed named none names number earlier has =
     let item : Printed = Happened names (Alias orig number earlier) in
     let h = named item has in
-    let line : event_line names (Alias orig number earlier) ≡ event_line all (Alias orig number earlier) =
-    alias_line_is names h.0.0 orig number earlier h.1 ∙ ap (λ ns. event_line ns (Alias orig number earlier)) (sym h.0.1) in
+    let line : event_line names (Alias orig number earlier) ≡ event_line all (Alias orig number earlier) = alias_line_is names all orig number earlier h.0 h.1 in
     none number earlier (line_among choice printed item (event_line all (Alias orig number earlier)) has (inl (sym line)))
 
 -- ---- fields
@@ -83,18 +82,16 @@ some_same x y e = cc
 -- ---- the text
 -- the texts that events of a run tell have no newline
 abbrev pub TextsPlain : FrameChoice → List (List ℕ) → Type 0
-TextsPlain choice lines = (names : List NodeName) (event : Event) → Has (after_lines (start choice) lines).state.printed (Happened names event) → HasPlainText event
+TextsPlain choice lines = (names : NamesGiven) (event : Event) → Has (after_lines (start choice) lines).state.printed (Happened names event) → HasPlainText event
 
-pub front_named : (names more : List NodeName) → AreNamed (names ++ more) → AreNamed names
-front_named names more named one has = named one (has_left names more one has)
-
-item_plain : (all : List NodeName) (events : List Event) → AreNamed all → (item : Printed) → HasNames all events item → ((names : List NodeName) (event : Event) → item ≡ Happened names event → HasPlainText event) → IsPlain item
+item_plain : (all : NamesGiven) (events : List Event) → AreNamed all → (item : Printed) → HasNames all events item → ((names : NamesGiven) (event : Event) → item ≡ Happened names event → HasPlainText event) → IsPlain item
 item_plain all events named (LocalsShown table) has texts = has
 item_plain all events named (OriginatorsShown table) has texts = has
 item_plain all events named (NeighborsShown table) has texts = has
 item_plain all events named (GlobalsShown table) has texts = has
+item_plain all events named (ClaimsShown table) has texts = has
 item_plain all events named (Decoded bytes) has texts = tt
-item_plain all events named (Happened names event) has texts = (front_named names has.0.0 (subst AreNamed has.0.1 named), texts names event refl)
+item_plain all events named (Happened names event) has texts = (front_named names all has.0 named, texts names event refl)
 
 pub printed_plain : (choice : FrameChoice) (lines : List (List ℕ)) → IsNamed (after_lines (start choice) lines).state → TextsPlain choice lines → ArePlain (after_lines (start choice) lines).state.printed
 printed_plain choice lines n texts item has = item_plain (names_behind choice lines) (after_lines (start choice) lines).state.mesh.events n.named item (n.printed item has) (λ names event is. texts names event (subst (Has (after_lines (start choice) lines).state.printed) is has))
@@ -118,7 +115,7 @@ lines_choice run (line ∷ lines) = lines_choice (after_line run line) lines ∙
 pub texts_plain : (choice : FrameChoice) (lines : List (List ℕ)) → IsNamed (after_lines (start choice) lines).state → TextsPlain choice lines
 texts_plain choice lines n names event has =
     let state = (after_lines (start choice) lines).state in
-    event_plain state.algorithm state.mesh (lines_hold (start choice) lines (first_holds choice)).reachable n.logs event (n.printed (Happened names event) has).2
+    event_plain state.algorithm state.mesh (lines_hold (start choice) lines (first_holds choice)).reachable n.fits event (n.printed (Happened names event) has).2
 
 pub choice_stays : (choice : FrameChoice) (lines : List (List ℕ)) → (after_lines (start choice) lines).state.choice ≡ choice
 choice_stays choice lines = lines_choice (start choice) lines

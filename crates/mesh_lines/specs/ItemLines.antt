@@ -4,7 +4,8 @@
 use Rattle.std.specs.Prelude.{ℕ, List, [], ◌∷◌, ◌++◌, length, flat_map, map, codes, if◌then◌else◌, ⊤}
 use Rattle.mesh_model.specs.declared.frame_choice.FrameChoice.{FrameChoice}
 use Rattle.mesh_model.specs.Net.Next.{Has}
-use Rattle.mesh_model.specs.Run.State.{Printed, Decoded, GlobalsShown, Happened, LocalsShown, NeighborsShown, OriginatorsShown}
+use Rattle.mesh_model.specs.Run.State.{Printed, ClaimsShown, Decoded, GlobalsShown, Happened, LocalsShown, NeighborsShown, OriginatorsShown}
+use Rattle.mesh_model.specs.Text.Claims.{ClaimTable, claim_header, claim_line, name_or_dash}
 use Rattle.mesh_model.specs.Text.Decode.{decode_lines}
 use Rattle.mesh_model.specs.Text.Events.{event_line, is_shown}
 use Rattle.mesh_model.specs.Text.GlobalTables.{GlobalPart, GlobalTable, entry_line, global_header, global_line, mark_line}
@@ -39,12 +40,18 @@ abbrev pub global_lines : GlobalTable → List (List ℕ)
 global_lines table =
     global_first table ∷ flat_map part_lines table.parts ++ map mark_line table.marks
 
+-- the lines of the claims of a gateway
+abbrev pub claim_lines : ClaimTable → List (List ℕ)
+claim_lines table = claim_header table.name table.lan (length table.rows)
+    ∷ map claim_line table.rows
+
 -- the lines of what is printed at once
 abbrev pub item_lines : FrameChoice → Printed → List (List ℕ)
 item_lines choice (LocalsShown table) = local_lines table
 item_lines choice (OriginatorsShown table) = orig_lines table
 item_lines choice (NeighborsShown table) = link_lines table
 item_lines choice (GlobalsShown table) = global_lines table
+item_lines choice (ClaimsShown table) = claim_lines table
 item_lines choice (Decoded bytes) = decode_lines bytes
 item_lines choice (Happened names event) =
     if is_shown choice event then event_line names event ∷ [] else []
@@ -59,6 +66,7 @@ IsPlain (LocalsShown table) = IsWord table.name
 IsPlain (OriginatorsShown table) = IsWord table.name
 IsPlain (NeighborsShown table) = IsWord table.name
 IsPlain (GlobalsShown table) = IsWord table.name
+IsPlain (ClaimsShown table) = IsWord table.name × IsWord (name_or_dash table.lan)
 IsPlain (Decoded bytes) = ⊤
 IsPlain (Happened names event) = AreNamed names × HasPlainText event
 

@@ -6,7 +6,7 @@ use Rattle.std.specs.Prelude.{◌≡◌, ◌<◌, ◌^◌, ℕ, List}
 use Rattle.mesh_base.specs.declared.address.Mac.{Mac}
 use Rattle.mesh_base.specs.declared.client.Entry.{Entry}
 use Rattle.mesh_base.specs.declared.event.Event.TheVariants.{Alias}
-use Rattle.mesh_base.specs.declared.names.NodeName.{NodeName}
+use Rattle.mesh_base.specs.Names.{NamesGiven}
 use Rattle.mesh_model.specs.Text.Events.{event_line, name_text}
 use Rattle.mesh_model.specs.Text.GlobalTables.{entry_line}
 use Rattle.mesh_model.specs.Text.Tables.{flags_text}
@@ -41,7 +41,7 @@ EntryLinesTellFields = (one other : Entry) → AreBytes one.key.mac.0 →
     AreSameEntry one other
 
 -- the fields of an alias' line are the same
-pub record AreSameAlias (names others : List NodeName) (orig other : Mac)
+pub record AreSameAlias (names others : NamesGiven) (orig other : Mac)
     (number earlier n e : ℕ) : Type 0 where
   pub name : name_text names orig ≡ name_text others other
   pub number_is : number ≡ n
@@ -49,7 +49,7 @@ pub record AreSameAlias (names others : List NodeName) (orig other : Mac)
 
 -- so it is where two such lines are the same, by names that are words
 abbrev pub AliasLinesTellFields : Type 0
-AliasLinesTellFields = (names others : List NodeName) (orig other : Mac)
+AliasLinesTellFields = (names others : NamesGiven) (orig other : Mac)
     (number earlier n e : ℕ) → AreNamed names → AreNamed others →
     number < 2 ^ 64 → earlier < 2 ^ 64 → n < 2 ^ 64 → e < 2 ^ 64 →
     event_line names (Alias orig number earlier) ≡ event_line others (Alias other n e) →

@@ -3,7 +3,7 @@
 -- The main words are `IsOfPart` and `IsOfEvent`.
 use Rattle.std.specs.Prelude.{◌≡◌, ℕ, List, ◌∷◌, ◌++◌, length, flat_map, map, true}
 use Rattle.mesh_base.specs.declared.event.Event.{Event}
-use Rattle.mesh_base.specs.declared.names.NodeName.{NodeName}
+use Rattle.mesh_base.specs.Names.{NamesGiven}
 use Rattle.mesh_model.specs.declared.frame_choice.FrameChoice.{FrameChoice}
 use Rattle.mesh_model.specs.Run.State.{Printed, GlobalsShown, Happened}
 use Rattle.mesh_model.specs.Text.Events.{event_line, is_shown}
@@ -32,7 +32,7 @@ pub record IsOfPart (choice : FrameChoice) (printed : List Printed) (before : Li
 pub record IsOfEvent (choice : FrameChoice) (printed : List Printed) (before : List (List ℕ))
     (line : List ℕ) (after : List (List ℕ)) : Type 0 where
   pub earlier : List Printed
-  pub names : List NodeName
+  pub names : NamesGiven
   pub event : Event
   pub later : List Printed
   pub printed_is : printed ≡ earlier ++ Happened names event ∷ later

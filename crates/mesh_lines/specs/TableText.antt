@@ -7,7 +7,7 @@ use Rattle.std.specs.Prelude.{◌≡◌, ◌⊎◌, ◌<◌, ◌^◌, ℕ, true,
 use Rattle.std.specs.List.{AllByRecursion}
 use Rattle.mesh_base.specs.declared.address.Mac.{Mac}
 use Rattle.mesh_base.specs.declared.event.Event.TheVariants.{Alias}
-use Rattle.mesh_base.specs.declared.names.NodeName.{NodeName}
+use Rattle.mesh_base.specs.Names.{NamesGiven}
 use Rattle.mesh_model.specs.declared.frame_choice.FrameChoice.{FrameChoice}
 use Rattle.mesh_model.specs.Net.Next.{Has}
 use Rattle.mesh_model.specs.Run.PlainRun.{after_lines, start}
@@ -22,12 +22,12 @@ use Rattle.mesh_lines.specs.ItemLines.{global_first, lines_printed, part_lines}
 abbrev pub AreBytes : List ℕ → Type 0
 AreBytes = AllByRecursion (λ byte. byte < 2 ^ 8)
 
--- the names that the nodes have behind these lines
-abbrev pub names_behind : FrameChoice → List (List ℕ) → List NodeName
-names_behind choice lines = names_of (after_lines (start choice) lines).state.mesh.nodes
+-- the names that nodes and LANs have behind these lines
+abbrev pub names_behind : FrameChoice → List (List ℕ) → NamesGiven
+names_behind choice lines = names_of (after_lines (start choice) lines).state.mesh
 
 -- no line tells of an alias of an originator, by the name that it has among these
-abbrev pub TellNoAlias : List NodeName → Mac → List (List ℕ) → Type 0
+abbrev pub TellNoAlias : NamesGiven → Mac → List (List ℕ) → Type 0
 TellNoAlias names orig lines = (number earlier : ℕ) →
     Has lines (event_line names (Alias orig number earlier)) → ⊥
 

@@ -8,14 +8,16 @@ use Rattle.mesh_model.specs.declared.act.Act.{Act}
 use Rattle.mesh_model.specs.declared.act.Act.TheVariants.{Link, Lan, Print}
 use Rattle.mesh_model.specs.declared.packet.Head.{Head}
 use Rattle.mesh_model.specs.declared.packet.Head.TheVariants.{IvOgm, Bcast, Elp, Ogm2, Unicast, Frag, Unicast4, Icmp, Utvlv}
-use Rattle.mesh_model.specs.Acts.Choosing.{acts_of, client_acts, probing_acts, sighting_acts}
+use Rattle.mesh_model.specs.Acts.Choosing.{acts_of, claimed_first, client_acts, from_lan_acts, on_from_lan, probing_acts, sighting_acts}
+use Rattle.mesh_model.specs.Acts.BridgeRows.{Place, round_acts, unclaim_acts}
 use Rattle.mesh_model.specs.Acts.FrameRows.{broadcast_acts, here_acts, passed_frame}
 use Rattle.mesh_model.specs.Acts.OwnContainers.{own_containers}
 use Rattle.mesh_model.specs.Acts.ProbeRows.{IcmpMessage}
 use Rattle.mesh_model.specs.Acts.Rows.{Own, alias_acts, alias_event, commit_acts, elp_acts, head_acts, icmp_acts, message_acts, own_by, packet_acts, packets_acts, place_at, taken_acts, tick_acts}
 use Rattle.mesh_model.specs.Acts.TableRows.{other_containers, own_answer}
-use Rattle.mesh_model.specs.Clients.Log.{LinkFrame, Frame, Gone, Join, Leave, Arp, Dhcp, Ping, Trace, Log, Line, LineGiven, Attach, Sets, Put, Get}
-use Rattle.mesh_model.specs.Clients.Mentions.{Mention, key_of, mentions, next_mentions}
+use Rattle.mesh_model.specs.Clients.Log.{LinkFrame, LanFrame, Frame, Gone, Join, Leave, Arp, Dhcp, Ping, Trace, Log, Line, LineGiven, Attach, Sets, Put, Get}
+use Rattle.mesh_model.specs.Clients.Lans.{Bridge}
+use Rattle.mesh_model.specs.Clients.Mentions.{Mention, key_of, mentions, next_mentions, passed_from_lan}
 use Rattle.mesh_model.specs.Commits.Aliases.{alias_before, last_alias}
 use Rattle.mesh_model.specs.Commits.Announcements.{announcement}
 use Rattle.mesh_model.specs.Commits.History.{History, with_message, committed, is_commit_tick, present_table}
@@ -24,8 +26,9 @@ use Rattle.mesh_model.specs.Knowledge.Steps.{Coming, advertised, after_packet, a
 use Rattle.mesh_model.specs.Knowledge.Told.{Message, message_in, message_of, message_with}
 use Rattle.mesh_model.specs.Net.Next.{Has}
 use Rattle.mesh_model.specs.Packets.Containers.{containers_of, containers_spelling}
-use Rattle.mesh_model.specs.Packets.Contents.{first_table}
+use Rattle.mesh_model.specs.Packets.Contents.{first_roaming, first_table}
 use Rattle.mesh_model.specs.Packets.FirstPacket.{Packet}
+use Rattle.mesh_model.specs.Packets.LanFrames.{client_frame_in, lan_message_of}
 use Rattle.mesh_model.specs.Packets.LinkFrame.{link_frame}
 use Rattle.mesh_model.specs.Packets.Payload.{ClientFrame}
 use Rattle.mesh_model.specs.Routes.Addresses.{same_mac}
@@ -33,10 +36,12 @@ use Rattle.mesh_model.specs.Routes.Queries.{Queries}
 use Rattle.mesh_model.specs.Routes.RouteLog.{RouteLog}
 use Rattle.mesh_model.specs.Tables.Versions.{Version}
 use Rattle.mesh_laws.proofs.Schedule.Members.{has_either, has_left, has_right}
+use Rattle.mesh_tie.proofs.BridgeActs.{claimed_puts}
+use Rattle.mesh_tie.proofs.LanSteps.{lan_on}
 use Rattle.mesh_tie.proofs.CalmRows.{calm_frame, calm_here, calm_session}
 use Rattle.mesh_tie.proofs.CommitLemmas.{Committed, as_before, committed_is, one_more}
 use Rattle.mesh_tie.proofs.EntryLemmas.{each_appended}
-use Rattle.mesh_tie.proofs.NamesRows.{IsPlain, plain_advert, plain_broadcast, plain_icmp, plain_message, plain_ogm, plain_other, plain_own, plain_passed}
+use Rattle.mesh_tie.proofs.NamesRows.{IsPlain, plain_bridges, plain_round, plain_unclaim, plain_advert, plain_broadcast, plain_icmp, plain_message, plain_ogm, plain_other, plain_own, plain_passed}
 use Rattle.mesh_tie.proofs.Sayable.{IsCalm, IsNoAlias}
 
 -- ---- acts that tell of none
@@ -82,13 +87,13 @@ packet_quiet q me own came known packet = go packet.head packet.tail
 
     go : (head : Head) (tail : List ℕ) → AreQuiet (head_acts q me own came known (message_of (record { head = head; tail = tail })) tail head)
     go (IvOgm ttl flags seq o prev tq) tail = taken (IvOgm ttl flags seq o prev tq) tail (message_with o (first_table (containers_of tail)))
-    go (Bcast ttl seq o) tail = plain_quiet (broadcast_acts known (place_at me came) ttl (record { orig = o; number = seq }) tail) (plain_broadcast known (place_at me came) ttl (record { orig = o; number = seq }) tail)
+    go (Bcast ttl seq o) tail = plain_quiet (broadcast_acts known own.bridge (place_at me came) ttl (record { orig = o; number = seq }) tail) (plain_broadcast known own.bridge (place_at me came) ttl (record { orig = o; number = seq }) tail)
     go (Elp o seq interval) tail = tt
     go (Ogm2 ttl flags seq o throughput) tail = taken (Ogm2 ttl flags seq o throughput) tail (message_with o (first_table (containers_of tail)))
     go (Unicast ttl ttvn dst) tail =
-        let here = here_acts q known own.mentions (place_at me came) ttl tail in
+        let here = here_acts q known own.mentions own.bridge (place_at me came) ttl tail in
         let passed = passed_frame q known (place_at me came) ttl ttvn dst tail in
-        quiet_if (same_mac dst me) here passed (calm_quiet here (calm_here q known own.mentions (place_at me came) ttl tail)) (plain_quiet passed (plain_passed q known (place_at me came) ttl ttvn dst tail))
+        quiet_if (same_mac dst me) here passed (calm_quiet here (calm_here q known own.mentions own.bridge (place_at me came) ttl tail)) (plain_quiet passed (plain_passed q known (place_at me came) ttl ttvn dst tail))
     go (Frag ttl number priority dst o seq total) tail = tt
     go (Unicast4 ttl ttvn dst src subtype) tail = tt
     go (Icmp ttl msg dst o uid seq) tail =
@@ -96,9 +101,11 @@ packet_quiet q me own came known packet = go packet.head packet.tail
         plain_quiet (icmp_acts q known (place_at me came) m) (plain_icmp q known (place_at me came) m)
     go (Utvlv ttl dst src) tail =
         let message = message_in (first_table (containers_of tail)) in
-        let mine = own_answer q me known came.now own.last own.told src message in
+        let answer = own_answer q me known came.now own.last own.told src message in
+        let unclaim = unclaim_acts (place_at me came) own.bridge (first_roaming (containers_of tail)) in
+        let mine = answer ++ unclaim in
         let others = other_containers q known came.now ttl dst src tail in
-        quiet_if (same_mac dst me) mine others (plain_quiet mine (plain_own q me known came.now own src message)) (plain_quiet others (plain_other q known came.now ttl dst src tail))
+        quiet_if (same_mac dst me) mine others (plain_quiet mine (each_appended IsPlain answer unclaim (plain_own q me known came.now own src message) (plain_unclaim (place_at me came) own.bridge (first_roaming (containers_of tail))))) (plain_quiet others (plain_other q known came.now ttl dst src tail))
 
 packets_quiet : (q : Queries) (me : Mac) (own : Own) (came : Coming) (known : Knowledge) (packets : List Packet) → AreQuiet (packets_acts q me own came known packets)
 unfolding packets_acts
@@ -130,6 +137,26 @@ line_quiet q me mine now (Put type_no version text) = tt
 line_quiet q me mine now (Get type_no) = tt
 line_quiet q me mine now (Ping target) = calm_quiet (probing_acts q me mine now target false) (calm_session q (knowledge q me mine) (record { me = me; now = now }) target false)
 line_quiet q me mine now (Trace target) = calm_quiet (probing_acts q me mine now target true) (calm_session q (knowledge q me mine) (record { me = me; now = now }) target true)
+
+pub lan_quiet : (q : Queries) (me : Mac) (mine : Log) (now : ℕ) (bytes : List ℕ) → AreQuiet (acts_of q me mine now (LanFrame bytes))
+lan_quiet q me mine now bytes =
+    each_appended IsQuiet (claimed_first me mine now came) (from_lan_acts q me mine now ms (passed_from_lan me mine now came))
+    (plain_quiet (claimed_first me mine now came) (plain_bridges (claimed_first me mine now came) (claimed_puts me mine now came))) (go (passed_from_lan me mine now came))
+  where
+    came : Option ClientFrame
+    came = client_frame_in (lan_message_of bytes)
+
+    ms : List Mention
+    ms = next_mentions me mine (mentions me mine) now (LanFrame bytes)
+
+    go : (o : Option ClientFrame) → AreQuiet (from_lan_acts q me mine now ms o)
+    go None = tt
+    go (Some frame) =
+        let key = key_of frame.src frame.vid in
+        let known = after_sighting q me mine now key (knowledge q me mine) in
+        each_appended IsQuiet (sighting_acts q me mine now key) (on_from_lan q me mine now known ms frame)
+        (plain_quiet (sighting_acts q me mine now key) (plain_advert me key (advertised q me mine (knowledge q me mine) now key)))
+        (calm_quiet (on_from_lan q me mine now known ms frame) (lan_on q me mine now known ms frame))
 
 -- ---- ticks
 -- acts tell of the aliases that commits gain, and of no others
@@ -202,13 +229,27 @@ gains_behind me before _ quiet _ none (gains_one version acts only each) = gains
     go mac number earlier (inl told) = absurd (quiet_none quiet mac number earlier none told)
     go mac number earlier (inr told) = only mac number earlier told
 
-pub tick_gains : (q : Queries) (me : Mac) (routes : RouteLog) (ms : List Mention) (before : History) (now index : ℕ)
-    → Gains me before.commits (cond (is_commit_tick index) (with_message (committed (present_table ms now) before)) before).commits (tick_acts q me routes ms before now index)
+-- and such may stand behind others
+gains_then : (me : Mac) (before after : List Version) (acts quiet : List Act) → AreQuiet quiet → Gains me before after acts → Gains me before after (acts ++ quiet)
+gains_then me before _ _ quiet none (gains_none acts all) = gains_none (acts ++ quiet) (each_appended IsQuiet acts quiet all none)
+gains_then me before _ _ quiet none (gains_one version acts only each) = gains_one version (acts ++ quiet)
+    (λ mac number earlier has. go mac number earlier (has_either acts quiet (Print (Alias mac number earlier)) has))
+    (λ earlier is. has_left acts quiet (Print (Alias me (length before) earlier)) (each earlier is))
+  where
+    go : (mac : Mac) (number earlier : ℕ) → Has acts (Print (Alias mac number earlier)) ⊎ Has quiet (Print (Alias mac number earlier)) → (mac ≡ me) × (number ≡ length before) × (alias_before version before ≡ Some earlier)
+    go mac number earlier (inl told) = only mac number earlier told
+    go mac number earlier (inr told) = absurd (quiet_none quiet mac number earlier none told)
+
+pub tick_gains : (q : Queries) (me : Mac) (routes : RouteLog) (ms : List Mention) (before : History) (bridge : Bridge) (now index : ℕ)
+    → Gains me before.commits (cond (is_commit_tick index) (with_message (committed (present_table ms now) before)) before).commits (tick_acts q me routes ms before bridge now index)
 unfolding tick_acts
-tick_gains q me routes ms before now index =
+tick_gains q me routes ms before bridge now index =
+    let at : Place = record { me = me; now = now } in
+    let round = round_acts at bridge index in
     let acts = cond (is_commit_tick index) (commit_acts q me routes index before (committed (present_table ms now) before)) [] in
-    gains_behind me before.commits (cond (is_commit_tick index) (with_message (committed (present_table ms now) before)) before).commits (elp_acts q routes index) acts
-    (plain_quiet (elp_acts q routes index) (plain_message (q.beats routes index).elp [])) (go (is_commit_tick index))
+    gains_behind me before.commits (cond (is_commit_tick index) (with_message (committed (present_table ms now) before)) before).commits (elp_acts q routes index) (acts ++ round)
+    (plain_quiet (elp_acts q routes index) (plain_message (q.beats routes index).elp []))
+    (gains_then me before.commits (cond (is_commit_tick index) (with_message (committed (present_table ms now) before)) before).commits acts round (plain_quiet round (plain_round at bridge index)) (go (is_commit_tick index)))
   where
     go : (b : Bool) → Gains me before.commits (cond b (with_message (committed (present_table ms now) before)) before).commits (cond b (commit_acts q me routes index before (committed (present_table ms now) before)) [])
     go true = commit_gains q me routes index before (committed (present_table ms now) before) (committed_is ms now before)

@@ -4,6 +4,7 @@ use Rattle.std.specs.List.{AllByRecursion}
 use Rattle.std.specs.Option.{unwrap_or}
 use Rattle.mesh_base.specs.Address.{is_broadcast, is_group}
 use Rattle.mesh_base.specs.declared.address.Mac.{Mac}
+use Rattle.mesh_base.specs.declared.client.Key.{Key}
 use Rattle.mesh_base.specs.declared.event.Reason.{Reason}
 use Rattle.mesh_base.specs.declared.event.Reason.TheVariants.{Fwd}
 use Rattle.mesh_base.specs.declared.event.LossReason.TheVariants.{Ttl, NoRoute}
@@ -11,10 +12,12 @@ use Rattle.mesh_base.specs.declared.event.LossReason.{LossReason}
 use Rattle.mesh_model.specs.declared.act.Act.{Act}
 use Rattle.mesh_model.specs.declared.packet.Head.{Head}
 use Rattle.mesh_model.specs.declared.packet.Head.TheVariants.{IvOgm, Bcast, Elp, Ogm2, Unicast, Frag, Unicast4, Icmp, Utvlv}
-use Rattle.mesh_model.specs.Acts.FrameRows.{Place, addressed, arrived, broadcast_acts, broadcast_on, frame_acts, handed_out, handed_out_if, here_acts, is_present, lost, lost_if, on_route, on_way, passed_frame, readdressed}
+use Rattle.mesh_model.specs.Acts.BridgeRows.{Place, handed_out, out_acts, round_acts, spread_of_broadcast, spread_of_packet, unclaim_acts}
+use Rattle.mesh_model.specs.Acts.FrameRows.{addressed, arrived, broadcast_acts, broadcast_on, frame_acts, handed_out_if, here_acts, is_present, lost, lost_if, on_route, on_way, passed_frame, readdressed}
 use Rattle.mesh_model.specs.Acts.Packing.{sent_to, sent_to_all}
 use Rattle.mesh_model.specs.Acts.ProbeRows.{IcmpMessage, icmp_head, session_acts}
 use Rattle.mesh_model.specs.Acts.Rows.{elp_acts, icmp_acts, message_acts}
+use Rattle.mesh_model.specs.Clients.Lans.{Bridge}
 use Rattle.mesh_model.specs.Clients.Mentions.{Mention, key_of}
 use Rattle.mesh_model.specs.Knowledge.Addressee.{Way, addressee}
 use Rattle.mesh_model.specs.Knowledge.Known.{Broadcast, Knowledge, is_new_broadcast, told_at}
@@ -23,6 +26,7 @@ use Rattle.mesh_model.specs.Packets.Payload.{ClientFrame, client_frame_of, paylo
 use Rattle.mesh_model.specs.Routes.Queries.{Queries, is_elp}
 use Rattle.mesh_model.specs.Routes.RouteLog.{RouteLog}
 use Rattle.mesh_tie.specs.Sources.{KeepsOriginators}
+use Rattle.mesh_tie.proofs.BridgeActs.{AreBridging, IsBridging, hands_out, out_puts, puts_on_lan, round_puts, unclaim_puts}
 use Rattle.mesh_tie.proofs.EntryLemmas.{each_appended}
 use Rattle.mesh_tie.proofs.KindLemmas.{bcast_frame, elp_frame, icmp_frame, unicast_frame}
 use Rattle.mesh_tie.proofs.ProbeActs.{AreProbing, IsProbing, icmp_puts, puts_message, puts_pinged, puts_traced, session_puts}
@@ -55,23 +59,37 @@ calm_elps me q routes index keeps = go (q.beats routes index).elp refl
     go None is = tt
     go (Some head) is = (calm_elp head (keeps.elps routes index head is), tt)
 
-calm_if : (b : Bool) (xs ys : List Act) → AllByRecursion IsCalm xs → AllByRecursion IsCalm ys → AllByRecursion IsCalm (cond b xs ys)
+pub calm_if : (b : Bool) (xs ys : List Act) → AllByRecursion IsCalm xs → AllByRecursion IsCalm ys → AllByRecursion IsCalm (cond b xs ys)
 calm_if true xs ys a b = a
 calm_if false xs ys a b = b
 
 -- ---- the rows
-calm_handed : (at : Place) (o : Option ClientFrame) → AllByRecursion IsCalm (handed_out_if at o)
-calm_handed at None = tt
-calm_handed at (Some frame) = ((λ me n e is. cc), tt)
+calm_bridge : (act : Act) → IsBridging act → IsCalm act
+calm_bridge _ (puts_on_lan bytes) = tt
+calm_bridge _ (hands_out at frame) = λ me n e is. cc
+
+pub calm_bridges : (acts : List Act) → AreBridging acts → AllByRecursion IsCalm acts
+calm_bridges [] all = tt
+calm_bridges (act ∷ acts) all = (calm_bridge act all.0, calm_bridges acts all.1)
+
+calm_handed : (bridge : Bridge) (at : Place) (orig : Mac) (o : Option ClientFrame) → AllByRecursion IsCalm (handed_out_if bridge at orig o)
+calm_handed bridge at orig None = tt
+calm_handed bridge at orig (Some frame) = let spread = spread_of_broadcast bridge orig frame in calm_bridges (out_acts bridge at spread frame) (out_puts bridge at spread frame)
+
+pub calm_unclaim : (at : Place) (bridge : Bridge) (o : Option Key) → AllByRecursion IsCalm (unclaim_acts at bridge o)
+calm_unclaim at bridge o = calm_bridges (unclaim_acts at bridge o) (unclaim_puts at bridge o)
+
+pub calm_round : (at : Place) (bridge : Bridge) (index : ℕ) → AllByRecursion IsCalm (round_acts at bridge index)
+calm_round at bridge index = calm_bridges (round_acts at bridge index) (round_puts at bridge index)
 
 calm_lost : (at : Place) (reason : LossReason) (o : Option ClientFrame) → AllByRecursion IsCalm (lost_if at reason o)
 calm_lost at reason None = tt
 calm_lost at reason (Some frame) = ((λ me n e is. cc), tt)
 
-pub calm_broadcast : (known : Knowledge) (at : Place) (ttl : ℕ) (broadcast : Broadcast) (tail : List ℕ) → AllByRecursion IsCalm (broadcast_acts known at ttl broadcast tail)
+pub calm_broadcast : (known : Knowledge) (bridge : Bridge) (at : Place) (ttl : ℕ) (broadcast : Broadcast) (tail : List ℕ) → AllByRecursion IsCalm (broadcast_acts known bridge at ttl broadcast tail)
 unfolding broadcast_acts
-calm_broadcast known at ttl broadcast tail = calm_if (is_new_broadcast at.me broadcast known.taken) (handed_out_if at (client_frame_of tail) ++ broadcast_on ttl broadcast tail) []
-    (each_appended IsCalm (handed_out_if at (client_frame_of tail)) (broadcast_on ttl broadcast tail) (calm_handed at (client_frame_of tail))
+calm_broadcast known bridge at ttl broadcast tail = calm_if (is_new_broadcast at.me broadcast known.taken) (handed_out_if bridge at broadcast.orig (client_frame_of tail) ++ broadcast_on ttl broadcast tail) []
+    (each_appended IsCalm (handed_out_if bridge at broadcast.orig (client_frame_of tail)) (broadcast_on ttl broadcast tail) (calm_handed bridge at broadcast.orig (client_frame_of tail))
     (calm_if (nat_le ttl 1) [] (sent_to_all (Bcast (ttl - 1) broadcast.number broadcast.orig) tail ∷ []) tt (calm_bcast (ttl - 1) broadcast.number broadcast.orig tail, tt))) tt
 
 calm_on_route : (at : Place) (ttl ttvn : ℕ) (dst : Mac) (tail : List ℕ) (next : Option Mac) → AllByRecursion IsCalm (on_route at ttl ttvn dst tail next)
@@ -90,15 +108,16 @@ calm_readdressed : (q : Queries) (known : Knowledge) (at : Place) (ttl : ℕ) (f
 calm_readdressed q known at ttl frame tail None = ((λ me n e is. cc), tt)
 calm_readdressed q known at ttl frame tail (Some way) = calm_if (nat_le ttl 1) (lost at Ttl frame ∷ []) (addressed q known at.now (ttl - 1) way tail ∷ []) ((λ me n e is. cc), tt) (calm_addressed q known at.now (ttl - 1) way tail, tt)
 
-calm_arrived : (q : Queries) (known : Knowledge) (ms : List Mention) (at : Place) (ttl : ℕ) (tail : List ℕ) (o : Option ClientFrame) → AllByRecursion IsCalm (arrived q known ms at ttl tail o)
-calm_arrived q known ms at ttl tail None = tt
-calm_arrived q known ms at ttl tail (Some frame) =
+calm_arrived : (q : Queries) (known : Knowledge) (ms : List Mention) (bridge : Bridge) (at : Place) (ttl : ℕ) (tail : List ℕ) (o : Option ClientFrame) → AllByRecursion IsCalm (arrived q known ms bridge at ttl tail o)
+calm_arrived q known ms bridge at ttl tail None = tt
+calm_arrived q known ms bridge at ttl tail (Some frame) =
+    let out = out_acts bridge at (spread_of_packet frame) frame in
     let way = addressee q known at.now (key_of frame.dst frame.vid) in
-    calm_if (is_group frame.dst || is_present ms at.now (key_of frame.dst frame.vid)) (handed_out at frame ∷ []) (readdressed q known at ttl frame tail way) ((λ me n e is. cc), tt) (calm_readdressed q known at ttl frame tail way)
+    calm_if (is_group frame.dst || is_present ms at.now (key_of frame.dst frame.vid)) out (readdressed q known at ttl frame tail way) (calm_bridges out (out_puts bridge at (spread_of_packet frame) frame)) (calm_readdressed q known at ttl frame tail way)
 
-pub calm_here : (q : Queries) (known : Knowledge) (ms : List Mention) (at : Place) (ttl : ℕ) (tail : List ℕ) → AllByRecursion IsCalm (here_acts q known ms at ttl tail)
+pub calm_here : (q : Queries) (known : Knowledge) (ms : List Mention) (bridge : Bridge) (at : Place) (ttl : ℕ) (tail : List ℕ) → AllByRecursion IsCalm (here_acts q known ms bridge at ttl tail)
 unfolding here_acts
-calm_here q known ms at ttl tail = calm_arrived q known ms at ttl tail (client_frame_of tail)
+calm_here q known ms bridge at ttl tail = calm_arrived q known ms bridge at ttl tail (client_frame_of tail)
 
 calm_on_way : (q : Queries) (known : Knowledge) (at : Place) (frame : ClientFrame) (way : Option Way) → AllByRecursion IsCalm (on_way q known at frame way)
 calm_on_way q known at frame None = ((λ me n e is. cc), tt)

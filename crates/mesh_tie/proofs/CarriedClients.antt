@@ -1,26 +1,36 @@
 -- Each payload that is carried is a client frame that a line gave; and the client frame that it is
 -- read as is from a client that records can tell.
-use Rattle.std.proofs.Common.{◌≡◌, ◌<◌, ◌≤◌, ◌^◌, ◌+◌, ℕ, Bool, true, false, cond, nat_lt, List, length, drop, Option, Some, None, option_map, refl, sym, subst, ◌∙◌, arith}
+use Rattle.std.proofs.Common.{◌⊎◌, inl, inr, ◌≡◌, ◌<◌, ◌≤◌, ◌^◌, ◌+◌, ◌-◌, ◌==◌, ℕ, Bool, true, false, cond, nat_lt, List, [], ◌++◌, length, drop, slice_get, Option, Some, None, option_map, refl, sym, ap, ap₂, subst, ◌∙◌, append_assoc, arith}
+use Rattle.std.proofs.lemmas.Bool.{eqb-true, ltb-false}
 use Rattle.std.proofs.lemmas.Bool.Decides.{nat_tests}
-use Rattle.byteorder.specs.Endian.{big_number}
+use Rattle.std.proofs.lemmas.List.{length-drop, length-take-le}
+use Rattle.byteorder.specs.Endian.{big_bytes, big_number}
+use Rattle.byteorder.specs.Numbers.{big_number-reads_back}
 use Rattle.mesh_base.specs.declared.address.Mac.{Mac}
 use Rattle.mesh_base.specs.declared.client.Vid.{Vid}
+use Rattle.mesh_model.specs.Clients.Log.{Frame}
 use Rattle.mesh_model.specs.Clients.Mentions.{key_of}
-use Rattle.mesh_model.specs.Packets.Ethernet.{EtherFrame, address_in, begin_type, ether_frame_of, frame_behind, frame_by_type, is_vlan, tagged_frame}
+use Rattle.mesh_model.specs.Net.Mesh.{LanPut, Mesh}
+use Rattle.mesh_model.specs.Packets.Ethernet.{EtherFrame, address_in, begin_type, ether_frame_of, frame_behind, frame_by_type, is_vlan, tag_spelling, tagged_frame}
 use Rattle.mesh_model.specs.Packets.Numbers.{client_ethertype, vlan_ethertype}
-use Rattle.mesh_model.specs.Packets.Payload.{ClientFrame, client_frame, payload_spelling}
+use Rattle.mesh_model.specs.Packets.Payload.{ClientFrame, client_frame, client_frame_of, ether_frame, payload_spelling}
 use Rattle.mesh_model.specs.Routes.Queries.{Queries}
-use Rattle.mesh_tie.specs.Carried.{CarriesClients, CarriesGivenFrames, IsFromClient, IsGivenFrame, IsKept}
+use Rattle.mesh_tie.specs.Carried.{CarriesClients, CarriesGivenFrames, HandsOutGivenFrames, IsFromClient, IsGivenFrame, IsKept, IsReadOf, WasGiven, on_lan, to_node}
 use Rattle.mesh_tie.specs.Sources.{IsWhole}
-use Rattle.mesh_tie.specs.Steps.{IsClient}
-use Rattle.mesh_tie.proofs.CarriedSteps.{carried_on, was_given}
+use Rattle.mesh_tie.specs.Steps.{IsClient, IsReachable, TellsClient}
+use Rattle.mesh_tie.specs.TieLaws.{AllKeep}
+use Rattle.mesh_tie.proofs.CarriedLans.{type_begins}
+use Rattle.mesh_tie.proofs.CarriedOn.{carried_on, was_given}
 use Rattle.mesh_tie.proofs.HeadLemmas.{mac6, six}
+use Rattle.mesh_tie.proofs.LanSteps.{BringsClient, lan_read}
 
 -- ---- reading
--- a frame is from the address at its place, in a VLAN whose wire number fits two bytes
+-- a frame is read of bytes: its addresses at their places, a VLAN's wire number that fits two bytes
 record IsFrom (bytes : List ℕ) (frame : EtherFrame) : Type 0 where
+  dst : frame.dst ≡ address_in 0 bytes
   src : frame.src ≡ address_in 6 bytes
   small : frame.vid.0 < 2 ^ 16
+  whole : 12 ≤ length bytes
 
 abbrev IfFrom : List ℕ → Option EtherFrame → Type 0
 IfFrom bytes o = (frame : EtherFrame) → o ≡ Some frame → IsFrom bytes frame
@@ -29,36 +39,53 @@ if_from : (bytes : List ℕ) (b : Bool) (o : Option EtherFrame) → (b ≡ true 
 if_from bytes true o from = from refl
 if_from bytes false o from = λ frame is. cc
 
-unless_from : (bytes : List ℕ) (b : Bool) (o : Option EtherFrame) → IfFrom bytes o → IfFrom bytes (cond b None o)
+unless_from : (bytes : List ℕ) (b : Bool) (o : Option EtherFrame) → (b ≡ false → IfFrom bytes o) → IfFrom bytes (cond b None o)
 unless_from bytes true o from = λ frame is. cc
-unless_from bytes false o from = from
+unless_from bytes false o from = from refl
 
-behind_from : (bytes : List ℕ) (vid : Vid) (after : List ℕ) → vid.0 < 2 ^ 16 → IfFrom bytes (frame_behind client_ethertype bytes vid after)
-behind_from bytes vid after small =
+behind_from : (bytes : List ℕ) (vid : Vid) (after : List ℕ) → 12 ≤ length bytes → vid.0 < 2 ^ 16 → IfFrom bytes (frame_behind client_ethertype bytes vid after)
+behind_from bytes vid after enough small =
     let one : EtherFrame = record { dst = address_in 0 bytes; src = address_in 6 bytes; vid = vid; rest = drop 2 after } in
-    if_from bytes (begin_type client_ethertype after) (Some one) (λ b frame is. let same : one ≡ frame = cc in subst (IsFrom bytes) same (record { src = refl; small = small }))
+    if_from bytes (begin_type client_ethertype after) (Some one) (λ b frame is. let same : one ≡ frame = cc in subst (IsFrom bytes) same (record { dst = refl; src = refl; small = small; whole = enough }))
 
 vlan_small : (n : ℕ) → is_vlan n ≡ true → 32768 + n < 2 ^ 16
 vlan_small n is = let low : n ≤ 4094 = grind (arith, nat_tests, is) in omega (arith, low)
 
-tagged_from : (bytes after : List ℕ) → IfFrom bytes (tagged_frame client_ethertype bytes after)
-tagged_from bytes after =
+tagged_from : (bytes after : List ℕ) → 12 ≤ length bytes → IfFrom bytes (tagged_frame client_ethertype bytes after)
+tagged_from bytes after enough =
     let n = big_number 2 after in
     let vid : Vid = record { 0 = 32768 + n } in
     unless_from bytes (nat_lt (length after) 2) (cond (is_vlan n) (frame_behind client_ethertype bytes vid (drop 2 after)) None)
-    (if_from bytes (is_vlan n) (frame_behind client_ethertype bytes vid (drop 2 after)) (λ is. behind_from bytes vid (drop 2 after) (vlan_small n is)))
+    (λ long. if_from bytes (is_vlan n) (frame_behind client_ethertype bytes vid (drop 2 after)) (λ is. behind_from bytes vid (drop 2 after) enough (vlan_small n is)))
 
-typed_from : (bytes after : List ℕ) → IfFrom bytes (frame_by_type client_ethertype bytes after)
-typed_from bytes after = go (begin_type vlan_ethertype after)
+typed_from : (bytes after : List ℕ) → 12 ≤ length bytes → IfFrom bytes (frame_by_type client_ethertype bytes after)
+typed_from bytes after enough = go (begin_type vlan_ethertype after)
   where
     go : (b : Bool) → IfFrom bytes (cond b (tagged_frame client_ethertype bytes (drop 2 after)) (frame_behind client_ethertype bytes (record { 0 = 0 }) after))
-    go true = tagged_from bytes (drop 2 after)
-    go false = behind_from bytes (record { 0 = 0 }) after (omega arith)
+    go true = tagged_from bytes (drop 2 after) enough
+    go false = behind_from bytes (record { 0 = 0 }) after enough (omega arith)
 
 frame_from : (bytes : List ℕ) → IfFrom bytes (ether_frame_of client_ethertype bytes)
-frame_from bytes = unless_from bytes (nat_lt (length bytes) 12) (frame_by_type client_ethertype bytes (drop 12 bytes)) (typed_from bytes (drop 12 bytes))
+frame_from bytes = unless_from bytes (nat_lt (length bytes) 12) (frame_by_type client_ethertype bytes (drop 12 bytes)) (λ long. let enough = ltb-false (length bytes) 12 long in typed_from bytes (drop 12 bytes) enough)
 
--- ---- client frames
+client_from : (bytes : List ℕ) (o : Option EtherFrame) (frame : ClientFrame) → IfFrom bytes o → option_map client_frame o ≡ Some frame → IsFrom bytes (ether_frame frame)
+client_from bytes None frame from is = cc
+client_from bytes (Some one) frame from is = let same : client_frame one ≡ frame = cc in subst (λ (x : ClientFrame). IsFrom bytes (ether_frame x)) same (from one refl)
+
+read_from : (bytes : List ℕ) (frame : ClientFrame) → client_frame_of bytes ≡ Some frame → IsFrom bytes (ether_frame frame)
+read_from bytes frame is = client_from bytes (ether_frame_of client_ethertype bytes) frame (frame_from bytes) is
+
+pub dst_whole : (bytes : List ℕ) (frame : ClientFrame) → client_frame_of bytes ≡ Some frame → IsWhole frame.dst
+dst_whole bytes frame is = let f = read_from bytes frame is in let enough = f.whole in subst IsWhole (sym f.dst) (length-take-le 6 bytes (omega (arith, enough)))
+
+pub src_whole : (bytes : List ℕ) (frame : ClientFrame) → client_frame_of bytes ≡ Some frame → IsWhole frame.src
+src_whole bytes frame is =
+    let f = read_from bytes frame is in
+    let enough = f.whole in
+    let left = length-drop 6 bytes in
+    subst IsWhole (sym f.src) (length-take-le 6 (drop 6 bytes) (omega (arith, enough, left)))
+
+-- ---- reading again
 src_read : (dst src : Mac) (vid : Vid) (text : List ℕ) → IsWhole dst → IsWhole src → address_in 6 (payload_spelling (record { dst = dst; src = src; vid = vid; text = text })) ≡ src
 src_read dst src vid text whole also =
     let d = six dst whole in
@@ -66,32 +93,148 @@ src_read dst src vid text whole also =
     subst (λ (x : Mac). address_in 6 (payload_spelling (record { dst = x; src = src; vid = vid; text = text })) ≡ src) (sym d.is)
     (subst (λ (y : Mac). address_in 6 (payload_spelling (record { dst = mac6 d.a d.b d.c d.d d.e d.f; src = y; vid = vid; text = text })) ≡ y) (sym s.is) refl)
 
-client_from : (src : Mac) (vid : Vid) (bytes : List ℕ) (o : Option EtherFrame) (frame : ClientFrame) → IsClient (key_of src vid) → address_in 6 bytes ≡ src → IfFrom bytes o → option_map client_frame o ≡ Some frame → IsClient (key_of frame.src frame.vid)
-client_from src vid bytes None frame client at from is = cc
-client_from src vid bytes (Some one) frame client at from is =
-    let same : client_frame one ≡ frame = cc in
-    let f = from one refl in
-    subst (λ (x : ClientFrame). IsClient (key_of x.src x.vid)) same
-    (subst (λ (m : Mac). IsClient (key_of m one.vid)) (sym (f.src ∙ at)) (record { fits = record { address = client.fits.address; vid = f.small }; bytes = client.bytes }))
+-- what is spelled with whole addresses is read from the client that it was spelled with
+from_spelled : (frame found : ClientFrame) → IsClient (key_of frame.src frame.vid) → IsWhole frame.dst → client_frame_of (payload_spelling frame) ≡ Some found → IsClient (key_of found.src found.vid)
+from_spelled frame found client whole is =
+    let f = read_from (payload_spelling frame) found is in
+    subst (λ (m : Mac). IsClient (key_of m found.vid)) (sym (f.src ∙ src_read frame.dst frame.src frame.vid frame.text whole client.fits.address))
+    (record { fits = record { address = client.fits.address; vid = f.small }; bytes = client.bytes })
+
+-- what a client frame that was given tells
+given_tells : (mesh : Mesh) (frame : ClientFrame) → WasGiven mesh frame → TellsClient (Frame frame.src frame.dst frame.vid frame.text)
+given_tells mesh frame (to_node place node entry found noted is tells) = tells
+given_tells mesh frame (on_lan place put found by is tells) = tells
 
 clients_kept : (queries : Mac → Queries) → IsKept queries (λ mesh payload. IsFromClient payload)
 clients_kept queries = record {
   stays = λ mesh after payload s is. is;
-  begun = λ mesh frame was found is.
-      let bytes = payload_spelling frame in
-      let tells = was.tells in
-      client_from frame.src frame.vid bytes (ether_frame_of client_ethertype bytes) found tells.0 (src_read frame.dst frame.src frame.vid frame.text tells.1 tells.0.fits.address) (frame_from bytes) is;
+  begun = λ mesh frame was found is. let tells = given_tells mesh frame was in from_spelled frame found tells.0 tells.1 is;
+  read_on = λ mesh payload frame p read found is. from_spelled frame found (p frame read) (dst_whole payload frame read) is;
 }
 
 pub carries_clients : CarriesClients
 carries_clients queries keep mesh r = carried_on queries keep (λ m payload. IsFromClient payload) (clients_kept queries) mesh r
 
+-- so each client frame on a LAN is from a client that records can tell
+pub puts_bring : (queries : Mac → Queries) → AllKeep queries → (mesh : Mesh) → IsReachable queries mesh → (place : ℕ) (put : LanPut) → slice_get mesh.puts place ≡ Some put → BringsClient put.bytes
+puts_bring queries keep mesh r place put got frame is = (carries_clients queries keep mesh r).puts place put got frame is frame (lan_read put.bytes frame is)
+
 -- ---- what lines gave
+-- what follows the addresses of a client frame
+after_read : (dst src : Mac) (vid : Vid) (text : List ℕ) → IsWhole dst → IsWhole src → drop 12 (payload_spelling (record { dst = dst; src = src; vid = vid; text = text })) ≡ tag_spelling vid ++ (big_bytes 2 client_ethertype ++ text)
+after_read dst src vid text whole also =
+    let d = six dst whole in
+    let s = six src also in
+    subst (λ (x : Mac). drop 12 (payload_spelling (record { dst = x; src = src; vid = vid; text = text })) ≡ tag_spelling vid ++ (big_bytes 2 client_ethertype ++ text)) (sym d.is)
+    (subst (λ (y : Mac). drop 12 (payload_spelling (record { dst = mac6 d.a d.b d.c d.d d.e d.f; src = y; vid = vid; text = text })) ≡ tag_spelling vid ++ (big_bytes 2 client_ethertype ++ text)) (sym s.is)
+    (append_assoc (tag_spelling vid) (big_bytes 2 client_ethertype) text))
+
+dst_read : (dst src : Mac) (vid : Vid) (text : List ℕ) → IsWhole dst → address_in 0 (payload_spelling (record { dst = dst; src = src; vid = vid; text = text })) ≡ dst
+dst_read dst src vid text whole =
+    let d = six dst whole in
+    subst (λ (x : Mac). address_in 0 (payload_spelling (record { dst = x; src = src; vid = vid; text = text })) ≡ x) (sym d.is) refl
+
+-- a frame that is read is in this VLAN, and the rest is its text
+record IsRead (frame : EtherFrame) (tag : Vid) (text : List ℕ) : Type 0 where
+  vid : frame.vid ≡ tag
+  rest : frame.rest ≡ text
+
+behind_is : (bytes : List ℕ) (vid : Vid) (text : List ℕ) (found : EtherFrame) → frame_behind client_ethertype bytes vid (big_bytes 2 client_ethertype ++ text) ≡ Some found → IsRead found vid text
+behind_is bytes vid text found is = go (begin_type client_ethertype (big_bytes 2 client_ethertype ++ text)) is
+  where
+    one : EtherFrame
+    one = record { dst = address_in 0 bytes; src = address_in 6 bytes; vid = vid; rest = text }
+
+    go : (b : Bool) → cond b (Some one) None ≡ Some found → IsRead found vid text
+    go true e = let same : one ≡ found = cc in record { vid = ap (λ (f : EtherFrame). f.vid) (sym same); rest = ap (λ (f : EtherFrame). f.rest) (sym same) }
+    go false e = cc
+
+untagged_is : (bytes text : List ℕ) (found : EtherFrame) → frame_by_type client_ethertype bytes (big_bytes 2 client_ethertype ++ text) ≡ Some found → IsRead found (record { 0 = 0 }) text
+untagged_is bytes text found is =
+    let after = big_bytes 2 client_ethertype ++ text in
+    let none : begin_type vlan_ethertype after ≡ false = type_begins vlan_ethertype client_ethertype text (omega arith) in
+    behind_is bytes (record { 0 = 0 }) text found (ap (λ (b : Bool). cond b (tagged_frame client_ethertype bytes (drop 2 after)) (frame_behind client_ethertype bytes (record { 0 = 0 }) after)) (sym none) ∙ is)
+
+tagged_is : (bytes text : List ℕ) (vid : Vid) (found : EtherFrame) → vid.0 < 2 ^ 16 → frame_by_type client_ethertype bytes ((big_bytes 2 vlan_ethertype ++ big_bytes 2 (vid.0 - 32768)) ++ (big_bytes 2 client_ethertype ++ text)) ≡ Some found → IsRead found vid text
+tagged_is bytes text vid found small is =
+    let some : begin_type vlan_ethertype (big_bytes 2 vlan_ethertype ++ tail) ≡ true = type_begins vlan_ethertype vlan_ethertype tail (omega arith) in
+    by_length (nat_lt (length tail) 2) (ap (λ (b : Bool). cond b (tagged_frame client_ethertype bytes tail) (frame_behind client_ethertype bytes (record { 0 = 0 }) (big_bytes 2 vlan_ethertype ++ tail))) (sym some) ∙ is)
+  where
+    number : ℕ
+    number = vid.0 - 32768
+
+    tail : List ℕ
+    tail = big_bytes 2 (vid.0 - 32768) ++ (big_bytes 2 client_ethertype ++ text)
+
+    read : big_number 2 (big_bytes 2 (vid.0 - 32768) ++ (big_bytes 2 client_ethertype ++ text)) ≡ vid.0 - 32768
+    read = big_number-reads_back 2 (vid.0 - 32768) (big_bytes 2 client_ethertype ++ text) (omega (arith, small))
+
+    known : Vid
+    known = record { 0 = 32768 + big_number 2 (big_bytes 2 (vid.0 - 32768) ++ (big_bytes 2 client_ethertype ++ text)) }
+
+    by_vlan : (b : Bool) → is_vlan (big_number 2 (big_bytes 2 (vid.0 - 32768) ++ (big_bytes 2 client_ethertype ++ text))) ≡ b → cond b (frame_behind client_ethertype bytes known (big_bytes 2 client_ethertype ++ text)) None ≡ Some found → IsRead found vid text
+    by_vlan true t e =
+        let least : 1 ≤ vid.0 - 32768 = let valid : is_vlan (vid.0 - 32768) ≡ true = ap is_vlan (sym read) ∙ t in grind (arith, nat_tests, valid) in
+        let same : 32768 + big_number 2 (big_bytes 2 (vid.0 - 32768) ++ (big_bytes 2 client_ethertype ++ text)) ≡ vid.0 = omega (arith, read, least) in
+        let f = behind_is bytes known text found e in
+        record { vid = f.vid ∙ ap (λ (n : ℕ). record { 0 = n }) same; rest = f.rest }
+    by_vlan false t e = cc
+
+    by_length : (b : Bool) → cond b None (cond (is_vlan (big_number 2 tail)) (frame_behind client_ethertype bytes known (big_bytes 2 client_ethertype ++ text)) None) ≡ Some found → IsRead found vid text
+    by_length true e = cc
+    by_length false e = by_vlan (is_vlan (big_number 2 tail)) refl e
+
+by_vid : (bytes text : List ℕ) (vid : Vid) (found : EtherFrame) → vid.0 < 2 ^ 16 → frame_by_type client_ethertype bytes (tag_spelling vid ++ (big_bytes 2 client_ethertype ++ text)) ≡ Some found → IsRead found vid text
+by_vid bytes text vid found small is = go (vid.0 == 0) refl is
+  where
+    go : (b : Bool) → (vid.0 == 0) ≡ b → frame_by_type client_ethertype bytes (cond b [] (big_bytes 2 vlan_ethertype ++ big_bytes 2 (vid.0 - 32768)) ++ (big_bytes 2 client_ethertype ++ text)) ≡ Some found → IsRead found vid text
+    go true t e = subst (λ (n : ℕ). IsRead found (record { 0 = n }) text) (sym (eqb-true vid.0 0 t)) (untagged_is bytes text found e)
+    go false t e = tagged_is bytes text vid found small e
+
+ether_read : (o : Option EtherFrame) (frame : ClientFrame) → option_map client_frame o ≡ Some frame → o ≡ Some (ether_frame frame)
+ether_read None frame is = cc
+ether_read (Some one) frame is = let same : client_frame one ≡ frame = cc in ap (λ (f : ClientFrame). Some (ether_frame f)) same
+
+long_frame : (b : Bool) (o : Option EtherFrame) (found : EtherFrame) → cond b None o ≡ Some found → o ≡ Some found
+long_frame true o found is = cc
+long_frame false o found is = is
+
+-- what is spelled by a client that can be told is read as what it was, if it is read
+read_again : (frame found : ClientFrame) → TellsClient (Frame frame.src frame.dst frame.vid frame.text) → client_frame_of (payload_spelling frame) ≡ Some found → found ≡ frame
+read_again frame found tells is =
+    let bytes = payload_spelling frame in
+    let src_is : IsWhole frame.src = tells.0.fits.address in
+    let f = read_from bytes found is in
+    let e = long_frame (nat_lt (length bytes) 12) (frame_by_type client_ethertype bytes (drop 12 bytes)) (ether_frame found) (ether_read (ether_frame_of client_ethertype bytes) found is) in
+    let r = by_vid bytes frame.text frame.vid (ether_frame found) tells.0.fits.vid (ap (frame_by_type client_ethertype bytes) (sym (after_read frame.dst frame.src frame.vid frame.text tells.1 src_is)) ∙ e) in
+    let d : found.dst ≡ frame.dst = f.dst ∙ dst_read frame.dst frame.src frame.vid frame.text tells.1 in
+    let s : found.src ≡ frame.src = f.src ∙ src_read frame.dst frame.src frame.vid frame.text tells.1 src_is in
+    ap₂ (λ (m : Mac) (n : Mac). record { dst = m; src = n; vid = found.vid; text = found.text }) d s ∙ ap₂ (λ (v : Vid) (t : List ℕ). record { dst = frame.dst; src = frame.src; vid = v; text = t }) r.vid r.rest
+
 frames_kept : (queries : Mac → Queries) → IsKept queries IsGivenFrame
 frames_kept queries = record {
   stays = λ mesh after payload s is. (is.0, was_given queries mesh after is.0 s is.1, is.2);
   begun = λ mesh frame was. (frame, was, refl);
+  read_on = λ mesh payload frame is read. (is.0, is.1, ap payload_spelling (read_again is.0 frame (given_tells mesh is.0 is.1) (subst (λ bytes. client_frame_of bytes ≡ Some frame) is.2 read)));
 }
 
 pub carries_given_frames : CarriesGivenFrames
 carries_given_frames queries keep mesh r = carried_on queries keep IsGivenFrame (frames_kept queries) mesh r
+
+-- what is read of what lines gave is what they gave
+read_given : (mesh : Mesh) (frame : ClientFrame) → IsReadOf (IsGivenFrame mesh) frame → WasGiven mesh frame
+read_given mesh frame (payload, given, read) =
+    let same = read_again given.0 frame (given_tells mesh given.0 given.1) (subst (λ bytes. client_frame_of bytes ≡ Some frame) given.2 read) in
+    subst (WasGiven mesh) (sym same) given.1
+
+either_given : (mesh : Mesh) (frame : ClientFrame) → WasGiven mesh frame ⊎ IsReadOf (IsGivenFrame mesh) frame → WasGiven mesh frame
+either_given mesh frame (inl given) = given
+either_given mesh frame (inr read) = read_given mesh frame read
+
+pub hands_out_given_frames : HandsOutGivenFrames
+hands_out_given_frames queries keep mesh r =
+    let carries = carries_given_frames queries keep mesh r in
+    record {
+      handed_out = λ moment node vid src dst text has. either_given mesh (record { dst = dst; src = src; vid = vid; text = text }) (carries.handed_out moment node vid src dst text has);
+      bridged = λ moment lan vid src dst text has. read_given mesh (record { dst = dst; src = src; vid = vid; text = text }) (carries.bridged moment lan vid src dst text has);
+    }

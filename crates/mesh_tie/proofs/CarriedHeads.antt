@@ -1,24 +1,25 @@
 -- What spelled packets carry: a broadcast and a packet for one node their tail, all others nothing.
-use Rattle.std.proofs.Common.{◌≡◌, ◌⊎◌, inl, inr, ℕ, List, [], ◌∷◌, Option, refl, sym, subst}
+use Rattle.std.proofs.Common.{◌≡◌, ◌⊎◌, inl, inr, ℕ, List, [], ◌∷◌, Option, Some, refl, sym, subst}
 use Rattle.std.specs.List.{AllByRecursion}
 use Rattle.mesh_base.specs.declared.address.Mac.{Mac}
 use Rattle.mesh_base.specs.declared.client.Vid.{Vid}
 use Rattle.mesh_base.specs.declared.event.Event.{Event}
-use Rattle.mesh_base.specs.declared.event.Event.TheVariants.{Received}
+use Rattle.mesh_base.specs.declared.event.Event.TheVariants.{Alfred, Bridged, Received}
+use Rattle.mesh_base.specs.declared.event.FactResult.{FactResult}
 use Rattle.mesh_base.specs.declared.event.Reason.{Reason}
 use Rattle.mesh_model.specs.declared.act.Act.{Act}
 use Rattle.mesh_model.specs.declared.act.Act.TheVariants.{Link, Lan, Print}
 use Rattle.mesh_model.specs.declared.packet.Head.{Head}
 use Rattle.mesh_model.specs.declared.packet.Head.TheVariants.{IvOgm, Bcast, Elp, Ogm2, Unicast, Frag, Unicast4, Icmp, Utvlv}
-use Rattle.mesh_model.specs.Acts.FrameRows.{Place, handed_out}
+use Rattle.mesh_model.specs.Acts.BridgeRows.{Place, handed_out}
 use Rattle.mesh_model.specs.Acts.Packing.{sent_to, sent_to_all}
 use Rattle.mesh_model.specs.Net.Next.{Has}
 use Rattle.mesh_model.specs.Packets.FirstPacket.{Packet}
 use Rattle.mesh_model.specs.Packets.Layout.{spelling}
 use Rattle.mesh_model.specs.Packets.LinkFrame.{link_frame}
-use Rattle.mesh_model.specs.Packets.Payload.{ClientFrame}
+use Rattle.mesh_model.specs.Packets.Payload.{ClientFrame, client_frame_of, payload_spelling}
 use Rattle.mesh_model.specs.Packets.Shapes.{Shape, elp, icmp, iv_ogm, ogm2, utvlv}
-use Rattle.mesh_tie.specs.Carried.{IsReadOf}
+use Rattle.mesh_tie.specs.Carried.{IsReadOf, PutCarries}
 use Rattle.mesh_tie.specs.Sources.{IsWhole}
 use Rattle.mesh_tie.proofs.HeadLemmas.{bcast_read, four_read, one_read, unicast_read}
 use Rattle.mesh_tie.proofs.KindLemmas.{EachPacket, IsKind, kind_each}
@@ -27,14 +28,18 @@ use Rattle.mesh_tie.proofs.KindLemmas.{EachPacket, IsKind, kind_each}
 pub record Kept : Type 1 where
   pub carried : List ℕ → Type 0
   pub given : ClientFrame → Type 0
+  pub read_on : (payload : List ℕ) (frame : ClientFrame) → carried payload → client_frame_of payload ≡ Some frame → carried (payload_spelling frame)
 
 -- a client frame is given, or read of what is carried
 abbrev pub IsCarried : Kept → ClientFrame → Type 0
 IsCarried P frame = P.given frame ⊎ IsReadOf P.carried frame
 
--- an event of a client frame that is handed out tells of one that is carried
-abbrev pub Tells : Kept → Event → Type 0
-Tells P event = (moment : ℕ) (node : Mac) (vid : Vid) (src dst : Mac) (text : List ℕ) → event ≡ Received moment node vid src dst text → IsCarried P (record { dst = dst; src = src; vid = vid; text = text })
+-- an event of a client frame that is handed out, or that reaches the clients of a LAN, tells of one
+-- that is carried; none tells of facts
+pub record Tells (P : Kept) (event : Event) : Type 0 where
+  pub handed_out : (moment : ℕ) (node : Mac) (vid : Vid) (src dst : Mac) (text : List ℕ) → event ≡ Received moment node vid src dst text → IsCarried P (record { dst = dst; src = src; vid = vid; text = text })
+  pub bridged : (moment lan : ℕ) (vid : Vid) (src dst : Mac) (text : List ℕ) → event ≡ Bridged moment lan vid src dst text → IsReadOf P.carried (record { dst = dst; src = src; vid = vid; text = text })
+  pub no_facts : (me : Mac) (type_no : ℕ) (asked : FactResult) → event ≡ Alfred me type_no asked → ⊥
 
 -- a packet that carries a payload is addressed by a whole address, and its payload has a property
 abbrev pub HeadHas : Kept → List ℕ → Head → Type 0
@@ -56,7 +61,7 @@ FrameHas P bytes = EachPacket (PacketHas P) bytes
 
 abbrev pub ActHas : Kept → Act → Type 0
 ActHas P (Link to reason bytes) = FrameHas P bytes
-ActHas P (Lan bytes) = Unit {0}
+ActHas P (Lan bytes) = PutCarries P.carried bytes
 ActHas P (Print event) = Tells P event
 
 abbrev pub ActsHave : Kept → List Act → Type 0
@@ -64,9 +69,13 @@ ActsHave P acts = AllByRecursion (ActHas P) acts
 
 -- a client frame that is handed out
 pub handed_has : (P : Kept) (at : Place) (frame : ClientFrame) → IsCarried P frame → ActHas P (handed_out at frame)
-handed_has P at frame carried moment node vid src dst text is =
-    let same : ◌≡◌ {A = ClientFrame} (record { dst = frame.dst; src = frame.src; vid = frame.vid; text = frame.text }) (record { dst = dst; src = src; vid = vid; text = text }) = cc in
-    subst (IsCarried P) same carried
+handed_has P at frame carried = record {
+  handed_out = λ moment node vid src dst text is.
+      let same : ◌≡◌ {A = ClientFrame} (record { dst = frame.dst; src = frame.src; vid = frame.vid; text = frame.text }) (record { dst = dst; src = src; vid = vid; text = text }) = cc in
+      subst (IsCarried P) same carried;
+  bridged = λ moment lan vid src dst text is. cc;
+  no_facts = λ me type_no asked is. cc;
+}
 
 -- ---- spelled packets
 one_has : (P : Kept) (bytes : List ℕ) (one : Packet) → (link_frame bytes).packets ≡ one ∷ [] → PacketHas P one → FrameHas P bytes

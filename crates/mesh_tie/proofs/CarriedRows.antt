@@ -1,5 +1,5 @@
 -- What the rows send carries payloads that came, or that a line begins.
-use Rattle.std.proofs.Common.{inl, inr, ◌≡◌, ◌-◌, ℕ, suc, Bool, true, false, cond, ◌||◌, ◌==◌, nat_le, List, [], ◌∷◌, ◌++◌, length, drop, Option, Some, None, refl}
+use Rattle.std.proofs.Common.{◌≡◌, ◌-◌, ℕ, suc, Bool, true, false, cond, ◌||◌, ◌==◌, nat_le, List, [], ◌∷◌, ◌++◌, length, drop, Option, Some, None, refl}
 use Rattle.std.specs.Option.{unwrap_or}
 use Rattle.mesh_base.specs.Address.{is_broadcast, is_group}
 use Rattle.mesh_base.specs.declared.address.Mac.{Mac}
@@ -11,12 +11,14 @@ use Rattle.mesh_model.specs.declared.act.Act.{Act}
 use Rattle.mesh_model.specs.declared.packet.Head.{Head}
 use Rattle.mesh_model.specs.declared.packet.Head.TheVariants.{IvOgm, Bcast, Elp, Ogm2, Unicast, Frag, Unicast4, Icmp, Utvlv}
 use Rattle.mesh_model.specs.declared.table_outcome.Request.{Request}
-use Rattle.mesh_model.specs.Acts.FrameRows.{Place, addressed, advert_acts, arrived, broadcast_acts, broadcast_on, frame_acts, handed_out, handed_out_if, here_acts, is_present, lost, lost_if, on_route, on_way, passed_frame, readdressed}
+use Rattle.mesh_model.specs.Acts.BridgeRows.{Place, handed_out, out_acts, round_acts, spread_of_broadcast, spread_of_packet, unclaim_acts}
+use Rattle.mesh_model.specs.Acts.FrameRows.{addressed, advert_acts, arrived, broadcast_acts, broadcast_on, frame_acts, handed_out_if, here_acts, is_present, lost, lost_if, on_route, on_way, passed_frame, readdressed}
 use Rattle.mesh_model.specs.Acts.OwnContainers.{own_containers}
 use Rattle.mesh_model.specs.Acts.Packing.{reply_containers, request_containers, roaming_container, sent_over, sent_to_all}
 use Rattle.mesh_model.specs.Acts.ProbeRows.{IcmpMessage, icmp_head, session_acts}
 use Rattle.mesh_model.specs.Acts.Rows.{Own, accepted_acts, alias_acts, alias_event, commit_acts, elp_acts, head_acts, icmp_acts, message_acts, ogm_acts, packet_acts, place_at, taken_acts, tick_acts}
 use Rattle.mesh_model.specs.Acts.TableRows.{on_the_way, other_containers, own_answer, request_acts, way_reply}
+use Rattle.mesh_model.specs.Clients.Lans.{Bridge}
 use Rattle.mesh_model.specs.Clients.Mentions.{Mention, key_of}
 use Rattle.mesh_model.specs.Commits.Aliases.{last_alias}
 use Rattle.mesh_model.specs.Commits.Announcements.{announcement}
@@ -26,7 +28,7 @@ use Rattle.mesh_model.specs.Knowledge.Known.{Broadcast, Knowledge, is_new_broadc
 use Rattle.mesh_model.specs.Knowledge.Steps.{Coming, before_announcement, request_out}
 use Rattle.mesh_model.specs.Knowledge.Told.{Message, TableMessage, Asks, Answers, Neither, message_in, message_of, message_with, stamp_told}
 use Rattle.mesh_model.specs.Packets.Containers.{containers_of, containers_spelling}
-use Rattle.mesh_model.specs.Packets.Contents.{first_table}
+use Rattle.mesh_model.specs.Packets.Contents.{first_roaming, first_table}
 use Rattle.mesh_model.specs.Packets.FirstPacket.{Packet}
 use Rattle.mesh_model.specs.Packets.Layout.{spelling}
 use Rattle.mesh_model.specs.Packets.Payload.{ClientFrame, client_frame_of, payload_spelling}
@@ -36,10 +38,11 @@ use Rattle.mesh_model.specs.Routes.RouteLog.{RouteLog}
 use Rattle.mesh_model.specs.Tables.Answers.{Reply, own_reply}
 use Rattle.mesh_tie.specs.Sources.{HasWholeAddresses, IsMessageOf, IsWhole, KeepsOriginators, MessageOf, word_of}
 use Rattle.mesh_tie.specs.Tie.{KnowsWhole}
+use Rattle.mesh_tie.proofs.CarriedLans.{out_has, round_has, unclaim_has}
 use Rattle.mesh_tie.proofs.EntryLemmas.{each_appended}
 use Rattle.mesh_tie.proofs.KnowsLemmas.{IfWay, addressee_whole}
 use Rattle.mesh_tie.proofs.ProbeActs.{AreProbing, IsProbing, icmp_puts, puts_message, puts_pinged, puts_traced, session_puts}
-use Rattle.mesh_tie.proofs.CarriedHeads.{Kept, handed_has, ActHas, ActsHave, HeadHas, PacketHas, bcast_has, elp_none, icmp_none, iv_none, ogm2_none, unicast_has, utvlv_none}
+use Rattle.mesh_tie.proofs.CarriedHeads.{IsCarried, Kept, handed_has, ActHas, ActsHave, HeadHas, PacketHas, bcast_has, elp_none, icmp_none, iv_none, ogm2_none, unicast_has, utvlv_none}
 
 -- ---- rows that carry none
 over_none : (P : Kept) (next : Option Mac) (ttl : ℕ) (dst src : Mac) (tail : List ℕ) → ActsHave P (sent_over next (Utvlv ttl dst src) tail)
@@ -84,10 +87,10 @@ probe_none P (act ∷ acts) all = (one act all.0, probe_none P acts all.1)
   where
     one : (act : Act) → IsProbing act → ActHas P act
     one _ (puts_message next m) = icmp_none P (drop 1 (spelling (icmp_head m) []))
-    one _ (puts_pinged node target seq result) = λ moment n vid src dst text is. cc
-    one _ (puts_traced node target result) = λ moment n vid src dst text is. cc
+    one _ (puts_pinged node target seq result) = record { handed_out = λ moment n vid src dst text is. cc; bridged = λ moment lan vid src dst text is. cc; no_facts = λ me type_no asked is. cc }
+    one _ (puts_traced node target result) = record { handed_out = λ moment n vid src dst text is. cc; bridged = λ moment lan vid src dst text is. cc; no_facts = λ me type_no asked is. cc }
 
-have_if : (P : Kept) (b : Bool) (xs ys : List Act) → ActsHave P xs → ActsHave P ys → ActsHave P (cond b xs ys)
+pub have_if : (P : Kept) (b : Bool) (xs ys : List Act) → ActsHave P xs → ActsHave P ys → ActsHave P (cond b xs ys)
 have_if P true xs ys a b = a
 have_if P false xs ys a b = b
 
@@ -127,24 +130,24 @@ ogm_has P q me came head source message tail known keeps from is =
     (have_if P heard.accepted (accepted_acts q me came head message known) [] (request_none P me (q.route before.routes came.now message.orig) message (request_out q before came.now message)) tt)
 
 -- ---- client frames
-handed_if : (P : Kept) (at : Place) (tail : List ℕ) → P.carried tail → ActsHave P (handed_out_if at (client_frame_of tail))
-handed_if P at tail p = go (client_frame_of tail) refl
+handed_if : (P : Kept) (bridge : Bridge) (at : Place) (orig : Mac) (tail : List ℕ) → IsWhole at.me → P.carried tail → ActsHave P (handed_out_if bridge at orig (client_frame_of tail))
+handed_if P bridge at orig tail mine p = go (client_frame_of tail) refl
   where
-    go : (o : Option ClientFrame) → client_frame_of tail ≡ o → ActsHave P (handed_out_if at o)
+    go : (o : Option ClientFrame) → client_frame_of tail ≡ o → ActsHave P (handed_out_if bridge at orig o)
     go None is = tt
-    go (Some frame) is = (handed_has P at frame (inr (tail, p, is)), tt)
+    go (Some frame) is = out_has P bridge at (spread_of_broadcast bridge orig frame) frame tail mine p is
 
 lost_one : (P : Kept) (at : Place) (reason : LossReason) (frame : ClientFrame) → ActHas P (lost at reason frame)
-lost_one P at reason frame = λ moment node vid src dst text is. cc
+lost_one P at reason frame = record { handed_out = λ moment n vid src dst text is. cc; bridged = λ moment lan vid src dst text is. cc; no_facts = λ me type_no asked is. cc }
 
 lost_has : (P : Kept) (at : Place) (reason : LossReason) (o : Option ClientFrame) → ActsHave P (lost_if at reason o)
 lost_has P at reason None = tt
 lost_has P at reason (Some frame) = (lost_one P at reason frame, tt)
 
-broadcast_has : (P : Kept) (known : Knowledge) (at : Place) (ttl : ℕ) (broadcast : Broadcast) (tail : List ℕ) → IsWhole broadcast.orig → P.carried tail → ActsHave P (broadcast_acts known at ttl broadcast tail)
+broadcast_has : (P : Kept) (known : Knowledge) (bridge : Bridge) (at : Place) (ttl : ℕ) (broadcast : Broadcast) (tail : List ℕ) → IsWhole at.me → IsWhole broadcast.orig → P.carried tail → ActsHave P (broadcast_acts known bridge at ttl broadcast tail)
 unfolding broadcast_acts
-broadcast_has P known at ttl broadcast tail whole p = have_if P (is_new_broadcast at.me broadcast known.taken) (handed_out_if at (client_frame_of tail) ++ broadcast_on ttl broadcast tail) []
-    (each_appended (ActHas P) (handed_out_if at (client_frame_of tail)) (broadcast_on ttl broadcast tail) (handed_if P at tail p)
+broadcast_has P known bridge at ttl broadcast tail mine whole p = have_if P (is_new_broadcast at.me broadcast known.taken) (handed_out_if bridge at broadcast.orig (client_frame_of tail) ++ broadcast_on ttl broadcast tail) []
+    (each_appended (ActHas P) (handed_out_if bridge at broadcast.orig (client_frame_of tail)) (broadcast_on ttl broadcast tail) (handed_if P bridge at broadcast.orig tail mine p)
     (have_if P (nat_le ttl 1) [] (sent_to_all (Bcast (ttl - 1) broadcast.number broadcast.orig) tail ∷ []) tt (bcast_has P (ttl - 1) broadcast.number broadcast.orig tail whole p, tt))) tt
 
 passed_has : (P : Kept) (q : Queries) (known : Knowledge) (at : Place) (ttl ttvn : ℕ) (dst : Mac) (tail : List ℕ) → IsWhole dst → P.carried tail → ActsHave P (passed_frame q known at ttl ttvn dst tail)
@@ -159,22 +162,22 @@ passed_has P q known at ttl ttvn dst tail whole p = have_if P (nat_le ttl 1) (lo
 addressed_has : (P : Kept) (q : Queries) (known : Knowledge) (now ttl : ℕ) (way : Way) (tail : List ℕ) → IsWhole way.orig → P.carried tail → ActHas P (addressed q known now ttl way tail)
 addressed_has P q known now ttl way tail whole p = unicast_has P way.next (Some way.reason) ttl (unwrap_or (told_at q known now way.orig) 0) way.orig tail whole p
 
-here_has : (P : Kept) (q : Queries) (known : Knowledge) (ms : List Mention) (at : Place) (ttl : ℕ) (tail : List ℕ) → KnowsWhole known → P.carried tail → ActsHave P (here_acts q known ms at ttl tail)
+here_has : (P : Kept) (q : Queries) (known : Knowledge) (ms : List Mention) (bridge : Bridge) (at : Place) (ttl : ℕ) (tail : List ℕ) → IsWhole at.me → KnowsWhole known → P.carried tail → ActsHave P (here_acts q known ms bridge at ttl tail)
 unfolding here_acts
-here_has P q known ms at ttl tail k p = go (client_frame_of tail) refl
+here_has P q known ms bridge at ttl tail mine k p = go (client_frame_of tail) refl
   where
     anew : (frame : ClientFrame) (way : Option Way) → IfWay way → ActsHave P (readdressed q known at ttl frame tail way)
     anew frame None whole = (lost_one P at Unknown frame, tt)
     anew frame (Some way) whole = have_if P (nat_le ttl 1) (lost at Ttl frame ∷ []) (addressed q known at.now (ttl - 1) way tail ∷ []) (lost_one P at Ttl frame, tt) (addressed_has P q known at.now (ttl - 1) way tail (whole way refl) p, tt)
 
-    go : (o : Option ClientFrame) → client_frame_of tail ≡ o → ActsHave P (arrived q known ms at ttl tail o)
+    go : (o : Option ClientFrame) → client_frame_of tail ≡ o → ActsHave P (arrived q known ms bridge at ttl tail o)
     go None is = tt
     go (Some frame) is =
         let key = key_of frame.dst frame.vid in
         let way = addressee q known at.now key in
-        have_if P (is_group frame.dst || is_present ms at.now key) (handed_out at frame ∷ []) (readdressed q known at ttl frame tail way) (handed_has P at frame (inr (tail, p, is)), tt) (anew frame way (addressee_whole q known at.now key k))
+        have_if P (is_group frame.dst || is_present ms at.now key) (out_acts bridge at (spread_of_packet frame) frame) (readdressed q known at ttl frame tail way) (out_has P bridge at (spread_of_packet frame) frame tail mine p is) (anew frame way (addressee_whole q known at.now key k))
 
-pub frame_has : (P : Kept) (q : Queries) (known : Knowledge) (ms : List Mention) (at : Place) (frame : ClientFrame) → IsWhole at.me → KnowsWhole known → P.given frame → P.carried (payload_spelling frame) → ActsHave P (frame_acts q known ms at frame)
+pub frame_has : (P : Kept) (q : Queries) (known : Knowledge) (ms : List Mention) (at : Place) (frame : ClientFrame) → IsWhole at.me → KnowsWhole known → IsCarried P frame → P.carried (payload_spelling frame) → ActsHave P (frame_acts q known ms at frame)
 unfolding frame_acts
 frame_has P q known ms at frame mine k given p =
     let key = key_of frame.dst frame.vid in
@@ -183,17 +186,17 @@ frame_has P q known ms at frame mine k given p =
     let handed = cond (is_present ms at.now key) (handed_out at frame ∷ []) sent in
     have_if P (is_broadcast frame.dst) (sent_to_all (Bcast 50 (suc known.sent) at.me) (payload_spelling frame) ∷ []) (cond (is_group frame.dst) [] handed)
     (bcast_has P 50 (suc known.sent) at.me (payload_spelling frame) mine p, tt)
-    (have_if P (is_group frame.dst) [] handed tt (have_if P (is_present ms at.now key) (handed_out at frame ∷ []) sent (handed_has P at frame (inl given), tt) (go way (addressee_whole q known at.now key k))))
+    (have_if P (is_group frame.dst) [] handed tt (have_if P (is_present ms at.now key) (handed_out at frame ∷ []) sent (handed_has P at frame given, tt) (go way (addressee_whole q known at.now key k))))
   where
     go : (way : Option Way) → IfWay way → ActsHave P (on_way q known at frame way)
     go None whole = (lost_one P at Unknown frame, tt)
     go (Some way) whole = (addressed_has P q known at.now 50 way (payload_spelling frame) (whole way refl) p, tt)
 
 -- ---- packets
-pub packet_has : (P : Kept) (q : Queries) (me : Mac) (own : Own) (came : Coming) (packet : Packet) (known : Knowledge) → KeepsOriginators me q → IsWhole came.from → KnowsWhole known → HasWholeAddresses packet.head → PacketHas P packet
+pub packet_has : (P : Kept) (q : Queries) (me : Mac) (own : Own) (came : Coming) (packet : Packet) (known : Knowledge) → KeepsOriginators me q → IsWhole me → IsWhole came.from → KnowsWhole known → HasWholeAddresses packet.head → PacketHas P packet
     → ActsHave P (packet_acts q me own came known packet)
 unfolding packet_acts
-packet_has P q me own came packet known keeps from k whole has = go packet.head packet.tail whole has
+packet_has P q me own came packet known keeps mine from k whole has = go packet.head packet.tail whole has
   where
     taken : (head : Head) (source : Mac) (tail : List ℕ) (o : Option Message) → IsMessageOf source head → ActsHave P (taken_acts q me came head o tail known)
     taken head source tail None is = tt
@@ -201,32 +204,37 @@ packet_has P q me own came packet known keeps from k whole has = go packet.head 
 
     go : (head : Head) (tail : List ℕ) → HasWholeAddresses head → HeadHas P tail head → ActsHave P (head_acts q me own came known (message_of (record { head = head; tail = tail })) tail head)
     go (IvOgm ttl flags seq o prev tq) tail w h = taken (IvOgm ttl flags seq o prev tq) o tail (message_with o (first_table (containers_of tail))) (record { word = refl; addresses = w })
-    go (Bcast ttl seq o) tail w h = broadcast_has P known (place_at me came) ttl (record { orig = o; number = seq }) tail h.0 h.1
+    go (Bcast ttl seq o) tail w h = broadcast_has P known own.bridge (place_at me came) ttl (record { orig = o; number = seq }) tail mine h.0 h.1
     go (Elp o seq interval) tail w h = tt
     go (Ogm2 ttl flags seq o throughput) tail w h = taken (Ogm2 ttl flags seq o throughput) o tail (message_with o (first_table (containers_of tail))) (record { word = refl; addresses = w })
-    go (Unicast ttl ttvn dst) tail w h = have_if P (same_mac dst me) (here_acts q known own.mentions (place_at me came) ttl tail) (passed_frame q known (place_at me came) ttl ttvn dst tail)
-        (here_has P q known own.mentions (place_at me came) ttl tail k h.1) (passed_has P q known (place_at me came) ttl ttvn dst tail h.0 h.1)
+    go (Unicast ttl ttvn dst) tail w h = have_if P (same_mac dst me) (here_acts q known own.mentions own.bridge (place_at me came) ttl tail) (passed_frame q known (place_at me came) ttl ttvn dst tail)
+        (here_has P q known own.mentions own.bridge (place_at me came) ttl tail mine k h.1) (passed_has P q known (place_at me came) ttl ttvn dst tail h.0 h.1)
     go (Frag ttl number priority dst o seq total) tail w h = tt
     go (Unicast4 ttl ttvn dst src subtype) tail w h = tt
     go (Icmp ttl msg dst o uid seq) tail w h =
         let m : IcmpMessage = record { ttl = ttl; kind = msg; dst = dst; orig = o; uid = uid; seq = seq } in
         probe_none P (icmp_acts q known (place_at me came) m) (icmp_puts q known (place_at me came) m)
-    go (Utvlv ttl dst src) tail w h = have_if P (same_mac dst me) (own_answer q me known came.now own.last own.told src (message_in (first_table (containers_of tail)))) (other_containers q known came.now ttl dst src tail)
-        (own_has P q me known came.now own src (message_in (first_table (containers_of tail)))) (other_has P q known came.now ttl dst src tail)
+    go (Utvlv ttl dst src) tail w h =
+        let answer = own_answer q me known came.now own.last own.told src (message_in (first_table (containers_of tail))) in
+        let unclaim = unclaim_acts (place_at me came) own.bridge (first_roaming (containers_of tail)) in
+        have_if P (same_mac dst me) (answer ++ unclaim) (other_containers q known came.now ttl dst src tail)
+        (each_appended (ActHas P) answer unclaim (own_has P q me known came.now own src (message_in (first_table (containers_of tail)))) (unclaim_has P (place_at me came) own.bridge (first_roaming (containers_of tail)) mine)) (other_has P q known came.now ttl dst src tail)
 
 -- ---- ticks
-pub tick_has : (P : Kept) (q : Queries) (me : Mac) (routes : RouteLog) (ms : List Mention) (before : History) (now index : ℕ) → KeepsOriginators me q → IsWhole me → ActsHave P (tick_acts q me routes ms before now index)
+pub tick_has : (P : Kept) (q : Queries) (me : Mac) (routes : RouteLog) (ms : List Mention) (before : History) (bridge : Bridge) (now index : ℕ) → KeepsOriginators me q → IsWhole me → ActsHave P (tick_acts q me routes ms before bridge now index)
 unfolding tick_acts
-tick_has P q me routes ms before now index keeps whole =
+tick_has P q me routes ms before bridge now index keeps whole =
     let after = committed (present_table ms now) before in
     let tail = containers_spelling (own_containers (announcement after)) in
-    each_appended (ActHas P) (elp_acts q routes index) (cond (is_commit_tick index) (commit_acts q me routes index before after) [])
+    let made = cond (is_commit_tick index) (commit_acts q me routes index before after) [] in
+    let at : Place = record { me = me; now = now } in
+    each_appended (ActHas P) (elp_acts q routes index) (made ++ round_acts at bridge index)
     (elps_none P (q.beats routes index).elp (λ head is. keeps.elps routes index head is))
-    (have_if P (is_commit_tick index) (commit_acts q me routes index before after) []
+    (each_appended (ActHas P) made (round_acts at bridge index) (have_if P (is_commit_tick index) (commit_acts q me routes index before after) []
     (each_appended (ActHas P) (alias_acts me before.commits after.commits) (message_acts (q.beats routes index).ogm tail)
     (have_if P (length after.commits == length before.commits) [] (alias_event me (length before.commits) (last_alias after.commits)) tt (event (last_alias after.commits)))
-    (messages_none P me (q.beats routes index).ogm tail (λ head is. keeps.own routes index head whole is))) tt)
+    (messages_none P me (q.beats routes index).ogm tail (λ head is. keeps.own routes index head whole is))) tt) (round_has P at bridge index whole))
   where
     event : (o : Option ℕ) → ActsHave P (alias_event me (length before.commits) o)
     event None = tt
-    event (Some earlier) = ((λ moment node vid src dst text is. cc), tt)
+    event (Some earlier) = (record { handed_out = λ moment n vid src dst text is. cc; bridged = λ moment lan vid src dst text is. cc; no_facts = λ me type_no asked is. cc }, tt)

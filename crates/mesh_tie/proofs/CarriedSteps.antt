@@ -1,54 +1,58 @@
--- What holds of payloads, and goes on to hold with each step, holds of each that was ever sent.
-use Rattle.std.proofs.Common.{◌∙◌, zero, ap, ◌≡◌, ◌⊎◌, inl, inr, ℕ, suc, true, false, List, [], ◌∷◌, slice_get, Some, refl, sym, subst}
+-- What a step of a mesh sends, puts and hands out carries payloads that came, or that a line begins.
+use Rattle.std.proofs.Common.{◌++◌, Option, Some, None, length, ◌∙◌, ap, ◌≡◌, ◌⊎◌, inl, inr, ℕ, suc, true, false, List, [], ◌∷◌, slice_get, refl, sym, subst}
 use Rattle.mesh_base.specs.declared.address.Mac.{Mac}
 use Rattle.mesh_base.specs.declared.event.Event.{Event}
-use Rattle.mesh_base.specs.declared.event.Event.TheVariants.{Received}
 use Rattle.mesh_model.specs.declared.act.Act.{Act}
-use Rattle.mesh_model.specs.declared.act.Act.TheVariants.{Link, Print}
-use Rattle.mesh_model.specs.declared.packet.Head.{Head}
-use Rattle.mesh_model.specs.declared.packet.Head.TheVariants.{IvOgm, Bcast, Elp, Ogm2, Unicast, Frag, Unicast4, Icmp, Utvlv}
-use Rattle.mesh_model.specs.Acts.Choosing.{acts_of, client_acts, sighting_acts}
+use Rattle.mesh_model.specs.declared.act.Act.TheVariants.{Lan, Link, Print}
+use Rattle.mesh_model.specs.Acts.BridgeRows.{Place}
+use Rattle.mesh_model.specs.Acts.Choosing.{acts_of, claimed_first, client_acts, from_lan_acts, on_from_lan, sighting_acts}
+use Rattle.mesh_model.specs.Acts.FrameRows.{frame_acts}
 use Rattle.mesh_model.specs.Acts.Rows.{Own, own_by, packet_acts, packets_acts}
-use Rattle.mesh_model.specs.Clients.Log.{Given, Tick, LinkFrame, Line, LineGiven, Attach, Frame, Gone, Join, Leave, Arp, Dhcp, Sets, Put, Get, Ping, Trace, Log, LogEntry}
-use Rattle.mesh_model.specs.Clients.Mentions.{key_of, mentions, next_mentions}
+use Rattle.mesh_model.specs.Clients.Lans.{bridge}
+use Rattle.mesh_model.specs.Clients.Log.{Given, Tick, LinkFrame, LanFrame, Line, LineGiven, Attach, Frame, Gone, Join, Leave, Arp, Dhcp, Sets, Put, Get, Ping, Trace, Log}
+use Rattle.mesh_model.specs.Clients.Mentions.{Mention, key_of, mentions, next_mentions, passed_from_lan}
 use Rattle.mesh_model.specs.Commits.History.{history}
 use Rattle.mesh_model.specs.Knowledge.Known.{Knowledge}
-use Rattle.mesh_model.specs.Knowledge.Steps.{Coming, advertised, after_packet, after_sighting, knowledge}
+use Rattle.mesh_model.specs.Knowledge.Steps.{Coming, advertised, after_packet, after_sighting, knowledge, stays_on_lan}
 use Rattle.mesh_model.specs.Net.Due.{ticks_in}
-use Rattle.mesh_model.specs.Net.Inputs.{entry_of, noted_at, noting}
+use Rattle.mesh_model.specs.Net.Inputs.{entry_of, noting}
 use Rattle.mesh_model.specs.Net.Limits.{scenario_setup}
-use Rattle.mesh_model.specs.Net.Mesh.{NodeLog, SentFrame, Mesh}
+use Rattle.mesh_model.specs.Net.Mesh.{NodeLog, SentFrame, LanPut, Mesh}
+use Rattle.mesh_model.specs.Net.Lans.{with_events}
+use Rattle.mesh_model.specs.Net.Sending.{put_event}
+use Rattle.mesh_model.specs.Packets.LanFrames.{client_frame_in, lan_message_of}
 use Rattle.mesh_model.specs.Net.Next.{Has}
 use Rattle.mesh_model.specs.Packets.FirstPacket.{Packet}
 use Rattle.mesh_model.specs.Packets.LinkFrame.{link_frame}
-use Rattle.mesh_model.specs.Packets.Payload.{ClientFrame, payload_spelling}
+use Rattle.mesh_model.specs.Packets.Payload.{ClientFrame, client_frame_of, payload_spelling}
 use Rattle.mesh_model.specs.Routes.Queries.{Queries}
-use Rattle.mesh_laws.proofs.Schedule.Members.{get_either, has_either, one_some}
-use Rattle.mesh_laws.proofs.Schedule.Steps.{get_front}
-use Rattle.mesh_tie.specs.Carried.{Carries, IsKept, TailHas, WasGiven}
+use Rattle.mesh_laws.proofs.Schedule.Members.{get_either, get_last, has_either}
+use Rattle.mesh_tie.specs.Carried.{IsKept, IsReadOf, PutCarries, WasGiven, on_lan, to_node}
 use Rattle.mesh_tie.specs.Sources.{HasWholeAddresses, IsWhole, KeepsOriginators}
-use Rattle.mesh_tie.specs.Steps.{IsReachable, Steps, TellsClient, begins, frame_comes, goes_on, line_gives, link_joins, node_joins, node_ticks, time_passes}
-use Rattle.mesh_tie.specs.Tie.{KnowsWhole, known_at_node}
+use Rattle.mesh_tie.specs.Steps.{Steps, TellsClient, bridged_event, frame_comes, lan_comes, lan_joins, line_gives, link_joins, node_joins, node_ticks, put_comes, put_reaches, time_passes, with_lan_frame}
+use Rattle.mesh_tie.specs.Tie.{IsOrderly, KnowsWhole, known_at_node}
 use Rattle.mesh_tie.specs.TieLaws.{AllKeep}
-use Rattle.mesh_tie.proofs.CarriedHeads.{IsCarried, Kept, Tells, ActHas, ActsHave, FrameHas, HeadHas, PacketHas}
-use Rattle.mesh_tie.proofs.CarriedRows.{advert_has, frame_has, packet_has, session_has, tick_has}
+use Rattle.mesh_tie.proofs.CarriedHeads.{Kept, Tells, ActHas, ActsHave, FrameHas, PacketHas}
+use Rattle.mesh_tie.proofs.CarriedLans.{claimed_has}
+use Rattle.mesh_tie.proofs.CarriedRows.{advert_has, frame_has, have_if, packet_has, session_has, tick_has}
 use Rattle.mesh_tie.proofs.EntryLemmas.{each_appended}
-use Rattle.mesh_tie.proofs.FitLemmas.{commits_always_fit}
 use Rattle.mesh_tie.proofs.KnowsLemmas.{packet_knows, sighting_knows}
-use Rattle.mesh_tie.proofs.MeshSteps.{Reached, got_noted, reached}
-use Rattle.mesh_tie.proofs.SentLemmas.{HasGiven, IsFromActs, IsSending, given_is}
+use Rattle.mesh_tie.proofs.AddressLemmas.{heads_whole}
+use Rattle.mesh_tie.proofs.LanSteps.{lan_read, passed_came}
+use Rattle.mesh_tie.proofs.NodeLists.{got_noted}
+use Rattle.mesh_tie.proofs.SentLemmas.{HasGiven, IsOfActs, given_is}
 
 -- ---- one input
-packets_have : (P : Kept) (q : Queries) (me : Mac) (own : Own) (came : Coming) (packets : List Packet) (known : Knowledge) → KeepsOriginators me q → IsWhole came.from → KnowsWhole known
+packets_have : (P : Kept) (q : Queries) (me : Mac) (own : Own) (came : Coming) (packets : List Packet) (known : Knowledge) → KeepsOriginators me q → IsWhole me → IsWhole came.from → KnowsWhole known
     → ((packet : Packet) → Has packets packet → HasWholeAddresses packet.head × PacketHas P packet) → ActsHave P (packets_acts q me own came known packets)
 unfolding packets_acts
-packets_have P q me own came [] known keeps from k each = tt
-packets_have P q me own came (packet ∷ rest) known keeps from k each =
+packets_have P q me own came [] known keeps mine from k each = tt
+packets_have P q me own came (packet ∷ rest) known keeps mine from k each =
     let one = each packet (inl refl) in
     let after = after_packet q me came known packet in
     each_appended (ActHas P) (packet_acts q me own came known packet) (packets_acts q me own came after rest)
-    (packet_has P q me own came packet known keeps from k one.0 one.1)
-    (packets_have P q me own came rest after keeps from (packet_knows q me came packet known one.0 k) (λ p has. each p (inr has)))
+    (packet_has P q me own came packet known keeps mine from k one.0 one.1)
+    (packets_have P q me own came rest after keeps mine from (packet_knows q me came packet known one.0 k) (λ p has. each p (inr has)))
 
 -- the client frame of a line is given, and is carried as it is spelled
 abbrev Begins : Kept → LineGiven → Type 0
@@ -63,7 +67,7 @@ line_has P q me mine now (Frame src dst vid text) begin whole k =
     let ms = next_mentions me mine (mentions me mine) now (Line (Frame src dst vid text)) in
     let begun = begin frame refl in
     each_appended (ActHas P) (sighting_acts q me mine now key) (client_acts q me mine now frame) (advert_has P me key (advertised q me mine known now key))
-    (frame_has P q (after_sighting q me mine now key known) ms (record { me = me; now = now }) frame whole (sighting_knows q me mine now key known k) begun.0 begun.1)
+    (frame_has P q (after_sighting q me mine now key known) ms (record { me = me; now = now }) frame whole (sighting_knows q me mine now key known k) (inl begun.0) begun.1)
 line_has P q me mine now (Gone key) begin whole k = tt
 line_has P q me mine now (Join key) begin whole k = tt
 line_has P q me mine now (Leave key) begin whole k = tt
@@ -75,29 +79,48 @@ line_has P q me mine now (Get type_no) begin whole k = tt
 line_has P q me mine now (Ping target) begin whole k = session_has P q (knowledge q me mine) (record { me = me; now = now }) target false
 line_has P q me mine now (Trace target) begin whole k = session_has P q (knowledge q me mine) (record { me = me; now = now }) target true
 
--- ---- one step
--- what is kept holds of all that was sent and handed out
-record HasKept (P : Kept) (mesh : Mesh) : Type 0 where
-  frames : (place : ℕ) (frame : SentFrame) → slice_get mesh.frames place ≡ Some frame → FrameHas P frame.bytes
-  events : (event : Event) → Has mesh.events event → Tells P event
-
-act_has : (P : Kept) (root : ℕ) (acts : List Act) (frame : SentFrame) → ActsHave P acts → IsFromActs acts root frame → FrameHas P frame.bytes
-act_has P root acts frame all f = find acts all f.act
+lan_has : (P : Kept) (q : Queries) (me : Mac) (mine : Log) (now : ℕ) (bytes : List ℕ) → PutCarries P.carried bytes → IsWhole me → KnowsWhole (knowledge q me mine) → ActsHave P (acts_of q me mine now (LanFrame bytes))
+lan_has P q me mine now bytes carries whole k =
+    each_appended (ActHas P) (claimed_first me mine now came) (from_lan_acts q me mine now ms (passed_from_lan me mine now came)) (claimed_has P me mine now came whole)
+    (go (passed_from_lan me mine now came) (λ frame is. passed_came me mine now came frame is))
   where
-    find : (acts : List Act) → ActsHave P acts → Has acts (Link f.to f.reason frame.bytes) → FrameHas P frame.bytes
-    find [] all has = absurd has
-    find (act ∷ rest) all (inl is) = subst (ActHas P) (sym is) all.0
-    find (act ∷ rest) all (inr has) = find rest all.1 has
+    came : Option ClientFrame
+    came = client_frame_in (lan_message_of bytes)
 
-print_tells : (P : Kept) (acts : List Act) (event : Event) → ActsHave P acts → Has acts (Print event) → Tells P event
-print_tells P [] event all has = absurd has
-print_tells P (act ∷ rest) event all (inl is) = subst (ActHas P) (sym is) all.0
-print_tells P (act ∷ rest) event all (inr has) = print_tells P rest event all.1 has
+    ms : List Mention
+    ms = next_mentions me mine (mentions me mine) now (LanFrame bytes)
+
+    go : (o : Option ClientFrame) → ((frame : ClientFrame) → o ≡ Some frame → client_frame_in (lan_message_of bytes) ≡ Some frame) → ActsHave P (from_lan_acts q me mine now ms o)
+    go None from = tt
+    go (Some frame) from =
+        let key = key_of frame.src frame.vid in
+        let at : Place = record { me = me; now = now } in
+        let known = after_sighting q me mine now key (knowledge q me mine) in
+        let p = carries frame (from frame refl) in
+        let read = lan_read bytes frame (from frame refl) in
+        let on = frame_acts q known ms at frame in
+        each_appended (ActHas P) (sighting_acts q me mine now key) (on_from_lan q me mine now known ms frame) (advert_has P me key (advertised q me mine (knowledge q me mine) now key))
+        (have_if P (stays_on_lan q ms (bridge mine).lan now (key_of frame.dst frame.vid) known) [] on tt
+        (frame_has P q known ms at frame whole (sighting_knows q me mine now key (knowledge q me mine) k) (inr (bytes, p, read)) (P.read_on bytes frame p read)))
+
+-- ---- one step
+-- what is kept holds of all that was sent, put and handed out
+pub record HasKept (P : Kept) (mesh : Mesh) : Type 0 where
+  pub frames : (place : ℕ) (frame : SentFrame) → slice_get mesh.frames place ≡ Some frame → FrameHas P frame.bytes
+  pub puts : (place : ℕ) (put : LanPut) → slice_get mesh.puts place ≡ Some put → PutCarries P.carried put.bytes
+  pub events : (event : Event) → Has mesh.events event → Tells P event
+
+-- an act among others
+link_has : (P : Kept) (acts : List Act) (act : Act) → ActsHave P acts → Has acts act → ActHas P act
+link_has P [] act all has = absurd has
+link_has P (first ∷ rest) act all (inl is) = subst (ActHas P) (sym is) all.0
+link_has P (first ∷ rest) act all (inr has) = link_has P rest act all.1 has
 
 given_keep : (P : Kept) (queries : Mac → Queries) (mesh after : Mesh) (place now root : ℕ) (node : NodeLog) (given : Given) → HasGiven (scenario_setup queries) place now root node given mesh after
     → HasKept P mesh → ActsHave P (acts_of (queries node.mac) node.mac node.log now given) → HasKept P after
 given_keep P queries mesh after place now root node given has old acts = record {
   frames = λ at frame got. sent at frame (get_either mesh.frames has.more at frame (subst (λ fs. slice_get fs at ≡ Some frame) has.frames got));
+  puts = λ at put got. was_put at put (get_either mesh.puts has.more_puts at put (subst (λ ps. slice_get ps at ≡ Some put) has.puts got));
   events = λ event among. told event (has_either mesh.events has.more_events event (subst (λ es. Has es event) has.events among));
 }
   where
@@ -106,135 +129,97 @@ given_keep P queries mesh after place now root node given has old acts = record 
 
     sent : (at : ℕ) (frame : SentFrame) → (slice_get mesh.frames at ≡ Some frame) ⊎ Has has.more frame → FrameHas P frame.bytes
     sent at frame (inl before) = old.frames at frame before
-    sent at frame (inr new) = act_has P root made frame acts (has.made frame new)
+    sent at frame (inr new) = let f = has.made frame new in link_has P made (Link f.to f.reason frame.bytes) acts f.act
 
-    by_act : (event : Event) → Has made (Print event) ⊎ IsSending made node.mac now event → Tells P event
-    by_act event (inl print) = print_tells P made event acts print
-    by_act event (inr s) = λ moment n vid src dst text is. let sending = s.is in cc
+    was_put : (at : ℕ) (put : LanPut) → (slice_get mesh.puts at ≡ Some put) ⊎ Has has.more_puts put → PutCarries P.carried put.bytes
+    was_put at put (inl before) = old.puts at put before
+    was_put at put (inr new) = link_has P made (Lan put.bytes) acts (has.put put new).act
+
+    by_act : (event : Event) → IsOfActs made node.mac now event → Tells P event
+    by_act event (inl print) = link_has P made (Print event) acts print
+    by_act event (inr (inl s)) = let sending = s.is in record { handed_out = λ moment n vid src dst text is. cc; bridged = λ moment lan vid src dst text is. cc; no_facts = λ me type_no asked is. cc }
+    by_act event (inr (inr s)) = let sending = s.is in record { handed_out = λ moment n vid src dst text is. cc; bridged = λ moment lan vid src dst text is. cc; no_facts = λ me type_no asked is. cc }
 
     told : (event : Event) → Has mesh.events event ⊎ Has has.more_events event → Tells P event
     told event (inl before) = old.events event before
     told event (inr new) = by_act event (has.came event new)
 
+-- what is kept in a mesh
+abbrev pub kept_in : (queries : Mac → Queries) (P : Mesh → List ℕ → Type 0) → IsKept queries P → Mesh → Kept
+kept_in queries P kept mesh = record { carried = P mesh; given = WasGiven mesh; read_on = kept.read_on mesh }
+
 -- the client frame of a line, behind the line's step
-line_begins : (queries : Mac → Queries) (P : Mesh → List ℕ → Type 0) (mesh after : Mesh) (place now : ℕ) (node : NodeLog) (line : LineGiven) → IsKept queries P → slice_get mesh.nodes place ≡ Some node → TellsClient line
-    → HasGiven (scenario_setup queries) place now 0 node (Line line) mesh after → Begins (record { carried = P after; given = WasGiven after }) line
+line_begins : (queries : Mac → Queries) (P : Mesh → List ℕ → Type 0) (mesh after : Mesh) (place now : ℕ) (node : NodeLog) (line : LineGiven) → (kept : IsKept queries P) → slice_get mesh.nodes place ≡ Some node → TellsClient line
+    → HasGiven (scenario_setup queries) place now 0 node (Line line) mesh after → Begins (kept_in queries P kept after) line
 line_begins queries P mesh after place now node line kept found of has frame is =
     let entry = entry_of (scenario_setup queries) node now (Line line) in
-    let given : WasGiven after frame = record {
-      place = place;
-      node = noting entry node;
-      found = ap (λ ns. slice_get ns place) has.nodes ∙ got_noted mesh.nodes place node entry found;
-      entry = entry;
-      noted = inl refl;
-      given = ap (λ l. Line l) is;
-      tells = subst TellsClient is of;
-    } in
+    let given : WasGiven after frame = to_node place (noting entry node) entry
+    (ap (λ ns. slice_get ns place) has.nodes ∙ got_noted mesh.nodes place node entry found) (inl refl) (ap (λ l. Line l) is) (subst TellsClient is of) in
     (given, kept.begun after frame given)
 
-step_keeps : (queries : Mac → Queries) (P : Mesh → List ℕ → Type 0) (mesh after : Mesh) → IsKept queries P → AllKeep queries → Reached queries mesh → Steps queries mesh after
-    → HasKept (record { carried = P after; given = WasGiven after }) mesh → HasKept (record { carried = P after; given = WasGiven after }) after
-step_keeps queries P mesh _ kept keep h (node_joins _ node empty whole fresh) old = record { frames = old.frames; events = old.events }
-step_keeps queries P mesh _ kept keep h (link_joins _ link) old = record { frames = old.frames; events = old.events }
-step_keeps queries P mesh after kept keep h (line_gives _ _ place now node line found may of is) old =
-    let Q : Kept = record { carried = P after; given = WasGiven after } in
-    let has = given_is (scenario_setup queries) place now 0 node (Line line) mesh after found is in
-    given_keep Q queries mesh after place now 0 node (Line line) has old
-    (line_has Q (queries node.mac) node.mac node.log now line (line_begins queries P mesh after place now node line kept found of has) (h.holds.orderly.whole place node found) (h.holds.orderly.knows place node found))
-step_keeps queries P mesh after kept keep h (node_ticks _ _ place now node found may is) old =
-    let Q : Kept = record { carried = P after; given = WasGiven after } in
-    let index = suc (ticks_in node.log) in
-    given_keep Q queries mesh after place now index node (Tick index) (given_is (scenario_setup queries) place now index node (Tick index) mesh after found is) old
-    (tick_has Q (queries node.mac) node.mac (known_at_node queries node).routes (mentions node.mac node.log) (history node.mac node.log) now index (keep node.mac) (h.holds.orderly.whole place node found))
-step_keeps queries P mesh after kept keep h (frame_comes _ _ place now number throughput from node frame found may sent whole is) old =
-    let Q : Kept = record { carried = P after; given = WasGiven after } in
-    let came : Coming = record { now = now; from = from; throughput = throughput; number = suc number } in
-    let given = LinkFrame (suc number) from throughput frame.bytes in
-    given_keep Q queries mesh after place now frame.root node given (given_is (scenario_setup queries) place now frame.root node given mesh after found is) old
-    (packets_have Q (queries node.mac) node.mac (own_by node.mac node.log) came (link_frame frame.bytes).packets (known_at_node queries node) (keep node.mac) whole (h.holds.orderly.knows place node found)
-    (λ packet has. (((h.ties node.mac).2.frames number frame sent packet has).addresses, old.frames number frame sent packet has)))
-step_keeps queries P mesh _ kept keep h (time_passes _ happening) old = record { frames = old.frames; events = old.events }
+at_end : {X : Type 0} (xs : List X) (x : X) → slice_get (xs ++ x ∷ []) (length xs) ≡ Some x
+at_end [] x = refl
+at_end (first ∷ rest) x = at_end rest x
 
--- ---- what goes on to hold
--- a node that is there stays, with all that it noted
-noted_stays : (at : ℕ) (entry : LogEntry) (nodes : List NodeLog) (place : ℕ) (node : NodeLog) → slice_get nodes place ≡ Some node
-    → (after : NodeLog) × (slice_get (noted_at at entry nodes) place ≡ Some after) × ((e : LogEntry) → Has node.log e → Has after.log e)
-noted_stays at entry [] place node found = cc
-noted_stays zero entry (first ∷ rest) zero node found = (noting entry first, refl, λ e has. inr (subst (λ (n : NodeLog). Has n.log e) (sym (one_some first node found)) has))
-noted_stays zero entry (first ∷ rest) (suc place) node found = (node, found, λ e has. has)
-noted_stays (suc at) entry (first ∷ rest) zero node found = (node, found, λ e has. has)
-noted_stays (suc at) entry (first ∷ rest) (suc place) node found = noted_stays at entry rest place node found
+-- one more event
+more_told : (P : Kept) (events : List Event) (new : Event) → ((event : Event) → Has events event → Tells P event) → Tells P new → (event : Event) → Has (events ++ new ∷ []) event → Tells P event
+more_told P events new old tells event has = go (has_either events (new ∷ []) event has)
+  where
+    go : Has events event ⊎ Has (new ∷ []) event → Tells P event
+    go (inl before) = old event before
+    go (inr (inl is)) = subst (Tells P) (sym is) tells
+    go (inr (inr none)) = absurd none
 
-given_stays : (queries : Mac → Queries) (mesh after : Mesh) (place now root : ℕ) (node : NodeLog) (given : Given) (frame : ClientFrame) → HasGiven (scenario_setup queries) place now root node given mesh after → WasGiven mesh frame → WasGiven after frame
-given_stays queries mesh after place now root node given frame has was =
-    let stays = noted_stays place (entry_of (scenario_setup queries) node now given) mesh.nodes was.place was.node was.found in
-    record { place = was.place; node = stays.0; found = ap (λ ns. slice_get ns was.place) has.nodes ∙ stays.1; entry = was.entry; noted = stays.2 was.entry was.noted; given = was.given; tells = was.tells }
+put_keeps : (P : Kept) (mesh : Mesh) (put : LanPut) → HasKept P mesh → PutCarries P.carried put.bytes → HasKept P (with_lan_frame put mesh)
+put_keeps P mesh put old carries = record {
+  frames = old.frames;
+  puts = λ at other got. go at other (get_last mesh.puts put at other got);
+  events = more_told P mesh.events (put_event mesh put) old.events (record { handed_out = λ moment n vid src dst text is. cc; bridged = λ moment lan vid src dst text is. cc; no_facts = λ me type_no asked is. cc });
+}
+  where
+    go : (at : ℕ) (other : LanPut) → (slice_get mesh.puts at ≡ Some other) ⊎ (other ≡ put) → PutCarries P.carried other.bytes
+    go at other (inl before) = old.puts at other before
+    go at other (inr same) = subst (λ (p : LanPut). PutCarries P.carried p.bytes) (sym same) carries
 
--- a client frame that was given stays given
-pub was_given : (queries : Mac → Queries) (mesh after : Mesh) (frame : ClientFrame) → Steps queries mesh after → WasGiven mesh frame → WasGiven after frame
-was_given queries mesh _ frame (node_joins _ node empty whole fresh) was =
-    record { place = was.place; node = was.node; found = get_front mesh.nodes (node ∷ []) was.place was.node was.found; entry = was.entry; noted = was.noted; given = was.given; tells = was.tells }
-was_given queries mesh _ frame (link_joins _ link) was = record { place = was.place; node = was.node; found = was.found; entry = was.entry; noted = was.noted; given = was.given; tells = was.tells }
-was_given queries mesh after frame (line_gives _ _ place now node line found may of is) was =
-    given_stays queries mesh after place now 0 node (Line line) frame (given_is (scenario_setup queries) place now 0 node (Line line) mesh after found is) was
-was_given queries mesh after frame (node_ticks _ _ place now node found may is) was =
-    let index = suc (ticks_in node.log) in
-    given_stays queries mesh after place now index node (Tick index) frame (given_is (scenario_setup queries) place now index node (Tick index) mesh after found is) was
-was_given queries mesh after frame (frame_comes _ _ place now number throughput from node sent found may among whole is) was =
-    let given = LinkFrame (suc number) from throughput sent.bytes in
-    given_stays queries mesh after place now sent.root node given frame (given_is (scenario_setup queries) place now sent.root node given mesh after found is) was
-was_given queries mesh _ frame (time_passes _ happening) was = record { place = was.place; node = was.node; found = was.found; entry = was.entry; noted = was.noted; given = was.given; tells = was.tells }
-
--- one that holds of more
-record IsWithin (P R : Kept) : Type 0 where
-  carried : (payload : List ℕ) → P.carried payload → R.carried payload
-  given : (frame : ClientFrame) → P.given frame → R.given frame
-
-more_has : (P R : Kept) → IsWithin P R → (tail : List ℕ) (head : Head) → HeadHas P tail head → HeadHas R tail head
-more_has P R more tail (IvOgm ttl flags seq orig prev tq) h = tt
-more_has P R more tail (Bcast ttl seq orig) h = (h.0, more.carried tail h.1)
-more_has P R more tail (Elp orig seq interval) h = tt
-more_has P R more tail (Ogm2 ttl flags seq orig throughput) h = tt
-more_has P R more tail (Unicast ttl ttvn dst) h = (h.0, more.carried tail h.1)
-more_has P R more tail (Frag ttl number priority dst orig seq total) h = tt
-more_has P R more tail (Unicast4 ttl ttvn dst src subtype) h = tt
-more_has P R more tail (Icmp ttl msg dst orig uid seq) h = tt
-more_has P R more tail (Utvlv ttl dst src) h = tt
-
-more_carried : (P R : Kept) → IsWithin P R → (frame : ClientFrame) → IsCarried P frame → IsCarried R frame
-more_carried P R more frame (inl given) = inl (more.given frame given)
-more_carried P R more frame (inr read) = inr (read.0, more.carried read.0 read.1, read.2)
-
-more_kept : (P R : Kept) (mesh : Mesh) → IsWithin P R → HasKept P mesh → HasKept R mesh
-more_kept P R mesh more h = record {
-  frames = λ place frame got packet has. more_has P R more packet.tail packet.head (h.frames place frame got packet has);
-  events = λ event among moment node vid src dst text is. more_carried P R more (record { dst = dst; src = src; vid = vid; text = text }) (h.events event among moment node vid src dst text is);
+bridged_tells : (P : Kept) (now : ℕ) (put : LanPut) (frame : ClientFrame) → P.carried put.bytes → client_frame_of put.bytes ≡ Some frame → Tells P (bridged_event now put frame)
+bridged_tells P now put frame p read = record {
+  handed_out = λ moment n vid src dst text is. cc;
+  no_facts = λ me type_no asked is. cc;
+  bridged = λ moment lan vid src dst text is.
+      let same : ◌≡◌ {A = ClientFrame} (record { dst = frame.dst; src = frame.src; vid = frame.vid; text = frame.text }) (record { dst = dst; src = src; vid = vid; text = text }) = cc in
+      subst (IsReadOf P.carried) same (put.bytes, p, read);
 }
 
--- ---- all steps
-all_kept : (queries : Mac → Queries) (P : Mesh → List ℕ → Type 0) → IsKept queries P → AllKeep queries → (mesh : Mesh) → IsReachable queries mesh → HasKept (record { carried = P mesh; given = WasGiven mesh }) mesh
-all_kept queries P kept keep _ begins = record { frames = λ place frame got. cc; events = λ event among. absurd among }
-all_kept queries P kept keep _ (goes_on mesh after r s) =
-    step_keeps queries P mesh after kept keep (reached queries keep (commits_always_fit queries) mesh r) s
-    (more_kept (record { carried = P mesh; given = WasGiven mesh }) (record { carried = P after; given = WasGiven after }) mesh
-    (record { carried = λ payload p. kept.stays mesh after payload s p; given = λ frame was. was_given queries mesh after frame s was }) (all_kept queries P kept keep mesh r))
-
-tail_has : (P : Kept) (tail : List ℕ) (head : Head) → HeadHas P tail head → TailHas P.carried tail head
-tail_has P tail (IvOgm ttl flags seq orig prev tq) h = tt
-tail_has P tail (Bcast ttl seq orig) h = h.1
-tail_has P tail (Elp orig seq interval) h = tt
-tail_has P tail (Ogm2 ttl flags seq orig throughput) h = tt
-tail_has P tail (Unicast ttl ttvn dst) h = h.1
-tail_has P tail (Frag ttl number priority dst orig seq total) h = tt
-tail_has P tail (Unicast4 ttl ttvn dst src subtype) h = tt
-tail_has P tail (Icmp ttl msg dst orig uid seq) h = tt
-tail_has P tail (Utvlv ttl dst src) h = tt
-
--- what is kept holds of all that is carried
-pub carried_on : (queries : Mac → Queries) → AllKeep queries → (P : Mesh → List ℕ → Type 0) → IsKept queries P → (mesh : Mesh) → IsReachable queries mesh → Carries P mesh
-carried_on queries keep P kept mesh r =
-    let all = all_kept queries P kept keep mesh r in
-    record {
-      frames = λ place frame got packet has. tail_has (record { carried = P mesh; given = WasGiven mesh }) packet.tail packet.head (all.frames place frame got packet has);
-      handed_out = λ moment node vid src dst text among. all.events (Received moment node vid src dst text) among moment node vid src dst text refl;
-    }
+pub step_keeps : (queries : Mac → Queries) (P : Mesh → List ℕ → Type 0) (mesh after : Mesh) → (kept : IsKept queries P) → AllKeep queries → IsOrderly queries mesh → Steps queries mesh after
+    → HasKept (kept_in queries P kept after) mesh → HasKept (kept_in queries P kept after) after
+step_keeps queries P mesh _ kept keep o (node_joins _ node empty whole fresh) old = record { frames = old.frames; puts = old.puts; events = old.events }
+step_keeps queries P mesh _ kept keep o (link_joins _ link) old = record { frames = old.frames; puts = old.puts; events = old.events }
+step_keeps queries P mesh after kept keep o (line_gives _ _ place now node line found may of is) old =
+    let has = given_is (scenario_setup queries) place now 0 node (Line line) mesh after found is in
+    given_keep (kept_in queries P kept after) queries mesh after place now 0 node (Line line) has old
+    (line_has (kept_in queries P kept after) (queries node.mac) node.mac node.log now line (line_begins queries P mesh after place now node line kept found of has) (o.whole place node found) (o.knows place node found))
+step_keeps queries P mesh after kept keep o (node_ticks _ _ place now node found may is) old =
+    let index = suc (ticks_in node.log) in
+    given_keep (kept_in queries P kept after) queries mesh after place now index node (Tick index) (given_is (scenario_setup queries) place now index node (Tick index) mesh after found is) old
+    (tick_has (kept_in queries P kept after) (queries node.mac) node.mac (known_at_node queries node).routes (mentions node.mac node.log) (history node.mac node.log) (bridge node.log) now index (keep node.mac) (o.whole place node found))
+step_keeps queries P mesh after kept keep o (frame_comes _ _ place now number throughput from node frame found may sent whole is) old =
+    let came : Coming = record { now = now; from = from; throughput = throughput; number = suc number } in
+    let given = LinkFrame (suc number) from throughput frame.bytes in
+    given_keep (kept_in queries P kept after) queries mesh after place now frame.root node given (given_is (scenario_setup queries) place now frame.root node given mesh after found is) old
+    (packets_have (kept_in queries P kept after) (queries node.mac) node.mac (own_by node.mac node.log) came (link_frame frame.bytes).packets (known_at_node queries node) (keep node.mac) (o.whole place node found) whole (o.knows place node found)
+    (λ packet has. (heads_whole frame.bytes packet has, old.frames number frame sent packet has)))
+step_keeps queries P mesh _ kept keep o (lan_joins _ lan) old = record { frames = old.frames; puts = old.puts; events = old.events }
+step_keeps queries P mesh _ kept keep o (put_comes _ put frame by is tells) old = put_keeps (kept_in queries P kept (with_lan_frame put mesh)) mesh put old (own kept)
+  where
+    own : (kept : IsKept queries P) → PutCarries (kept_in queries P kept (with_lan_frame put mesh)).carried put.bytes
+    own kept other e = subst (P (with_lan_frame put mesh)) (sym is) (kept.begun (with_lan_frame put mesh) frame (on_lan (length mesh.puts) put (at_end mesh.puts put) by is tells))
+step_keeps queries P mesh _ kept keep o (put_reaches _ number now put frame found carries) old = record {
+  frames = old.frames;
+  puts = old.puts;
+  events = more_told (kept_in queries P kept (with_events (bridged_event now put frame ∷ []) mesh)) mesh.events (bridged_event now put frame) old.events
+      (bridged_tells (kept_in queries P kept (with_events (bridged_event now put frame ∷ []) mesh)) now put frame (old.puts number put found frame carries) (lan_read put.bytes frame carries));
+}
+step_keeps queries P mesh after kept keep o (lan_comes _ _ place now number node put found may among is) old =
+    given_keep (kept_in queries P kept after) queries mesh after place now 0 node (LanFrame put.bytes) (given_is (scenario_setup queries) place now 0 node (LanFrame put.bytes) mesh after found is) old
+    (lan_has (kept_in queries P kept after) (queries node.mac) node.mac node.log now put.bytes (old.puts number put among) (o.whole place node found) (o.knows place node found))
+step_keeps queries P mesh _ kept keep o (time_passes _ happening) old = record { frames = old.frames; puts = old.puts; events = old.events }

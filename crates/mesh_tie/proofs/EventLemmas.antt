@@ -1,5 +1,5 @@
 -- The events of frames that were sent by table.
-use Rattle.std.proofs.Common.{◌≡◌, ◌≢◌, ◌⊎◌, inl, inr, ℕ, zero, suc, Bool, true, false, nat_eq, List, [], ◌∷◌, ◌++◌, slice_get, Some, Ok, refl, sym, ap, subst, ◌∙◌}
+use Rattle.std.proofs.Common.{◌≡◌, ◌≢◌, ◌⊎◌, inl, inr, ℕ, zero, suc, Bool, true, false, nat_eq, List, [], ◌∷◌, ◌++◌, slice_get, Some, Ok, refl, sym, ap, subst, ◌∙◌, append-nil}
 use Rattle.std.proofs.lemmas.Bool.{eq-eqb, eqb-true, true≢false}
 use Rattle.mesh_base.specs.declared.address.Mac.{Mac}
 use Rattle.mesh_base.specs.declared.event.Event.{Event}
@@ -8,33 +8,37 @@ use Rattle.mesh_base.specs.declared.event.Reason.TheVariants.{Table}
 use Rattle.mesh_model.specs.declared.act.Act.{Act}
 use Rattle.mesh_model.specs.declared.act.Act.TheVariants.{Link, Print}
 use Rattle.mesh_model.specs.declared.happening.Happening.{Happening}
-use Rattle.mesh_model.specs.Clients.Log.{Given, Tick, LinkFrame, Log, LogEntry, Line}
+use Rattle.mesh_model.specs.Clients.Log.{Given, Tick, LinkFrame, LanFrame, Log, LogEntry, Line}
 use Rattle.mesh_model.specs.Commits.History.{commits}
 use Rattle.mesh_model.specs.Net.Due.{ticks_in}
 use Rattle.mesh_model.specs.Net.Inputs.{entry_of, given_to, noted_at, noting}
+use Rattle.mesh_model.specs.Net.Lans.{with_events, with_lan}
 use Rattle.mesh_model.specs.Net.Limits.{scenario_setup}
 use Rattle.mesh_model.specs.Net.Mesh.{NodeLog, NetLink, Mesh}
 use Rattle.mesh_model.specs.Net.Next.{Has}
+use Rattle.mesh_model.specs.Net.Sending.{put_event}
 use Rattle.mesh_model.specs.Routes.Queries.{Queries}
 use Rattle.mesh_model.specs.Tables.Known.{TableCalls}
 use Rattle.mesh_laws.specs.Machine.Agreement.{HasNoAlias}
 use Rattle.mesh_laws.proofs.Schedule.Members.{has_left, has_right, one_some}
 use Rattle.mesh_laws.proofs.Schedule.Steps.{get_front}
-use Rattle.mesh_tie.specs.ByTable.{IsSentByTable, IsSentInStep, told_in}
+use Rattle.mesh_tie.specs.ByTable.{HadCome, IsSentByTable, IsSentInStep}
 use Rattle.mesh_tie.specs.LinesByTable.{EventsByTableAreRight, SentRightly, ToldNoneOf}
 use Rattle.mesh_tie.specs.Originators.{commits_of, log_of}
-use Rattle.mesh_tie.specs.Steps.{IsReachable, Steps, begins, frame_comes, goes_on, line_gives, link_joins, node_joins, node_ticks, time_passes}
+use Rattle.mesh_tie.specs.Steps.{IsReachable, Steps, begins, frame_comes, goes_on, lan_comes, lan_joins, line_gives, link_joins, node_joins, node_ticks, put_comes, put_reaches, time_passes, bridged_event, with_lan_frame}
 use Rattle.mesh_tie.specs.Tie.{CommitsFit}
 use Rattle.mesh_tie.specs.TieLaws.{AllKeep}
 use Rattle.mesh_tie.proofs.CommitLemmas.{Follows}
 use Rattle.mesh_tie.proofs.FitLemmas.{commits_always_fit}
 use Rattle.mesh_tie.proofs.LogLemmas.{Grows, grows_same}
-use Rattle.mesh_tie.proofs.MeshSteps.{LogAfter, Reached, got_noted, grows_after, log_after, log_joined, reached}
-use Rattle.mesh_tie.proofs.NameSteps.{AllName, EntryNames, act_of, frame_acts_name, line_acts_name, sent_grows, tick_names}
+use Rattle.mesh_tie.proofs.MeshSteps.{LogAfter, Reached, grows_after, log_after, log_joined}
+use Rattle.mesh_tie.proofs.NodeLists.{got_noted}
+use Rattle.mesh_tie.proofs.ReachLemmas.{reached}
+use Rattle.mesh_tie.proofs.NameSteps.{AllName, EntryNames, act_of, frame_acts_name, lan_acts_name, line_acts_name, sent_grows, tick_names}
 use Rattle.mesh_tie.proofs.NamesRows.{ActNames}
 use Rattle.mesh_tie.proofs.Sayable.{one_or_two}
 use Rattle.mesh_tie.proofs.SeenLemmas.{aliases_are_seen, calm_commits, line_calm}
-use Rattle.mesh_tie.proofs.SentLemmas.{HasGiven, IsSending, given_is}
+use Rattle.mesh_tie.proofs.SentLemmas.{HasGiven, IsOfActs, given_is}
 
 -- ---- lists that are split
 -- an item between two parts of a list of two lists is in the first or in the second
@@ -95,10 +99,13 @@ rightly_later queries orig mesh after place now root node given moment me bytes 
     grows : Grows orig (log_of orig mesh.nodes) later
     grows = grows_after orig node entry (log_of orig mesh.nodes) later l next
 
-    by_table : IsSentInStep queries orig after me s.entry s.older bytes
-    by_table = subst (λ log. IsSentByTable (told_in queries me s.older) (told_in queries me (s.entry ∷ s.older)) orig log after.frames bytes) (ap (log_of orig) (sym has.nodes))
-        (subst (λ fs. IsSentByTable (told_in queries me s.older) (told_in queries me (s.entry ∷ s.older)) orig later fs bytes) (sym has.frames)
-        (sent_grows (told_in queries me s.older) (told_in queries me (s.entry ∷ s.older)) orig (log_of orig mesh.nodes) later mesh.frames has.more bytes grows s.by_table))
+    Looks : TableCalls → Type 0
+    Looks = HadCome (queries me) me s.older s.entry.moment s.entry.given (Link s.to (Some Table) bytes)
+
+    by_table : IsSentInStep queries orig after me s.entry s.older s.to bytes
+    by_table = subst (λ log. IsSentByTable Looks orig log after.frames bytes) (ap (log_of orig) (sym has.nodes))
+        (subst (λ fs. IsSentByTable (HadCome (queries me) me s.older s.entry.moment s.entry.given (Link s.to (Some Table) bytes)) orig later fs bytes) (sym has.frames)
+        (sent_grows (HadCome (queries me) me s.older s.entry.moment s.entry.given (Link s.to (Some Table) bytes)) orig (log_of orig mesh.nodes) later mesh.frames has.more bytes grows s.by_table))
 
     go : (place ≡ s.place) ⊎ (place ≢ s.place) → SentRightly queries orig after moment me bytes
     go (inr other) = record {
@@ -148,20 +155,18 @@ rightly_now queries orig mesh after place now root node given number moment me n
     has : HasGiven (scenario_setup queries) place now root node given mesh after
     has = given_is (scenario_setup queries) place now root node given mesh after found is
 
-    had : TableCalls
-    had = told_in queries node.mac node.log
+    Looks : Act → TableCalls → Type 0
+    Looks = HadCome (queries node.mac) node.mac node.log now given
 
-    all : TableCalls
-    all = told_in queries node.mac (entry_of (scenario_setup queries) node now given ∷ node.log)
-
-    no_print : (acts : List Act) → AllName had all orig later mesh.frames acts → Has acts (Print (FrameSent number moment me next (Some Table) bytes)) → ⊥
+    no_print : (acts : List Act) → AllName Looks orig later mesh.frames acts → Has acts (Print (FrameSent number moment me next (Some Table) bytes)) → ⊥
     no_print [] each has = has
-    no_print (act ∷ rest) each (inl same) = subst (ActNames had all orig later mesh.frames) (sym same) each.0 number moment me next (Some Table) bytes refl
+    no_print (act ∷ rest) each (inl same) = subst (ActNames Looks orig later mesh.frames) (sym same) each.0 number moment me next (Some Table) bytes refl
     no_print (act ∷ rest) each (inr has) = no_print rest each.1 has
 
-    go : Has entry.acts (Print (FrameSent number moment me next (Some Table) bytes)) ⊎ IsSending entry.acts node.mac now (FrameSent number moment me next (Some Table) bytes) → SentRightly queries orig after moment me bytes
+    go : IsOfActs entry.acts node.mac now (FrameSent number moment me next (Some Table) bytes) → SentRightly queries orig after moment me bytes
     go (inl printed) = absurd (no_print entry.acts names printed)
-    go (inr s) =
+    go (inr (inr put)) = absurd (let e = put.is in cc)
+    go (inr (inl s)) =
         let mac : me ≡ node.mac = let e = s.is in cc in
         let when : moment ≡ now = let e = s.is in cc in
         let why : Some Table ≡ s.reason = let e = s.is in cc in
@@ -179,10 +184,10 @@ rightly_now queries orig mesh after place now root node given number moment me n
           moment_is = sym when;
           to = s.to;
           sent = act;
-          by_table = subst (λ m. IsSentInStep queries orig after m entry node.log bytes) (sym mac)
-              (subst (λ log. IsSentByTable had all orig log after.frames bytes) (ap (log_of orig) (sym has.nodes))
-              (subst (λ fs. IsSentByTable had all orig later fs bytes) (sym has.frames)
-              (sent_grows had all orig later later mesh.frames has.more bytes (grows_same orig later later refl) (act_of had all orig later mesh.frames s.to bytes entry.acts names act))));
+          by_table = subst (λ m. IsSentInStep queries orig after m entry node.log s.to bytes) (sym mac)
+              (subst (λ log. IsSentByTable (Looks (Link s.to (Some Table) bytes)) orig log after.frames bytes) (ap (log_of orig) (sym has.nodes))
+              (subst (λ fs. IsSentByTable (Looks (Link s.to (Some Table) bytes)) orig later fs bytes) (sym has.frames)
+              (sent_grows (Looks (Link s.to (Some Table) bytes)) orig later later mesh.frames has.more bytes (grows_same orig later later refl) (act_of Looks orig later mesh.frames s.to bytes entry.acts names act))));
         }
 
 -- ---- all steps
@@ -243,7 +248,7 @@ joined_right queries orig mesh new empty right before back number moment me to b
       moment_is = s.moment_is;
       to = s.to;
       sent = s.sent;
-      by_table = subst (λ log. IsSentByTable (told_in queries me s.older) (told_in queries me (s.entry ∷ s.older)) orig log mesh.frames bytes) (sym (log_joined orig mesh.nodes new empty)) s.by_table;
+      by_table = subst (λ log. IsSentByTable (HadCome (queries me) me s.older s.entry.moment s.entry.given (Link s.to (Some Table) bytes)) orig log mesh.frames bytes) (sym (log_joined orig mesh.nodes new empty)) s.by_table;
     }
 
 -- links and the last happening are no matter
@@ -265,13 +270,39 @@ unlinked_right queries orig mesh links last right before back number moment me t
       by_table = s.by_table;
     }
 
+-- nor is what a LAN brings
+beside_right : (queries : Mac → Queries) (orig : Mac) (mesh after : Mesh) (more : List Event) → after.nodes ≡ mesh.nodes → after.frames ≡ mesh.frames → after.events ≡ mesh.events ++ more
+    → ((number moment : ℕ) (me to : Mac) (bytes : List ℕ) → Has more (FrameSent number moment me to (Some Table) bytes) → ⊥) → AllRight queries orig mesh → AllRight queries orig after
+beside_right queries orig mesh after more nodes frames events none_sent right before back number moment me to bytes split_is none =
+    go (split mesh.events more before (FrameSent number moment me to (Some Table) bytes) back (sym events ∙ split_is))
+  where
+    go : Split mesh.events more before (FrameSent number moment me to (Some Table) bytes) → SentRightly queries orig after moment me bytes
+    go (in_second front rest p q) = absurd (none_sent number moment me to bytes (split_has more front (FrameSent number moment me to (Some Table) bytes) rest q))
+    go (in_first rest p) =
+        let s = right before rest number moment me to bytes p none in
+        record {
+          place = s.place;
+          node = s.node;
+          found = ap (λ ns. slice_get ns s.place) nodes ∙ s.found;
+          mac_is = s.mac_is;
+          newer = s.newer;
+          older = s.older;
+          entry = s.entry;
+          log_is = s.log_is;
+          moment_is = s.moment_is;
+          to = s.to;
+          sent = s.sent;
+          by_table = subst (λ ns. IsSentByTable (HadCome (queries me) me s.older s.entry.moment s.entry.given (Link s.to (Some Table) bytes)) orig (log_of orig ns) after.frames bytes) (sym nodes)
+              (subst (λ fs. IsSentByTable (HadCome (queries me) me s.older s.entry.moment s.entry.given (Link s.to (Some Table) bytes)) orig (log_of orig mesh.nodes) fs bytes) (sym frames) s.by_table);
+        }
+
 step_right : (queries : Mac → Queries) (mesh after : Mesh) → AllKeep queries → IsReachable queries mesh → Reached queries mesh → CommitsFit after → Steps queries mesh after → (orig : Mac) → AllRight queries orig mesh → AllRight queries orig after
 step_right queries mesh _ keep r h fit (node_joins _ node empty whole fresh) orig right = joined_right queries orig mesh node empty right
 step_right queries mesh _ keep r h fit (link_joins _ link) orig right = unlinked_right queries orig mesh (mesh.links ++ link ∷ []) mesh.last right
 step_right queries mesh after keep r h fit (line_gives _ _ place now node line found may of is) orig right =
     let l = log_after queries orig mesh place node (entry_of (scenario_setup queries) node now (Line line)) h.holds.orderly found in
     given_right queries orig mesh after place now 0 node (Line line) found tt l is
-    (λ none. line_acts_name queries mesh place now node line orig h found (calm_clear queries orig mesh place now node (Line line) r l (line_calm line) none)) right
+    (λ none. line_acts_name queries mesh place now node line orig of h found (calm_clear queries orig mesh place now node (Line line) r l (line_calm line) none)) right
 step_right queries mesh after keep r h fit (node_ticks _ _ place now node found may is) orig right =
     let index = suc (ticks_in node.log) in
     let entry = entry_of (scenario_setup queries) node now (Tick index) in
@@ -285,6 +316,27 @@ step_right queries mesh after keep r h fit (frame_comes _ _ place now number thr
   where
     no_tick : (index : ℕ) → LinkFrame (suc number) from throughput frame.bytes ≡ Tick index → ⊥
     no_tick index e = cc
+step_right queries mesh _ keep r h fit (lan_joins _ lan) orig right = beside_right queries orig mesh (with_lan lan mesh) [] refl refl (sym (append-nil mesh.events)) (λ number moment me to bytes has. absurd has) right
+step_right queries mesh _ keep r h fit (put_comes _ put frame by is tells) orig right =
+    beside_right queries orig mesh (with_lan_frame put mesh) (put_event mesh put ∷ []) refl refl refl (λ number moment me to bytes has. no_put number moment me to bytes has) right
+  where
+    no_put : (number moment : ℕ) (me to : Mac) (bytes : List ℕ) → Has (put_event mesh put ∷ []) (FrameSent number moment me to (Some Table) bytes) → ⊥
+    no_put number moment me to bytes (inl e) = cc
+    no_put number moment me to bytes (inr none) = none
+step_right queries mesh _ keep r h fit (put_reaches _ at now put frame found carries) orig right =
+    beside_right queries orig mesh (with_events (bridged_event now put frame ∷ []) mesh) (bridged_event now put frame ∷ []) refl refl refl (λ number moment me to bytes has. no_reach number moment me to bytes has) right
+  where
+    no_reach : (number moment : ℕ) (me to : Mac) (bytes : List ℕ) → Has (bridged_event now put frame ∷ []) (FrameSent number moment me to (Some Table) bytes) → ⊥
+    no_reach number moment me to bytes (inl e) = cc
+    no_reach number moment me to bytes (inr none) = none
+step_right queries mesh after keep r h fit (lan_comes _ _ place now number node put found may among is) orig right =
+    let given = LanFrame put.bytes in
+    let l = log_after queries orig mesh place node (entry_of (scenario_setup queries) node now given) h.holds.orderly found in
+    given_right queries orig mesh after place now 0 node given found tt l is
+    (λ none. lan_acts_name queries mesh place now node put.bytes orig h found (calm_clear queries orig mesh place now node given r l (λ index e. no_tick index e) none)) right
+  where
+    no_tick : (index : ℕ) → LanFrame put.bytes ≡ Tick index → ⊥
+    no_tick index e = cc
 step_right queries mesh _ keep r h fit (time_passes _ happening) orig right = unlinked_right queries orig mesh mesh.links happening right
 
 no_events : (before : List Event) (e : Event) (after : List Event) → [] ≡ before ++ e ∷ after → ⊥
@@ -294,7 +346,7 @@ no_events (first ∷ before) e after is = cc
 all_right : (queries : Mac → Queries) → AllKeep queries → (mesh : Mesh) → IsReachable queries mesh → (orig : Mac) → AllRight queries orig mesh
 all_right queries keep _ begins orig = λ before back number moment me to bytes events none. absurd (no_events before (FrameSent number moment me to (Some Table) bytes) back events)
 all_right queries keep _ (goes_on mesh after r s) orig =
-    step_right queries mesh after keep r (reached queries keep (commits_always_fit queries) mesh r) (commits_always_fit queries after (goes_on mesh after r s)) s orig (all_right queries keep mesh r orig)
+    step_right queries mesh after keep r (reached queries keep mesh r) (commits_always_fit queries keep after (goes_on mesh after r s)) s orig (all_right queries keep mesh r orig)
 
 pub events_by_table_are_right : EventsByTableAreRight
 events_by_table_are_right queries keep mesh r orig before after number moment me next bytes events none = all_right queries keep mesh r orig before after number moment me next bytes events none

@@ -1,5 +1,5 @@
 -- Every commit can be told: its entries fit records, and there are no more of them than may be.
-use Rattle.std.proofs.Common.{◌≡◌, ◌≤◌, ◌<◌, ◌^◌, ◌-◌, ◌/◌, ◌%◌, ◌⊎◌, inl, inr, ℕ, zero, suc, Bool, true, false, cond, not, ◌&&◌, ◌==◌, nat_lt, List, [], ◌∷◌, ◌++◌, length, map, filter_map, find, fold, slice_get, Option, Some, None, option_map, option_and_then, Ok, bit_xor, refl, sym, ap, subst, ◌∙◌, arith}
+use Rattle.std.proofs.Common.{◌≡◌, ◌≤◌, ◌<◌, ◌^◌, ◌-◌, ◌/◌, ◌%◌, ◌⊎◌, inl, inr, ℕ, zero, suc, Bool, true, false, cond, not, ◌&&◌, ◌==◌, nat_lt, List, [], ◌∷◌, ◌++◌, length, map, filter_map, find, fold, slice_get, Option, Some, None, option_map, option_and_then, Ok, Err, bit_xor, refl, sym, ap, subst, ◌∙◌, arith}
 use Rattle.std.specs.Fn.{iterate}
 use Rattle.std.specs.List.{AllByRecursion, cons_option}
 use Rattle.std.specs.Option.{option_or}
@@ -11,22 +11,25 @@ use Rattle.mesh_model.specs.declared.ending.LimitName.{LimitName}
 use Rattle.mesh_model.specs.declared.packet.Head.{Head}
 use Rattle.mesh_model.specs.declared.packet.Head.TheVariants.{IvOgm, Bcast, Elp, Ogm2, Unicast, Frag, Unicast4, Icmp, Utvlv}
 use Rattle.mesh_model.specs.declared.table_row.LocalRow.{LocalRow}
-use Rattle.mesh_model.specs.Clients.Limits.{clients_limit, limit_of_mention, passed_limit}
+use Rattle.mesh_model.specs.Acts.NodeLimits.{acts_before_sighting}
+use Rattle.mesh_model.specs.Clients.Limits.{clients_limit, limit_of_mention, limit_of_mentions, passed_limit}
 use Rattle.mesh_model.specs.Clients.Log.{Given, Tick, LinkFrame, Frame, Gone, Join, Leave, Arp, Dhcp, Ping, Trace, Log, LogEntry, LanFrame, Line, LineGiven, Attach, Sets, Put, Get}
-use Rattle.mesh_model.specs.Clients.Mentions.{Mention, News, Sighted, Departed, Roamed, Joined, Left, is_wifi_on, key_of, mentions, roamed, roamed_by, roamed_in, sighted_after}
+use Rattle.mesh_model.specs.Clients.Mentions.{Mention, News, Sighted, Departed, Roamed, Joined, Left, is_wifi_on, key_of, mentions, passed_from_lan, passed_mentions, roamed, roamed_by, roamed_in, sighted_after}
 use Rattle.mesh_model.specs.Clients.Present.{entry_with, is_membership, last_membership, last_mention, mentioned_keys, present_clients, present_row, row_after, row_by, same_key, sighting_age}
 use Rattle.mesh_model.specs.Commits.History.{History, with_message, commits, committed, history, is_commit_tick, present_table, with_commit}
 use Rattle.mesh_model.specs.Commits.Versions.{commit_numbered, first_commit, last_commit, same_table}
 use Rattle.mesh_model.specs.Net.Inputs.{entry_of as log_entry, given_node, given_to, noting, unless_passed, after_entry}
 use Rattle.mesh_model.specs.Net.Limits.{scenario_setup}
-use Rattle.mesh_model.specs.Net.Mesh.{NodeLog, Mesh, Setup}
+use Rattle.mesh_model.specs.Net.Mesh.{NodeLog, LanPut, Mesh, Setup}
 use Rattle.mesh_model.specs.Net.Due.{ticks_in}
-use Rattle.mesh_model.specs.Net.Sending.{Attempt}
+use Rattle.mesh_model.specs.Net.Sending.{Actor, Attempt, after_acts, on_ok}
 use Rattle.mesh_model.specs.Packets.Bodies.{client_flags}
 use Rattle.mesh_model.specs.Packets.Containers.{containers_of}
 use Rattle.mesh_model.specs.Packets.Contents.{first_roaming}
 use Rattle.mesh_model.specs.Packets.FirstPacket.{Packet}
+use Rattle.mesh_model.specs.Packets.LanFrames.{client_frame_in, lan_message_of}
 use Rattle.mesh_model.specs.Packets.LinkFrame.{link_frame}
+use Rattle.mesh_model.specs.Packets.Payload.{ClientFrame}
 use Rattle.mesh_model.specs.Routes.Addresses.{same_mac}
 use Rattle.mesh_model.specs.Routes.Queries.{Queries}
 use Rattle.mesh_model.specs.Tables.Checksum.{after_bit, after_byte, all_ones, crc32c, crc_polynomial}
@@ -34,13 +37,14 @@ use Rattle.mesh_model.specs.Tables.Sums.{entry_sum}
 use Rattle.mesh_model.specs.Tables.Versions.{Version, next_byte}
 use Rattle.mesh_laws.proofs.MachineInvariant.{newest_or_older}
 use Rattle.mesh_laws.proofs.Schedule.Members.{one_some}
-use Rattle.mesh_tie.specs.NetTables.{NamesClients}
-use Rattle.mesh_tie.specs.Steps.{IsClient, IsReachable, MayBeGiven, Steps, begins, frame_comes, goes_on, line_gives, link_joins, newest_moment, node_joins, node_ticks, time_passes, TellsClient}
+use Rattle.mesh_tie.specs.Steps.{IsClient, IsReachable, MayBeGiven, Steps, begins, frame_comes, goes_on, lan_comes, lan_joins, line_gives, link_joins, newest_moment, node_joins, node_ticks, put_comes, put_reaches, time_passes, TellsClient}
 use Rattle.mesh_tie.specs.Tie.{FitsAnswer, FitsEntry}
-use Rattle.mesh_tie.specs.TieLaws.{CommitsAlwaysFit}
+use Rattle.mesh_tie.specs.TieLaws.{AllKeep, CommitsAlwaysFit}
 use Rattle.mesh_tie.proofs.EntryLemmas.{each_appended}
 use Rattle.mesh_laws.proofs.FewLemmas.{HasFew, few_with}
-use Rattle.mesh_tie.proofs.MeshSteps.{Renewed, another, got_front, itself, renewed}
+use Rattle.mesh_tie.proofs.CarriedClients.{puts_bring}
+use Rattle.mesh_tie.proofs.LanSteps.{BringsClient, passed_came}
+use Rattle.mesh_tie.proofs.NodeLists.{Renewed, another, got_front, itself, renewed}
 use Rattle.mesh_tie.proofs.SentLemmas.{given_is}
 
 -- ---- the checksum of an entry fits four bytes
@@ -264,7 +268,32 @@ line_next me log now (Get type_no) acts fits late names none = log_stays me log 
 line_next me log now (Ping target) acts fits late names none = log_stays me log now (Line (Ping target)) acts fits late refl refl
 line_next me log now (Trace target) acts fits late names none = log_stays me log now (Line (Trace target)) acts fits late refl refl
 
-log_next : (me : Mac) (log : Log) (now : ℕ) (given : Given) (acts : List Act) → LogFits me log → newest_moment log ≤ now → NamesClients given → passed_limit me log now given ≡ None
+-- a log with one frame of a LAN more
+lan_next : (me : Mac) (log : Log) (now : ℕ) (bytes : List ℕ) (acts : List Act) → LogFits me log → newest_moment log ≤ now → BringsClient bytes → passed_limit me log now (LanFrame bytes) ≡ None
+    → LogFits me (record { moment = now; given = LanFrame bytes; acts = acts } ∷ log)
+lan_next me log now bytes acts fits late brings none = go (passed_from_lan me log now came) refl
+  where
+    came : Option ClientFrame
+    came = client_frame_in (lan_message_of bytes)
+
+    entry : LogEntry
+    entry = record { moment = now; given = LanFrame bytes; acts = acts }
+
+    go : (o : Option ClientFrame) → passed_from_lan me log now came ≡ o → LogFits me (entry ∷ log)
+    go None is = log_stays me log now (LanFrame bytes) acts fits late (ap (λ p. passed_mentions (sighted_after log) now p ++ mentions me log) is) refl
+    go (Some frame) is =
+        let key = key_of frame.src frame.vid in
+        one_mention me log entry (record { moment = now; key = key; news = sighted_after log }) fits late refl (sighted_fits log key (brings frame (passed_came me log now came frame is)))
+        (ap (λ p. passed_mentions (sighted_after log) now p ++ mentions me log) is) refl (ap (λ p. limit_of_mentions (mentions me log) (passed_mentions (sighted_after log) now p)) (sym is) ∙ none)
+
+-- what an input brings of clients can be told
+abbrev Brings : Given → Type 0
+Brings (Tick index) = Unit {0}
+Brings (LinkFrame number from throughput bytes) = Unit {0}
+Brings (LanFrame bytes) = BringsClient bytes
+Brings (Line line) = TellsClient line
+
+log_next : (me : Mac) (log : Log) (now : ℕ) (given : Given) (acts : List Act) → LogFits me log → newest_moment log ≤ now → Brings given → passed_limit me log now given ≡ None
     → LogFits me (record { moment = now; given = given; acts = acts } ∷ log)
 log_next me log now (Tick index) acts fits late names none = record {
   few = few_since (mentions me log) (newest_moment log) now fits.few late;
@@ -280,18 +309,22 @@ log_next me log now (LinkFrame number from throughput bytes) acts fits late name
   mentioned = each_appended MentionFits (filter_map (roamed_by me now) (link_frame bytes).packets) (mentions me log) (frame_mentions me now (link_frame bytes).packets) fits.mentioned;
   made = fits.made;
 }
-log_next me log now (LanFrame bytes) acts fits late names none = log_stays me log now (LanFrame bytes) acts fits late refl refl
+log_next me log now (LanFrame bytes) acts fits late names none = lan_next me log now bytes acts fits late names none
 log_next me log now (Line line) acts fits late names none = line_next me log now line acts fits late names none
 
 -- ---- meshes
 abbrev LogsFit : Mesh → Type 0
 LogsFit mesh = (place : ℕ) (node : NodeLog) → slice_get mesh.nodes place ≡ Some node → LogFits node.mac node.log
 
-limit_free : (o : Option LimitName) (step : Attempt) (after : Mesh) → unless_passed o step ≡ Ok after → o ≡ None
-limit_free None step after e = refl
-limit_free (Some limit) step after e = cc
+no_limit : (limit : LimitName) (o : Attempt) (after : Mesh) → on_ok (λ (mesh : Mesh). Err limit) o ≡ Ok after → ⊥
+no_limit limit (Ok mesh) after e = cc
+no_limit limit (Err other) after e = cc
 
-given_fits : (queries : Mac → Queries) (mesh after : Mesh) (place now root : ℕ) (node : NodeLog) (given : Given) → LogsFit mesh → slice_get mesh.nodes place ≡ Some node → MayBeGiven node now → NamesClients given
+limit_free : (setup : Setup) (actor : Actor) (mesh : Mesh) (acts : List Act) (o : Option LimitName) (step : Attempt) (after : Mesh) → unless_passed setup actor mesh (option_map (λ limit. record { acts = acts; limit = limit }) o) step ≡ Ok after → o ≡ None
+limit_free setup actor mesh acts None step after e = refl
+limit_free setup actor mesh acts (Some limit) step after e = absurd (no_limit limit (after_acts setup actor acts mesh) after e)
+
+given_fits : (queries : Mac → Queries) (mesh after : Mesh) (place now root : ℕ) (node : NodeLog) (given : Given) → LogsFit mesh → slice_get mesh.nodes place ≡ Some node → MayBeGiven node now → Brings given
     → given_to (scenario_setup queries) place now root given mesh ≡ Ok after → LogsFit after
 given_fits queries mesh after place now root node given fits found may names is at n got = go (renewed place entry mesh.nodes at n (subst (λ ns. slice_get ns at ≡ Some n) (given_is (scenario_setup queries) place now root node given mesh after found is).nodes got))
   where
@@ -301,8 +334,11 @@ given_fits queries mesh after place now root node given fits found may names is 
     entry : LogEntry
     entry = log_entry (scenario_setup queries) node now given
 
+    actor : Actor
+    actor = record { place = place; mac = node.mac; now = now; root = root }
+
     none : passed_limit node.mac node.log now given ≡ None
-    none = limit_free (passed_limit node.mac node.log now given) (after_entry (scenario_setup queries) (record { place = place; mac = node.mac; now = now; root = root }) (log_entry (scenario_setup queries) node now given) mesh) after
+    none = limit_free setup actor mesh (acts_before_sighting node.mac node.log now given) (passed_limit node.mac node.log now given) (after_entry setup actor entry mesh) after
         (ap (λ (o : Option NodeLog). given_node (scenario_setup queries) place now root given o mesh) (sym found) ∙ is)
 
     go : Renewed place entry mesh.nodes at n → LogFits n.mac n.log
@@ -311,22 +347,26 @@ given_fits queries mesh after place now root node given fits found may names is 
         let one : node ≡ before = one_some node before (sym found ∙ ap (slice_get mesh.nodes) same ∙ old) in
         subst (λ (x : NodeLog). LogFits x.mac x.log) (ap (noting entry) one ∙ sym noted) (log_next node.mac node.log now given entry.acts (fits place node found) may names none)
 
-step_fits : (queries : Mac → Queries) (mesh after : Mesh) → LogsFit mesh → Steps queries mesh after → LogsFit after
-step_fits queries mesh _ fits (node_joins _ node empty whole fresh) = λ at n got. go at n (got_front mesh.nodes node at n got)
+step_fits : (queries : Mac → Queries) (mesh after : Mesh) → ((place : ℕ) (put : LanPut) → slice_get mesh.puts place ≡ Some put → BringsClient put.bytes) → LogsFit mesh → Steps queries mesh after → LogsFit after
+step_fits queries mesh _ bring fits (node_joins _ node empty whole fresh) = λ at n got. go at n (got_front mesh.nodes node at n got)
   where
     go : (at : ℕ) (n : NodeLog) → (slice_get mesh.nodes at ≡ Some n) ⊎ ((n ≡ node) × (slice_get mesh.nodes at ≡ None)) → LogFits n.mac n.log
     go at n (inl old) = fits at n old
     go at n (inr is) = subst (LogFits n.mac) (sym (ap (λ (x : NodeLog). x.log) is.0 ∙ empty)) (log_begins n.mac)
-step_fits queries mesh _ fits (link_joins _ link) = fits
-step_fits queries mesh after fits (line_gives _ _ place now node line found may of is) = given_fits queries mesh after place now 0 node (Line line) fits found may of is
-step_fits queries mesh after fits (node_ticks _ _ place now node found may is) = given_fits queries mesh after place now (suc (ticks_in node.log)) node (Tick (suc (ticks_in node.log))) fits found may tt is
-step_fits queries mesh after fits (frame_comes _ _ place now number throughput from node frame found may sent whole is) =
+step_fits queries mesh _ bring fits (link_joins _ link) = fits
+step_fits queries mesh after bring fits (line_gives _ _ place now node line found may of is) = given_fits queries mesh after place now 0 node (Line line) fits found may of is
+step_fits queries mesh after bring fits (node_ticks _ _ place now node found may is) = given_fits queries mesh after place now (suc (ticks_in node.log)) node (Tick (suc (ticks_in node.log))) fits found may tt is
+step_fits queries mesh after bring fits (frame_comes _ _ place now number throughput from node frame found may sent whole is) =
     given_fits queries mesh after place now frame.root node (LinkFrame (suc number) from throughput frame.bytes) fits found may tt is
-step_fits queries mesh _ fits (time_passes _ happening) = fits
+step_fits queries mesh _ bring fits (lan_joins _ lan) = fits
+step_fits queries mesh _ bring fits (put_comes _ put frame by is tells) = fits
+step_fits queries mesh _ bring fits (put_reaches _ number now put frame found carries) = fits
+step_fits queries mesh after bring fits (lan_comes _ _ place now number node put found may among is) = given_fits queries mesh after place now 0 node (LanFrame put.bytes) fits found may (bring number put among) is
+step_fits queries mesh _ bring fits (time_passes _ happening) = fits
 
-logs_fit : (queries : Mac → Queries) (mesh : Mesh) → IsReachable queries mesh → LogsFit mesh
-logs_fit queries _ begins = λ place node got. cc
-logs_fit queries _ (goes_on mesh after r s) = step_fits queries mesh after (logs_fit queries mesh r) s
+logs_fit : (queries : Mac → Queries) → AllKeep queries → (mesh : Mesh) → IsReachable queries mesh → LogsFit mesh
+logs_fit queries keep _ begins = λ place node got. cc
+logs_fit queries keep _ (goes_on mesh after r s) = step_fits queries mesh after (puts_bring queries keep mesh r) (logs_fit queries keep mesh r) s
 
 pub commits_always_fit : CommitsAlwaysFit
-commits_always_fit queries mesh r place node found version is = (logs_fit queries mesh r place node found).made is.0 version is.1
+commits_always_fit queries keep mesh r place node found version is = (logs_fit queries keep mesh r place node found).made is.0 version is.1

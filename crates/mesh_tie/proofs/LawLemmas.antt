@@ -24,14 +24,13 @@ use Rattle.mesh_tie.specs.Tie.{IsTied, IsToldBy, known_at_node}
 use Rattle.mesh_laws.specs.HeldLaws.{CarriesCommit, stamp_of_commit}
 use Rattle.mesh_tie.specs.TieLaws.{AgreedAreTold, AnswersCarry, HeldAreCommitted, IsWithoutAlias, MeshesAreTied, MessagesAnnounce, StepsAreMoves}
 use Rattle.mesh_tie.proofs.CommitLemmas.{at_root}
-use Rattle.mesh_tie.proofs.FitLemmas.{commits_always_fit}
-use Rattle.mesh_tie.proofs.MeshSteps.{reached_tied, step_moves}
+use Rattle.mesh_tie.proofs.ReachLemmas.{reached_tied, step_moves}
 
 pub meshes_are_tied : MeshesAreTied
-meshes_are_tied queries keep mesh r orig = reached_tied queries keep (commits_always_fit queries) mesh r orig
+meshes_are_tied queries keep mesh r orig = reached_tied queries keep mesh r orig
 
 pub steps_are_moves : StepsAreMoves
-steps_are_moves queries keep mesh after r s orig w base tied = step_moves queries keep (commits_always_fit queries) mesh after r s orig w base tied
+steps_are_moves queries keep mesh after r s orig w base tied = step_moves queries keep mesh after r s orig w base tied
 
 -- the world of a mesh without an alias
 record HasWorld (queries : Mac → Queries) (orig : Mac) (mesh : Mesh) : Type 0 where

@@ -1,11 +1,11 @@
 -- Each line leads to a mesh that steps reach, and so does every plain run.
-use Rattle.std.proofs.Common.{◌≡◌, ◌⊎◌, inl, inr, ◌≤◌, ◌+◌, ◌-◌, ◌&&◌, ◌||◌, ℕ, zero, suc, Bool, true, false, cond, not, nat_lt, nat_le, List, [], ◌∷◌, length, slice_get, Option, Some, None, option_map, is_some, Ok, Err, refl, sym, ap, subst, ◌∙◌, arith}
+use Rattle.std.proofs.Common.{map, ◌≡◌, ◌⊎◌, inl, inr, ◌≤◌, ◌+◌, ◌-◌, ◌&&◌, ◌||◌, ℕ, zero, suc, Bool, true, false, cond, not, nat_lt, nat_le, List, [], ◌∷◌, length, slice_get, Option, Some, None, option_map, is_some, Ok, Err, refl, sym, ap, subst, ◌∙◌, arith}
 use Rattle.std.specs.List.{list_any}
 use Rattle.std.specs.Option.{option_map_or, option_or}
 use Rattle.std.proofs.lemmas.Bool.{ltb-false, true≢false}
 use Rattle.mesh_base.specs.Address.{is_broadcast, is_group}
 use Rattle.mesh_base.specs.declared.address.Mac.{Mac}
-use Rattle.mesh_model.specs.declared.ending.LimitName.TheVariants.{Clock, Input, Line, Links, Nodes}
+use Rattle.mesh_model.specs.declared.ending.LimitName.TheVariants.{Clock, Input, Lans, Line, Links, Nodes}
 use Rattle.mesh_model.specs.declared.ending.Refusal.{Refusal}
 use Rattle.mesh_model.specs.declared.ending.Refusal.TheVariants.{AddressTaken, AlgoAfterNode, NameTaken}
 use Rattle.mesh_model.specs.declared.ending.Stop.{Stop}
@@ -14,24 +14,26 @@ use Rattle.mesh_model.specs.declared.frame_choice.FrameChoice.{FrameChoice}
 use Rattle.mesh_model.specs.declared.line_form.Algorithm.{Algorithm}
 use Rattle.mesh_model.specs.declared.line_form.Command.{Command}
 use Rattle.mesh_model.specs.declared.line_form.Command.TheVariants.{Nothing, Algo, Node, Link, Lan, Frame, Gone, Join, Leave, Arp, Dhcp, Wifi, GwOff, GwServer, GwClient, Mcast, Dat, Alfred, Put, Get, Ping, Trace, Run as RunFor, Deliver, Show, Decode}
-use Rattle.mesh_model.specs.Clients.Log.{Line, LineGiven, Sets}
+use Rattle.mesh_model.specs.Clients.Log.{Line, LineGiven, Attach, Sets}
 use Rattle.mesh_model.specs.Clients.Settings.{Wifi as WifiSet}
 use Rattle.mesh_model.specs.Clients.Log.{Frame as FrameGiven, Gone as GoneGiven, Join as JoinGiven, Leave as LeaveGiven, Ping as PingGiven, Trace as TraceGiven}
-use Rattle.mesh_model.specs.Net.Inputs.{given_to}
-use Rattle.mesh_model.specs.Net.Limits.{clock_limit, links_limit, nodes_limit}
-use Rattle.mesh_model.specs.Net.Mesh.{NodeLog, NetLink, Mesh, empty_mesh, has_address, address_at}
-use Rattle.mesh_model.specs.Net.Next.{Happens, delivers, ticks}
+use Rattle.mesh_model.specs.Net.Inputs.{all_given, given_to}
+use Rattle.mesh_model.specs.Net.Lans.{joins_lan, with_lan}
+use Rattle.mesh_model.specs.Net.Limits.{clock_limit, lans_limit, links_limit, nodes_limit}
+use Rattle.mesh_model.specs.Net.Mesh.{NodeLog, NetLan, NetLink, LanPut, Mesh, empty_mesh, has_address, address_at}
+use Rattle.mesh_model.specs.Net.Next.{Happens, delivers, lan_delivers, ticks}
 use Rattle.mesh_model.specs.Net.Runs.{Course, PassedLimit, begin, delivered, run_to}
-use Rattle.mesh_model.specs.Net.Sending.{Attempt}
+use Rattle.mesh_model.specs.Net.Sending.{Attempt, with_put}
+use Rattle.mesh_model.specs.Packets.Payload.{ClientFrame, payload_spelling}
 use Rattle.mesh_model.specs.Routes.Algorithms.{queries_of}
-use Rattle.mesh_model.specs.Run.Demands.{first_unmet, is_known, refusal_if}
+use Rattle.mesh_model.specs.Run.Demands.{first_unmet, is_taken, refusal_if}
 use Rattle.mesh_model.specs.Run.Outcome.{Outcome, Ends, Goes, reached}
 use Rattle.mesh_model.specs.Run.Passing.{after_attempt, course_outcome, gone_on, run_until}
 use Rattle.mesh_model.specs.Run.PlainRun.{Run, after_line, after_lines, after_outcome, after_reading, line_outcome, passes_input, passes_line, plain_run, start}
-use Rattle.mesh_model.specs.Run.Rules.{after_step, carried_out, first_refused_rule, not_built, setup_of, unknown_name, unless_refused}
+use Rattle.mesh_model.specs.Run.Rules.{after_step, carried_out, first_refused_rule, not_built, setup_of, unless_refused, wrong_name}
 use Rattle.mesh_model.specs.Run.Shown.{after_print, shown}
-use Rattle.mesh_model.specs.Run.State.{Decoded, Printed, State, first_state, node_named, place_of}
-use Rattle.mesh_model.specs.Run.Steps.{Step, at_node, choice_step, input_step, link_step, new_node, session_step, show_step, step_of, with_link, with_node}
+use Rattle.mesh_model.specs.Run.State.{Decoded, Printed, State, first_state, lan_place_of, node_named, place_of}
+use Rattle.mesh_model.specs.Run.Steps.{Step, at_node, at_place, gateways_at, gateways_step, lan_frame_step, places_named, choice_step, input_step, link_step, new_node, session_step, show_step, step_of, with_link, with_node}
 use Rattle.mesh_model.specs.Scenario.Commands.{command_of_line}
 use Rattle.mesh_model.specs.Scenario.Lines.{content, lines_of}
 use Rattle.mesh_model.specs.Scenario.Readings.{Reading}
@@ -45,10 +47,11 @@ use Rattle.mesh_laws.proofs.Lines.Ways.{led}
 use Rattle.mesh_laws.proofs.MacLemmas.{same_self}
 use Rattle.mesh_tie.specs.PlainRuns.{CommandsAreSteps, HasReachableMesh, IsBetweenLines, IsTellable, NoneIsLater, PlainRunsAreReachable}
 use Rattle.mesh_tie.specs.Sources.{IsWhole}
-use Rattle.mesh_tie.specs.Steps.{IsNew, begins, goes_on, line_gives, link_joins, newest_moment, node_joins, TellsClient}
-use Rattle.mesh_tie.proofs.MeshSteps.{got_front}
+use Rattle.mesh_tie.specs.Steps.{IsNew, begins, goes_on, lan_joins, line_gives, link_joins, newest_moment, node_joins, put_comes, with_lan_frame, TellsClient}
+use Rattle.mesh_tie.proofs.NodeLists.{got_front}
 use Rattle.mesh_tie.proofs.NoNodes.{reachable_anyhow}
-use Rattle.mesh_tie.proofs.RunReach.{Comes, Runs, begun_runs, delivered_comes, given_comes, run_runs}
+use Rattle.mesh_tie.proofs.GainLemmas.{put_is}
+use Rattle.mesh_tie.proofs.RunReach.{Comes, Runs, begun_runs, delivered_comes, given_comes, lines_all, run_runs}
 use Rattle.mesh_tie.proofs.TellReading.{read_is_tellable}
 use Rattle.mesh_tie.proofs.VLemmas.{algorithms_keep}
 
@@ -129,17 +132,50 @@ time_leads state time false e b =
     let o = run_to (setup_of state.algorithm) t state.mesh in
     course_leads state t o o.stop refl (run_runs (queries_of state.algorithm) t (begin state.mesh) (algorithms_keep state.algorithm) (fits state.algorithm) (begun_runs (queries_of state.algorithm) t state.clock state.mesh (begun (setup_of state.algorithm) t state can) b.reachable b.settled can.begins b.quiet))
 
-show_leads : (state : State) (print : Algorithm → ℕ → NodeLog → Printed) (o : Option NodeLog) → IsBetweenLines state → Leads (option_map_or (λ node. Goes (after_print state (print state.algorithm state.clock node))) o (Goes state))
+show_leads : (state : State) (print : State → NodeLog → Printed) (o : Option NodeLog) → IsBetweenLines state → Leads (option_map_or (λ node. Goes (after_print state (print state node))) o (Goes state))
 show_leads state print None b = stays_leads state b
-show_leads state print (Some node) b = goes_leads (after_print state (print state.algorithm state.clock node)) b.reachable b.settled
+show_leads state print (Some node) b = goes_leads (after_print state (print state node)) b.reachable b.settled
 
-shown_leads : (state : State) (name : List ℕ) (o : Option (Algorithm → ℕ → NodeLog → Printed)) → IsBetweenLines state → Leads (after_step state (option_map (show_step name) o))
+shown_leads : (state : State) (name : List ℕ) (o : Option (State → NodeLog → Printed)) → IsBetweenLines state → Leads (after_step state (option_map (show_step name) o))
 shown_leads state name None b = stays_leads state b
 shown_leads state name (Some print) b = show_leads state print (node_named state name) b
 
-frame_leads : (state : State) (name : List ℕ) (line : LineGiven) (group : Bool) → IsBetweenLines state → TellsClient line → Leads (after_step state (cond group None (Some (at_node name (input_step (setup_of state.algorithm) line)))))
-frame_leads state name line true b of = stays_leads state b
-frame_leads state name line false b of = line_leads state name line b of
+-- ---- LANs
+-- at the LAN of a name, or else at the node of it
+place_leads : (state : State) (name : List ℕ) (line : LineGiven) (on_lan : ℕ → Step) → IsBetweenLines state → TellsClient line → ((lan : ℕ) → Leads (on_lan lan state)) → Leads (at_place name on_lan (input_step (setup_of state.algorithm) line) state)
+place_leads state name line on_lan b of all = go (lan_place_of state name)
+  where
+    go : (o : Option ℕ) → Leads (option_map_or (λ lan. on_lan lan state) o (at_node name (input_step (setup_of state.algorithm) line) state))
+    go None = line_leads state name line b of
+    go (Some lan) = all lan
+
+-- a client's frame comes on a LAN
+put_leads : (state : State) (lan : ℕ) (frame : ClientFrame) → IsBetweenLines state → TellsClient (FrameGiven frame.src frame.dst frame.vid frame.text) → Leads (lan_frame_step (setup_of state.algorithm) (payload_spelling frame) lan state)
+put_leads state lan frame b of =
+    let put : LanPut = record { lan = lan; moment = state.clock; bytes = payload_spelling frame; by = None } in
+    attempt_leads state (with_put (setup_of state.algorithm) put state.mesh) b (λ after is.
+    let same = put_is (setup_of state.algorithm) put state.mesh after is in
+    subst (λ m. Comes (queries_of state.algorithm) state.mesh m state.clock) same
+    (record { reachable = goes_on state.mesh (with_lan_frame put state.mesh) b.reachable (put_comes state.mesh put frame refl refl of); settled = b.settled }))
+
+frame_leads : (state : State) (name : List ℕ) (frame : ClientFrame) (group : Bool) → IsBetweenLines state → TellsClient (FrameGiven frame.src frame.dst frame.vid frame.text)
+    → Leads (after_step state (cond group None (Some (at_place name (lan_frame_step (setup_of state.algorithm) (payload_spelling frame)) (input_step (setup_of state.algorithm) (FrameGiven frame.src frame.dst frame.vid frame.text))))))
+frame_leads state name frame true b of = stays_leads state b
+frame_leads state name frame false b of = place_leads state name (FrameGiven frame.src frame.dst frame.vid frame.text) (lan_frame_step (setup_of state.algorithm) (payload_spelling frame)) b of (λ lan. put_leads state lan frame b of)
+
+gone_leads : (state : State) (name : List ℕ) (line : LineGiven) → IsBetweenLines state → TellsClient line → Leads (at_place name (gateways_step (setup_of state.algorithm) line) (input_step (setup_of state.algorithm) line) state)
+gone_leads state name line b of = place_leads state name line (gateways_step (setup_of state.algorithm) line) b of (λ lan.
+    let places = gateways_at lan state.mesh.lans in
+    attempt_leads state (all_given (setup_of state.algorithm) places state.clock (Line line) state.mesh) b (λ after is. lines_all (queries_of state.algorithm) places state.mesh after state.clock line b.reachable b.settled of is))
+
+lan_leads : (state : State) (name : List ℕ) (places : List ℕ) (full : Bool) → IsBetweenLines state → Leads (cond full (Ends state (Limit Lans)) (after_attempt state (joins_lan (setup_of state.algorithm) name places state.clock state.mesh)))
+lan_leads state name places true b = ends_leads state (Limit Lans) b.reachable
+lan_leads state name places false b = attempt_leads state (joins_lan (setup_of state.algorithm) name places state.clock state.mesh) b (λ after is.
+    let lan : NetLan = record { name = name; gateways = places } in
+    let mid = with_lan lan state.mesh in
+    let addresses = map (λ place. address_at place state.mesh.nodes) places in
+    let c = lines_all (queries_of state.algorithm) places mid after state.clock (Attach (suc (length state.mesh.lans)) addresses) (goes_on state.mesh mid b.reachable (lan_joins state.mesh lan)) b.settled tt is in
+    record { reachable = c.reachable; settled = c.settled })
 
 -- ---- the rules on a new node
 second_none : (o p : Option Refusal) → option_or o p ≡ None → p ≡ None
@@ -163,8 +199,8 @@ none_has (first ∷ rest) mac (suc place) n none got = none_has rest mac place n
 
 fresh_mac : (state : State) (name : List ℕ) (mac : Mac) → first_refused_rule state (Node name mac) ≡ None → IsNew mac state.mesh.nodes
 fresh_mac state name mac none place other got same =
-    let unmet = second_none (unknown_name state (Node name mac)) (first_unmet state (Rattle.mesh_model.specs.Run.Demands.NewNode name mac)) (second_none (not_built (Node name mac)) (option_or (unknown_name state (Node name mac)) (first_unmet state (Rattle.mesh_model.specs.Run.Demands.NewNode name mac))) none) in
-    let taken = unmet_none (list_any (has_address mac) state.mesh.nodes) AddressTaken (second_none (refusal_if (is_known state name) NameTaken) (refusal_if (list_any (has_address mac) state.mesh.nodes) AddressTaken) unmet) in
+    let unmet = second_none (wrong_name state (Node name mac)) (first_unmet state (Rattle.mesh_model.specs.Run.Demands.NewNode name mac)) (second_none (not_built (Node name mac)) (option_or (wrong_name state (Node name mac)) (first_unmet state (Rattle.mesh_model.specs.Run.Demands.NewNode name mac))) none) in
+    let taken = unmet_none (list_any (has_address mac) state.mesh.nodes) AddressTaken (second_none (refusal_if (is_taken state name) NameTaken) (refusal_if (list_any (has_address mac) state.mesh.nodes) AddressTaken) unmet) in
     true≢false (sym (ap (λ (m : Mac). Rattle.mesh_model.specs.Routes.Addresses.same_mac m mac) same ∙ same_self mac) ∙ none_has state.mesh.nodes mac place other taken got)
 
 -- ---- the rule on an algorithm
@@ -187,9 +223,9 @@ step_leads state (Link from to delay pattern throughput) b tell none =
     let link : ℕ → ℕ → NetLink = λ start end. record { from = start; to = end; delay = delay; pattern = pattern; throughput = throughput } in
     at_leads state (λ start. at_node to (λ end. link_step (link start end))) (place_of state from) b (λ start.
     at_leads state (λ end. link_step (link start end)) (place_of state to) b (λ end. link_leads state (link start end) b (nat_le links_limit (length state.mesh.links))))
-step_leads state (Lan name gateways) b tell none = stays_leads state b
-step_leads state (Frame place src dst vid text) b tell none = frame_leads state place (FrameGiven src dst vid text) (is_group dst && not (is_broadcast dst)) b tell
-step_leads state (Gone place key) b tell none = line_leads state place (GoneGiven key) b tell
+step_leads state (Lan name gateways) b tell none = lan_leads state name (places_named gateways 0 state.mesh.nodes) (nat_le lans_limit (length state.mesh.lans)) b
+step_leads state (Frame place src dst vid text) b tell none = frame_leads state place (record { dst = dst; src = src; vid = vid; text = text }) (is_group dst && not (is_broadcast dst)) b tell
+step_leads state (Gone place key) b tell none = gone_leads state place (GoneGiven key) b tell
 step_leads state (Join node key) b tell none = line_leads state node (JoinGiven key) b tell
 step_leads state (Leave node key) b tell none = line_leads state node (LeaveGiven key) b tell
 step_leads state (Arp node mac own asked vid) b tell none = stays_leads state b
@@ -294,6 +330,7 @@ first_between choice = record {
   where
     none_happens : (x : Rattle.mesh_model.specs.declared.happening.Happening.Happening) → Happens empty_mesh x → ⊥
     none_happens x (delivers d) = let found = d.found in cc
+    none_happens x (lan_delivers d) = let found = d.found in cc
     none_happens x (ticks d) = let found = d.found in cc
 
 pub first_holds : (choice : FrameChoice) → RunHolds (start choice)

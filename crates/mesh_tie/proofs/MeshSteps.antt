@@ -1,13 +1,13 @@
 -- Each step of a mesh is a list of moves of the machine.
-use Rattle.std.proofs.Common.{◌≡◌, ◌≢◌, ◌⊎◌, inl, inr, ◌≤◌, ◌-◌, ℕ, zero, suc, Bool, true, false, cond, ◌==◌, List, [], ◌∷◌, ◌++◌, length, slice_get, Option, Some, None, Ok, refl, sym, ap, subst, ◌∙◌, arith}
+use Rattle.std.proofs.Common.{◌≡◌, ◌≢◌, ◌⊎◌, inl, inr, ◌≤◌, ◌-◌, ℕ, suc, Bool, true, false, cond, ◌==◌, List, [], ◌∷◌, ◌++◌, length, slice_get, Option, Some, None, Ok, refl, sym, ap, subst, ◌∙◌, arith}
 use Rattle.std.specs.List.{AllByRecursion}
-use Rattle.std.proofs.lemmas.Bool.{ne_eqb}
 use Rattle.mesh_base.specs.declared.address.Mac.{Mac}
 use Rattle.mesh_model.specs.declared.act.Act.{Act}
 use Rattle.mesh_model.specs.declared.act.Act.TheVariants.{Link}
 use Rattle.mesh_model.specs.declared.table_change.Change.{Change}
 use Rattle.mesh_model.specs.Acts.Choosing.{acts_of}
 use Rattle.mesh_model.specs.Acts.Rows.{own_by, tick_acts}
+use Rattle.mesh_model.specs.Clients.Lans.{bridge}
 use Rattle.mesh_model.specs.Clients.Log.{Given, Tick, LinkFrame, Log, LogEntry, LanFrame, Line, LineGiven}
 use Rattle.mesh_model.specs.Clients.Mentions.{Mention, mentions}
 use Rattle.mesh_model.specs.Commits.Announcements.{announced_changes, told_changes}
@@ -18,7 +18,7 @@ use Rattle.mesh_model.specs.Knowledge.Steps.{line_knowledge, knowledge, next_kno
 use Rattle.mesh_model.specs.Net.Due.{ticks_in}
 use Rattle.mesh_model.specs.Net.Inputs.{entry_of, given_to, noted_at, noting}
 use Rattle.mesh_model.specs.Net.Limits.{scenario_setup}
-use Rattle.mesh_model.specs.Net.Mesh.{NodeLog, SentFrame, Mesh, empty_mesh}
+use Rattle.mesh_model.specs.Net.Mesh.{NodeLog, SentFrame, LanPut, Mesh, empty_mesh}
 use Rattle.mesh_model.specs.Net.Next.{Has}
 use Rattle.mesh_model.specs.Packets.LinkFrame.{link_frame}
 use Rattle.mesh_model.specs.Routes.Queries.{Queries}
@@ -26,19 +26,21 @@ use Rattle.mesh_model.specs.Tables.Known.{TableCalls, known_by}
 use Rattle.mesh_model.specs.Tables.Versions.{Version}
 use Rattle.mesh_laws.specs.Machine.Moves.{AreLastChanges, Reaches, commits as commits_move, no_move, then_move}
 use Rattle.mesh_laws.specs.Machine.World.{Node, Saying, World, IsCommit, commit_numbered, silent_node, start, with_commit as with_world_commit}
-use Rattle.mesh_laws.proofs.Schedule.Members.{get_either, get_last, one_some}
-use Rattle.mesh_laws.proofs.Schedule.Steps.{get_front}
+use Rattle.mesh_laws.proofs.Schedule.Members.{get_either, one_some}
 use Rattle.mesh_tie.specs.Originators.{last_number, log_of, number_at_root}
 use Rattle.mesh_tie.specs.Sayings.{FrameSays}
 use Rattle.mesh_tie.specs.Sources.{IsWhole, KeepsOriginators}
-use Rattle.mesh_tie.specs.Steps.{IsNew, IsReachable, Steps, begins, frame_comes, goes_on, line_gives, link_joins, node_joins, node_ticks, time_passes, TellsClient}
-use Rattle.mesh_tie.specs.Tie.{CommitsFit, FitsAnswer, FitsEntry, IsOrderly, IsTied, KnowsWhole, NodeIsTied, known_at_node}
+use Rattle.mesh_tie.specs.Steps.{IsReachable, Steps, begins, frame_comes, goes_on, lan_comes, lan_joins, line_gives, link_joins, node_joins, node_ticks, put_comes, put_reaches, time_passes, TellsClient}
+use Rattle.mesh_tie.specs.Tie.{CommitsFit, FitsAnswer, FitsEntry, IsOrderly, IsTied, NodeIsTied, known_at_node}
 use Rattle.mesh_tie.specs.TieLaws.{AllKeep}
 use Rattle.mesh_tie.proofs.CommitLemmas.{Chain, Committed, Follows, announced_are, as_before, chain, chain_committed, committed_is, last_and_older, last_at, number_now, one_more, told_are}
 use Rattle.mesh_tie.proofs.EntryLemmas.{OfCommits, changes_of}
+use Rattle.mesh_tie.proofs.LanSteps.{BringsClient, lan_row, lan_same}
 use Rattle.mesh_tie.proofs.LogLemmas.{Grows, log_first, log_rest, frame_grows, grows_entry, grows_same, log_found, log_itself, log_other, node_grows, node_later}
-use Rattle.mesh_tie.proofs.NodeSteps.{Announcer, Goes, Ready, goes_by, line_knows, line_row, line_same, packets_go, packets_know, stays_tied, tick_row}
+use Rattle.mesh_tie.proofs.NodeLists.{Renewed, another, got_front, got_noted, itself, none_front, noted_none, other_place, renewed}
+use Rattle.mesh_tie.proofs.NodeSteps.{Announcer, Goes, Ready, goes_by, line_row, line_same, packets_go, stays_tied, tick_row}
 use Rattle.mesh_tie.proofs.NodeMoves.{Comes}
+use Rattle.mesh_tie.proofs.OrderSteps.{joined, orderly}
 use Rattle.mesh_tie.proofs.PacketSteps.{CameIn}
 use Rattle.mesh_tie.proofs.Sayable.{ActSays, frame_more, one_or_two, then_path}
 use Rattle.mesh_tie.proofs.SentLemmas.{HasGiven, IsFromActs, given_is}
@@ -75,33 +77,6 @@ commits_next w ms before now (Tick index) is = go (is_commit_tick index)
 commits_next w ms before now (LinkFrame number from throughput bytes) is = commits_stay w before.commits is
 commits_next w ms before now (LanFrame bytes) is = commits_stay w before.commits is
 commits_next w ms before now (Line line) is = commits_stay w before.commits is
-
--- ---- nodes
--- the node at a place after one noted an entry
-pub data Renewed (at : ℕ) (entry : LogEntry) (nodes : List NodeLog) (place : ℕ) (after : NodeLog) : Type 0 where
-  another : at ≢ place → slice_get nodes place ≡ Some after → Renewed at entry nodes place after
-  itself : (node : NodeLog) → at ≡ place → slice_get nodes place ≡ Some node → after ≡ noting entry node → Renewed at entry nodes place after
-
-pub renewed : (at : ℕ) (entry : LogEntry) (nodes : List NodeLog) (place : ℕ) (after : NodeLog) → slice_get (noted_at at entry nodes) place ≡ Some after → Renewed at entry nodes place after
-renewed at entry [] place after e = cc
-renewed zero entry (node ∷ rest) zero after e = itself node refl refl (sym (one_some (noting entry node) after e))
-renewed zero entry (node ∷ rest) (suc place) after e = another (λ q. omega (arith, q)) e
-renewed (suc at) entry (node ∷ rest) zero after e = another (λ q. omega (arith, q)) e
-renewed (suc at) entry (node ∷ rest) (suc place) after e = next (renewed at entry rest place after e)
-  where
-    next : Renewed at entry rest place after → Renewed (suc at) entry (node ∷ rest) (suc place) after
-    next (another d f) = another (λ q. d (omega (arith, q))) f
-    next (itself n p f is) = itself n (ap suc p) f is
-
-noted_none : (at : ℕ) (entry : LogEntry) (nodes : List NodeLog) (place : ℕ) → slice_get (noted_at at entry nodes) place ≡ None → slice_get nodes place ≡ None
-noted_none at entry [] place e = refl
-noted_none zero entry (node ∷ rest) zero e = cc
-noted_none zero entry (node ∷ rest) (suc place) e = e
-noted_none (suc at) entry (node ∷ rest) zero e = cc
-noted_none (suc at) entry (node ∷ rest) (suc place) e = noted_none at entry rest place e
-
-other_place : (at place : ℕ) → at ≢ place → (place == at) ≡ false
-other_place at place d = ne_eqb place at (λ q. d (sym q))
 
 -- ---- a node that is given something
 -- what holds before its acts: the commits are those after the input, and all else is as before
@@ -274,6 +249,15 @@ line_does queries orig mesh place now node line log o found of v midway =
     (line_row orig log 0 v q node.mac node.log now line of (o.whole place node found) (o.knows place node found))
     (λ u later. subst (λ calls. Comes orig log mesh.frames u place (known_by calls orig)) (sym (line_same q node.mac node.log known now line)) (stays_tied orig log mesh.frames v place known.tables (midway.nodes place node found) u later))
 
+lan_does : (queries : Mac → Queries) (orig : Mac) (mesh : Mesh) (place now : ℕ) (node : NodeLog) (bytes : List ℕ) (log : Log) → IsOrderly queries mesh → slice_get mesh.nodes place ≡ Some node → BringsClient bytes
+    → DoesIt queries orig mesh place node (entry_of (scenario_setup queries) node now (LanFrame bytes)) 0 log
+lan_does queries orig mesh place now node bytes log o found brings v midway =
+    let q = queries node.mac in
+    let known = known_at_node queries node in
+    goes_by orig log mesh.frames 0 v place (acts_of q node.mac node.log now (LanFrame bytes)) (next_knowledge q node.mac node.log known now (LanFrame bytes)).tables
+    (lan_row orig log 0 v q node.mac node.log now bytes brings (o.whole place node found) (o.knows place node found))
+    (λ u later. subst (λ calls. Comes orig log mesh.frames u place (known_by calls orig)) (sym (lan_same q node.mac node.log known now bytes)) (stays_tied orig log mesh.frames v place known.tables (midway.nodes place node found) u later))
+
 -- what a tick commits fits
 abbrev FitsLog : NodeLog → LogEntry → Type 0
 FitsLog node entry = (version : Version) → IsCommit (commits node.mac (entry ∷ node.log)) version → FitsAnswer version.table
@@ -283,8 +267,8 @@ tick_does : (queries : Mac → Queries) (orig : Mac) (mesh : Mesh) (place now : 
     → FitsLog node (entry_of (scenario_setup queries) node now (Tick (suc (ticks_in node.log))))
     → DoesIt queries orig mesh place node (entry_of (scenario_setup queries) node now (Tick (suc (ticks_in node.log)))) (suc (ticks_in node.log)) log
 tick_does queries orig mesh place now node before log keeps o found l fit v midway =
-    goes_by orig log mesh.frames index v place (tick_acts q node.mac known.routes ms old now index) known.tables
-    (tick_row orig log v q node.mac known.routes ms old now index keeps announcer) (stays_tied orig log mesh.frames v place known.tables (midway.nodes place node found))
+    goes_by orig log mesh.frames index v place (tick_acts q node.mac known.routes ms old (bridge node.log) now index) known.tables
+    (tick_row orig log v q node.mac known.routes ms old (bridge node.log) now index keeps announcer) (stays_tied orig log mesh.frames v place known.tables (midway.nodes place node found))
   where
     q : Queries
     q = queries node.mac
@@ -379,53 +363,6 @@ frame_does queries orig mesh place now number throughput from node frame before 
     (record { now = now; from = from; throughput = throughput; number = suc number }) (link_frame frame.bytes).packets (known_at_node queries node) keeps whole
     (came_in mesh number frame sent) (frame_ready queries orig mesh place now (suc number) throughput from node frame.bytes before log o found l fit all v midway) (midway.nodes place node found) (midway.frames number frame sent)
 
--- ---- what holds beside the tie
-knows_after : (queries : Mac → Queries) (orig : Mac) (mesh after : Mesh) (place now root : ℕ) (node : NodeLog) (given : Given) → IsOrderly queries mesh → slice_get mesh.nodes place ≡ Some node
-    → given_to (scenario_setup queries) place now root given mesh ≡ Ok after → KnowsWhole (next_knowledge (queries node.mac) node.mac node.log (known_at_node queries node) now given) → IsOrderly queries after
-knows_after queries orig mesh after place now root node given o found is k = record {
-  whole = λ at n got. let p = was at n (renewed place entry mesh.nodes at n (at_after at n got)) in subst IsWhole (sym p.2) (o.whole at p.0 p.1);
-  distinct = λ at other n second got more same.
-      let p = was at n (renewed place entry mesh.nodes at n (at_after at n got)) in
-      let r = was other second (renewed place entry mesh.nodes other second (at_after other second more)) in
-      o.distinct at other p.0 r.0 p.1 r.1 (sym p.2 ∙ same ∙ r.2);
-  knows = λ at n got. knows at n (renewed place entry mesh.nodes at n (at_after at n got));
-}
-  where
-    entry : LogEntry
-    entry = entry_of (scenario_setup queries) node now given
-
-    given_has : HasGiven (scenario_setup queries) place now root node given mesh after
-    given_has = given_is (scenario_setup queries) place now root node given mesh after found is
-
-    at_after : (at : ℕ) (n : NodeLog) → slice_get after.nodes at ≡ Some n → slice_get (noted_at place entry mesh.nodes) at ≡ Some n
-    at_after at n got = subst (λ ns. slice_get ns at ≡ Some n) given_has.nodes got
-
-    was : (at : ℕ) (n : NodeLog) → Renewed place entry mesh.nodes at n → (before : NodeLog) × (slice_get mesh.nodes at ≡ Some before) × (n.mac ≡ before.mac)
-    was at n (another d got) = (n, got, refl)
-    was at n (itself before same got noted) = (before, got, ap (λ (x : NodeLog). x.mac) noted)
-
-    knows : (at : ℕ) (n : NodeLog) → Renewed place entry mesh.nodes at n → KnowsWhole (known_at_node queries n)
-    knows at n (another d got) = o.knows at n got
-    knows at n (itself before same got noted) =
-        let one : node ≡ before = one_some node before (sym found ∙ ap (slice_get mesh.nodes) same ∙ got) in
-        subst (λ (x : NodeLog). KnowsWhole (known_at_node queries x)) (ap (noting entry) one ∙ sym noted) k
-
--- a new node
-pub got_front : (nodes : List NodeLog) (new : NodeLog) (place : ℕ) (n : NodeLog) → slice_get (nodes ++ new ∷ []) place ≡ Some n → (slice_get nodes place ≡ Some n) ⊎ ((n ≡ new) × (slice_get nodes place ≡ None))
-got_front nodes new place n got = go (slice_get nodes place) refl (get_last nodes new place n got)
-  where
-    go : (o : Option NodeLog) → slice_get nodes place ≡ o → (slice_get nodes place ≡ Some n) ⊎ (n ≡ new) → (slice_get nodes place ≡ Some n) ⊎ ((n ≡ new) × (slice_get nodes place ≡ None))
-    go o is (inl old) = inl old
-    go None is (inr same) = inr (same, is)
-    go (Some m) is (inr same) = inl (is ∙ (let both : Some m ≡ Some n = sym (get_front nodes (new ∷ []) place m is) ∙ got in both))
-
-none_front : (nodes : List NodeLog) (new : NodeLog) (place : ℕ) → slice_get (nodes ++ new ∷ []) place ≡ None → slice_get nodes place ≡ None
-none_front nodes new place none = go (slice_get nodes place) refl
-  where
-    go : (o : Option NodeLog) → slice_get nodes place ≡ o → slice_get nodes place ≡ None
-    go None is = is
-    go (Some m) is = absurd (let both : ◌≡◌ {A = Option NodeLog} (Some m) None = sym (get_front nodes (new ∷ []) place m is) ∙ none in cc)
-
 pub log_joined : (orig : Mac) (nodes : List NodeLog) (new : NodeLog) → new.log ≡ [] → log_of orig (nodes ++ new ∷ []) ≡ log_of orig nodes
 log_joined orig [] new empty = go (Rattle.mesh_model.specs.Routes.Addresses.same_mac new.mac orig)
   where
@@ -434,42 +371,7 @@ log_joined orig [] new empty = go (Rattle.mesh_model.specs.Routes.Addresses.same
     go false = refl
 log_joined orig (first ∷ rest) new empty = ap (λ l. cond (Rattle.mesh_model.specs.Routes.Addresses.same_mac first.mac orig) first.log l) (log_joined orig rest new empty)
 
-joined : Mesh → NodeLog → Mesh
-joined mesh new = record mesh { nodes = mesh.nodes ++ new ∷ [] }
-
-pub no_length : (nodes : List NodeLog) (place other : ℕ) (new : NodeLog) → slice_get (nodes ++ new ∷ []) place ≡ Some new → slice_get nodes place ≡ None → slice_get (nodes ++ new ∷ []) other ≡ Some new → slice_get nodes other ≡ None → place ≡ other
-no_length [] zero zero new a b c d = refl
-no_length [] zero (suc other) new a b c d = cc
-no_length [] (suc place) other new a b c d = cc
-no_length (first ∷ rest) zero other new a b c d = cc
-no_length (first ∷ rest) (suc place) zero new a b c d = cc
-no_length (first ∷ rest) (suc place) (suc other) new a b c d = ap suc (no_length rest place other new a b c d)
-
-joined_orderly : (queries : Mac → Queries) (mesh : Mesh) (new : NodeLog) → new.log ≡ [] → IsWhole new.mac → IsNew new.mac mesh.nodes → IsOrderly queries mesh → IsOrderly queries (joined mesh new)
-unfolding joined
-joined_orderly queries mesh new empty whole fresh o = record {
-  whole = λ at n got. whole_at at n (got_front mesh.nodes new at n got);
-  distinct = λ at other n second got more same. distinct at other n second got more same (got_front mesh.nodes new at n got) (got_front mesh.nodes new other second more);
-  knows = λ at n got. knows at n (got_front mesh.nodes new at n got);
-}
-  where
-    whole_at : (at : ℕ) (n : NodeLog) → (slice_get mesh.nodes at ≡ Some n) ⊎ ((n ≡ new) × (slice_get mesh.nodes at ≡ None)) → IsWhole n.mac
-    whole_at at n (inl old) = o.whole at n old
-    whole_at at n (inr is) = subst (λ (x : NodeLog). IsWhole x.mac) (sym is.0) whole
-
-    distinct : (at other : ℕ) (n second : NodeLog) → slice_get (mesh.nodes ++ new ∷ []) at ≡ Some n → slice_get (mesh.nodes ++ new ∷ []) other ≡ Some second → n.mac ≡ second.mac
-        → (slice_get mesh.nodes at ≡ Some n) ⊎ ((n ≡ new) × (slice_get mesh.nodes at ≡ None)) → (slice_get mesh.nodes other ≡ Some second) ⊎ ((second ≡ new) × (slice_get mesh.nodes other ≡ None)) → at ≡ other
-    distinct at other n second got more same (inl old) (inl older) = o.distinct at other n second old older same
-    distinct at other n second got more same (inl old) (inr is) = absurd (fresh at n old (same ∙ ap (λ (x : NodeLog). x.mac) is.0))
-    distinct at other n second got more same (inr is) (inl old) = absurd (fresh other second old (sym same ∙ ap (λ (x : NodeLog). x.mac) is.0))
-    distinct at other n second got more same (inr is) (inr also) = no_length mesh.nodes at other new (got ∙ ap Some is.0) is.1 (more ∙ ap Some also.0) also.1
-
-    knows : (at : ℕ) (n : NodeLog) → (slice_get mesh.nodes at ≡ Some n) ⊎ ((n ≡ new) × (slice_get mesh.nodes at ≡ None)) → KnowsWhole (known_at_node queries n)
-    knows at n (inl old) = o.knows at n old
-    knows at n (inr is) = subst (λ l. KnowsWhole (knowledge (queries n.mac) n.mac l)) (sym (ap (λ (x : NodeLog). x.log) is.0 ∙ empty)) (record { tables = tt; marks = tt })
-
 joined_tied : (queries : Mac → Queries) (orig : Mac) (mesh : Mesh) (new : NodeLog) (w : World) → new.log ≡ [] → IsTied queries orig mesh w → IsTied queries orig (joined mesh new) w
-unfolding joined
 joined_tied queries orig mesh new w empty tied = record {
   commits = tied.commits ∙ ap (commits orig) (sym logs);
   frames = λ at frame got. subst (λ l. FrameSays orig l w.said frame.root frame.bytes) (sym logs) (tied.frames at frame got);
@@ -485,11 +387,6 @@ joined_tied queries orig mesh new w empty tied = record {
     node_at at n (inr is) = subst (λ l. NodeIsTied orig (log_of orig mesh.nodes) mesh.frames (known_by (knowledge (queries n.mac) n.mac l).tables orig) (w.nodes at)) (sym (ap (λ (x : NodeLog). x.log) is.0 ∙ empty))
         (subst (NodeIsTied orig (log_of orig mesh.nodes) mesh.frames Rattle.mesh_model.specs.Tables.Known.nothing) (sym (tied.absent at is.1)) (record { held = refl; told = refl }))
 
-pub got_noted : (nodes : List NodeLog) (place : ℕ) (node : NodeLog) (entry : LogEntry) → slice_get nodes place ≡ Some node → slice_get (noted_at place entry nodes) place ≡ Some (noting entry node)
-got_noted [] place node entry found = cc
-got_noted (first ∷ rest) zero node entry found = ap (λ n. Some (noting entry n)) (one_some first node found)
-got_noted (first ∷ rest) (suc place) node entry found = got_noted rest place node entry found
-
 pub noted_fits : (queries : Mac → Queries) (mesh after : Mesh) (place now root : ℕ) (node : NodeLog) (given : Given) → slice_get mesh.nodes place ≡ Some node → given_to (scenario_setup queries) place now root given mesh ≡ Ok after
     → CommitsFit after → FitsLog node (entry_of (scenario_setup queries) node now given)
 noted_fits queries mesh after place now root node given found is fit =
@@ -498,13 +395,17 @@ noted_fits queries mesh after place now root node given found is fit =
     fit place (noting entry node) (ap (λ ns. slice_get ns place) has.nodes ∙ got_noted mesh.nodes place node entry found)
 
 -- ---- all steps
+-- each client frame on a LAN is from a client that records can tell
+abbrev pub PutsBring : Mesh → Type 0
+PutsBring mesh = (place : ℕ) (put : LanPut) → slice_get mesh.puts place ≡ Some put → BringsClient put.bytes
+
 -- what holds of every mesh that is reached
 pub record Holds (queries : Mac → Queries) (mesh : Mesh) : Type 0 where
   pub orderly : IsOrderly queries mesh
   pub fits : CommitsFit mesh
+  pub puts : PutsBring mesh
 
 pub step_tied : (queries : Mac → Queries) (mesh after : Mesh) → AllKeep queries → Holds queries mesh → CommitsFit after → Steps queries mesh after → (orig : Mac) (w : World) → Reaches start w → IsTied queries orig mesh w → Stepped queries orig w after
-unfolding joined
 step_tied queries mesh _ keep h fit (node_joins _ node empty whole fresh) orig w base tied = record { world = w; path = no_move w; tied = joined_tied queries orig mesh node w empty tied }
 step_tied queries mesh _ keep h fit (link_joins _ link) orig w base tied = record { world = w; path = no_move w; tied = record { commits = tied.commits; frames = tied.frames; nodes = tied.nodes; absent = tied.absent } }
 step_tied queries mesh after keep h fit (line_gives _ _ place now node line found may of is) orig w base tied =
@@ -523,23 +424,13 @@ step_tied queries mesh after keep h fit (frame_comes _ _ place now number throug
     (frame_does queries orig mesh place now number throughput from node frame (log_of orig mesh.nodes) (log_of orig (noted_at place entry mesh.nodes)) (keep node.mac) h.orderly found sent whole
     (log_after queries orig mesh place node entry h.orderly found) (h.fits place node found)
     (subst (λ ns. OfCommits FitsEntry (commits orig (log_of orig ns))) has.nodes (fits_among after.nodes fit orig))) base tied
+step_tied queries mesh _ keep h fit (lan_joins _ lan) orig w base tied = record { world = w; path = no_move w; tied = record { commits = tied.commits; frames = tied.frames; nodes = tied.nodes; absent = tied.absent } }
+step_tied queries mesh _ keep h fit (put_comes _ put frame by is tells) orig w base tied = record { world = w; path = no_move w; tied = record { commits = tied.commits; frames = tied.frames; nodes = tied.nodes; absent = tied.absent } }
+step_tied queries mesh _ keep h fit (put_reaches _ number now put frame found carries) orig w base tied = record { world = w; path = no_move w; tied = record { commits = tied.commits; frames = tied.frames; nodes = tied.nodes; absent = tied.absent } }
+step_tied queries mesh after keep h fit (lan_comes _ _ place now number node put found may among is) orig w base tied =
+    given_step queries orig mesh after place now 0 node (LanFrame put.bytes) w h.orderly found tt is
+    (lan_does queries orig mesh place now node put.bytes (log_of orig (noted_at place (entry_of (scenario_setup queries) node now (LanFrame put.bytes)) mesh.nodes)) h.orderly found (h.puts number put among)) base tied
 step_tied queries mesh _ keep h fit (time_passes _ happening) orig w base tied = record { world = w; path = no_move w; tied = record { commits = tied.commits; frames = tied.frames; nodes = tied.nodes; absent = tied.absent } }
-
-pub step_orderly : (queries : Mac → Queries) (mesh after : Mesh) → Holds queries mesh → ((orig : Mac) → (w : World) × Reaches start w × IsTied queries orig mesh w) → Steps queries mesh after → IsOrderly queries after
-unfolding joined
-step_orderly queries mesh _ h all (node_joins _ node empty whole fresh) = joined_orderly queries mesh node empty whole fresh h.orderly
-step_orderly queries mesh _ h all (link_joins _ link) = record { whole = h.orderly.whole; distinct = h.orderly.distinct; knows = h.orderly.knows }
-step_orderly queries mesh after h all (line_gives _ _ place now node line found may of is) =
-    knows_after queries node.mac mesh after place now 0 node (Line line) h.orderly found is (line_knows (queries node.mac) node.mac node.log (known_at_node queries node) now line (h.orderly.knows place node found))
-step_orderly queries mesh after h all (node_ticks _ _ place now node found may is) =
-    let k = h.orderly.knows place node found in
-    knows_after queries node.mac mesh after place now (suc (ticks_in node.log)) node (Tick (suc (ticks_in node.log))) h.orderly found is (record { tables = k.tables; marks = k.marks })
-step_orderly queries mesh after h all (frame_comes _ _ place now number throughput from node frame found may sent whole is) =
-    let tie = all node.mac in
-    knows_after queries node.mac mesh after place now frame.root node (LinkFrame (suc number) from throughput frame.bytes) h.orderly found is
-    (packets_know (queries node.mac) node.mac (record { now = now; from = from; throughput = throughput; number = suc number }) (link_frame frame.bytes).packets (known_at_node queries node)
-    (λ packet has. (tie.2.frames number frame sent packet has).addresses) (h.orderly.knows place node found))
-step_orderly queries mesh _ h all (time_passes _ happening) = record { whole = h.orderly.whole; distinct = h.orderly.distinct; knows = h.orderly.knows }
 
 -- every commit of every mesh that is reached can be told
 abbrev pub AlwaysFit : (Mac → Queries) → Type 0
@@ -558,35 +449,24 @@ empty_tied queries orig = record {
   absent = λ place none. refl;
 }
 
-empty_orderly : (queries : Mac → Queries) → IsOrderly queries empty_mesh
-empty_orderly queries = record {
-  whole = λ place node got. cc;
-  distinct = λ place other node second got more same. cc;
-  knows = λ place node got. cc;
-}
+-- each client frame on the LANs of every mesh that is reached is from a client that can be told
+abbrev pub AlwaysBring : (Mac → Queries) → Type 0
+AlwaysBring queries = (mesh : Mesh) → IsReachable queries mesh → PutsBring mesh
 
-pub reached : (queries : Mac → Queries) → AllKeep queries → AlwaysFit queries → (mesh : Mesh) → IsReachable queries mesh → Reached queries mesh
-reached queries keep fit _ begins = record {
-  holds = record { orderly = empty_orderly queries; fits = fit empty_mesh begins };
+holds_at : (queries : Mac → Queries) → AlwaysFit queries → AlwaysBring queries → (mesh : Mesh) → IsReachable queries mesh → Holds queries mesh
+holds_at queries fit bring mesh r = record { orderly = orderly queries mesh r; fits = fit mesh r; puts = bring mesh r }
+
+pub reached_by : (queries : Mac → Queries) → AllKeep queries → AlwaysFit queries → AlwaysBring queries → (mesh : Mesh) → IsReachable queries mesh → Reached queries mesh
+reached_by queries keep fit bring _ begins = record {
+  holds = holds_at queries fit bring empty_mesh begins;
   ties = λ orig. (start, no_move start, empty_tied queries orig);
 }
-reached queries keep fit _ (goes_on mesh after r s) =
-    let before = reached queries keep fit mesh r in
-    let fits = fit after (goes_on mesh after r s) in
+reached_by queries keep fit bring _ (goes_on mesh after r s) =
+    let before = reached_by queries keep fit bring mesh r in
     record {
-      holds = record { orderly = step_orderly queries mesh after before.holds before.ties s; fits = fits };
+      holds = holds_at queries fit bring after (goes_on mesh after r s);
       ties = λ orig.
           let tie = before.ties orig in
-          let next = step_tied queries mesh after keep before.holds fits s orig tie.0 tie.1 tie.2 in
+          let next = step_tied queries mesh after keep before.holds (fit after (goes_on mesh after r s)) s orig tie.0 tie.1 tie.2 in
           (next.world, then_path start tie.0 next.world tie.1 next.path, next.tied);
     }
-
-pub reached_tied : (queries : Mac → Queries) → AllKeep queries → AlwaysFit queries → (mesh : Mesh) → IsReachable queries mesh → (orig : Mac) → (w : World) × Reaches start w × IsTied queries orig mesh w
-reached_tied queries keep fit mesh r orig = (reached queries keep fit mesh r).ties orig
-
-pub step_moves : (queries : Mac → Queries) → AllKeep queries → AlwaysFit queries → (mesh after : Mesh) → IsReachable queries mesh → Steps queries mesh after → (orig : Mac) (world : World) → Reaches start world → IsTied queries orig mesh world
-    → (next : World) × Reaches world next × IsTied queries orig after next
-step_moves queries keep fit mesh after r s orig w base tied =
-    let before = reached queries keep fit mesh r in
-    let next = step_tied queries mesh after keep before.holds (fit after (goes_on mesh after r s)) s orig w base tied in
-    (next.world, next.path, next.tied)

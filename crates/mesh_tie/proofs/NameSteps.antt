@@ -1,209 +1,185 @@
 -- What every node ever sent by table, by the acts in its log.
-use Rattle.std.proofs.Common.{◌≡◌, ◌≢◌, ◌⊎◌, inl, inr, ◌-◌, ◌&&◌, ℕ, suc, Bool, true, false, cond, List, [], ◌∷◌, ◌++◌, slice_get, Option, Some, None, Ok, refl, sym, ap, subst, ◌∙◌, arith, append_assoc}
+use Rattle.std.proofs.Common.{◌≡◌, ◌≢◌, ◌⊎◌, inl, inr, ◌-◌, ℕ, suc, true, false, List, [], ◌∷◌, ◌++◌, slice_get, Option, Some, None, Ok, refl, sym, ap, subst, ◌∙◌, arith}
 use Rattle.std.specs.List.{AllByRecursion}
 use Rattle.mesh_base.specs.declared.address.Mac.{Mac}
-use Rattle.mesh_base.specs.declared.client.Key.{Key}
 use Rattle.mesh_base.specs.declared.event.Reason.TheVariants.{Table}
 use Rattle.mesh_model.specs.declared.act.Act.{Act}
 use Rattle.mesh_model.specs.declared.act.Act.TheVariants.{Link, Lan, Print}
-use Rattle.mesh_model.specs.declared.packet.Head.{Head}
-use Rattle.mesh_model.specs.declared.packet.Head.TheVariants.{IvOgm, Bcast, Elp, Ogm2, Unicast, Frag, Unicast4, Icmp, Utvlv}
-use Rattle.mesh_model.specs.Acts.Choosing.{acts_of, client_acts, probing_acts, sighting_acts}
+use Rattle.mesh_model.specs.Acts.Choosing.{acts_of, claimed_first, client_acts, from_lan_acts, on_from_lan, probing_acts, sighting_acts}
+use Rattle.mesh_model.specs.Acts.FrameRows.{frame_acts}
 use Rattle.mesh_model.specs.Acts.Rows.{Own, own_by, packet_acts, packets_acts}
+use Rattle.mesh_model.specs.Clients.Lans.{bridge}
 use Rattle.mesh_model.specs.Clients.Log.{Given, Tick, LinkFrame, Frame, Gone, Join, Leave, Arp, Dhcp, Ping, Trace, Log, LogEntry, LanFrame, Line, LineGiven, Attach, Sets, Put, Get}
-use Rattle.mesh_model.specs.Clients.Mentions.{key_of, mentions, next_mentions}
+use Rattle.mesh_model.specs.Clients.Mentions.{Mention, key_of, mentions, next_mentions, passed_from_lan}
 use Rattle.mesh_model.specs.Commits.History.{commits, history}
-use Rattle.mesh_model.specs.Knowledge.Known.{Knowledge, agreed_byte, is_new_broadcast}
-use Rattle.mesh_model.specs.Knowledge.Steps.{Coming, advertised, after_announcement, after_answer, after_containers, after_head, line_knowledge, after_packet, after_packets, after_reply, after_roaming, after_sighting, after_taken, before_announcement, knowledge, next_knowledge, released_under, with_head, with_life}
-use Rattle.mesh_model.specs.Knowledge.Told.{Message, TableMessage, Asks, Answers, Neither, message_in, message_of, message_with}
+use Rattle.mesh_model.specs.Knowledge.Known.{Knowledge}
+use Rattle.mesh_model.specs.Knowledge.Steps.{Coming, advertised, after_packet, after_sighting, knowledge, stays_on_lan}
 use Rattle.mesh_model.specs.Net.Due.{ticks_in}
 use Rattle.mesh_model.specs.Net.Inputs.{entry_of, given_to, noted_at, noting}
 use Rattle.mesh_model.specs.Net.Limits.{scenario_setup}
 use Rattle.mesh_model.specs.Net.Mesh.{NodeLog, SentFrame, Mesh}
 use Rattle.mesh_model.specs.Net.Next.{Has}
-use Rattle.mesh_model.specs.Packets.Bodies.{TtData}
-use Rattle.mesh_model.specs.Packets.Containers.{containers_of}
-use Rattle.mesh_model.specs.Packets.Contents.{first_roaming, first_table}
 use Rattle.mesh_model.specs.Packets.FirstPacket.{Packet}
+use Rattle.mesh_model.specs.Packets.LanFrames.{client_frame_in, lan_message_of}
 use Rattle.mesh_model.specs.Packets.LinkFrame.{link_frame}
 use Rattle.mesh_model.specs.Packets.Payload.{ClientFrame}
-use Rattle.mesh_model.specs.Probes.OpenProbes.{is_answer}
-use Rattle.mesh_model.specs.Routes.Addresses.{same_mac}
 use Rattle.mesh_model.specs.Routes.Queries.{Queries}
-use Rattle.mesh_model.specs.Tables.Known.{Answered, Dropped, TableCalls, known_by, names}
+use Rattle.mesh_model.specs.Tables.Known.{TableCalls, known_by, names}
 use Rattle.mesh_model.specs.Tables.Versions.{Version}
 use Rattle.mesh_laws.specs.Machine.Agreement.{HasNoAlias}
 use Rattle.mesh_laws.specs.Machine.World.{World, commit_numbered}
 use Rattle.mesh_laws.proofs.Schedule.Members.{one_some}
 use Rattle.mesh_laws.proofs.Schedule.Steps.{get_front}
-use Rattle.mesh_tie.specs.ByTable.{FramesByTable, HadCome, IsSentByTable, told_in}
+use Rattle.mesh_tie.specs.ByTable.{FramesByTable, HadCome, IsOfPacket, IsSentByTable, NamedThen}
 use Rattle.mesh_tie.specs.Originators.{commits_of, log_of}
 use Rattle.mesh_tie.specs.Sayings.{PacketSays}
 use Rattle.mesh_tie.specs.Sources.{IsWhole, KeepsOriginators}
-use Rattle.mesh_tie.specs.Steps.{IsReachable, Steps, begins, frame_comes, goes_on, line_gives, link_joins, node_joins, node_ticks, time_passes}
+use Rattle.mesh_tie.specs.Steps.{IsReachable, Steps, TellsClient, begins, frame_comes, goes_on, lan_comes, lan_joins, line_gives, link_joins, node_joins, node_ticks, put_comes, put_reaches, time_passes}
 use Rattle.mesh_tie.specs.Tie.{CommitsFit, IsTied, KnowsWhole, NodeIsTied, known_at_node}
 use Rattle.mesh_tie.specs.TieLaws.{AllKeep}
+use Rattle.mesh_tie.proofs.BridgeActs.{claimed_puts}
+use Rattle.mesh_tie.proofs.CarriedClients.{dst_whole, src_whole}
 use Rattle.mesh_tie.proofs.CommitLemmas.{Follows, numbered_next}
 use Rattle.mesh_tie.proofs.EntryLemmas.{each_appended}
 use Rattle.mesh_tie.proofs.FitLemmas.{commits_always_fit}
 use Rattle.mesh_tie.proofs.KnowsLemmas.{packet_knows, sighting_knows}
 use Rattle.mesh_tie.proofs.LogLemmas.{Grows, grows_same}
-use Rattle.mesh_tie.proofs.MeshSteps.{LogAfter, Reached, Renewed, another, came_in, fits_among, frame_ready, got_front, grows_after, itself, log_after, log_joined, midway_of, reached, renewed}
-use Rattle.mesh_tie.proofs.NamesRows.{ActNames, CanName, IsClear, found_told, frame_names, names_tick, packet_names, plain_advert, plain_names, plain_session}
-use Rattle.mesh_tie.proofs.NodeSteps.{Ready, line_same, packet_goes, ready_later}
+use Rattle.mesh_tie.proofs.LanSteps.{lan_read, passed_came}
+use Rattle.mesh_tie.proofs.MeshSteps.{LogAfter, Reached, came_in, fits_among, frame_ready, grows_after, log_after, log_joined, midway_of}
+use Rattle.mesh_tie.proofs.NodeLists.{Renewed, another, got_front, itself, renewed}
+use Rattle.mesh_tie.proofs.ReachLemmas.{reached}
+use Rattle.mesh_tie.proofs.NamesRows.{ActNames, CanName, IsClear, found_told, frame_names, names_if, names_tick, packet_names, plain_advert, plain_bridges, plain_names, plain_session}
+use Rattle.mesh_tie.proofs.NodeSteps.{Ready, packet_goes, ready_later}
 use Rattle.mesh_tie.proofs.PacketSteps.{CameIn}
 use Rattle.mesh_tie.proofs.Sayable.{one_or_two, packet_more}
 use Rattle.mesh_tie.proofs.SentLemmas.{HasGiven, given_is}
 
--- ---- what comes for tables only grows
-abbrev pub More : TableCalls → TableCalls → Type 0
-More before after = (newer : TableCalls) × (after ≡ newer ++ before)
-
-more_same : (before after : TableCalls) → after ≡ before → More before after
-more_same before after same = ([], same)
-
-more_then : (a b c : TableCalls) → More a b → More b c → More a c
-more_then a b c m n = (n.0 ++ m.0, n.1 ∙ ap (λ x. n.0 ++ x) m.1 ∙ sym (append_assoc n.0 m.0 a))
-
-taken_more : (q : Queries) (came : Coming) (head : Head) (source : Mac) (o : Option TtData) (known : Knowledge) → More known.tables (after_taken q came head (message_with source o) known).tables
-taken_more q came head source None known = more_same known.tables known.tables refl
-taken_more q came head source (Some table) known = go (q.hear known.routes came.now came.from came.throughput head).accepted
-  where
-    message : Message
-    message = record { orig = source; table = table }
-
-    life : (b : Bool) → More known.tables (with_life source b (with_head came head known)).tables
-    life true = (Dropped source ∷ [], refl)
-    life false = ([], refl)
-
-    go : (b : Bool) → More known.tables (cond b (after_announcement q came message (before_announcement q came head source known)) (with_head came head known)).tables
-    go true = more_then known.tables (before_announcement q came head source known).tables (after_announcement q came message (before_announcement q came head source known)).tables
-        (life (q.hear known.routes came.now came.from came.throughput head).began) (Rattle.mesh_model.specs.Knowledge.Steps.announced_table came message ∷ [], refl)
-    go false = ([], refl)
-
-answer_more : (q : Queries) (now : ℕ) (src : Mac) (message : TableMessage) (known : Knowledge) → More known.tables (after_answer q now src message known).tables
-answer_more q now src (Asks full stamp) known = ([], refl)
-answer_more q now src (Answers stamp carried) known = go (q.live known.routes now src)
-  where
-    more : Knowledge
-    more = record known { tables = Answered src stamp carried ∷ known.tables; marks = released_under src (agreed_byte (known_by (Answered src stamp carried ∷ known.tables) src)) known.marks }
-
-    go : (b : Bool) → More known.tables (cond b more known).tables
-    go true = (Answered src stamp carried ∷ [], refl)
-    go false = ([], refl)
-answer_more q now src Neither known = ([], refl)
-
-roamed_same : (q : Queries) (now : ℕ) (src : Mac) (key : Option Key) (known : Knowledge) → (after_roaming q now src key known).tables ≡ known.tables
-roamed_same q now src None known = refl
-roamed_same q now src (Some key) known = refl
-
-packet_calls : (q : Queries) (me : Mac) (came : Coming) (packet : Packet) (known : Knowledge) → More known.tables (after_packet q me came known packet).tables
-packet_calls q me came packet known = go packet.head packet.tail
-  where
-    both : (b : Bool) (one : Knowledge) → More known.tables one.tables → More known.tables (cond b one known).tables
-    both true one m = m
-    both false one m = ([], refl)
-
-    go : (head : Head) (tail : List ℕ) → More known.tables (after_head q me came (message_of (record { head = head; tail = tail })) tail head known).tables
-    go (IvOgm ttl flags seq o prev tq) tail = taken_more q came (IvOgm ttl flags seq o prev tq) o (first_table (containers_of tail)) known
-    go (Bcast ttl seq o) tail = both (is_new_broadcast me (record { orig = o; number = seq }) known.taken) (record known { taken = record { orig = o; number = seq } ∷ known.taken }) ([], refl)
-    go (Elp o seq interval) tail = ([], refl)
-    go (Ogm2 ttl flags seq o throughput) tail = taken_more q came (Ogm2 ttl flags seq o throughput) o (first_table (containers_of tail)) known
-    go (Unicast ttl ttvn dst) tail = ([], refl)
-    go (Frag ttl number priority dst o seq total) tail = ([], refl)
-    go (Unicast4 ttl ttvn dst src subtype) tail = ([], refl)
-    go (Icmp ttl msg dst o uid seq) tail = both (same_mac dst me && is_answer msg) (after_reply q came.now msg seq known) ([], refl)
-    go (Utvlv ttl dst src) tail =
-        let answer : Knowledge = after_answer q came.now src (message_in (first_table (containers_of tail))) known in
-        both (same_mac dst me) (after_containers q came.now src tail known)
-        (more_then known.tables answer.tables (after_containers q came.now src tail known).tables (answer_more q came.now src (message_in (first_table (containers_of tail))) known)
-        (more_same answer.tables (after_containers q came.now src tail known).tables (roamed_same q came.now src (first_roaming (containers_of tail)) answer)))
-
-packets_calls : (q : Queries) (me : Mac) (came : Coming) (packets : List Packet) (known : Knowledge) → More known.tables (after_packets q me came known packets).tables
-packets_calls q me came [] known = ([], refl)
-packets_calls q me came (packet ∷ rest) known =
-    more_then known.tables (after_packet q me came known packet).tables (after_packets q me came (after_packet q me came known packet) rest).tables
-    (packet_calls q me came packet known) (packets_calls q me came rest (after_packet q me came known packet))
-
-line_calls : (q : Queries) (me : Mac) (older : Log) (known : Knowledge) (now : ℕ) (line : LineGiven) → More known.tables (line_knowledge q me older known now line).tables
-line_calls q me older known now line = more_same known.tables (line_knowledge q me older known now line).tables (line_same q me older known now line)
-
-pub next_calls : (q : Queries) (me : Mac) (older : Log) (known : Knowledge) (now : ℕ) (given : Given) → More known.tables (next_knowledge q me older known now given).tables
-next_calls q me older known now (Tick index) = ([], refl)
-next_calls q me older known now (LinkFrame number from throughput bytes) = packets_calls q me (record { now = now; from = from; throughput = throughput; number = number }) (link_frame bytes).packets known
-next_calls q me older known now (LanFrame bytes) = ([], refl)
-next_calls q me older known now (Line line) = line_calls q me older known now line
-
 -- ---- packets
-can_name : (had all : TableCalls) (orig : Mac) (log : Log) (frames : List SentFrame) (w : World) (m : ℕ) (known : Knowledge) → More had known.tables → More known.tables all → KnowsWhole known → IsClear orig log w → NodeIsTied orig log frames (known_by known.tables orig) (w.nodes m) → CanName had all orig log frames known
-can_name had all orig log frames w m known since more whole clear tied = record {
+can_name : (looks : Act → TableCalls → Type 0) (orig : Mac) (log : Log) (frames : List SentFrame) (w : World) (m : ℕ) (known : Knowledge) → ((act : Act) → looks act known.tables) → KnowsWhole known → IsClear orig log w → NodeIsTied orig log frames (known_by known.tables orig) (w.nodes m) → CanName looks orig log frames known
+can_name looks orig log frames w m known looked whole clear tied = record {
   whole = whole;
-  since = since.0;
-  came_is = since.1;
-  later = more.0;
-  all_is = more.1;
+  looked = looked;
   found = λ key agreed named. found_told orig log frames w m known.tables key clear tied agreed named;
 }
 
-packets_name : (had all : TableCalls) (orig : Mac) (log : Log) (frames : List SentFrame) (root : ℕ) (w : World) (m : ℕ) (q : Queries) (me : Mac) (own : Own) (came : Coming) (packets : List Packet) (known : Knowledge)
+-- what had come for one act had come for it among more acts
+sent_looks : (P Q : TableCalls → Type 0) (orig : Mac) (log : Log) (frames : List SentFrame) (bytes : List ℕ) → ((came : TableCalls) → P came → Q came) → IsSentByTable P orig log frames bytes → IsSentByTable Q orig log frames bytes
+sent_looks P Q orig log frames bytes more s = record {
+  ttl = s.ttl;
+  ttvn = s.ttvn;
+  dst = s.dst;
+  payload = s.payload;
+  whole = s.whole;
+  bytes_are = s.bytes_are;
+  named = λ same. let n = s.named same in record { came = n.came; then = more n.came n.then; names_client = n.names_client };
+}
+
+act_looks : (P Q : Act → TableCalls → Type 0) (orig : Mac) (log : Log) (frames : List SentFrame) (act : Act) → ((came : TableCalls) → P act came → Q act came) → ActNames P orig log frames act → ActNames Q orig log frames act
+act_looks P Q orig log frames (Link to reason bytes) more a = λ is. sent_looks (P (Link to reason bytes)) (Q (Link to reason bytes)) orig log frames bytes more (a is)
+act_looks P Q orig log frames (Lan bytes) more a = tt
+act_looks P Q orig log frames (Print event) more a = a
+
+acts_look : (P Q : Act → TableCalls → Type 0) (orig : Mac) (log : Log) (frames : List SentFrame) (acts : List Act) → ((act : Act) → Has acts act → (came : TableCalls) → P act came → Q act came) → AllByRecursion (ActNames P orig log frames) acts → AllByRecursion (ActNames Q orig log frames) acts
+acts_look P Q orig log frames [] more a = tt
+acts_look P Q orig log frames (act ∷ acts) more a = (act_looks P Q orig log frames act (more act (inl refl)) a.0, acts_look P Q orig log frames acts (λ other has. more other (inr has)) a.1)
+
+packets_name : (orig : Mac) (log : Log) (frames : List SentFrame) (root : ℕ) (w : World) (m : ℕ) (q : Queries) (me : Mac) (own : Own) (came : Coming) (packets : List Packet) (known : Knowledge)
     → KeepsOriginators me q → IsWhole came.from → CameIn frames root came.number → Ready orig w m me own → NodeIsTied orig log frames (known_by known.tables orig) (w.nodes m)
-    → ((packet : Packet) → Has packets packet → PacketSays orig log w.said root packet) → HasNoAlias w.commits → w.commits ≡ commits orig log → KnowsWhole known → More had known.tables → More (after_packets q me came known packets).tables all
-    → AllByRecursion (ActNames had all orig log frames) (packets_acts q me own came known packets)
+    → ((packet : Packet) → Has packets packet → PacketSays orig log w.said root packet) → HasNoAlias w.commits → w.commits ≡ commits orig log → KnowsWhole known
+    → AllByRecursion (ActNames (IsOfPacket q me own came known packets) orig log frames) (packets_acts q me own came known packets)
 unfolding packets_acts
-packets_name had all orig log frames root w m q me own came [] known keeps from f r tied says none made whole since more = tt
-packets_name had all orig log frames root w m q me own came (packet ∷ rest) known keeps from f r tied says none made whole since more =
-    let then = after_packet q me came known packet in
+packets_name orig log frames root w m q me own came [] known keeps from f r tied says none made whole = tt
+packets_name orig log frames root w m q me own came (packet ∷ rest) known keeps from f r tied says none made whole =
+    let next = after_packet q me came known packet in
+    let Here : Act → TableCalls → Type 0 = λ act c. c ≡ known.tables in
     let one = packet_goes orig log frames root w m q me own came packet known keeps from f r tied (says packet (inl refl)) in
-    let later : More known.tables all = more_then known.tables (after_packets q me came known (packet ∷ rest)).tables all (packets_calls q me came (packet ∷ rest) known) more in
     let clear : IsClear orig log w = record { base = r.base; none = none; commits = made } in
-    each_appended (ActNames had all orig log frames) (packet_acts q me own came known packet) (packets_acts q me own came then rest)
-    (packet_names had all orig log frames q me own came packet known (can_name had all orig log frames w m known since later whole clear tied))
-    (packets_name had all orig log frames root one.world m q me own came rest then keeps from f (ready_later orig w one.world m me own r one.path one.commits) one.tied
+    each_appended (ActNames (IsOfPacket q me own came known (packet ∷ rest)) orig log frames) (packet_acts q me own came known packet) (packets_acts q me own came next rest)
+    (acts_look Here (IsOfPacket q me own came known (packet ∷ rest)) orig log frames (packet_acts q me own came known packet)
+    (λ act has c is. record { front = []; packet = packet; back = rest; packets_are = refl; among = has; came_is = is })
+    (packet_names Here orig log frames q me own came packet known (can_name Here orig log frames w m known (λ act. refl) whole clear tied)))
+    (acts_look (IsOfPacket q me own came next rest) (IsOfPacket q me own came known (packet ∷ rest)) orig log frames (packets_acts q me own came next rest)
+    (λ act has c is. record { front = packet ∷ is.front; packet = is.packet; back = is.back; packets_are = ap (λ ps. packet ∷ ps) is.packets_are; among = is.among; came_is = is.came_is })
+    (packets_name orig log frames root one.world m q me own came rest next keeps from f (ready_later orig w one.world m me own r one.path one.commits) one.tied
     (λ p has. packet_more orig log w.said one.world.said root p one.more (says p (inr has))) (subst HasNoAlias (sym one.commits) none) (one.commits ∙ made)
-    (packet_knows q me came packet known (says packet (inl refl)).addresses whole) (more_then had known.tables then.tables since (packet_calls q me came packet known)) more)
+    (packet_knows q me came packet known (says packet (inl refl)).addresses whole)))
 
 -- ---- one input
+-- all that had come before an input
+abbrev Before : Queries → Mac → Log → Act → TableCalls → Type 0
+Before q me mine act came = came ≡ (knowledge q me mine).tables
+
 -- the acts of an input, from the world midway
-line_names : (orig : Mac) (log : Log) (frames : List SentFrame) (v : World) (m : ℕ) (q : Queries) (me : Mac) (mine : Log) (now : ℕ) (line : LineGiven) → KnowsWhole (knowledge q me mine) → IsClear orig log v
-    → NodeIsTied orig log frames (known_by (knowledge q me mine).tables orig) (v.nodes m) → AllByRecursion (ActNames (knowledge q me mine).tables (knowledge q me mine).tables orig log frames) (acts_of q me mine now (Line line))
-line_names orig log frames v m q me mine now (Attach lan gateways) k clear tied = tt
-line_names orig log frames v m q me mine now (Frame src dst vid text) k clear tied =
+line_names : (orig : Mac) (log : Log) (frames : List SentFrame) (v : World) (m : ℕ) (q : Queries) (me : Mac) (mine : Log) (now : ℕ) (line : LineGiven) → TellsClient line → KnowsWhole (knowledge q me mine) → IsClear orig log v
+    → NodeIsTied orig log frames (known_by (knowledge q me mine).tables orig) (v.nodes m) → AllByRecursion (ActNames (Before q me mine) orig log frames) (acts_of q me mine now (Line line))
+line_names orig log frames v m q me mine now (Attach lan gateways) of k clear tied = tt
+line_names orig log frames v m q me mine now (Frame src dst vid text) of k clear tied =
     let client : ClientFrame = record { dst = dst; src = src; vid = vid; text = text } in
     let key = key_of src vid in
     let known = knowledge q me mine in
     let seen = after_sighting q me mine now key known in
     let ms = next_mentions me mine (mentions me mine) now (Line (Frame src dst vid text)) in
-    each_appended (ActNames known.tables known.tables orig log frames) (sighting_acts q me mine now key) (client_acts q me mine now client)
-    (plain_names known.tables known.tables orig log frames (sighting_acts q me mine now key) (plain_advert me key (advertised q me mine known now key)))
-    (frame_names known.tables known.tables orig log frames q seen ms (record { me = me; now = now }) client
-    (can_name known.tables known.tables orig log frames v m seen ([], refl) ([], refl) (sighting_knows q me mine now key known k) clear tied))
-line_names orig log frames v m q me mine now (Gone key) k clear tied = tt
-line_names orig log frames v m q me mine now (Join key) k clear tied = tt
-line_names orig log frames v m q me mine now (Leave key) k clear tied = tt
-line_names orig log frames v m q me mine now (Arp mac own_ip asked_ip vid) k clear tied =
-    plain_names (knowledge q me mine).tables (knowledge q me mine).tables orig log frames (sighting_acts q me mine now (key_of mac vid)) (plain_advert me (key_of mac vid) (advertised q me mine (knowledge q me mine) now (key_of mac vid)))
-line_names orig log frames v m q me mine now (Dhcp key text) k clear tied =
-    plain_names (knowledge q me mine).tables (knowledge q me mine).tables orig log frames (sighting_acts q me mine now key) (plain_advert me key (advertised q me mine (knowledge q me mine) now key))
-line_names orig log frames v m q me mine now (Sets setting) k clear tied = tt
-line_names orig log frames v m q me mine now (Put type_no version text) k clear tied = tt
-line_names orig log frames v m q me mine now (Get type_no) k clear tied = tt
-line_names orig log frames v m q me mine now (Ping target) k clear tied =
+    each_appended (ActNames (Before q me mine) orig log frames) (sighting_acts q me mine now key) (client_acts q me mine now client)
+    (plain_names (Before q me mine) orig log frames (sighting_acts q me mine now key) (plain_advert me key (advertised q me mine known now key)))
+    (frame_names (Before q me mine) orig log frames q seen ms (record { me = me; now = now }) client of.1 of.0.fits.address
+    (can_name (Before q me mine) orig log frames v m seen (λ act. refl) (sighting_knows q me mine now key known k) clear tied))
+line_names orig log frames v m q me mine now (Gone key) of k clear tied = tt
+line_names orig log frames v m q me mine now (Join key) of k clear tied = tt
+line_names orig log frames v m q me mine now (Leave key) of k clear tied = tt
+line_names orig log frames v m q me mine now (Arp mac own_ip asked_ip vid) of k clear tied =
+    plain_names (Before q me mine) orig log frames (sighting_acts q me mine now (key_of mac vid)) (plain_advert me (key_of mac vid) (advertised q me mine (knowledge q me mine) now (key_of mac vid)))
+line_names orig log frames v m q me mine now (Dhcp key text) of k clear tied =
+    plain_names (Before q me mine) orig log frames (sighting_acts q me mine now key) (plain_advert me key (advertised q me mine (knowledge q me mine) now key))
+line_names orig log frames v m q me mine now (Sets setting) of k clear tied = tt
+line_names orig log frames v m q me mine now (Put type_no version text) of k clear tied = tt
+line_names orig log frames v m q me mine now (Get type_no) of k clear tied = tt
+line_names orig log frames v m q me mine now (Ping target) of k clear tied =
     let known = knowledge q me mine in
-    plain_names known.tables known.tables orig log frames (probing_acts q me mine now target false) (plain_session q known (record { me = me; now = now }) target false)
-line_names orig log frames v m q me mine now (Trace target) k clear tied =
+    plain_names (Before q me mine) orig log frames (probing_acts q me mine now target false) (plain_session q known (record { me = me; now = now }) target false)
+line_names orig log frames v m q me mine now (Trace target) of k clear tied =
     let known = knowledge q me mine in
-    plain_names known.tables known.tables orig log frames (probing_acts q me mine now target true) (plain_session q known (record { me = me; now = now }) target true)
+    plain_names (Before q me mine) orig log frames (probing_acts q me mine now target true) (plain_session q known (record { me = me; now = now }) target true)
+
+-- a frame of a LAN
+lan_names : (orig : Mac) (log : Log) (frames : List SentFrame) (v : World) (m : ℕ) (q : Queries) (me : Mac) (mine : Log) (now : ℕ) (bytes : List ℕ) → KnowsWhole (knowledge q me mine) → IsClear orig log v
+    → NodeIsTied orig log frames (known_by (knowledge q me mine).tables orig) (v.nodes m) → AllByRecursion (ActNames (Before q me mine) orig log frames) (acts_of q me mine now (LanFrame bytes))
+lan_names orig log frames v m q me mine now bytes k clear tied =
+    each_appended Names (claimed_first me mine now came) (from_lan_acts q me mine now ms (passed_from_lan me mine now came))
+    (plain_names (Before q me mine) orig log frames (claimed_first me mine now came) (plain_bridges (claimed_first me mine now came) (claimed_puts me mine now came)))
+    (go (passed_from_lan me mine now came) (λ frame is. passed_came me mine now came frame is))
+  where
+    known : Knowledge
+    known = knowledge q me mine
+
+    Names : Act → Type 0
+    Names act = ActNames (Before q me mine) orig log frames act
+
+    came : Option ClientFrame
+    came = client_frame_in (lan_message_of bytes)
+
+    ms : List Mention
+    ms = next_mentions me mine (mentions me mine) now (LanFrame bytes)
+
+    go : (o : Option ClientFrame) → ((frame : ClientFrame) → o ≡ Some frame → client_frame_in (lan_message_of bytes) ≡ Some frame) → AllByRecursion (ActNames (Before q me mine) orig log frames) (from_lan_acts q me mine now ms o)
+    go None from = tt
+    go (Some frame) from =
+        let read = lan_read bytes frame (from frame refl) in
+        let key = key_of frame.src frame.vid in
+        let seen = after_sighting q me mine now key known in
+        let acts = frame_acts q seen ms (record { me = me; now = now }) frame in
+        each_appended (ActNames (Before q me mine) orig log frames) (sighting_acts q me mine now key) (on_from_lan q me mine now seen ms frame)
+        (plain_names (Before q me mine) orig log frames (sighting_acts q me mine now key) (plain_advert me key (advertised q me mine known now key)))
+        (names_if (Before q me mine) orig log frames (stays_on_lan q ms (bridge mine).lan now (key_of frame.dst frame.vid) seen) [] acts tt
+        (frame_names (Before q me mine) orig log frames q seen ms (record { me = me; now = now }) frame (dst_whole bytes frame read) (src_whole bytes frame read)
+        (can_name (Before q me mine) orig log frames v m seen (λ act. refl) (sighting_knows q me mine now key known k) clear tied)))
 
 -- ---- it stays so
-name_grows : (had all : TableCalls) (orig : Mac) (log after : Log) (frames more : List SentFrame) (payload : List ℕ) → Grows orig log after → HadCome had all orig log frames payload → HadCome had all orig after (frames ++ more) payload
-name_grows had all orig log after frames more payload g h =
+name_grows : (looks : TableCalls → Type 0) (orig : Mac) (log after : Log) (frames more : List SentFrame) (payload : List ℕ) → Grows orig log after → NamedThen looks orig log frames payload → NamedThen looks orig after (frames ++ more) payload
+name_grows looks orig log after frames more payload g h =
     let n = h.names_client in
     record {
       came = h.came;
-      since = h.since;
-      came_is = h.came_is;
-      later = h.later;
-      after_is = h.after_is;
+      then = h.then;
       names_client = record {
         client = n.client;
         carried = n.carried;
@@ -216,35 +192,35 @@ name_grows had all orig log after frames more payload g h =
       };
     }
 
-pub sent_grows : (had all : TableCalls) (orig : Mac) (log after : Log) (frames more : List SentFrame) (bytes : List ℕ) → Grows orig log after → IsSentByTable had all orig log frames bytes → IsSentByTable had all orig after (frames ++ more) bytes
-sent_grows had all orig log after frames more bytes g s = record {
+pub sent_grows : (looks : TableCalls → Type 0) (orig : Mac) (log after : Log) (frames more : List SentFrame) (bytes : List ℕ) → Grows orig log after → IsSentByTable looks orig log frames bytes → IsSentByTable looks orig after (frames ++ more) bytes
+sent_grows looks orig log after frames more bytes g s = record {
   ttl = s.ttl;
   ttvn = s.ttvn;
   dst = s.dst;
   payload = s.payload;
   whole = s.whole;
   bytes_are = s.bytes_are;
-  had_come = λ same. name_grows had all orig log after frames more s.payload g (s.had_come same);
+  named = λ same. name_grows looks orig log after frames more s.payload g (s.named same);
 }
 
-act_grows : (had all : TableCalls) (orig : Mac) (log after : Log) (frames more : List SentFrame) (act : Act) → Grows orig log after → ActNames had all orig log frames act → ActNames had all orig after (frames ++ more) act
-act_grows had all orig log after frames more (Link to reason bytes) g a = λ is. sent_grows had all orig log after frames more bytes g (a is)
-act_grows had all orig log after frames more (Lan bytes) g a = tt
-act_grows had all orig log after frames more (Print event) g a = a
+act_grows : (looks : Act → TableCalls → Type 0) (orig : Mac) (log after : Log) (frames more : List SentFrame) (act : Act) → Grows orig log after → ActNames looks orig log frames act → ActNames looks orig after (frames ++ more) act
+act_grows looks orig log after frames more (Link to reason bytes) g a = λ is. sent_grows (looks (Link to reason bytes)) orig log after frames more bytes g (a is)
+act_grows looks orig log after frames more (Lan bytes) g a = tt
+act_grows looks orig log after frames more (Print event) g a = a
 
-abbrev pub AllName : TableCalls → TableCalls → Mac → Log → List SentFrame → List Act → Type 0
-AllName had all orig log frames acts = AllByRecursion (ActNames had all orig log frames) acts
+abbrev pub AllName : (Act → TableCalls → Type 0) → Mac → Log → List SentFrame → List Act → Type 0
+AllName looks orig log frames acts = AllByRecursion (ActNames looks orig log frames) acts
 
-acts_grow : (had all : TableCalls) (orig : Mac) (log after : Log) (frames more : List SentFrame) (acts : List Act) → Grows orig log after → AllName had all orig log frames acts → AllName had all orig after (frames ++ more) acts
-acts_grow had all orig log after frames more [] g a = tt
-acts_grow had all orig log after frames more (act ∷ acts) g a = (act_grows had all orig log after frames more act g a.0, acts_grow had all orig log after frames more acts g a.1)
+acts_grow : (looks : Act → TableCalls → Type 0) (orig : Mac) (log after : Log) (frames more : List SentFrame) (acts : List Act) → Grows orig log after → AllName looks orig log frames acts → AllName looks orig after (frames ++ more) acts
+acts_grow looks orig log after frames more [] g a = tt
+acts_grow looks orig log after frames more (act ∷ acts) g a = (act_grows looks orig log after frames more act g a.0, acts_grow looks orig log after frames more acts g a.1)
 
 -- what an entry of a node behind a log says of what was sent by table
 abbrev pub EntryNames : (Mac → Queries) → Mac → Mac → Log → List SentFrame → Log → LogEntry → Type 0
-EntryNames queries orig me log frames older entry = AllName (told_in queries me older) (told_in queries me (entry ∷ older)) orig log frames entry.acts
+EntryNames queries orig me log frames older entry = AllName (HadCome (queries me) me older entry.moment entry.given) orig log frames entry.acts
 
 entry_grows : (queries : Mac → Queries) (orig me : Mac) (log after : Log) (frames more : List SentFrame) (older : Log) (entry : LogEntry) → Grows orig log after → EntryNames queries orig me log frames older entry → EntryNames queries orig me after (frames ++ more) older entry
-entry_grows queries orig me log after frames more older entry g names = acts_grow (told_in queries me older) (told_in queries me (entry ∷ older)) orig log after frames more entry.acts g names
+entry_grows queries orig me log after frames more older entry g names = acts_grow (HadCome (queries me) me older entry.moment entry.given) orig log after frames more entry.acts g names
 
 -- what a mesh's logs say of what was sent by table
 abbrev Named : (Mac → Queries) → Mac → Mesh → Type 0
@@ -324,24 +300,35 @@ abbrev NamedIf : (Mac → Queries) → Mac → Mesh → Type 0
 NamedIf queries orig mesh = HasNoAlias (commits_of orig mesh) → Named queries orig mesh
 
 -- what the acts of a step's input name, where no two commits behind it are an alias
-pub line_acts_name : (queries : Mac → Queries) (mesh : Mesh) (place now : ℕ) (node : NodeLog) (line : LineGiven) (orig : Mac) → Reached queries mesh → slice_get mesh.nodes place ≡ Some node
+pub line_acts_name : (queries : Mac → Queries) (mesh : Mesh) (place now : ℕ) (node : NodeLog) (line : LineGiven) (orig : Mac) → TellsClient line → Reached queries mesh → slice_get mesh.nodes place ≡ Some node
     → HasNoAlias (commits orig (log_of orig (noted_at place (entry_of (scenario_setup queries) node now (Line line)) mesh.nodes)))
     → EntryNames queries orig node.mac (log_of orig (noted_at place (entry_of (scenario_setup queries) node now (Line line)) mesh.nodes)) mesh.frames node.log (entry_of (scenario_setup queries) node now (Line line))
-line_acts_name queries mesh place now node line orig h found clear =
+line_acts_name queries mesh place now node line orig of h found clear =
     let entry = entry_of (scenario_setup queries) node now (Line line) in
     let log = log_of orig (noted_at place entry mesh.nodes) in
     let l = log_after queries orig mesh place node entry h.holds.orderly found in
     let tie = h.ties orig in
     let v = midway_of queries orig mesh node entry log tie.0 l tt tie.1 tie.2 in
-    subst (λ all. AllName (known_at_node queries node).tables all orig log mesh.frames entry.acts) (sym (line_same (queries node.mac) node.mac node.log (known_at_node queries node) now line))
-    (line_names orig log mesh.frames v.0 place (queries node.mac) node.mac node.log now line (h.holds.orderly.knows place node found)
-    (record { base = v.1.base; none = subst HasNoAlias (sym v.1.commits) clear; commits = v.1.commits }) (v.1.nodes place node found))
+    line_names orig log mesh.frames v.0 place (queries node.mac) node.mac node.log now line of (h.holds.orderly.knows place node found)
+    (record { base = v.1.base; none = subst HasNoAlias (sym v.1.commits) clear; commits = v.1.commits }) (v.1.nodes place node found)
+
+pub lan_acts_name : (queries : Mac → Queries) (mesh : Mesh) (place now : ℕ) (node : NodeLog) (bytes : List ℕ) (orig : Mac) → Reached queries mesh → slice_get mesh.nodes place ≡ Some node
+    → HasNoAlias (commits orig (log_of orig (noted_at place (entry_of (scenario_setup queries) node now (LanFrame bytes)) mesh.nodes)))
+    → EntryNames queries orig node.mac (log_of orig (noted_at place (entry_of (scenario_setup queries) node now (LanFrame bytes)) mesh.nodes)) mesh.frames node.log (entry_of (scenario_setup queries) node now (LanFrame bytes))
+lan_acts_name queries mesh place now node bytes orig h found clear =
+    let entry = entry_of (scenario_setup queries) node now (LanFrame bytes) in
+    let log = log_of orig (noted_at place entry mesh.nodes) in
+    let l = log_after queries orig mesh place node entry h.holds.orderly found in
+    let tie = h.ties orig in
+    let v = midway_of queries orig mesh node entry log tie.0 l tt tie.1 tie.2 in
+    lan_names orig log mesh.frames v.0 place (queries node.mac) node.mac node.log now bytes (h.holds.orderly.knows place node found)
+    (record { base = v.1.base; none = subst HasNoAlias (sym v.1.commits) clear; commits = v.1.commits }) (v.1.nodes place node found)
 
 pub tick_names : (queries : Mac → Queries) (mesh : Mesh) (place now : ℕ) (node : NodeLog) (orig : Mac) (log : Log)
     → EntryNames queries orig node.mac log mesh.frames node.log (entry_of (scenario_setup queries) node now (Tick (suc (ticks_in node.log))))
 tick_names queries mesh place now node orig log =
     let known = known_at_node queries node in
-    names_tick known.tables known.tables orig log mesh.frames (queries node.mac) node.mac known.routes (mentions node.mac node.log) (history node.mac node.log) now (suc (ticks_in node.log))
+    names_tick (Before (queries node.mac) node.mac node.log) orig log mesh.frames (queries node.mac) node.mac known.routes (mentions node.mac node.log) (history node.mac node.log) (bridge node.log) now (suc (ticks_in node.log))
 
 pub frame_acts_name : (queries : Mac → Queries) (mesh after : Mesh) (place now number throughput : ℕ) (from : Mac) (node : NodeLog) (frame : SentFrame) (orig : Mac) → AllKeep queries → Reached queries mesh → CommitsFit after → slice_get mesh.nodes place ≡ Some node
     → slice_get mesh.frames number ≡ Some frame → IsWhole from → given_to (scenario_setup queries) place now frame.root (LinkFrame (suc number) from throughput frame.bytes) mesh ≡ Ok after
@@ -359,11 +346,11 @@ frame_acts_name queries mesh after place now number throughput from node frame o
     let known = known_at_node queries node in
     let came : Coming = record { now = now; from = from; throughput = throughput; number = suc number } in
     let packets = (link_frame frame.bytes).packets in
-    packets_name known.tables (after_packets (queries node.mac) node.mac came known packets).tables orig log mesh.frames frame.root v.0 place (queries node.mac) node.mac (own_by node.mac node.log) came packets known (keep node.mac) whole
+    packets_name orig log mesh.frames frame.root v.0 place (queries node.mac) node.mac (own_by node.mac node.log) came packets known (keep node.mac) whole
     (came_in mesh number frame sent)
     (frame_ready queries orig mesh place now (suc number) throughput from node frame.bytes (log_of orig mesh.nodes) log h.holds.orderly found l (h.holds.fits place node found)
     (subst (λ ns. Rattle.mesh_tie.proofs.EntryLemmas.OfCommits Rattle.mesh_tie.specs.Tie.FitsEntry (commits orig (log_of orig ns))) has.nodes (fits_among after.nodes fit orig)) v.0 v.1)
-    (v.1.nodes place node found) (v.1.frames number frame sent) (subst HasNoAlias (sym v.1.commits) clear) v.1.commits (h.holds.orderly.knows place node found) ([], refl) ([], refl)
+    (v.1.nodes place node found) (v.1.frames number frame sent) (subst HasNoAlias (sym v.1.commits) clear) v.1.commits (h.holds.orderly.knows place node found)
 
 step_named : (queries : Mac → Queries) (mesh after : Mesh) → AllKeep queries → Reached queries mesh → CommitsFit after → Steps queries mesh after → (orig : Mac) → NamedIf queries orig mesh → NamedIf queries orig after
 step_named queries mesh _ keep h fit (node_joins _ node empty whole fresh) orig named none = joined_named queries orig mesh node empty (named (subst (λ l. HasNoAlias (commits orig l)) (log_joined orig mesh.nodes node empty) none))
@@ -375,7 +362,7 @@ step_named queries mesh after keep h fit (line_gives _ _ place now node line fou
     let l = log_after queries orig mesh place node entry h.holds.orderly found in
     let clear : HasNoAlias (commits orig log) = subst (λ ns. HasNoAlias (commits orig (log_of orig ns))) (has.nodes) none in
     given_named queries orig mesh after place now 0 node (Line line) (named (none_before (commits orig (log_of orig mesh.nodes)) (commits orig log) (commits_kept orig node entry (log_of orig mesh.nodes) log l) clear)) found tt l is
-    (line_acts_name queries mesh place now node line orig h found clear)
+    (line_acts_name queries mesh place now node line orig of h found clear)
 step_named queries mesh after keep h fit (node_ticks _ _ place now node found may is) orig named none =
     let index = suc (ticks_in node.log) in
     let entry = entry_of (scenario_setup queries) node now (Tick index) in
@@ -394,20 +381,32 @@ step_named queries mesh after keep h fit (frame_comes _ _ place now number throu
     let clear : HasNoAlias (commits orig log) = subst (λ ns. HasNoAlias (commits orig (log_of orig ns))) (has.nodes) none in
     given_named queries orig mesh after place now frame.root node given (named (none_before (commits orig (log_of orig mesh.nodes)) (commits orig log) (commits_kept orig node entry (log_of orig mesh.nodes) log l) clear)) found tt l is
     (frame_acts_name queries mesh after place now number throughput from node frame orig keep h fit found sent whole is clear)
+step_named queries mesh _ keep h fit (lan_joins _ lan) orig named none = named none
+step_named queries mesh _ keep h fit (put_comes _ put frame by is tells) orig named none = named none
+step_named queries mesh _ keep h fit (put_reaches _ number now put frame found carries) orig named none = named none
+step_named queries mesh after keep h fit (lan_comes _ _ place now number node put found may among is) orig named none =
+    let given = LanFrame put.bytes in
+    let entry = entry_of (scenario_setup queries) node now given in
+    let log = log_of orig (noted_at place entry mesh.nodes) in
+    let has = given_is (scenario_setup queries) place now 0 node given mesh after found is in
+    let l = log_after queries orig mesh place node entry h.holds.orderly found in
+    let clear : HasNoAlias (commits orig log) = subst (λ ns. HasNoAlias (commits orig (log_of orig ns))) (has.nodes) none in
+    given_named queries orig mesh after place now 0 node given (named (none_before (commits orig (log_of orig mesh.nodes)) (commits orig log) (commits_kept orig node entry (log_of orig mesh.nodes) log l) clear)) found tt l is
+    (lan_acts_name queries mesh place now node put.bytes orig h found clear)
 step_named queries mesh _ keep h fit (time_passes _ happening) orig named none = named none
 
 all_named : (queries : Mac → Queries) → AllKeep queries → (mesh : Mesh) → IsReachable queries mesh → (orig : Mac) → NamedIf queries orig mesh
 all_named queries keep _ begins orig = λ none place node newer older entry got split. cc
 all_named queries keep _ (goes_on mesh after r s) orig =
-    step_named queries mesh after keep (reached queries keep (commits_always_fit queries) mesh r) (commits_always_fit queries after (goes_on mesh after r s)) s orig (all_named queries keep mesh r orig)
+    step_named queries mesh after keep (reached queries keep mesh r) (commits_always_fit queries keep after (goes_on mesh after r s)) s orig (all_named queries keep mesh r orig)
 
 -- an act among others
-pub act_of : (had all : TableCalls) (orig : Mac) (log : Log) (frames : List SentFrame) (to : Option Mac) (bytes : List ℕ) (acts : List Act) → AllName had all orig log frames acts → Has acts (Link to (Some Table) bytes) → IsSentByTable had all orig log frames bytes
-act_of had all orig log frames to bytes [] each has = absurd has
-act_of had all orig log frames to bytes (act ∷ rest) each (inl is) = subst (ActNames had all orig log frames) (sym is) each.0 refl
-act_of had all orig log frames to bytes (act ∷ rest) each (inr has) = act_of had all orig log frames to bytes rest each.1 has
+pub act_of : (looks : Act → TableCalls → Type 0) (orig : Mac) (log : Log) (frames : List SentFrame) (to : Option Mac) (bytes : List ℕ) (acts : List Act) → AllName looks orig log frames acts → Has acts (Link to (Some Table) bytes) → IsSentByTable (looks (Link to (Some Table) bytes)) orig log frames bytes
+act_of looks orig log frames to bytes [] each has = absurd has
+act_of looks orig log frames to bytes (act ∷ rest) each (inl is) = subst (ActNames looks orig log frames) (sym is) each.0 refl
+act_of looks orig log frames to bytes (act ∷ rest) each (inr has) = act_of looks orig log frames to bytes rest each.1 has
 
 pub frames_by_table : FramesByTable
 frames_by_table queries orig mesh is place node newer older entry found split to bytes sent =
-    act_of (told_in queries node.mac older) (told_in queries node.mac (entry ∷ older)) orig (log_of orig mesh.nodes) mesh.frames to bytes entry.acts
+    act_of (HadCome (queries node.mac) node.mac older entry.moment entry.given) orig (log_of orig mesh.nodes) mesh.frames to bytes entry.acts
     (all_named queries is.keep mesh is.reachable orig is.none place node newer older entry found split) sent

@@ -15,12 +15,14 @@ use Rattle.mesh_model.specs.declared.act.Act.TheVariants.{Link, Lan, Print}
 use Rattle.mesh_model.specs.declared.packet.Head.{Head}
 use Rattle.mesh_model.specs.declared.packet.Head.TheVariants.{IvOgm, Bcast, Elp, Ogm2, Unicast, Frag, Unicast4, Icmp, Utvlv}
 use Rattle.mesh_model.specs.declared.table_outcome.Request.{Request}
-use Rattle.mesh_model.specs.Acts.FrameRows.{Place, addressed, advert_acts, arrived, broadcast_acts, broadcast_on, frame_acts, handed_out, handed_out_if, here_acts, is_present, lost, lost_if, on_route, on_way, passed_frame, readdressed}
+use Rattle.mesh_model.specs.Acts.BridgeRows.{Place, handed_out, out_acts, round_acts, spread_of_broadcast, spread_of_packet, unclaim_acts}
+use Rattle.mesh_model.specs.Acts.FrameRows.{addressed, advert_acts, arrived, broadcast_acts, broadcast_on, frame_acts, handed_out_if, here_acts, is_present, lost, lost_if, on_route, on_way, passed_frame, readdressed}
 use Rattle.mesh_model.specs.Acts.OwnContainers.{own_containers}
 use Rattle.mesh_model.specs.Acts.Packing.{reply_containers, request_containers, sent_over, sent_to_all}
 use Rattle.mesh_model.specs.Acts.ProbeRows.{IcmpMessage, session_acts}
 use Rattle.mesh_model.specs.Acts.Rows.{Own, accepted_acts, alias_acts, alias_event, commit_acts, elp_acts, head_acts, icmp_acts, message_acts, ogm_acts, packet_acts, place_at, taken_acts, tick_acts}
 use Rattle.mesh_model.specs.Acts.TableRows.{on_the_way, other_containers, own_answer, request_acts, way_reply}
+use Rattle.mesh_model.specs.Clients.Lans.{Bridge}
 use Rattle.mesh_model.specs.Clients.Mentions.{Mention, key_of}
 use Rattle.mesh_model.specs.Commits.Aliases.{last_alias}
 use Rattle.mesh_model.specs.Commits.Announcements.{announcement, commit_at_root}
@@ -35,7 +37,7 @@ use Rattle.mesh_model.specs.Net.Due.{ticks_in}
 use Rattle.mesh_model.specs.Net.Mesh.{SentFrame}
 use Rattle.mesh_model.specs.Net.Next.{Has}
 use Rattle.mesh_model.specs.Packets.Containers.{containers_of, containers_spelling}
-use Rattle.mesh_model.specs.Packets.Contents.{first_table}
+use Rattle.mesh_model.specs.Packets.Contents.{first_roaming, first_table}
 use Rattle.mesh_model.specs.Packets.FirstPacket.{Packet}
 use Rattle.mesh_model.specs.Packets.Payload.{ClientFrame, client_frame_of, payload_spelling}
 use Rattle.mesh_model.specs.Routes.Addresses.{is_smaller, same_mac}
@@ -52,9 +54,11 @@ use Rattle.mesh_laws.specs.Machine.World.{Told, World, commit_numbered, start}
 use Rattle.mesh_laws.proofs.DifferenceLemmas.{agrees_by_checksums}
 use Rattle.mesh_laws.proofs.MachineLemmas.{agreed_hold_the_told}
 use Rattle.mesh_laws.proofs.Schedule.Members.{filter_has}
-use Rattle.mesh_tie.specs.ByTable.{IsSentByTable}
+use Rattle.mesh_tie.specs.ByTable.{IsSentByTable, IsSpelled}
 use Rattle.mesh_tie.specs.Originators.{number_at_root}
+use Rattle.mesh_tie.specs.Sources.{IsWhole}
 use Rattle.mesh_tie.specs.Tie.{IsToldBy, KnowsWhole, NodeIsTied}
+use Rattle.mesh_tie.proofs.BridgeActs.{AreBridging, IsBridging, hands_out, out_puts, puts_on_lan, round_puts, unclaim_puts}
 use Rattle.mesh_tie.proofs.CommitLemmas.{at_root}
 use Rattle.mesh_tie.proofs.EntryLemmas.{each_appended}
 use Rattle.mesh_tie.proofs.KnowsLemmas.{addressee_whole}
@@ -109,18 +113,32 @@ plain_ogm q me came head message tail known =
     (plain_if heard.accepted (accepted_acts q me came head message known) []
     (plain_request me (q.route (before_announcement q came head message.orig known).routes came.now message.orig) message (request_out q (before_announcement q came head message.orig known) came.now message)) tt)
 
-plain_handed : (at : Place) (o : Option ClientFrame) → AllByRecursion IsPlain (handed_out_if at o)
-plain_handed at None = tt
-plain_handed at (Some frame) = (((λ number moment from to reason bytes is. cc), (λ me n e is. cc)), tt)
+plain_bridge : (act : Act) → IsBridging act → IsPlain act
+plain_bridge _ (puts_on_lan bytes) = tt
+plain_bridge _ (hands_out at frame) = ((λ number moment from to reason bytes is. cc), (λ me n e is. cc))
+
+pub plain_bridges : (acts : List Act) → AreBridging acts → AllByRecursion IsPlain acts
+plain_bridges [] all = tt
+plain_bridges (act ∷ acts) all = (plain_bridge act all.0, plain_bridges acts all.1)
+
+plain_handed : (bridge : Bridge) (at : Place) (orig : Mac) (o : Option ClientFrame) → AllByRecursion IsPlain (handed_out_if bridge at orig o)
+plain_handed bridge at orig None = tt
+plain_handed bridge at orig (Some frame) = let spread = spread_of_broadcast bridge orig frame in plain_bridges (out_acts bridge at spread frame) (out_puts bridge at spread frame)
+
+pub plain_unclaim : (at : Place) (bridge : Bridge) (o : Option Key) → AllByRecursion IsPlain (unclaim_acts at bridge o)
+plain_unclaim at bridge o = plain_bridges (unclaim_acts at bridge o) (unclaim_puts at bridge o)
+
+pub plain_round : (at : Place) (bridge : Bridge) (index : ℕ) → AllByRecursion IsPlain (round_acts at bridge index)
+plain_round at bridge index = plain_bridges (round_acts at bridge index) (round_puts at bridge index)
 
 plain_lost : (at : Place) (reason : Rattle.mesh_base.specs.declared.event.LossReason.LossReason) (o : Option ClientFrame) → AllByRecursion IsPlain (lost_if at reason o)
 plain_lost at why None = tt
 plain_lost at why (Some frame) = (((λ number moment from to reason bytes is. cc), (λ me n e is. cc)), tt)
 
-pub plain_broadcast : (known : Knowledge) (at : Place) (ttl : ℕ) (broadcast : Broadcast) (tail : List ℕ) → AllByRecursion IsPlain (broadcast_acts known at ttl broadcast tail)
+pub plain_broadcast : (known : Knowledge) (bridge : Bridge) (at : Place) (ttl : ℕ) (broadcast : Broadcast) (tail : List ℕ) → AllByRecursion IsPlain (broadcast_acts known bridge at ttl broadcast tail)
 unfolding broadcast_acts
-plain_broadcast known at ttl broadcast tail = plain_if (is_new_broadcast at.me broadcast known.taken) (handed_out_if at (client_frame_of tail) ++ broadcast_on ttl broadcast tail) []
-    (each_appended IsPlain (handed_out_if at (client_frame_of tail)) (broadcast_on ttl broadcast tail) (plain_handed at (client_frame_of tail))
+plain_broadcast known bridge at ttl broadcast tail = plain_if (is_new_broadcast at.me broadcast known.taken) (handed_out_if bridge at broadcast.orig (client_frame_of tail) ++ broadcast_on ttl broadcast tail) []
+    (each_appended IsPlain (handed_out_if bridge at broadcast.orig (client_frame_of tail)) (broadcast_on ttl broadcast tail) (plain_handed bridge at broadcast.orig (client_frame_of tail))
     (plain_if (nat_le ttl 1) [] (sent_to_all (Bcast (ttl - 1) broadcast.number broadcast.orig) tail ∷ []) tt ((λ is. cc), tt))) tt
 
 plain_on_route : (at : Place) (ttl ttvn : ℕ) (dst : Mac) (tail : List ℕ) (next : Option Mac) → AllByRecursion IsPlain (on_route at ttl ttvn dst tail next)
@@ -266,33 +284,29 @@ found_told orig log frames w m came key clear tied agreed named = by_told (known
     by_told (Some last) (Some held) is holds agreed named t = with_both last held is holds agreed named t
 
 -- ---- what acts send by table
-abbrev pub ActNames : TableCalls → TableCalls → Mac → Log → List SentFrame → Act → Type 0
-ActNames had all orig log frames (Link to reason bytes) = reason ≡ Some Table → IsSentByTable had all orig log frames bytes
-ActNames had all orig log frames (Lan bytes) = Unit {0}
-ActNames had all orig log frames (Print event) = IsNoFrame event
+abbrev pub ActNames : (Act → TableCalls → Type 0) → Mac → Log → List SentFrame → Act → Type 0
+ActNames looks orig log frames (Link to reason bytes) = reason ≡ Some Table → IsSentByTable (looks (Link to reason bytes)) orig log frames bytes
+ActNames looks orig log frames (Lan bytes) = Unit {0}
+ActNames looks orig log frames (Print event) = IsNoFrame event
 
-plain_act : (had all : TableCalls) (orig : Mac) (log : Log) (frames : List SentFrame) (act : Act) → IsPlain act → ActNames had all orig log frames act
-plain_act had all orig log frames (Link to reason bytes) plain = λ is. absurd (plain is)
-plain_act had all orig log frames (Lan bytes) plain = tt
-plain_act had all orig log frames (Print event) plain = plain.0
+plain_act : (looks : Act → TableCalls → Type 0) (orig : Mac) (log : Log) (frames : List SentFrame) (act : Act) → IsPlain act → ActNames looks orig log frames act
+plain_act looks orig log frames (Link to reason bytes) plain = λ is. absurd (plain is)
+plain_act looks orig log frames (Lan bytes) plain = tt
+plain_act looks orig log frames (Print event) plain = plain.0
 
-pub plain_names : (had all : TableCalls) (orig : Mac) (log : Log) (frames : List SentFrame) (acts : List Act) → AllByRecursion IsPlain acts → AllByRecursion (ActNames had all orig log frames) acts
-plain_names had all orig log frames [] plain = tt
-plain_names had all orig log frames (act ∷ acts) plain = (plain_act had all orig log frames act plain.0, plain_names had all orig log frames acts plain.1)
+pub plain_names : (looks : Act → TableCalls → Type 0) (orig : Mac) (log : Log) (frames : List SentFrame) (acts : List Act) → AllByRecursion IsPlain acts → AllByRecursion (ActNames looks orig log frames) acts
+plain_names looks orig log frames [] plain = tt
+plain_names looks orig log frames (act ∷ acts) plain = (plain_act looks orig log frames act plain.0, plain_names looks orig log frames acts plain.1)
 
--- a node that knows this, between what it had been told before a step and all that it was told
--- behind it
-pub record CanName (had all : TableCalls) (orig : Mac) (log : Log) (frames : List SentFrame) (known : Knowledge) : Type 0 where
+-- a node that knows this when it puts acts
+pub record CanName (looks : Act → TableCalls → Type 0) (orig : Mac) (log : Log) (frames : List SentFrame) (known : Knowledge) : Type 0 where
   pub whole : KnowsWhole known
-  pub since : TableCalls
-  pub came_is : known.tables ≡ since ++ had
-  pub later : TableCalls
-  pub all_is : all ≡ later ++ known.tables
+  pub looked : (act : Act) → looks act known.tables
   pub found : (key : Key) → is_agreed (known_by known.tables orig) ≡ true → names key (known_by known.tables orig).held ≡ true → FoundTold orig log frames known.tables key
 
-addressed_names : (had all : TableCalls) (orig : Mac) (log : Log) (frames : List SentFrame) (q : Queries) (known : Knowledge) (now ttl : ℕ) (client : ClientFrame) (way : Way) (payload : List ℕ) → CanName had all orig log frames known
-    → addressee q known now (key_of client.dst client.vid) ≡ Some way → (payload ≡ payload_spelling client) ⊎ (client_frame_of payload ≡ Some client) → ActNames had all orig log frames (addressed q known now ttl way payload)
-addressed_names had all orig log frames q known now ttl client way payload can is carried reason =
+addressed_names : (looks : Act → TableCalls → Type 0) (orig : Mac) (log : Log) (frames : List SentFrame) (q : Queries) (known : Knowledge) (now ttl : ℕ) (client : ClientFrame) (way : Way) (payload : List ℕ) → CanName looks orig log frames known
+    → addressee q known now (key_of client.dst client.vid) ≡ Some way → IsSpelled payload client ⊎ (client_frame_of payload ≡ Some client) → ActNames looks orig log frames (addressed q known now ttl way payload)
+addressed_names looks orig log frames q known now ttl client way payload can is carried reason =
     let by = table_is q known now (key_of client.dst client.vid) way is (some_one way.reason Table reason) in
     record {
       ttl = ttl;
@@ -301,98 +315,103 @@ addressed_names had all orig log frames q known now ttl client way payload can i
       payload = payload;
       whole = addressee_whole q known now (key_of client.dst client.vid) can.whole way is;
       bytes_are = refl;
-      had_come = λ same.
+      named = λ same.
           let f = can.found (key_of client.dst client.vid) (subst (λ o. is_agreed (known_by known.tables o) ≡ true) same by.agreed) (subst (λ o. names (key_of client.dst client.vid) (known_by known.tables o).held ≡ true) same by.named) in
           record {
             came = known.tables;
-            since = can.since;
-            came_is = can.came_is;
-            later = can.later;
-            after_is = can.all_is;
+            then = can.looked (addressed q known now ttl way payload);
             names_client = record { client = client; carried = carried; last = f.last; told = f.told; frame = f.frame; sent = f.sent; past = f.past; named = f.named };
           };
     }
 
-names_if : (had all : TableCalls) (orig : Mac) (log : Log) (frames : List SentFrame) (b : Bool) (xs ys : List Act) → AllByRecursion (ActNames had all orig log frames) xs → AllByRecursion (ActNames had all orig log frames) ys → AllByRecursion (ActNames had all orig log frames) (cond b xs ys)
-names_if had all orig log frames true xs ys a b = a
-names_if had all orig log frames false xs ys a b = b
+pub names_if : (looks : Act → TableCalls → Type 0) (orig : Mac) (log : Log) (frames : List SentFrame) (b : Bool) (xs ys : List Act) → AllByRecursion (ActNames looks orig log frames) xs → AllByRecursion (ActNames looks orig log frames) ys → AllByRecursion (ActNames looks orig log frames) (cond b xs ys)
+names_if looks orig log frames true xs ys a b = a
+names_if looks orig log frames false xs ys a b = b
 
 -- a tick
-names_event : (had all : TableCalls) (orig : Mac) (log : Log) (frames : List SentFrame) (me : Mac) (number : ℕ) (o : Option ℕ) → AllByRecursion (ActNames had all orig log frames) (alias_event me number o)
-names_event had all orig log frames me n None = tt
-names_event had all orig log frames me n (Some earlier) = ((λ number moment from to reason bytes is. cc), tt)
+names_event : (looks : Act → TableCalls → Type 0) (orig : Mac) (log : Log) (frames : List SentFrame) (me : Mac) (number : ℕ) (o : Option ℕ) → AllByRecursion (ActNames looks orig log frames) (alias_event me number o)
+names_event looks orig log frames me n None = tt
+names_event looks orig log frames me n (Some earlier) = ((λ number moment from to reason bytes is. cc), tt)
 
-pub names_tick : (had all : TableCalls) (orig : Mac) (log : Log) (frames : List SentFrame) (q : Queries) (me : Mac) (routes : RouteLog) (ms : List Mention) (before : History) (now index : ℕ)
-    → AllByRecursion (ActNames had all orig log frames) (tick_acts q me routes ms before now index)
+pub names_tick : (looks : Act → TableCalls → Type 0) (orig : Mac) (log : Log) (frames : List SentFrame) (q : Queries) (me : Mac) (routes : RouteLog) (ms : List Mention) (before : History) (bridge : Bridge) (now index : ℕ)
+    → AllByRecursion (ActNames looks orig log frames) (tick_acts q me routes ms before bridge now index)
 unfolding tick_acts
-names_tick had all orig log frames q me routes ms before now index =
+names_tick looks orig log frames q me routes ms before bridge now index =
     let after = committed (present_table ms now) before in
     let message = message_acts (q.beats routes index).ogm (containers_spelling (own_containers (announcement after))) in
     let elps = elp_acts q routes index in
-    each_appended (ActNames had all orig log frames) elps (cond (is_commit_tick index) (commit_acts q me routes index before after) [])
-    (plain_names had all orig log frames elps (plain_message (q.beats routes index).elp []))
-    (names_if had all orig log frames (is_commit_tick index) (commit_acts q me routes index before after) []
-    (each_appended (ActNames had all orig log frames) (alias_acts me before.commits after.commits) message
-    (names_if had all orig log frames (length after.commits == length before.commits) [] (alias_event me (length before.commits) (last_alias after.commits)) tt
-    (names_event had all orig log frames me (length before.commits) (last_alias after.commits)))
-    (plain_names had all orig log frames message (plain_message (q.beats routes index).ogm (containers_spelling (own_containers (announcement after)))))) tt)
+    let made = cond (is_commit_tick index) (commit_acts q me routes index before after) [] in
+    let at : Place = record { me = me; now = now } in
+    each_appended (ActNames looks orig log frames) elps (made ++ round_acts at bridge index)
+    (plain_names looks orig log frames elps (plain_message (q.beats routes index).elp []))
+    (each_appended (ActNames looks orig log frames) made (round_acts at bridge index)
+    (names_if looks orig log frames (is_commit_tick index) (commit_acts q me routes index before after) []
+    (each_appended (ActNames looks orig log frames) (alias_acts me before.commits after.commits) message
+    (names_if looks orig log frames (length after.commits == length before.commits) [] (alias_event me (length before.commits) (last_alias after.commits)) tt
+    (names_event looks orig log frames me (length before.commits) (last_alias after.commits)))
+    (plain_names looks orig log frames message (plain_message (q.beats routes index).ogm (containers_spelling (own_containers (announcement after)))))) tt)
+    (plain_names looks orig log frames (round_acts at bridge index) (plain_round at bridge index)))
 
 -- a client frame of a line
-pub frame_names : (had all : TableCalls) (orig : Mac) (log : Log) (frames : List SentFrame) (q : Queries) (known : Knowledge) (ms : List Mention) (at : Place) (client : ClientFrame) → CanName had all orig log frames known
-    → AllByRecursion (ActNames had all orig log frames) (frame_acts q known ms at client)
+pub frame_names : (looks : Act → TableCalls → Type 0) (orig : Mac) (log : Log) (frames : List SentFrame) (q : Queries) (known : Knowledge) (ms : List Mention) (at : Place) (client : ClientFrame) → IsWhole client.dst → IsWhole client.src → CanName looks orig log frames known
+    → AllByRecursion (ActNames looks orig log frames) (frame_acts q known ms at client)
 unfolding frame_acts
-frame_names had all orig log frames q known ms at client can =
+frame_names looks orig log frames q known ms at client dst src can =
     let key = key_of client.dst client.vid in
     let sent = on_way q known at client (addressee q known at.now key) in
     let handed = cond (is_present ms at.now key) (handed_out at client ∷ []) sent in
-    names_if had all orig log frames (is_broadcast client.dst) (sent_to_all (Bcast 50 (suc known.sent) at.me) (payload_spelling client) ∷ []) (cond (is_group client.dst) [] handed) ((λ is. cc), tt)
-    (names_if had all orig log frames (is_group client.dst) [] handed tt
-    (names_if had all orig log frames (is_present ms at.now key) (handed_out at client ∷ []) sent ((λ number moment from to reason bytes is. cc), tt) (go (addressee q known at.now key) refl)))
+    names_if looks orig log frames (is_broadcast client.dst) (sent_to_all (Bcast 50 (suc known.sent) at.me) (payload_spelling client) ∷ []) (cond (is_group client.dst) [] handed) ((λ is. cc), tt)
+    (names_if looks orig log frames (is_group client.dst) [] handed tt
+    (names_if looks orig log frames (is_present ms at.now key) (handed_out at client ∷ []) sent ((λ number moment from to reason bytes is. cc), tt) (go (addressee q known at.now key) refl)))
   where
-    go : (o : Option Way) → addressee q known at.now (key_of client.dst client.vid) ≡ o → AllByRecursion (ActNames had all orig log frames) (on_way q known at client o)
+    go : (o : Option Way) → addressee q known at.now (key_of client.dst client.vid) ≡ o → AllByRecursion (ActNames looks orig log frames) (on_way q known at client o)
     go None none = ((λ number moment from to reason bytes is. cc), tt)
-    go (Some way) is = (addressed_names had all orig log frames q known at.now 50 client way (payload_spelling client) can is (inl refl), tt)
+    go (Some way) is = (addressed_names looks orig log frames q known at.now 50 client way (payload_spelling client) can is (inl (record { is = refl; dst = dst; src = src })), tt)
 
-here_names : (had all : TableCalls) (orig : Mac) (log : Log) (frames : List SentFrame) (q : Queries) (known : Knowledge) (ms : List Mention) (at : Place) (ttl : ℕ) (tail : List ℕ) → CanName had all orig log frames known
-    → AllByRecursion (ActNames had all orig log frames) (here_acts q known ms at ttl tail)
+here_names : (looks : Act → TableCalls → Type 0) (orig : Mac) (log : Log) (frames : List SentFrame) (q : Queries) (known : Knowledge) (ms : List Mention) (bridge : Bridge) (at : Place) (ttl : ℕ) (tail : List ℕ) → CanName looks orig log frames known
+    → AllByRecursion (ActNames looks orig log frames) (here_acts q known ms bridge at ttl tail)
 unfolding here_acts
-here_names had all orig log frames q known ms at ttl tail can = by_frame (client_frame_of tail) refl
+here_names looks orig log frames q known ms bridge at ttl tail can = by_frame (client_frame_of tail) refl
   where
-    by_way : (client : ClientFrame) → client_frame_of tail ≡ Some client → (o : Option Way) → addressee q known at.now (key_of client.dst client.vid) ≡ o → AllByRecursion (ActNames had all orig log frames) (readdressed q known at ttl client tail o)
+    by_way : (client : ClientFrame) → client_frame_of tail ≡ Some client → (o : Option Way) → addressee q known at.now (key_of client.dst client.vid) ≡ o → AllByRecursion (ActNames looks orig log frames) (readdressed q known at ttl client tail o)
     by_way client carried None none = ((λ number moment from to reason bytes is. cc), tt)
-    by_way client carried (Some way) is = names_if had all orig log frames (nat_le ttl 1) (lost at Ttl client ∷ []) (addressed q known at.now (ttl - 1) way tail ∷ []) ((λ number moment from to reason bytes is. cc), tt)
-        (addressed_names had all orig log frames q known at.now (ttl - 1) client way tail can is (inr carried), tt)
+    by_way client carried (Some way) is = names_if looks orig log frames (nat_le ttl 1) (lost at Ttl client ∷ []) (addressed q known at.now (ttl - 1) way tail ∷ []) ((λ number moment from to reason bytes is. cc), tt)
+        (addressed_names looks orig log frames q known at.now (ttl - 1) client way tail can is (inr carried), tt)
 
-    by_frame : (o : Option ClientFrame) → client_frame_of tail ≡ o → AllByRecursion (ActNames had all orig log frames) (arrived q known ms at ttl tail o)
+    by_frame : (o : Option ClientFrame) → client_frame_of tail ≡ o → AllByRecursion (ActNames looks orig log frames) (arrived q known ms bridge at ttl tail o)
     by_frame None carried = tt
-    by_frame (Some client) carried = names_if had all orig log frames (is_group client.dst || is_present ms at.now (key_of client.dst client.vid)) (handed_out at client ∷ [])
-        (readdressed q known at ttl client tail (addressee q known at.now (key_of client.dst client.vid))) ((λ number moment from to reason bytes is. cc), tt) (by_way client carried (addressee q known at.now (key_of client.dst client.vid)) refl)
+    by_frame (Some client) carried = names_if looks orig log frames (is_group client.dst || is_present ms at.now (key_of client.dst client.vid)) (out_acts bridge at (spread_of_packet client) client)
+        (readdressed q known at ttl client tail (addressee q known at.now (key_of client.dst client.vid)))
+        (plain_names looks orig log frames (out_acts bridge at (spread_of_packet client) client) (plain_bridges (out_acts bridge at (spread_of_packet client) client) (out_puts bridge at (spread_of_packet client) client))) (by_way client carried (addressee q known at.now (key_of client.dst client.vid)) refl)
 
 -- a packet
-pub packet_names : (had all : TableCalls) (orig : Mac) (log : Log) (frames : List SentFrame) (q : Queries) (me : Mac) (own : Own) (came : Coming) (packet : Packet) (known : Knowledge) → CanName had all orig log frames known
-    → AllByRecursion (ActNames had all orig log frames) (packet_acts q me own came known packet)
+pub packet_names : (looks : Act → TableCalls → Type 0) (orig : Mac) (log : Log) (frames : List SentFrame) (q : Queries) (me : Mac) (own : Own) (came : Coming) (packet : Packet) (known : Knowledge) → CanName looks orig log frames known
+    → AllByRecursion (ActNames looks orig log frames) (packet_acts q me own came known packet)
 unfolding packet_acts
-packet_names had all orig log frames q me own came packet known can = go packet.head packet.tail
+packet_names looks orig log frames q me own came packet known can = go packet.head packet.tail
   where
     taken : (head : Head) (tail : List ℕ) (o : Option Message) → AllByRecursion IsPlain (taken_acts q me came head o tail known)
     taken head tail None = tt
     taken head tail (Some message) = plain_ogm q me came head message tail known
 
-    plain : (acts : List Act) → AllByRecursion IsPlain acts → AllByRecursion (ActNames had all orig log frames) acts
-    plain acts p = plain_names had all orig log frames acts p
+    plain : (acts : List Act) → AllByRecursion IsPlain acts → AllByRecursion (ActNames looks orig log frames) acts
+    plain acts p = plain_names looks orig log frames acts p
 
-    go : (head : Head) (tail : List ℕ) → AllByRecursion (ActNames had all orig log frames) (head_acts q me own came known (message_of (record { head = head; tail = tail })) tail head)
+    go : (head : Head) (tail : List ℕ) → AllByRecursion (ActNames looks orig log frames) (head_acts q me own came known (message_of (record { head = head; tail = tail })) tail head)
     go (IvOgm ttl flags seq o prev tq) tail = plain (taken_acts q me came (IvOgm ttl flags seq o prev tq) (message_with o (first_table (containers_of tail))) tail known) (taken (IvOgm ttl flags seq o prev tq) tail (message_with o (first_table (containers_of tail))))
-    go (Bcast ttl seq o) tail = plain (broadcast_acts known (place_at me came) ttl (record { orig = o; number = seq }) tail) (plain_broadcast known (place_at me came) ttl (record { orig = o; number = seq }) tail)
+    go (Bcast ttl seq o) tail = plain (broadcast_acts known own.bridge (place_at me came) ttl (record { orig = o; number = seq }) tail) (plain_broadcast known own.bridge (place_at me came) ttl (record { orig = o; number = seq }) tail)
     go (Elp o seq interval) tail = tt
     go (Ogm2 ttl flags seq o throughput) tail = plain (taken_acts q me came (Ogm2 ttl flags seq o throughput) (message_with o (first_table (containers_of tail))) tail known) (taken (Ogm2 ttl flags seq o throughput) tail (message_with o (first_table (containers_of tail))))
-    go (Unicast ttl ttvn dst) tail = names_if had all orig log frames (same_mac dst me) (here_acts q known own.mentions (place_at me came) ttl tail) (passed_frame q known (place_at me came) ttl ttvn dst tail)
-        (here_names had all orig log frames q known own.mentions (place_at me came) ttl tail can) (plain (passed_frame q known (place_at me came) ttl ttvn dst tail) (plain_passed q known (place_at me came) ttl ttvn dst tail))
+    go (Unicast ttl ttvn dst) tail = names_if looks orig log frames (same_mac dst me) (here_acts q known own.mentions own.bridge (place_at me came) ttl tail) (passed_frame q known (place_at me came) ttl ttvn dst tail)
+        (here_names looks orig log frames q known own.mentions own.bridge (place_at me came) ttl tail can) (plain (passed_frame q known (place_at me came) ttl ttvn dst tail) (plain_passed q known (place_at me came) ttl ttvn dst tail))
     go (Frag ttl number priority dst o seq total) tail = tt
     go (Unicast4 ttl ttvn dst src subtype) tail = tt
     go (Icmp ttl msg dst o uid seq) tail =
         let m : IcmpMessage = record { ttl = ttl; kind = msg; dst = dst; orig = o; uid = uid; seq = seq } in
         plain (icmp_acts q known (place_at me came) m) (plain_icmp q known (place_at me came) m)
-    go (Utvlv ttl dst src) tail = names_if had all orig log frames (same_mac dst me) (own_answer q me known came.now own.last own.told src (message_in (first_table (containers_of tail)))) (other_containers q known came.now ttl dst src tail)
-        (plain (own_answer q me known came.now own.last own.told src (message_in (first_table (containers_of tail)))) (plain_own q me known came.now own src (message_in (first_table (containers_of tail)))))
+    go (Utvlv ttl dst src) tail =
+        let answer = own_answer q me known came.now own.last own.told src (message_in (first_table (containers_of tail))) in
+        let unclaim = unclaim_acts (place_at me came) own.bridge (first_roaming (containers_of tail)) in
+        names_if looks orig log frames (same_mac dst me) (answer ++ unclaim) (other_containers q known came.now ttl dst src tail)
+        (plain (answer ++ unclaim) (each_appended IsPlain answer unclaim (plain_own q me known came.now own src (message_in (first_table (containers_of tail)))) (plain_unclaim (place_at me came) own.bridge (first_roaming (containers_of tail)))))
         (plain (other_containers q known came.now ttl dst src tail) (plain_other q known came.now ttl dst src tail))

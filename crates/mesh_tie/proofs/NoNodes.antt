@@ -2,14 +2,14 @@
 -- finds none.
 use Rattle.std.proofs.Common.{◌≡◌, ℕ, suc, List, [], ◌∷◌, ◌++◌, slice_get, Some, Ok, ap, subst, ◌∙◌}
 use Rattle.mesh_base.specs.declared.address.Mac.{Mac}
-use Rattle.mesh_model.specs.Clients.Log.{Given, Tick, LinkFrame, Line}
+use Rattle.mesh_model.specs.Clients.Log.{Given, Tick, LinkFrame, LanFrame, Line}
 use Rattle.mesh_model.specs.Net.Due.{ticks_in}
 use Rattle.mesh_model.specs.Net.Inputs.{entry_of, given_to}
 use Rattle.mesh_model.specs.Net.Limits.{scenario_setup}
 use Rattle.mesh_model.specs.Net.Mesh.{NodeLog, Mesh}
 use Rattle.mesh_model.specs.Routes.Queries.{Queries}
-use Rattle.mesh_tie.specs.Steps.{IsReachable, Steps, begins, frame_comes, goes_on, line_gives, link_joins, node_joins, node_ticks, time_passes}
-use Rattle.mesh_tie.proofs.MeshSteps.{got_noted}
+use Rattle.mesh_tie.specs.Steps.{IsReachable, Steps, begins, frame_comes, goes_on, lan_comes, lan_joins, line_gives, link_joins, node_joins, node_ticks, put_comes, put_reaches, time_passes}
+use Rattle.mesh_tie.proofs.NodeLists.{got_noted}
 use Rattle.mesh_tie.proofs.SentLemmas.{given_is}
 
 none_at : (place : ℕ) (node : NodeLog) (nodes : List NodeLog) → nodes ≡ [] → slice_get nodes place ≡ Some node → ⊥
@@ -38,6 +38,10 @@ step_anyhow q r mesh after (line_gives _ _ place now node line found may of is) 
 step_anyhow q r mesh after (node_ticks _ _ place now node found may is) none = absurd (given_some q mesh after place now (suc (ticks_in node.log)) node (Tick (suc (ticks_in node.log))) found is none)
 step_anyhow q r mesh after (frame_comes _ _ place now number throughput from node frame found may sent whole is) none =
     absurd (given_some q mesh after place now frame.root node (LinkFrame (suc number) from throughput frame.bytes) found is none)
+step_anyhow q r mesh _ (lan_joins _ lan) none = (none, lan_joins mesh lan)
+step_anyhow q r mesh _ (put_comes _ put frame by is tells) none = (none, put_comes mesh put frame by is tells)
+step_anyhow q r mesh _ (put_reaches _ number now put frame found carries) none = (none, put_reaches mesh number now put frame found carries)
+step_anyhow q r mesh after (lan_comes _ _ place now number node put found may among is) none = absurd (given_some q mesh after place now 0 node (LanFrame put.bytes) found is none)
 step_anyhow q r mesh _ (time_passes _ happening) none = (none, time_passes mesh happening)
 
 pub reachable_anyhow : (q r : Mac → Queries) (mesh : Mesh) → IsReachable q mesh → mesh.nodes ≡ [] → IsReachable r mesh

@@ -7,11 +7,13 @@ use Rattle.mesh_model.specs.declared.act.Act.{Act}
 use Rattle.mesh_model.specs.declared.packet.Head.{Head}
 use Rattle.mesh_model.specs.declared.packet.Head.TheVariants.{Utvlv}
 use Rattle.mesh_model.specs.declared.table_change.Change.{Change}
+use Rattle.mesh_model.specs.Acts.BridgeRows.{round_acts}
 use Rattle.mesh_model.specs.Acts.Choosing.{acts_of, client_acts, probing_acts, sighting_acts}
 use Rattle.mesh_model.specs.Acts.FrameRows.{advert_acts}
 use Rattle.mesh_model.specs.Acts.OwnContainers.{own_containers}
 use Rattle.mesh_model.specs.Acts.Packing.{roaming_container, sent_to_all}
 use Rattle.mesh_model.specs.Acts.Rows.{Own, alias_acts, alias_event, commit_acts, elp_acts, message_acts, packet_acts, packets_acts, tick_acts}
+use Rattle.mesh_model.specs.Clients.Lans.{Bridge}
 use Rattle.mesh_model.specs.Clients.Log.{Frame, Gone, Join, Leave, Arp, Dhcp, Ping, Trace, Log, Line, LineGiven, Attach, Sets, Put, Get}
 use Rattle.mesh_model.specs.Clients.Mentions.{Mention, key_of, mentions, next_mentions}
 use Rattle.mesh_model.specs.Commits.Announcements.{announced_changes, announcement}
@@ -42,7 +44,7 @@ use Rattle.mesh_tie.specs.Sayings.{FrameSays, IsAnnounced, PacketSays}
 use Rattle.mesh_tie.specs.Sources.{IsWhole, KeepsOriginators}
 use Rattle.mesh_tie.specs.Steps.{TellsClient}
 use Rattle.mesh_tie.specs.Tie.{FitsAnswer, FitsEntry, KnowsWhole, NodeIsTied}
-use Rattle.mesh_tie.proofs.CalmRows.{calm_elps, calm_frame, calm_session}
+use Rattle.mesh_tie.proofs.CalmRows.{calm_elps, calm_frame, calm_round, calm_session}
 use Rattle.mesh_tie.proofs.CommitLemmas.{Chain, announced_are, last_and_older}
 use Rattle.mesh_tie.proofs.EntryLemmas.{OfCommits, each_appended, reached_entries}
 use Rattle.mesh_tie.proofs.KnowsLemmas.{advertised_whole, packet_knows, sighting_knows}
@@ -224,14 +226,19 @@ alias_row orig log root w me before after = go (length after == length before)
     go true = tt
     go false = event_row orig log root w me (length before) (last_alias after)
 
-pub tick_row : (orig : Mac) (log : Log) (w : World) (q : Queries) (me : Mac) (routes : RouteLog) (ms : List Mention) (before : History) (now index : ℕ) → KeepsOriginators me q
+pub tick_row : (orig : Mac) (log : Log) (w : World) (q : Queries) (me : Mac) (routes : RouteLog) (ms : List Mention) (before : History) (bridge : Bridge) (now index : ℕ) → KeepsOriginators me q
     → (is_commit_tick index ≡ true → Announcer orig log w me index (committed (present_table ms now) before))
-    → AllByRecursion (Sayable orig log index w) (tick_acts q me routes ms before now index)
+    → AllByRecursion (Sayable orig log index w) (tick_acts q me routes ms before bridge now index)
 unfolding tick_acts
-tick_row orig log w q me routes ms before now index keeps a =
-    each_appended (Sayable orig log index w) (elp_acts q routes index) (cond (is_commit_tick index) (commit_acts q me routes index before after) [])
-    (calm_row orig log index w (elp_acts q routes index) (calm_elps me q routes index keeps)) (go (is_commit_tick index) refl)
+tick_row orig log w q me routes ms before bridge now index keeps a =
+    each_appended (Sayable orig log index w) (elp_acts q routes index) (cond (is_commit_tick index) (commit_acts q me routes index before after) [] ++ round)
+    (calm_row orig log index w (elp_acts q routes index) (calm_elps me q routes index keeps))
+    (each_appended (Sayable orig log index w) (cond (is_commit_tick index) (commit_acts q me routes index before after) []) round (go (is_commit_tick index) refl)
+    (calm_row orig log index w round (calm_round (record { me = me; now = now }) bridge index)))
   where
+    round : List Act
+    round = round_acts (record { me = me; now = now }) bridge index
+
     after : History
     after = committed (present_table ms now) before
 
@@ -252,7 +259,7 @@ advert_row orig log root w me key (Some way) mine fits whole =
       tt,
     )
 
-sighting_row : (orig : Mac) (log : Log) (root : ℕ) (w : World) (q : Queries) (me : Mac) (mine : Log) (now : ℕ) (key : Key) → IsWhole me → KnowsWhole (knowledge q me mine) → FitsKey key
+pub sighting_row : (orig : Mac) (log : Log) (root : ℕ) (w : World) (q : Queries) (me : Mac) (mine : Log) (now : ℕ) (key : Key) → IsWhole me → KnowsWhole (knowledge q me mine) → FitsKey key
     → AllByRecursion (Sayable orig log root w) (sighting_acts q me mine now key)
 sighting_row orig log root w q me mine now key whole k fits = advert_row orig log root w me key (advertised q me mine (knowledge q me mine) now key) whole fits (advertised_whole q me mine (knowledge q me mine) now key k)
 
@@ -276,14 +283,14 @@ line_row orig log root w q me mine now (Get type_no) of whole k = tt
 line_row orig log root w q me mine now (Ping target) of whole k = calm_row orig log root w (probing_acts q me mine now target false) (calm_session q (knowledge q me mine) (record { me = me; now = now }) target false)
 line_row orig log root w q me mine now (Trace target) of whole k = calm_row orig log root w (probing_acts q me mine now target true) (calm_session q (knowledge q me mine) (record { me = me; now = now }) target true)
 
-frame_knows : (dst : Mac) (known : Knowledge) → KnowsWhole known → KnowsWhole (after_frame dst known)
+pub frame_knows : (dst : Mac) (known : Knowledge) → KnowsWhole known → KnowsWhole (after_frame dst known)
 frame_knows dst known k = go (Rattle.mesh_base.specs.Address.is_broadcast dst)
   where
     go : (b : Bool) → KnowsWhole (cond b (record known { sent = suc known.sent }) known)
     go true = record { tables = k.tables; marks = k.marks }
     go false = k
 
-frame_same : (dst : Mac) (known : Knowledge) → (after_frame dst known).tables ≡ known.tables
+pub frame_same : (dst : Mac) (known : Knowledge) → (after_frame dst known).tables ≡ known.tables
 frame_same dst known = go (Rattle.mesh_base.specs.Address.is_broadcast dst)
   where
     go : (b : Bool) → (cond b (record known { sent = suc known.sent }) known).tables ≡ known.tables

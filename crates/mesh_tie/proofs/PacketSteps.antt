@@ -1,5 +1,5 @@
 -- A packet that comes to a node: its acts are said, and what the node knows then is tied again.
-use Rattle.std.proofs.Common.{◌≡◌, ◌≤◌, ◌<◌, ◌-◌, ◌&&◌, ℕ, Bool, true, false, cond, List, ◌∷◌, length, slice_get, Option, Some, None, refl, sym, ap, subst, ◌∙◌}
+use Rattle.std.proofs.Common.{◌≡◌, ◌≤◌, ◌<◌, ◌-◌, ◌&&◌, ℕ, Bool, true, false, cond, List, ◌∷◌, ◌++◌, length, slice_get, Option, Some, None, refl, sym, ap, subst, ◌∙◌}
 use Rattle.std.specs.List.{AllByRecursion}
 use Rattle.mesh_base.specs.declared.address.Mac.{Mac}
 use Rattle.mesh_base.specs.declared.client.Key.{Key}
@@ -7,6 +7,7 @@ use Rattle.mesh_model.specs.declared.act.Act.{Act}
 use Rattle.mesh_model.specs.declared.packet.Head.{Head}
 use Rattle.mesh_model.specs.declared.packet.Head.TheVariants.{IvOgm, Bcast, Elp, Ogm2, Unicast, Frag, Unicast4, Icmp, Utvlv}
 use Rattle.mesh_model.specs.declared.table_change.Change.{Change}
+use Rattle.mesh_model.specs.Acts.BridgeRows.{unclaim_acts}
 use Rattle.mesh_model.specs.Acts.ProbeRows.{IcmpMessage}
 use Rattle.mesh_model.specs.Acts.Rows.{Own, head_acts, icmp_acts, packet_acts, place_at, taken_acts}
 use Rattle.mesh_model.specs.Acts.TableRows.{other_containers, own_answer}
@@ -29,7 +30,8 @@ use Rattle.mesh_laws.specs.Machine.World.{Saying, World, WasSaid}
 use Rattle.mesh_laws.proofs.MacLemmas.{same_exact}
 use Rattle.mesh_tie.specs.Sayings.{IsAnnounced, IsAnswered, PacketSays, saying_of}
 use Rattle.mesh_tie.specs.Sources.{IsMessageOf, IsWhole, KeepsOriginators}
-use Rattle.mesh_tie.proofs.CalmRows.{calm_broadcast, calm_here, calm_icmp, calm_passed}
+use Rattle.mesh_tie.proofs.CalmRows.{calm_broadcast, calm_here, calm_icmp, calm_passed, calm_unclaim}
+use Rattle.mesh_tie.proofs.EntryLemmas.{each_appended}
 use Rattle.mesh_tie.proofs.NodeMoves.{Comes, IsBrought, answers_come, forgets, tells}
 use Rattle.mesh_tie.proofs.Sayable.{Sayable, calm_row}
 use Rattle.mesh_tie.proofs.TableRows.{Holder, IsTaken, Speaker, ogm_row, other_row, own_row}
@@ -199,18 +201,22 @@ packet_row orig log w m q me own root came packet known keeps from s h p = go pa
         → AllByRecursion (Sayable orig log root w) (head_acts q me own came known (message_of (record { head = head; tail = tail })) tail head)
     go (IvOgm ttl flags seq o prev tq) tail p = taken (IvOgm ttl flags seq o prev tq) o tail (message_with o (first_table (containers_of tail)))
         (λ one is. message_taken orig log w.said root (IvOgm ttl flags seq o prev tq) o tail one (record { word = refl; addresses = p.addresses }) p.says.0 p.says.1 is)
-    go (Bcast ttl seq o) tail p = calm_row orig log root w (Rattle.mesh_model.specs.Acts.FrameRows.broadcast_acts known (place_at me came) ttl (record { orig = o; number = seq }) tail) (calm_broadcast known (place_at me came) ttl (record { orig = o; number = seq }) tail)
+    go (Bcast ttl seq o) tail p = calm_row orig log root w (Rattle.mesh_model.specs.Acts.FrameRows.broadcast_acts known own.bridge (place_at me came) ttl (record { orig = o; number = seq }) tail) (calm_broadcast known own.bridge (place_at me came) ttl (record { orig = o; number = seq }) tail)
     go (Elp o seq interval) tail p = tt
     go (Ogm2 ttl flags seq o throughput) tail p = taken (Ogm2 ttl flags seq o throughput) o tail (message_with o (first_table (containers_of tail)))
         (λ one is. message_taken orig log w.said root (Ogm2 ttl flags seq o throughput) o tail one (record { word = refl; addresses = p.addresses }) p.says.0 p.says.1 is)
-    go (Unicast ttl ttvn dst) tail p = either (same_mac dst me) (Rattle.mesh_model.specs.Acts.FrameRows.here_acts q known own.mentions (place_at me came) ttl tail) (Rattle.mesh_model.specs.Acts.FrameRows.passed_frame q known (place_at me came) ttl ttvn dst tail)
-        (calm_row orig log root w (Rattle.mesh_model.specs.Acts.FrameRows.here_acts q known own.mentions (place_at me came) ttl tail) (calm_here q known own.mentions (place_at me came) ttl tail))
+    go (Unicast ttl ttvn dst) tail p = either (same_mac dst me) (Rattle.mesh_model.specs.Acts.FrameRows.here_acts q known own.mentions own.bridge (place_at me came) ttl tail) (Rattle.mesh_model.specs.Acts.FrameRows.passed_frame q known (place_at me came) ttl ttvn dst tail)
+        (calm_row orig log root w (Rattle.mesh_model.specs.Acts.FrameRows.here_acts q known own.mentions own.bridge (place_at me came) ttl tail) (calm_here q known own.mentions own.bridge (place_at me came) ttl tail))
         (calm_row orig log root w (Rattle.mesh_model.specs.Acts.FrameRows.passed_frame q known (place_at me came) ttl ttvn dst tail) (calm_passed q known (place_at me came) ttl ttvn dst tail))
     go (Frag ttl number priority dst o seq total) tail p = tt
     go (Unicast4 ttl ttvn dst src subtype) tail p = tt
     go (Icmp ttl msg dst o uid seq) tail p =
         let m : IcmpMessage = record { ttl = ttl; kind = msg; dst = dst; orig = o; uid = uid; seq = seq } in
         calm_row orig log root w (icmp_acts q known (place_at me came) m) (calm_icmp q known (place_at me came) m)
-    go (Utvlv ttl dst src) tail p = either (same_mac dst me) (own_answer q me known came.now own.last own.told src (message_in (first_table (containers_of tail)))) (other_containers q known came.now ttl dst src tail)
-        (own_row orig log root w q me known came.now own src (message_in (first_table (containers_of tail))) s p.addresses.1)
+    go (Utvlv ttl dst src) tail p =
+        let answer = own_answer q me known came.now own.last own.told src (message_in (first_table (containers_of tail))) in
+        let unclaim = unclaim_acts (place_at me came) own.bridge (first_roaming (containers_of tail)) in
+        either (same_mac dst me) (answer ++ unclaim) (other_containers q known came.now ttl dst src tail)
+        (each_appended (Sayable orig log root w) answer unclaim (own_row orig log root w q me known came.now own src (message_in (first_table (containers_of tail))) s p.addresses.1)
+        (calm_row orig log root w unclaim (calm_unclaim (place_at me came) own.bridge (first_roaming (containers_of tail)))))
         (other_row orig log root w m q known came.now ttl dst src tail h p.addresses.0 p.addresses.1 p.says)

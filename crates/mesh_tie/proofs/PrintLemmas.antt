@@ -6,8 +6,8 @@ use Rattle.mesh_base.specs.declared.address.Mac.{Mac}
 use Rattle.mesh_base.specs.declared.event.Event.{Event}
 use Rattle.mesh_base.specs.declared.event.Event.TheVariants.{Alias, FrameSent}
 use Rattle.mesh_base.specs.declared.event.Reason.TheVariants.{Table as ByTable}
-use Rattle.mesh_base.specs.declared.names.NodeName.{NodeName}
-use Rattle.mesh_model.specs.declared.ending.LimitName.TheVariants.{Clock, Input, Line, Links, Nodes}
+use Rattle.mesh_base.specs.Names.{NamesGiven}
+use Rattle.mesh_model.specs.declared.ending.LimitName.TheVariants.{Clock, Input, Lans, Line, Links, Nodes}
 use Rattle.mesh_model.specs.declared.ending.Refusal.{Refusal}
 use Rattle.mesh_model.specs.declared.ending.Stop.TheVariants.{Limit}
 use Rattle.mesh_model.specs.declared.frame_choice.FrameChoice.{FrameChoice}
@@ -19,28 +19,30 @@ use Rattle.mesh_model.specs.declared.line_form.Table.TheVariants.{Originators, N
 use Rattle.mesh_model.specs.Clients.Log.{Line, LineGiven, Sets}
 use Rattle.mesh_model.specs.Clients.Settings.{Wifi as WifiSet}
 use Rattle.mesh_model.specs.Clients.Log.{Frame as FrameGiven, Gone as GoneGiven, Join as JoinGiven, Leave as LeaveGiven, Ping as PingGiven, Trace as TraceGiven}
-use Rattle.mesh_model.specs.Net.Inputs.{given_to}
-use Rattle.mesh_model.specs.Net.Limits.{clock_limit, links_limit, nodes_limit}
-use Rattle.mesh_model.specs.Net.Mesh.{NodeLog, NetLink, Mesh, Setup, address_at}
+use Rattle.mesh_model.specs.Net.Inputs.{all_given, given_to}
+use Rattle.mesh_model.specs.Net.Lans.{joins_lan}
+use Rattle.mesh_model.specs.Net.Limits.{clock_limit, lans_limit, links_limit, nodes_limit}
+use Rattle.mesh_model.specs.Net.Mesh.{NodeLog, NetLink, LanPut, Mesh, address_at}
 use Rattle.mesh_model.specs.Net.Next.{Has}
 use Rattle.mesh_model.specs.Net.Runs.{Course, PassedLimit, begin, delivered, run_to}
-use Rattle.mesh_model.specs.Net.Sending.{Attempt}
+use Rattle.mesh_model.specs.Net.Sending.{Attempt, with_put}
+use Rattle.mesh_model.specs.Packets.Payload.{payload_spelling}
 use Rattle.mesh_model.specs.Routes.Algorithms.{queries_of}
 use Rattle.mesh_model.specs.Run.Outcome.{Outcome, Ends, Goes, reached}
 use Rattle.mesh_model.specs.Run.Passing.{after_attempt, course_outcome, events_since, gone_on, run_until}
 use Rattle.mesh_model.specs.Run.PlainRun.{Run, after_line, after_lines, after_outcome, after_reading, line_outcome, passes_input, passes_line, start}
 use Rattle.mesh_model.specs.Run.Rules.{after_step, carried_out, first_refused_rule, setup_of, unless_refused}
 use Rattle.mesh_model.specs.Run.Shown.{after_print, shown}
-use Rattle.mesh_model.specs.Run.State.{Printed, LocalsShown, OriginatorsShown, NeighborsShown, GlobalsShown, Decoded, Happened, State, names_of, node_named, place_of}
-use Rattle.mesh_model.specs.Run.Steps.{Step, at_node, choice_step, input_step, link_step, new_node, session_step, show_step, step_of, with_link, with_node}
+use Rattle.mesh_model.specs.Run.State.{Printed, LocalsShown, OriginatorsShown, NeighborsShown, GlobalsShown, ClaimsShown, Decoded, Happened, State, names_of, lan_place_of, node_named, place_of}
+use Rattle.mesh_model.specs.Run.Steps.{Step, at_node, at_place, gateways_at, gateways_step, lan_frame_step, places_named, choice_step, input_step, link_step, new_node, session_step, show_step, step_of, with_link, with_node}
 use Rattle.mesh_model.specs.Scenario.Commands.{command_of_line}
 use Rattle.mesh_model.specs.Scenario.Halt.{Halt}
 use Rattle.mesh_model.specs.Scenario.Lines.{content}
 use Rattle.mesh_model.specs.Scenario.Readings.{Reading}
-use Rattle.mesh_laws.proofs.Lines.Courses.{Follows, going_follows, since_is}
-use Rattle.mesh_laws.proofs.Schedule.Steps.{Effect, delivered_effect, no_ticks, tickless}
+use Rattle.mesh_laws.proofs.Lines.Courses.{going_follows}
 use Rattle.mesh_tie.specs.LinesByTable.{LinesByTableAreRight}
 use Rattle.mesh_tie.proofs.EventLemmas.{events_by_table_are_right}
+use Rattle.mesh_tie.proofs.GainLemmas.{GainsEvents, again_gains, all_gains, course_gains, gained_is, given_gains, lan_gains, put_gains}
 use Rattle.mesh_tie.proofs.LineReach.{first_holds, lines_hold}
 use Rattle.mesh_tie.proofs.VLemmas.{algorithms_keep}
 
@@ -51,6 +53,7 @@ events_in (LocalsShown table ∷ rest) = events_in rest
 events_in (OriginatorsShown table ∷ rest) = events_in rest
 events_in (NeighborsShown table ∷ rest) = events_in rest
 events_in (GlobalsShown table ∷ rest) = events_in rest
+events_in (ClaimsShown table ∷ rest) = events_in rest
 events_in (Decoded bytes ∷ rest) = events_in rest
 events_in (Happened names event ∷ rest) = event ∷ events_in rest
 
@@ -61,21 +64,23 @@ events_both (LocalsShown table ∷ xs) ys = events_both xs ys
 events_both (OriginatorsShown table ∷ xs) ys = events_both xs ys
 events_both (NeighborsShown table ∷ xs) ys = events_both xs ys
 events_both (GlobalsShown table ∷ xs) ys = events_both xs ys
+events_both (ClaimsShown table ∷ xs) ys = events_both xs ys
 events_both (Decoded bytes ∷ xs) ys = events_both xs ys
 events_both (Happened names event ∷ xs) ys = ap (λ es. event ∷ es) (events_both xs ys)
 
-events_happened : (names : List NodeName) (es : List Event) → events_in (map (Happened names) es) ≡ es
+events_happened : (names : NamesGiven) (es : List Event) → events_in (map (Happened names) es) ≡ es
 unfolding events_in
 events_happened names [] = refl
 events_happened names (e ∷ es) = ap (λ xs. e ∷ xs) (events_happened names es)
 
-printed_has : (xs : List Printed) (event : Event) → Has (events_in xs) event → (names : List NodeName) × Has xs (Happened names event)
+printed_has : (xs : List Printed) (event : Event) → Has (events_in xs) event → (names : NamesGiven) × Has xs (Happened names event)
 unfolding events_in
 printed_has [] event has = absurd has
 printed_has (LocalsShown table ∷ xs) event has = let p = printed_has xs event has in (p.0, inr p.1)
 printed_has (OriginatorsShown table ∷ xs) event has = let p = printed_has xs event has in (p.0, inr p.1)
 printed_has (NeighborsShown table ∷ xs) event has = let p = printed_has xs event has in (p.0, inr p.1)
 printed_has (GlobalsShown table ∷ xs) event has = let p = printed_has xs event has in (p.0, inr p.1)
+printed_has (ClaimsShown table ∷ xs) event has = let p = printed_has xs event has in (p.0, inr p.1)
 printed_has (Decoded bytes ∷ xs) event has = let p = printed_has xs event has in (p.0, inr p.1)
 printed_has (Happened names e ∷ xs) event (inl same) = (names, inl (ap (Happened names) same))
 printed_has (Happened names e ∷ xs) event (inr has) = let p = printed_has xs event has in (p.0, inr p.1)
@@ -87,17 +92,14 @@ SameEvents state = events_in state.printed ≡ state.mesh.events
 abbrev SameOutcome : Outcome → Type 0
 SameOutcome outcome = SameEvents (reached outcome)
 
-gone_same : (state : State) (now : ℕ) (mesh : Mesh) → Follows state.mesh mesh → SameEvents state → SameEvents (gone_on state now mesh)
+gone_same : (state : State) (now : ℕ) (mesh : Mesh) → GainsEvents state.mesh mesh → SameEvents state → SameEvents (gone_on state now mesh)
 unfolding SameEvents
 gone_same state now mesh f same =
-    events_both state.printed (map (Happened (names_of mesh.nodes)) (events_since state.mesh mesh))
-    ∙ ap (λ es. es ++ events_in (map (Happened (names_of mesh.nodes)) (events_since state.mesh mesh))) same
-    ∙ ap (λ es. state.mesh.events ++ es) (events_happened (names_of mesh.nodes) (events_since state.mesh mesh) ∙ since_is state.mesh mesh f) ∙ sym f.events
+    events_both state.printed (map (Happened (names_of mesh)) (events_since state.mesh mesh))
+    ∙ ap (λ es. es ++ events_in (map (Happened (names_of mesh)) (events_since state.mesh mesh))) same
+    ∙ ap (λ es. state.mesh.events ++ es) (events_happened (names_of mesh) (events_since state.mesh mesh) ∙ gained_is state.mesh mesh f) ∙ sym f.events
 
-effect_follows : (setup : Setup) (now : ℕ) (mesh after : Mesh) → Effect setup no_ticks now mesh after → Follows mesh after
-effect_follows setup now mesh after effect = record { more = effect.adds.more_events; events = effect.adds.events; names = effect.names }
-
-attempt_same : (state : State) (attempt : Attempt) → SameEvents state → ((after : Mesh) → attempt ≡ Ok after → Follows state.mesh after) → SameOutcome (after_attempt state attempt)
+attempt_same : (state : State) (attempt : Attempt) → SameEvents state → ((after : Mesh) → attempt ≡ Ok after → GainsEvents state.mesh after) → SameOutcome (after_attempt state attempt)
 attempt_same state (Ok after) same follows = gone_same state state.clock after (follows after refl) same
 attempt_same state (Err limit) same follows = same
 
@@ -107,7 +109,7 @@ at_same state step (Some place) same all = all place
 
 given_same : (state : State) (place : ℕ) (line : LineGiven) → SameEvents state → SameOutcome (input_step (setup_of state.algorithm) line place state)
 given_same state place line same =
-    attempt_same state (given_to (setup_of state.algorithm) place state.clock 0 (Line line) state.mesh) same (λ after is. effect_follows (setup_of state.algorithm) state.clock state.mesh after (tickless (setup_of state.algorithm) state.mesh place state.clock 0 (Line line) after refl tt is))
+    attempt_same state (given_to (setup_of state.algorithm) place state.clock 0 (Line line) state.mesh) same (λ after is. given_gains (setup_of state.algorithm) place state.clock line state.mesh after is)
 
 session_same : (state : State) (line : Mac → LineGiven) (node target : List ℕ) → SameEvents state → SameOutcome (session_step (setup_of state.algorithm) line node target state)
 session_same state line node target same =
@@ -118,9 +120,28 @@ session_same state line node target same =
 line_same : (state : State) (name : List ℕ) (line : LineGiven) → SameEvents state → SameOutcome (at_node name (input_step (setup_of state.algorithm) line) state)
 line_same state name line same = at_same state (input_step (setup_of state.algorithm) line) (place_of state name) same (λ place. given_same state place line same)
 
-frame_same : (state : State) (name : List ℕ) (line : LineGiven) (group : Bool) → SameEvents state → SameOutcome (after_step state (cond group None (Some (at_node name (input_step (setup_of state.algorithm) line)))))
-frame_same state name line true same = same
-frame_same state name line false same = line_same state name line same
+-- at the LAN of a name, or else at the node of it
+place_same : (state : State) (name : List ℕ) (line : LineGiven) (on_lan : ℕ → Step) → SameEvents state → ((lan : ℕ) → SameOutcome (on_lan lan state)) → SameOutcome (at_place name on_lan (input_step (setup_of state.algorithm) line) state)
+place_same state name line on_lan same all = go (lan_place_of state name)
+  where
+    go : (o : Option ℕ) → SameOutcome (option_map_or (λ lan. on_lan lan state) o (at_node name (input_step (setup_of state.algorithm) line) state))
+    go None = line_same state name line same
+    go (Some lan) = all lan
+
+frame_same : (state : State) (name bytes : List ℕ) (line : LineGiven) (group : Bool) → SameEvents state → SameOutcome (after_step state (cond group None (Some (at_place name (lan_frame_step (setup_of state.algorithm) bytes) (input_step (setup_of state.algorithm) line)))))
+frame_same state name bytes line true same = same
+frame_same state name bytes line false same = place_same state name line (lan_frame_step (setup_of state.algorithm) bytes) same (λ lan.
+    let put : LanPut = record { lan = lan; moment = state.clock; bytes = bytes; by = None } in
+    attempt_same state (with_put (setup_of state.algorithm) put state.mesh) same (λ after is. put_gains (setup_of state.algorithm) put state.mesh after is))
+
+gone_from : (state : State) (name : List ℕ) (line : LineGiven) → SameEvents state → SameOutcome (at_place name (gateways_step (setup_of state.algorithm) line) (input_step (setup_of state.algorithm) line) state)
+gone_from state name line same = place_same state name line (gateways_step (setup_of state.algorithm) line) same (λ lan.
+    let places = gateways_at lan state.mesh.lans in
+    attempt_same state (all_given (setup_of state.algorithm) places state.clock (Line line) state.mesh) same (λ after is. all_gains (setup_of state.algorithm) places state.clock line state.mesh after is))
+
+lan_same : (state : State) (name : List ℕ) (places : List ℕ) (full : Bool) → SameEvents state → SameOutcome (cond full (Ends state (Limit Lans)) (after_attempt state (joins_lan (setup_of state.algorithm) name places state.clock state.mesh)))
+lan_same state name places true same = same
+lan_same state name places false same = attempt_same state (joins_lan (setup_of state.algorithm) name places state.clock state.mesh) same (λ after is. lan_gains (setup_of state.algorithm) name places state.clock state.mesh after is)
 
 full_same : (b : Bool) (stopped : Outcome) (state : State) → SameOutcome stopped → SameEvents state → SameOutcome (cond b stopped (Goes state))
 full_same true stopped state a b = a
@@ -138,13 +159,13 @@ choice_same : (state : State) (algorithm : Algorithm) → SameEvents state → S
 unfolding SameEvents
 choice_same state algorithm same = same
 
-course_same : (state : State) (t : ℕ) (o : Course) (stop : Option PassedLimit) → Follows state.mesh o.mesh → SameEvents state → SameOutcome (course_outcome state t o.mesh stop)
+course_same : (state : State) (t : ℕ) (o : Course) (stop : Option PassedLimit) → GainsEvents state.mesh o.mesh → SameEvents state → SameOutcome (course_outcome state t o.mesh stop)
 course_same state t o None f same = gone_same state t o.mesh f same
 course_same state t o (Some p) f same = gone_same state p.moment o.mesh f same
 
 time_same : (state : State) (t : ℕ) (past : Bool) → SameEvents state → SameOutcome (cond past (Ends state (Limit Clock)) (run_until (setup_of state.algorithm) t state))
 time_same state t true same = same
-time_same state t false same = course_same state t (run_to (setup_of state.algorithm) t state.mesh) (run_to (setup_of state.algorithm) t state.mesh).stop (going_follows (setup_of state.algorithm) t (begin state.mesh)) same
+time_same state t false same = course_same state t (run_to (setup_of state.algorithm) t state.mesh) (run_to (setup_of state.algorithm) t state.mesh).stop (course_gains state.mesh (run_to (setup_of state.algorithm) t state.mesh).mesh (going_follows (setup_of state.algorithm) t (begin state.mesh))) same
 
 -- something printed that is no event
 abbrev IsNoEvent : Printed → Type 0
@@ -154,35 +175,35 @@ print_same : (state : State) (printed : Printed) → IsNoEvent printed → SameE
 unfolding SameEvents
 print_same state printed none same = events_both state.printed (printed ∷ []) ∙ ap (λ es. events_in state.printed ++ es) none ∙ append-nil (events_in state.printed) ∙ same
 
-show_same : (state : State) (print : Algorithm → ℕ → NodeLog → Printed) (o : Option NodeLog) → ((node : NodeLog) → IsNoEvent (print state.algorithm state.clock node)) → SameEvents state
-    → SameOutcome (option_map_or (λ node. Goes (after_print state (print state.algorithm state.clock node))) o (Goes state))
+show_same : (state : State) (print : State → NodeLog → Printed) (o : Option NodeLog) → ((node : NodeLog) → IsNoEvent (print state node)) → SameEvents state
+    → SameOutcome (option_map_or (λ node. Goes (after_print state (print state node))) o (Goes state))
 show_same state print None none same = same
-show_same state print (Some node) none same = print_same state (print state.algorithm state.clock node) (none node) same
+show_same state print (Some node) none same = print_same state (print state node) (none node) same
 
-shown_same : (state : State) (name : List ℕ) (o : Option (Algorithm → ℕ → NodeLog → Printed)) → ((print : Algorithm → ℕ → NodeLog → Printed) → o ≡ Some print → (node : NodeLog) → IsNoEvent (print state.algorithm state.clock node)) → SameEvents state
+shown_same : (state : State) (name : List ℕ) (o : Option (State → NodeLog → Printed)) → ((print : State → NodeLog → Printed) → o ≡ Some print → (node : NodeLog) → IsNoEvent (print state node)) → SameEvents state
     → SameOutcome (after_step state (option_map (show_step name) o))
 shown_same state name None none same = same
 shown_same state name (Some print) none same = show_same state print (node_named state name) (none print refl) same
 
 -- the tables that are shown are no events
-abbrev IfShown : Algorithm → ℕ → NodeLog → Option (Algorithm → ℕ → NodeLog → Printed) → Type 0
-IfShown algorithm now node None = Unit {0}
-IfShown algorithm now node (Some print) = IsNoEvent (print algorithm now node)
+abbrev IfShown : State → NodeLog → Option (State → NodeLog → Printed) → Type 0
+IfShown state node None = Unit {0}
+IfShown state node (Some print) = IsNoEvent (print state node)
 
-shown_none : (table : Table) (algorithm : Algorithm) (now : ℕ) (node : NodeLog) → IfShown algorithm now node (shown table)
+shown_none : (table : Table) (state : State) (node : NodeLog) → IfShown state node (shown table)
 unfolding events_in
-shown_none Originators algorithm now node = refl
-shown_none Neighbors algorithm now node = refl
-shown_none Locals algorithm now node = refl
-shown_none Globals algorithm now node = refl
-shown_none Claims algorithm now node = tt
-shown_none Gateways algorithm now node = tt
-shown_none Groups algorithm now node = tt
-shown_none Addresses algorithm now node = tt
-shown_none Facts algorithm now node = tt
+shown_none Originators state node = refl
+shown_none Neighbors state node = refl
+shown_none Locals state node = refl
+shown_none Globals state node = refl
+shown_none Claims state node = refl
+shown_none Gateways state node = tt
+shown_none Groups state node = tt
+shown_none Addresses state node = tt
+shown_none Facts state node = tt
 
-tables_same : (table : Table) (algorithm : Algorithm) (now : ℕ) (print : Algorithm → ℕ → NodeLog → Printed) → shown table ≡ Some print → (node : NodeLog) → IsNoEvent (print algorithm now node)
-tables_same table algorithm now print is node = subst (IfShown algorithm now node) is (shown_none table algorithm now node)
+tables_same : (table : Table) (state : State) (print : State → NodeLog → Printed) → shown table ≡ Some print → (node : NodeLog) → IsNoEvent (print state node)
+tables_same table state print is node = subst (IfShown state node) is (shown_none table state node)
 
 decoded_none : (bytes : List ℕ) → IsNoEvent (Decoded bytes)
 unfolding events_in
@@ -197,9 +218,9 @@ command_same state (Link from to delay pattern throughput) same =
     at_same state (λ start. at_node to (λ end. link_step (link start end))) (place_of state from) same (λ start.
     at_same state (λ end. link_step (link start end)) (place_of state to) same (λ end.
     full_same (nat_le links_limit (length state.mesh.links)) (Ends state (Limit Links)) (with_link state (link start end)) same (with_link_same state (link start end) same)))
-command_same state (Lan name gateways) same = same
-command_same state (Frame place src dst vid text) same = frame_same state place (FrameGiven src dst vid text) (is_group dst && not (is_broadcast dst)) same
-command_same state (Gone place key) same = line_same state place (GoneGiven key) same
+command_same state (Lan name gateways) same = lan_same state name (places_named gateways 0 state.mesh.nodes) (nat_le lans_limit (length state.mesh.lans)) same
+command_same state (Frame place src dst vid text) same = frame_same state place (payload_spelling (record { dst = dst; src = src; vid = vid; text = text })) (FrameGiven src dst vid text) (is_group dst && not (is_broadcast dst)) same
+command_same state (Gone place key) same = gone_from state place (GoneGiven key) same
 command_same state (Join node key) same = line_same state node (JoinGiven key) same
 command_same state (Leave node key) same = line_same state node (LeaveGiven key) same
 command_same state (Arp node mac own asked vid) same = same
@@ -216,8 +237,8 @@ command_same state (Get node type_no) same = same
 command_same state (Ping node target) same = session_same state PingGiven node target same
 command_same state (Trace node target) same = session_same state TraceGiven node target same
 command_same state (RunFor time) same = time_same state (state.clock + time) (nat_lt clock_limit (state.clock + time)) same
-command_same state (Deliver number) same = attempt_same state (delivered (setup_of state.algorithm) (number - 1) state.clock state.mesh) same (λ after is. effect_follows (setup_of state.algorithm) state.clock state.mesh after (delivered_effect (setup_of state.algorithm) state.mesh (number - 1) state.clock after is))
-command_same state (Show node table) same = shown_same state node (shown table) (λ print is. tables_same table state.algorithm state.clock print is) same
+command_same state (Deliver number) same = attempt_same state (delivered (setup_of state.algorithm) (number - 1) state.clock state.mesh) same (λ after is. again_gains (setup_of state.algorithm) (number - 1) state.clock state.mesh after is)
+command_same state (Show node table) same = shown_same state node (shown table) (λ print is. tables_same table state print is) same
 command_same state (Decode bytes) same = print_same state (Decoded bytes) (decoded_none bytes) same
 
 carried_same : (state : State) (command : Command) → SameEvents state → SameOutcome (carried_out (setup_of state.algorithm) state command)

@@ -13,7 +13,7 @@ use Rattle.mesh_model.specs.declared.probe.OpenProbe.{OpenProbe}
 use Rattle.mesh_model.specs.declared.probe.Probe.{Probe}
 use Rattle.mesh_model.specs.declared.probe.Told.{Told}
 use Rattle.mesh_model.specs.declared.probe.Told.TheVariants.{Unknown, Done, Next}
-use Rattle.mesh_model.specs.Acts.FrameRows.{Place}
+use Rattle.mesh_model.specs.Acts.BridgeRows.{Place}
 use Rattle.mesh_model.specs.Acts.Packing.{sent_over, sent_to}
 use Rattle.mesh_model.specs.Acts.ProbeRows.{IcmpMessage, answered_acts, answer_event, answered_by, icmp_head, icmp_here, icmp_on_route, next_acts, passed_icmp, ping_result, probe_acts, request_of, session_acts, trace_result}
 use Rattle.mesh_model.specs.Acts.Rows.{icmp_acts}

@@ -1,31 +1,34 @@
 -- Every happening of a run is a step, and moments never fall.
-use Rattle.std.proofs.Common.{◌≡◌, ◌≤◌, ℕ, suc, slice_get, Option, Some, None, Ok, refl, sym, ap, subst, ◌∙◌, arith}
+use Rattle.std.proofs.Common.{◌≡◌, ◌≤◌, ℕ, suc, List, [], ◌∷◌, append-nil, filter, slice_get, Option, Some, None, Ok, refl, sym, ap, subst, ◌∙◌, arith}
 use Rattle.std.specs.Option.{option_map_or}
 use Rattle.mesh_base.specs.declared.address.Mac.{Mac}
 use Rattle.mesh_model.specs.declared.happening.Class.{Class}
-use Rattle.mesh_model.specs.declared.happening.Class.TheVariants.{LinkDelivery, NodeTick}
+use Rattle.mesh_model.specs.declared.happening.Class.TheVariants.{LinkDelivery, LanDelivery, NodeTick}
 use Rattle.mesh_model.specs.declared.happening.Happening.{Happening}
-use Rattle.mesh_model.specs.Clients.Log.{Given, Tick, LinkFrame}
+use Rattle.mesh_model.specs.Clients.Log.{Given, Tick, LinkFrame, LanFrame, Line, LineGiven}
 use Rattle.mesh_model.specs.Net.Due.{next_due, ticks_in}
 use Rattle.mesh_model.specs.Net.Happenings.{Before}
-use Rattle.mesh_model.specs.Net.Inputs.{entry_of, given_to, noting}
+use Rattle.mesh_model.specs.Net.Inputs.{all_given, entry_of, given_to, noting}
+use Rattle.mesh_model.specs.Net.Lans.{gets, lan_delivered, put_given, put_over, reach_events, with_events}
 use Rattle.mesh_model.specs.Net.Limits.{scenario_setup}
-use Rattle.mesh_model.specs.Net.Mesh.{NodeLog, NetLink, SentFrame, Mesh, Setup, address_at}
+use Rattle.mesh_model.specs.Net.Mesh.{NodeLog, NetLan, NetLink, LanPut, SentFrame, Mesh, Setup, address_at}
 use Rattle.mesh_model.specs.Net.Next.{IsNext, IsQuiet}
 use Rattle.mesh_model.specs.Net.Runs.{Course, PassedLimit, after_happening, begin, delivered, effect, frame_given, frame_over, going_on, throughput_between, tick_given, ticked, turn, with_last}
+use Rattle.mesh_model.specs.Packets.LanFrames.{client_frame_in, lan_message_of}
+use Rattle.mesh_model.specs.Packets.Payload.{ClientFrame}
 use Rattle.mesh_model.specs.Routes.Queries.{Queries}
 use Rattle.mesh_laws.specs.Soundness.{FitsPlaces, IsSound}
 use Rattle.mesh_laws.proofs.Schedule.Due.{due_is_next}
 use Rattle.mesh_laws.proofs.Schedule.Order.{moments}
 use Rattle.mesh_laws.proofs.Schedule.Runs.{Fine, Turned, fine_turn, goes, rests, stops, turned, turns_keep}
 use Rattle.mesh_laws.proofs.Schedule.Sends.{as_ok, ok_one, on_ok_ok}
-use Rattle.mesh_laws.proofs.Schedule.Steps.{step_is}
+use Rattle.mesh_laws.proofs.Schedule.Steps.{get_front, step_is}
 use Rattle.mesh_tie.specs.PlainRuns.{NoneIsLater}
 use Rattle.mesh_tie.specs.Sources.{IsWhole}
-use Rattle.mesh_tie.specs.Steps.{IsReachable, Steps, frame_comes, goes_on, newest_moment, node_ticks, time_passes}
+use Rattle.mesh_tie.specs.Steps.{IsReachable, Steps, bridged_event, frame_comes, goes_on, lan_comes, line_gives, newest_moment, TellsClient, node_ticks, put_reaches, time_passes}
 use Rattle.mesh_tie.specs.TieLaws.{AllKeep}
-use Rattle.mesh_tie.proofs.FitLemmas.{commits_always_fit}
-use Rattle.mesh_tie.proofs.MeshSteps.{Renewed, another, itself, reached, renewed}
+use Rattle.mesh_tie.proofs.NodeLists.{Renewed, another, itself, renewed}
+use Rattle.mesh_tie.proofs.OrderSteps.{orderly}
 use Rattle.mesh_tie.proofs.SentLemmas.{given_is}
 
 -- ---- one input
@@ -64,8 +67,8 @@ given_comes queries mesh after place now root given r settled step is = go (slic
     }
 
 -- an address of a node, or that of no station, is whole
-address_whole : (queries : Mac → Queries) (mesh : Mesh) (place : ℕ) → AllKeep queries → IsReachable queries mesh → IsWhole (address_at place mesh.nodes)
-address_whole queries mesh place keep r = go (slice_get mesh.nodes place) (λ node found. (reached queries keep (commits_always_fit queries) mesh r).holds.orderly.whole place node found)
+address_whole : (queries : Mac → Queries) (mesh : Mesh) (place : ℕ) → IsReachable queries mesh → IsWhole (address_at place mesh.nodes)
+address_whole queries mesh place r = go (slice_get mesh.nodes place) (λ node found. (orderly queries mesh r).whole place node found)
   where
     go : (o : Option NodeLog) → ((node : NodeLog) → o ≡ Some node → IsWhole node.mac) → IsWhole (option_map_or (λ (node : NodeLog). node.mac) o (record { 0 = Rattle.std.specs.Prelude.replicate 6 0 }))
     go None whole = refl
@@ -83,7 +86,7 @@ delivered_comes queries mesh after place now keep r settled is = by_frame (slice
         let from = address_at link.from mesh.nodes in
         let throughput = throughput_between link.to link.from mesh.links in
         given_comes queries mesh after link.to now frame.root (LinkFrame (suc place) from throughput frame.bytes) r settled
-        (λ node found may given. frame_comes mesh after link.to now place throughput from node frame found may sent (address_whole queries mesh link.from keep r) given) e
+        (λ node found may given. frame_comes mesh after link.to now place throughput from node frame found may sent (address_whole queries mesh link.from r) given) e
 
     by_frame : (o : Option SentFrame) → slice_get mesh.frames place ≡ o → frame_given (scenario_setup queries) place now o mesh ≡ Ok after → Comes queries mesh after now
     by_frame None sent e = stays queries mesh after now r settled e
@@ -99,9 +102,65 @@ ticked_comes queries mesh after place now r settled is = by_node (slice_get mesh
       settled = given_settled queries mesh after place now (suc (ticks_in node.log)) node (Tick (suc (ticks_in node.log))) settled found e;
     }
 
+-- ---- a LAN
+-- what was put stays
+puts_stay : (queries : Mac → Queries) (mesh after : Mesh) (place now root : ℕ) (given : Given) (number : ℕ) (put : LanPut) → given_to (scenario_setup queries) place now root given mesh ≡ Ok after → slice_get mesh.puts number ≡ Some put → slice_get after.puts number ≡ Some put
+puts_stay queries mesh after place now root given number put is found = go (slice_get mesh.nodes place) refl
+  where
+    go : (o : Option NodeLog) → slice_get mesh.nodes place ≡ o → slice_get after.puts number ≡ Some put
+    go None none =
+        let same : mesh ≡ after = ok_one mesh after (ap (λ (o : Option NodeLog). Rattle.mesh_model.specs.Net.Inputs.given_node (scenario_setup queries) place now root given o mesh) (sym none) ∙ is) in
+        subst (λ (m : Mesh). slice_get m.puts number ≡ Some put) same found
+    go (Some node) there =
+        let has = given_is (scenario_setup queries) place now root node given mesh after there is in
+        ap (λ ps. slice_get ps number) has.puts ∙ get_front mesh.puts has.more_puts number put found
+
+-- the gateways of a LAN take a frame of it, one after another
+lan_all : (queries : Mac → Queries) (places : List ℕ) (mesh after : Mesh) (now number : ℕ) (put : LanPut) → IsReachable queries mesh → NoneIsLater mesh now → slice_get mesh.puts number ≡ Some put
+    → all_given (scenario_setup queries) places now (LanFrame put.bytes) mesh ≡ Ok after → Comes queries mesh after now
+lan_all queries [] mesh after now number put r settled among is = stays queries mesh after now r settled is
+lan_all queries (place ∷ rest) mesh after now number put r settled among is =
+    let given = LanFrame put.bytes in
+    let p = on_ok_ok (all_given (scenario_setup queries) rest now given) (given_to (scenario_setup queries) place now 0 given mesh) after is in
+    let c = given_comes queries mesh p.0 place now 0 given r settled (λ node found may got. lan_comes mesh p.0 place now number node put found may among got) p.1 in
+    let d = lan_all queries rest p.0 after now number put c.reachable c.settled (puts_stay queries mesh p.0 place now 0 given number put p.1 among) p.2 in
+    record { reachable = d.reachable; settled = d.settled }
+
+-- nodes are given what a line gives, one after another
+pub lines_all : (queries : Mac → Queries) (places : List ℕ) (mesh after : Mesh) (now : ℕ) (line : LineGiven) → IsReachable queries mesh → NoneIsLater mesh now → TellsClient line → all_given (scenario_setup queries) places now (Line line) mesh ≡ Ok after → Comes queries mesh after now
+lines_all queries [] mesh after now line r settled of is = stays queries mesh after now r settled is
+lines_all queries (place ∷ rest) mesh after now line r settled of is =
+    let p = on_ok_ok (all_given (scenario_setup queries) rest now (Line line)) (given_to (scenario_setup queries) place now 0 (Line line) mesh) after is in
+    let c = given_comes queries mesh p.0 place now 0 (Line line) r settled (λ node found may got. line_gives mesh p.0 place now node line found may of got) p.1 in
+    let d = lines_all queries rest p.0 after now line c.reachable c.settled of p.2 in
+    record { reachable = d.reachable; settled = d.settled }
+
+-- its event, where it has one
+put_event_comes : (queries : Mac → Queries) (mesh : Mesh) (now number : ℕ) (put : LanPut) → IsReachable queries mesh → slice_get mesh.puts number ≡ Some put → (o : Option ClientFrame) → client_frame_in (lan_message_of put.bytes) ≡ o → (by : Option ℕ)
+    → IsReachable queries (with_events (reach_events now put.lan by o) mesh)
+put_event_comes queries mesh now number put r among None is by = subst (λ es. IsReachable queries (record mesh { events = es })) (sym (append-nil mesh.events)) r
+put_event_comes queries mesh now number put r among (Some frame) is None = subst (λ es. IsReachable queries (record mesh { events = es })) (sym (append-nil mesh.events)) r
+put_event_comes queries mesh now number put r among (Some frame) is (Some gateway) = goes_on mesh (with_events (bridged_event now put frame ∷ []) mesh) r (put_reaches mesh number now put frame among is)
+
+lan_delivered_comes : (queries : Mac → Queries) (mesh after : Mesh) (place now : ℕ) → IsReachable queries mesh → NoneIsLater mesh now → lan_delivered (scenario_setup queries) place now mesh ≡ Ok after → Comes queries mesh after now
+lan_delivered_comes queries mesh after place now r settled is = by_put (slice_get mesh.puts place) refl is
+  where
+    by_lan : (put : LanPut) → slice_get mesh.puts place ≡ Some put → (o : Option NetLan) → put_over (scenario_setup queries) now put (client_frame_in (lan_message_of put.bytes)) o mesh ≡ Ok after → Comes queries mesh after now
+    by_lan put among None e = stays queries mesh after now r settled e
+    by_lan put among (Some lan) e =
+        let frame = client_frame_in (lan_message_of put.bytes) in
+        let told : Mesh = with_events (reach_events now put.lan put.by frame) mesh in
+        let c = lan_all queries (filter (gets frame put.by) lan.gateways) told after now place put (put_event_comes queries mesh now place put r among frame refl put.by) settled among e in
+        record { reachable = c.reachable; settled = c.settled }
+
+    by_put : (o : Option LanPut) → slice_get mesh.puts place ≡ o → put_given (scenario_setup queries) now o mesh ≡ Ok after → Comes queries mesh after now
+    by_put None among e = stays queries mesh after now r settled e
+    by_put (Some put) among e = by_lan put among (slice_get mesh.lans put.lan) e
+
 -- ---- a happening
 effect_comes : (queries : Mac → Queries) (mesh after : Mesh) (class : Class) (place now : ℕ) → AllKeep queries → IsReachable queries mesh → NoneIsLater mesh now → effect (scenario_setup queries) class place now mesh ≡ Ok after → Comes queries mesh after now
 effect_comes queries mesh after LinkDelivery place now keep r settled is = delivered_comes queries mesh after place now keep r settled is
+effect_comes queries mesh after LanDelivery place now keep r settled is = lan_delivered_comes queries mesh after place now r settled is
 effect_comes queries mesh after NodeTick place now keep r settled is = ticked_comes queries mesh after place now r settled is
 
 pub happening_comes : (queries : Mac → Queries) (mesh after : Mesh) (h : Happening) → AllKeep queries → IsReachable queries mesh → NoneIsLater mesh h.moment → after_happening (scenario_setup queries) h mesh ≡ Ok after → Comes queries mesh after h.moment

@@ -4,9 +4,12 @@ use Rattle.std.specs.Option.{option_or}
 use Rattle.std.proofs.lemmas.Bool.{and_parts, eq-eqb, false≢true, ltb-false, ltb-true, true≢false}
 use Rattle.mesh_base.specs.declared.address.Mac.{Mac}
 use Rattle.mesh_base.specs.declared.client.Entry.{Entry}
+use Rattle.mesh_base.specs.declared.event.Event.{Event}
 use Rattle.mesh_base.specs.declared.event.Event.TheVariants.{Alias}
 use Rattle.mesh_model.specs.declared.act.Act.{Act}
 use Rattle.mesh_model.specs.declared.act.Act.TheVariants.{Print}
+use Rattle.mesh_model.specs.Clients.Lans.{bridge}
+use Rattle.mesh_model.specs.Net.Sending.{put_event}
 use Rattle.mesh_model.specs.Clients.Log.{Given, Tick, LinkFrame, Log, LogEntry, LanFrame, Line, LineGiven}
 use Rattle.mesh_model.specs.Clients.Mentions.{mentions}
 use Rattle.mesh_model.specs.Commits.Aliases.{alias_before, are_aliases, last_alias}
@@ -28,15 +31,16 @@ use Rattle.mesh_laws.proofs.AnnouncedSums.{announces_checksums}
 use Rattle.mesh_laws.proofs.DifferenceLemmas.{finds_each_difference}
 use Rattle.mesh_laws.proofs.KeyTables.{equal_entries}
 use Rattle.mesh_laws.proofs.MachineInvariant.{newest_or_older}
-use Rattle.mesh_laws.proofs.Schedule.Members.{has_either}
+use Rattle.mesh_laws.proofs.Schedule.Members.{has_either, has_left}
 use Rattle.mesh_tie.specs.AliasesSeen.{AliasesAreSeen, AliasesAreTold, HasAlias}
 use Rattle.mesh_tie.specs.Originators.{commits_of, log_of}
-use Rattle.mesh_tie.specs.Steps.{IsReachable, Steps, begins, frame_comes, goes_on, line_gives, link_joins, node_joins, node_ticks, time_passes}
-use Rattle.mesh_tie.proofs.AliasRows.{AreQuiet, Gains, frame_quiet, gains_none, gains_one, line_quiet, quiet_none, tick_gains}
+use Rattle.mesh_tie.specs.Steps.{IsReachable, Steps, begins, frame_comes, goes_on, lan_comes, lan_joins, line_gives, link_joins, node_joins, node_ticks, put_comes, put_reaches, time_passes, bridged_event, with_lan_frame}
+use Rattle.mesh_tie.proofs.AliasRows.{AreQuiet, Gains, frame_quiet, gains_none, gains_one, lan_quiet, line_quiet, quiet_none, tick_gains}
 use Rattle.mesh_tie.proofs.LogLemmas.{AreDistinct, log_found, log_itself, log_other}
-use Rattle.mesh_tie.proofs.MeshSteps.{Renewed, another, got_front, itself, log_joined, no_length, renewed}
+use Rattle.mesh_tie.proofs.MeshSteps.{log_joined}
+use Rattle.mesh_tie.proofs.NodeLists.{Renewed, another, got_front, itself, no_length, renewed}
 use Rattle.mesh_tie.proofs.Sayable.{one_or_two}
-use Rattle.mesh_tie.proofs.SentLemmas.{HasGiven, IsSending, given_is}
+use Rattle.mesh_tie.proofs.SentLemmas.{HasGiven, IsOfActs, given_is}
 
 -- ---- commits that can be taken for one another
 from_same_table : (a b : List Entry) → same_table a b ≡ true → a ≡ b
@@ -164,10 +168,11 @@ given_told queries orig mesh after place now root node given distinct found is g
         new (inl old) = inl old
         new (inr more) = by_act (has.came (Alias orig number earlier) more)
           where
-            by_act : Has (entry_of (scenario_setup queries) node now given).acts (Print (Alias orig number earlier)) ⊎ IsSending (entry_of (scenario_setup queries) node now given).acts node.mac now (Alias orig number earlier)
+            by_act : IsOfActs (entry_of (scenario_setup queries) node now given).acts node.mac now (Alias orig number earlier)
                 → Has mesh.events (Alias orig number earlier) ⊎ Has (entry_of (scenario_setup queries) node now given).acts (Print (Alias orig number earlier))
             by_act (inl printed) = inr printed
-            by_act (inr sent) = absurd (let e = sent.is in cc)
+            by_act (inr (inl sent)) = absurd (let e = sent.is in cc)
+            by_act (inr (inr put)) = absurd (let e = put.is in cc)
 
     -- the commits of another are as before, and nothing of it was told
     other_told : (made : List Version) → Gains node.mac (commits node.mac node.log) made (entry_of (scenario_setup queries) node now given).acts → node.mac ≢ orig → AreTold orig after (commits_of orig mesh)
@@ -213,6 +218,19 @@ calm_gains queries node now given calm quiet =
     let entry = entry_of (scenario_setup queries) node now given in
     subst (λ made. Gains node.mac (commits node.mac node.log) made entry.acts) (sym (calm_commits node.mac node.log entry calm)) (gains_none entry.acts quiet)
 
+-- an event beside that tells of no alias
+told_beside : (orig : Mac) (mesh : Mesh) (event : Event) (events : List Event) (made : List Version) → events ≡ mesh.events ++ event ∷ [] → ((number earlier : ℕ) → Alias orig number earlier ≡ event → ⊥) → AreTold orig mesh made
+    → (number earlier : ℕ) → Has events (Alias orig number earlier) ↔ HasAlias made number earlier
+told_beside orig mesh event events made same other told number earlier = (
+  λ has. go (has_either mesh.events (event ∷ []) (Alias orig number earlier) (subst (λ es. Has es (Alias orig number earlier)) same has)),
+  λ is. subst (λ es. Has es (Alias orig number earlier)) (sym same) (has_left mesh.events (event ∷ []) (Alias orig number earlier) ((told number earlier).1 is)),
+)
+  where
+    go : Has mesh.events (Alias orig number earlier) ⊎ Has (event ∷ []) (Alias orig number earlier) → HasAlias made number earlier
+    go (inl old) = (told number earlier).0 old
+    go (inr (inl is)) = absurd (other number earlier is)
+    go (inr (inr none)) = absurd none
+
 step_told : (queries : Mac → Queries) (mesh after : Mesh) → AreDistinct mesh.nodes → Steps queries mesh after → (orig : Mac) → AreTold orig mesh (commits_of orig mesh) → AreTold orig after (commits_of orig after)
 step_told queries mesh _ distinct (node_joins _ node empty whole fresh) orig told = subst (λ l. AreTold orig mesh (commits orig l)) (sym (log_joined orig mesh.nodes node empty)) told
 step_told queries mesh _ distinct (link_joins _ link) orig told = told
@@ -221,13 +239,22 @@ step_told queries mesh after distinct (line_gives _ _ place now node line found 
 step_told queries mesh after distinct (node_ticks _ _ place now node found may is) orig told =
     let index = suc (ticks_in node.log) in
     given_told queries orig mesh after place now index node (Tick index) distinct found is
-    (tick_gains (queries node.mac) node.mac (Rattle.mesh_model.specs.Knowledge.Steps.knowledge (queries node.mac) node.mac node.log).routes (mentions node.mac node.log) (history node.mac node.log) now index) told
+    (tick_gains (queries node.mac) node.mac (Rattle.mesh_model.specs.Knowledge.Steps.knowledge (queries node.mac) node.mac node.log).routes (mentions node.mac node.log) (history node.mac node.log) (bridge node.log) now index) told
 step_told queries mesh after distinct (frame_comes _ _ place now number throughput from node frame found may sent whole is) orig told =
     let given = LinkFrame (suc number) from throughput frame.bytes in
     given_told queries orig mesh after place now frame.root node given distinct found is
     (calm_gains queries node now given (λ index e. no_tick index e) (frame_quiet (queries node.mac) node.mac node.log now (suc number) from throughput frame.bytes)) told
   where
     no_tick : (index : ℕ) → LinkFrame (suc number) from throughput frame.bytes ≡ Tick index → ⊥
+    no_tick index e = cc
+step_told queries mesh _ distinct (lan_joins _ lan) orig told = told
+step_told queries mesh _ distinct (put_comes _ put frame by is tells) orig told = told_beside orig mesh (put_event mesh put) (with_lan_frame put mesh).events (commits_of orig mesh) refl (λ number earlier e. cc) told
+step_told queries mesh _ distinct (put_reaches _ number now put frame found carries) orig told = told_beside orig mesh (bridged_event now put frame) (mesh.events ++ bridged_event now put frame ∷ []) (commits_of orig mesh) refl (λ number earlier e. cc) told
+step_told queries mesh after distinct (lan_comes _ _ place now number node put found may among is) orig told =
+    given_told queries orig mesh after place now 0 node (LanFrame put.bytes) distinct found is
+    (calm_gains queries node now (LanFrame put.bytes) (λ index e. no_tick index e) (lan_quiet (queries node.mac) node.mac node.log now put.bytes)) told
+  where
+    no_tick : (index : ℕ) → LanFrame put.bytes ≡ Tick index → ⊥
     no_tick index e = cc
 step_told queries mesh _ distinct (time_passes _ happening) orig told = told
 
@@ -259,6 +286,10 @@ step_distinct queries mesh after d (line_gives _ _ place now node line found may
 step_distinct queries mesh after d (node_ticks _ _ place now node found may is) = given_distinct queries mesh after place now (suc (ticks_in node.log)) node (Tick (suc (ticks_in node.log))) d found is
 step_distinct queries mesh after d (frame_comes _ _ place now number throughput from node frame found may sent whole is) =
     given_distinct queries mesh after place now frame.root node (LinkFrame (suc number) from throughput frame.bytes) d found is
+step_distinct queries mesh _ d (lan_joins _ lan) = d
+step_distinct queries mesh _ d (put_comes _ put frame by is tells) = d
+step_distinct queries mesh _ d (put_reaches _ number now put frame found carries) = d
+step_distinct queries mesh after d (lan_comes _ _ place now number node put found may among is) = given_distinct queries mesh after place now 0 node (LanFrame put.bytes) d found is
 step_distinct queries mesh _ d (time_passes _ happening) = d
 
 -- what holds of every mesh that is reached

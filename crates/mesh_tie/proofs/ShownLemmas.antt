@@ -5,7 +5,7 @@ use Rattle.std.proofs.lemmas.Bool.{false≢true}
 use Rattle.mesh_base.specs.declared.address.Mac.{Mac}
 use Rattle.mesh_base.specs.declared.event.Event.{Event}
 use Rattle.mesh_base.specs.declared.event.Event.TheVariants.{Alias}
-use Rattle.mesh_base.specs.declared.names.NodeName.{NodeName}
+use Rattle.mesh_base.specs.Names.{NamesGiven}
 use Rattle.mesh_model.specs.declared.ending.LimitName.TheVariants.{Input, Line}
 use Rattle.mesh_model.specs.declared.ending.Stop.TheVariants.{Limit}
 use Rattle.mesh_model.specs.declared.line_form.Command.{Command}
@@ -28,15 +28,16 @@ use Rattle.mesh_model.specs.Tables.Known.{Known, LastTold, agrees, is_agreed, kn
 use Rattle.mesh_model.specs.Tables.Versions.{Version}
 use Rattle.mesh_model.specs.Text.GlobalTables.{GlobalPart}
 use Rattle.mesh_laws.proofs.DifferenceLemmas.{agrees_by_checksums}
-use Rattle.mesh_laws.proofs.Lines.Courses.{Follows, going_follows, since_is}
-use Rattle.mesh_laws.proofs.Lines.Ways.{Led, again, chose, ended, given, led, linked, noded, passed, printed, stayed}
+use Rattle.mesh_laws.proofs.Lines.Courses.{going_follows}
+use Rattle.mesh_laws.proofs.Lines.Ways.{Led, again, given_all, lanned, put_there, chose, ended, given, led, linked, noded, passed, printed, stayed}
 use Rattle.mesh_laws.proofs.Schedule.Members.{has_either, has_left, has_map, has_right}
-use Rattle.mesh_laws.proofs.Schedule.Steps.{Effect, delivered_effect, no_ticks, tickless}
+use Rattle.mesh_laws.proofs.Schedule.Steps.{tickless}
 use Rattle.mesh_tie.specs.Originators.{commits_of, log_of}
 use Rattle.mesh_tie.specs.ShownTables.{IsOfCommit, ShowsCommits, ShownTablesAreCommitted}
 use Rattle.mesh_tie.specs.Tie.{known_at_node}
 use Rattle.mesh_tie.specs.TieLaws.{HoldsTheTold, IsWithoutAlias}
 use Rattle.mesh_tie.proofs.LawLemmas.{agreed_are_told, held_are_committed}
+use Rattle.mesh_tie.proofs.GainLemmas.{GainsEvents, again_gains, all_gains, course_gains, effect_gains, gained_is, lan_gains, put_gains}
 use Rattle.mesh_tie.proofs.LineReach.{RunHolds, first_holds, lines_hold}
 use Rattle.mesh_tie.proofs.SeenLemmas.{aliases_are_seen}
 use Rattle.mesh_tie.proofs.VLemmas.{algorithms_keep}
@@ -44,29 +45,26 @@ use Rattle.mesh_tie.proofs.VLemmas.{algorithms_keep}
 -- ---- events are printed
 -- every event of a state is printed
 abbrev EventsPrinted : State → Type 0
-EventsPrinted state = (event : Event) → Has state.mesh.events event → (names : List NodeName) × Has state.printed (Happened names event)
+EventsPrinted state = (event : Event) → Has state.mesh.events event → (names : NamesGiven) × Has state.printed (Happened names event)
 
-gone_prints : (state : State) (now : ℕ) (mesh : Mesh) → Follows state.mesh mesh → EventsPrinted state → EventsPrinted (gone_on state now mesh)
+gone_prints : (state : State) (now : ℕ) (mesh : Mesh) → GainsEvents state.mesh mesh → EventsPrinted state → EventsPrinted (gone_on state now mesh)
 gone_prints state now mesh f all event has = go (has_either state.mesh.events f.more event (subst (λ es. Has es event) f.events has))
   where
-    names : List NodeName
-    names = names_of mesh.nodes
+    names : NamesGiven
+    names = names_of mesh
 
     new : List Printed
-    new = map (Happened (names_of mesh.nodes)) (events_since state.mesh mesh)
+    new = map (Happened (names_of mesh)) (events_since state.mesh mesh)
 
-    go : Has state.mesh.events event ⊎ Has f.more event → (names : List NodeName) × Has (state.printed ++ new) (Happened names event)
+    go : Has state.mesh.events event ⊎ Has f.more event → (names : NamesGiven) × Has (state.printed ++ new) (Happened names event)
     go (inl old) = let p = all event old in (p.0, has_left state.printed new (Happened p.0 event) p.1)
     go (inr more) = (
       names,
       has_right state.printed new (Happened names event)
-          (has_map (Happened (names_of mesh.nodes)) (events_since state.mesh mesh) event (subst (λ es. Has es event) (sym (since_is state.mesh mesh f)) more)),
+          (has_map (Happened (names_of mesh)) (events_since state.mesh mesh) event (subst (λ es. Has es event) (sym (gained_is state.mesh mesh f)) more)),
     )
 
-effect_follows : (setup : Setup) (now : ℕ) (mesh after : Mesh) → Effect setup no_ticks now mesh after → Follows mesh after
-effect_follows setup now mesh after effect = record { more = effect.adds.more_events; events = effect.adds.events; names = effect.names }
-
-course_prints : (state : State) (t : ℕ) (o : Course) (stop : Option PassedLimit) → Follows state.mesh o.mesh → EventsPrinted state → EventsPrinted (reached (course_outcome state t o.mesh stop))
+course_prints : (state : State) (t : ℕ) (o : Course) (stop : Option PassedLimit) → GainsEvents state.mesh o.mesh → EventsPrinted state → EventsPrinted (reached (course_outcome state t o.mesh stop))
 course_prints state t o None f all = gone_prints state t o.mesh f all
 course_prints state t o (Some p) f all = gone_prints state p.moment o.mesh f all
 
@@ -78,11 +76,14 @@ led_prints setup state command outcome (chose algorithm is e) all = subst (λ o.
 led_prints setup state command outcome (noded node new made few e) all = subst (λ o. EventsPrinted (reached o)) (sym e) all
 led_prints setup state command outcome (linked link delay e) all = subst (λ o. EventsPrinted (reached o)) (sym e) all
 led_prints setup state command outcome (given place input after none gives g e) all = subst (λ o. EventsPrinted (reached o)) (sym e)
-    (gone_prints state state.clock after (effect_follows setup state.clock state.mesh after (tickless setup state.mesh place state.clock 0 input after none gives g)) all)
+    (gone_prints state state.clock after (effect_gains setup state.clock state.mesh after (tickless setup state.mesh place state.clock 0 input after none gives g)) all)
 led_prints setup state command outcome (again place after g e) all = subst (λ o. EventsPrinted (reached o)) (sym e)
-    (gone_prints state state.clock after (effect_follows setup state.clock state.mesh after (delivered_effect setup state.mesh place state.clock after g)) all)
+    (gone_prints state state.clock after (again_gains setup place state.clock state.mesh after g) all)
+led_prints setup state command outcome (given_all places line after g e) all = subst (λ o. EventsPrinted (reached o)) (sym e) (gone_prints state state.clock after (all_gains setup places state.clock line state.mesh after g) all)
+led_prints setup state command outcome (lanned name gateways after g e) all = subst (λ o. EventsPrinted (reached o)) (sym e) (gone_prints state state.clock after (lan_gains setup name gateways state.clock state.mesh after g) all)
+led_prints setup state command outcome (put_there put after at low g e) all = subst (λ o. EventsPrinted (reached o)) (sym e) (gone_prints state state.clock after (put_gains setup put state.mesh after g) all)
 led_prints setup state command outcome (passed time run low e) all = subst (λ o. EventsPrinted (reached o)) (sym e)
-    (course_prints state (state.clock + time) (run_to setup (state.clock + time) state.mesh) (run_to setup (state.clock + time) state.mesh).stop (going_follows setup (state.clock + time) (begin state.mesh)) all)
+    (course_prints state (state.clock + time) (run_to setup (state.clock + time) state.mesh) (run_to setup (state.clock + time) state.mesh).stop (course_gains state.mesh (run_to setup (state.clock + time) state.mesh).mesh (going_follows setup (state.clock + time) (begin state.mesh))) all)
 
 reading_prints : (state : State) (r : Reading) → EventsPrinted state → EventsPrinted (reached (after_reading state r))
 reading_prints state (Ok command) all = led_prints (setup_of state.algorithm) state command (carried_out (setup_of state.algorithm) state command) (led (setup_of state.algorithm) state command) all

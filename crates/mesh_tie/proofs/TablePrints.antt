@@ -4,11 +4,10 @@ use Rattle.std.specs.Option.{option_map_or}
 use Rattle.mesh_base.specs.Address.{is_broadcast, is_group}
 use Rattle.mesh_base.specs.declared.address.Mac.{Mac}
 use Rattle.mesh_base.specs.declared.event.Event.{Event}
-use Rattle.mesh_model.specs.declared.ending.LimitName.TheVariants.{Clock, Input, Line, Links, Nodes}
+use Rattle.mesh_model.specs.declared.ending.LimitName.TheVariants.{Clock, Input, Lans, Line, Links, Nodes}
 use Rattle.mesh_model.specs.declared.ending.Refusal.{Refusal}
 use Rattle.mesh_model.specs.declared.ending.Stop.TheVariants.{Limit}
 use Rattle.mesh_model.specs.declared.frame_choice.FrameChoice.{FrameChoice}
-use Rattle.mesh_model.specs.declared.line_form.Algorithm.{Algorithm}
 use Rattle.mesh_model.specs.declared.line_form.Command.{Command}
 use Rattle.mesh_model.specs.declared.line_form.Command.TheVariants.{Nothing, Algo, Node, Link, Lan, Frame, Gone, Join, Leave, Arp, Dhcp, Wifi, GwOff, GwServer, GwClient, Mcast, Dat, Alfred, Put, Get, Ping, Trace, Run as RunFor, Deliver, Show, Decode}
 use Rattle.mesh_model.specs.declared.line_form.Table.{Table}
@@ -16,19 +15,21 @@ use Rattle.mesh_model.specs.declared.line_form.Table.TheVariants.{Originators, N
 use Rattle.mesh_model.specs.Clients.Log.{Line, LineGiven, Sets}
 use Rattle.mesh_model.specs.Clients.Settings.{Wifi as WifiSet}
 use Rattle.mesh_model.specs.Clients.Log.{Frame as FrameGiven, Gone as GoneGiven, Join as JoinGiven, Leave as LeaveGiven, Ping as PingGiven, Trace as TraceGiven}
-use Rattle.mesh_model.specs.Net.Inputs.{given_to}
-use Rattle.mesh_model.specs.Net.Limits.{clock_limit, links_limit, nodes_limit}
+use Rattle.mesh_model.specs.Net.Inputs.{all_given, given_to}
+use Rattle.mesh_model.specs.Net.Lans.{joins_lan}
+use Rattle.mesh_model.specs.Net.Limits.{clock_limit, lans_limit, links_limit, nodes_limit}
 use Rattle.mesh_model.specs.Net.Mesh.{NodeLog, NetLink, Mesh, address_at}
 use Rattle.mesh_model.specs.Net.Next.{Has}
 use Rattle.mesh_model.specs.Net.Runs.{PassedLimit, delivered, run_to}
-use Rattle.mesh_model.specs.Net.Sending.{Attempt}
+use Rattle.mesh_model.specs.Net.Sending.{Attempt, with_put}
+use Rattle.mesh_model.specs.Packets.Payload.{payload_spelling}
 use Rattle.mesh_model.specs.Run.Outcome.{Outcome, Ends, Goes, reached}
 use Rattle.mesh_model.specs.Run.Passing.{after_attempt, course_outcome, events_since, gone_on, run_until}
 use Rattle.mesh_model.specs.Run.PlainRun.{Run, after_line, after_lines, after_outcome, after_reading, line_outcome, passes_input, passes_line, start}
 use Rattle.mesh_model.specs.Run.Rules.{after_step, carried_out, first_refused_rule, setup_of, unless_refused}
 use Rattle.mesh_model.specs.Run.Shown.{after_print, global_table, shown}
-use Rattle.mesh_model.specs.Run.State.{Printed, GlobalsShown, Decoded, Happened, State, names_of, node_named, place_of}
-use Rattle.mesh_model.specs.Run.Steps.{Step, at_node, input_step, link_step, new_node, session_step, show_step, step_of, with_link, with_node}
+use Rattle.mesh_model.specs.Run.State.{Printed, GlobalsShown, Decoded, Happened, State, names_of, lan_place_of, node_named, place_of}
+use Rattle.mesh_model.specs.Run.Steps.{Step, at_node, at_place, gateways_at, gateways_step, lan_frame_step, places_named, input_step, link_step, new_node, session_step, show_step, step_of, with_link, with_node}
 use Rattle.mesh_model.specs.Scenario.Commands.{command_of_line}
 use Rattle.mesh_model.specs.Scenario.Halt.{Halt}
 use Rattle.mesh_model.specs.Scenario.Lines.{content}
@@ -67,12 +68,12 @@ adds_none state after same = record { new = []; printed = same ∙ sym (append-n
 
 adds_events : (state : State) (now : ℕ) (mesh : Mesh) → Added state (gone_on state now mesh)
 adds_events state now mesh = record {
-  new = map (Happened (names_of mesh.nodes)) (events_since state.mesh mesh);
+  new = map (Happened (names_of mesh)) (events_since state.mesh mesh);
   printed = refl;
-  tables = λ table has. absurd (no_table table (map_has (Happened (names_of mesh.nodes)) (events_since state.mesh mesh) (GlobalsShown table) has));
+  tables = λ table has. absurd (no_table table (map_has (Happened (names_of mesh)) (events_since state.mesh mesh) (GlobalsShown table) has));
 }
   where
-    no_table : (table : GlobalTable) → (e : Event) × Has (events_since state.mesh mesh) e × (GlobalsShown table ≡ Happened (names_of mesh.nodes) e) → ⊥
+    no_table : (table : GlobalTable) → (e : Event) × Has (events_since state.mesh mesh) e × (GlobalsShown table ≡ Happened (names_of mesh) e) → ⊥
     no_table table p = let e = p.2 in cc
 
 adds_attempt : (state : State) (attempt : Attempt) → AddsTo state (after_attempt state attempt)
@@ -92,9 +93,26 @@ adds_session state line node target =
     adds_at state (λ place. at_node target (to place)) (place_of state node) (λ place.
     adds_at state (to place) (place_of state target) (λ end. adds_attempt state (given_to (setup_of state.algorithm) place state.clock 0 (Line (line (address_at end state.mesh.nodes))) state.mesh)))
 
-adds_frame : (state : State) (name : List ℕ) (line : LineGiven) (group : Bool) → AddsTo state (after_step state (cond group None (Some (at_node name (input_step (setup_of state.algorithm) line)))))
-adds_frame state name line true = adds_none state state refl
-adds_frame state name line false = adds_line state name line
+-- at the LAN of a name, or else at the node of it
+adds_place : (state : State) (name : List ℕ) (line : LineGiven) (on_lan : ℕ → Step) → ((lan : ℕ) → AddsTo state (on_lan lan state)) → AddsTo state (at_place name on_lan (input_step (setup_of state.algorithm) line) state)
+adds_place state name line on_lan all = go (lan_place_of state name)
+  where
+    go : (o : Option ℕ) → AddsTo state (option_map_or (λ lan. on_lan lan state) o (at_node name (input_step (setup_of state.algorithm) line) state))
+    go None = adds_line state name line
+    go (Some lan) = all lan
+
+adds_frame : (state : State) (name bytes : List ℕ) (line : LineGiven) (group : Bool) → AddsTo state (after_step state (cond group None (Some (at_place name (lan_frame_step (setup_of state.algorithm) bytes) (input_step (setup_of state.algorithm) line)))))
+adds_frame state name bytes line true = adds_none state state refl
+adds_frame state name bytes line false = adds_place state name line (lan_frame_step (setup_of state.algorithm) bytes) (λ lan.
+    adds_attempt state (with_put (setup_of state.algorithm) (record { lan = lan; moment = state.clock; bytes = bytes; by = None }) state.mesh))
+
+adds_gone : (state : State) (name : List ℕ) (line : LineGiven) → AddsTo state (at_place name (gateways_step (setup_of state.algorithm) line) (input_step (setup_of state.algorithm) line) state)
+adds_gone state name line = adds_place state name line (gateways_step (setup_of state.algorithm) line) (λ lan.
+    adds_attempt state (all_given (setup_of state.algorithm) (gateways_at lan state.mesh.lans) state.clock (Line line) state.mesh))
+
+adds_lan : (state : State) (name : List ℕ) (places : List ℕ) (full : Bool) → AddsTo state (cond full (Ends state (Limit Lans)) (after_attempt state (joins_lan (setup_of state.algorithm) name places state.clock state.mesh)))
+adds_lan state name places true = adds_none state state refl
+adds_lan state name places false = adds_attempt state (joins_lan (setup_of state.algorithm) name places state.clock state.mesh)
 
 adds_full : (b : Bool) (state : State) (stopped : Outcome) (after : State) → AddsTo state stopped → Added state after → AddsTo state (cond b stopped (Goes after))
 adds_full true state stopped after a b = a
@@ -117,16 +135,16 @@ adds_print state one of = record { new = one ∷ []; printed = refl; tables = λ
     only table (inr none) = absurd none
 
 -- a table that is printed of a node is its own
-abbrev PrintsOwn : State → Option (Algorithm → ℕ → NodeLog → Printed) → Type 0
+abbrev PrintsOwn : State → Option (State → NodeLog → Printed) → Type 0
 PrintsOwn state None = Unit {0}
-PrintsOwn state (Some print) = (node : NodeLog) (table : GlobalTable) → GlobalsShown table ≡ print state.algorithm state.clock node → table ≡ global_table state.algorithm state.clock node
+PrintsOwn state (Some print) = (node : NodeLog) (table : GlobalTable) → GlobalsShown table ≡ print state node → table ≡ global_table state.algorithm state.clock node
 
 prints_own : (state : State) (table : Table) → PrintsOwn state (shown table)
 prints_own state Originators = λ node t is. cc
 prints_own state Neighbors = λ node t is. cc
 prints_own state Locals = λ node t is. cc
 prints_own state Globals = λ node t is. cc
-prints_own state Claims = tt
+prints_own state Claims = λ node t is. cc
 prints_own state Gateways = tt
 prints_own state Groups = tt
 prints_own state Addresses = tt
@@ -136,13 +154,13 @@ node_at : (state : State) (o : Option ℕ) (node : NodeLog) → option_and_then 
 node_at state None node is = cc
 node_at state (Some place) node is = (place, is)
 
-adds_show : (state : State) (name : List ℕ) (o : Option (Algorithm → ℕ → NodeLog → Printed)) → PrintsOwn state o → AddsTo state (after_step state (option_map (show_step name) o))
+adds_show : (state : State) (name : List ℕ) (o : Option (State → NodeLog → Printed)) → PrintsOwn state o → AddsTo state (after_step state (option_map (show_step name) o))
 adds_show state name None own = adds_none state state refl
 adds_show state name (Some print) own = go (node_named state name) (λ node is. node_at state (place_of state name) node is)
   where
-    go : (o : Option NodeLog) → ((node : NodeLog) → o ≡ Some node → (place : ℕ) × (slice_get state.mesh.nodes place ≡ Some node)) → AddsTo state (option_map_or (λ node. Goes (after_print state (print state.algorithm state.clock node))) o (Goes state))
+    go : (o : Option NodeLog) → ((node : NodeLog) → o ≡ Some node → (place : ℕ) × (slice_get state.mesh.nodes place ≡ Some node)) → AddsTo state (option_map_or (λ node. Goes (after_print state (print state node))) o (Goes state))
     go None at = adds_none state state refl
-    go (Some node) at = adds_print state (print state.algorithm state.clock node) (λ table is. let p = at node refl in record { place = p.0; node = node; found = p.1; is = own node table is })
+    go (Some node) at = adds_print state (print state node) (λ table is. let p = at node refl in record { place = p.0; node = node; found = p.1; is = own node table is })
 
 adds_command : (state : State) (command : Command) → AddsTo state (after_step state (step_of (setup_of state.algorithm) command))
 adds_command state Nothing = adds_none state state refl
@@ -153,9 +171,9 @@ adds_command state (Link from to delay pattern throughput) =
     adds_at state (λ start. at_node to (λ end. link_step (link start end))) (place_of state from) (λ start.
     adds_at state (λ end. link_step (link start end)) (place_of state to) (λ end.
     adds_full (nat_le links_limit (length state.mesh.links)) state (Ends state (Limit Links)) (with_link state (link start end)) (adds_none state state refl) (adds_none state (with_link state (link start end)) refl)))
-adds_command state (Lan name gateways) = adds_none state state refl
-adds_command state (Frame place src dst vid text) = adds_frame state place (FrameGiven src dst vid text) (is_group dst && not (is_broadcast dst))
-adds_command state (Gone place key) = adds_line state place (GoneGiven key)
+adds_command state (Lan name gateways) = adds_lan state name (places_named gateways 0 state.mesh.nodes) (nat_le lans_limit (length state.mesh.lans))
+adds_command state (Frame place src dst vid text) = adds_frame state place (payload_spelling (record { dst = dst; src = src; vid = vid; text = text })) (FrameGiven src dst vid text) (is_group dst && not (is_broadcast dst))
+adds_command state (Gone place key) = adds_gone state place (GoneGiven key)
 adds_command state (Join node key) = adds_line state node (JoinGiven key)
 adds_command state (Leave node key) = adds_line state node (LeaveGiven key)
 adds_command state (Arp node mac own asked vid) = adds_none state state refl

@@ -1,20 +1,21 @@
--- What frames carry for clients: the payloads of broadcasts and of packets for one node. A payload
--- is passed on as it came, whoever addresses it anew. So what holds of payloads and goes on to hold
--- with each step holds of all that was ever sent, if it holds of those that are begun: the client
--- frames that lines give. That each is one of these, as it was spelled, is such a thing, and that
--- each client frame in them is from a client that records can tell. The main words are `Carries`,
--- `CarriesGivenFrames` and `CarriesClients`.
-use Rattle.std.specs.Prelude.{◌≡◌, ◌⊎◌, ℕ, List, slice_get, Some, ⊤}
+-- What frames carry for clients: the payloads of broadcasts and of packets for one node, and client
+-- frames on LANs. A payload is passed on as it came, whoever addresses it anew or bridges it. So
+-- what holds of payloads and goes on to hold with each step holds of all that was ever sent, if it
+-- holds of those that are begun: the client frames that lines give. That each is one of these, as
+-- it was spelled, is such a thing, and that each client frame in them is from a client that records
+-- can tell. The main words are `Carries`, `CarriesGivenFrames` and `CarriesClients`.
+use Rattle.std.specs.Prelude.{◌≡◌, ◌⊎◌, ℕ, List, slice_get, Some, None, ⊤}
 use Rattle.mesh_base.specs.declared.address.Mac.{Mac}
 use Rattle.mesh_base.specs.declared.client.Vid.{Vid}
-use Rattle.mesh_base.specs.declared.event.Event.TheVariants.{Received}
+use Rattle.mesh_base.specs.declared.event.Event.TheVariants.{Bridged, Received}
 use Rattle.mesh_model.specs.declared.packet.Head.{Head}
 use Rattle.mesh_model.specs.declared.packet.Head.TheVariants.{IvOgm, Bcast, Elp, Ogm2, Unicast, Frag, Unicast4, Icmp, Utvlv}
 use Rattle.mesh_model.specs.Clients.Log.{Line, Frame, LogEntry}
 use Rattle.mesh_model.specs.Clients.Mentions.{key_of}
-use Rattle.mesh_model.specs.Net.Mesh.{NodeLog, SentFrame, Mesh}
+use Rattle.mesh_model.specs.Net.Mesh.{NodeLog, SentFrame, LanPut, Mesh}
 use Rattle.mesh_model.specs.Net.Next.{Has}
 use Rattle.mesh_model.specs.Packets.FirstPacket.{Packet}
+use Rattle.mesh_model.specs.Packets.LanFrames.{client_frame_in, lan_message_of}
 use Rattle.mesh_model.specs.Packets.LinkFrame.{link_frame}
 use Rattle.mesh_model.specs.Packets.Payload.{ClientFrame, client_frame_of, payload_spelling}
 use Rattle.mesh_model.specs.Routes.Queries.{Queries}
@@ -38,42 +39,57 @@ abbrev pub FrameCarries : (List ℕ → Type 0) → List ℕ → Type 0
 FrameCarries P bytes = (packet : Packet) → Has (link_frame bytes).packets packet →
     TailHas P packet.tail packet.head
 
--- a line gave a node of a mesh a client frame, with a client that records can tell
-pub record WasGiven (mesh : Mesh) (frame : ClientFrame) : Type 0 where
-  pub place : ℕ
-  pub node : NodeLog
-  pub found : slice_get mesh.nodes place ≡ Some node
-  pub entry : LogEntry
-  pub noted : Has node.log entry
-  pub given : entry.given ≡ Line (Frame frame.src frame.dst frame.vid frame.text)
-  pub tells : TellsClient (Frame frame.src frame.dst frame.vid frame.text)
+-- it holds of the payload that a frame on a LAN is, where it is one
+abbrev pub PutCarries : (List ℕ → Type 0) → List ℕ → Type 0
+PutCarries P bytes =
+    (frame : ClientFrame) → client_frame_in (lan_message_of bytes) ≡ Some frame → P bytes
+
+-- a line gave a node of a mesh a client frame, with a client that records can tell, or put it on a
+-- LAN
+pub data WasGiven (mesh : Mesh) (frame : ClientFrame) : Type 0 where
+  to_node : (place : ℕ) (node : NodeLog) (entry : LogEntry) →
+      slice_get mesh.nodes place ≡ Some node → Has node.log entry →
+      entry.given ≡ Line (Frame frame.src frame.dst frame.vid frame.text) →
+      TellsClient (Frame frame.src frame.dst frame.vid frame.text) → WasGiven mesh frame
+  on_lan : (place : ℕ) (put : LanPut) →
+      slice_get mesh.puts place ≡ Some put → put.by ≡ None →
+      put.bytes ≡ payload_spelling frame →
+      TellsClient (Frame frame.src frame.dst frame.vid frame.text) → WasGiven mesh frame
 
 -- a client frame is read of a payload of which something holds
 abbrev pub IsReadOf : (List ℕ → Type 0) → ClientFrame → Type 0
 IsReadOf P frame =
     (payload : List ℕ) × P payload × (client_frame_of payload ≡ Some frame)
 
--- it holds of each payload that was ever sent; and each client frame that was ever handed out is
--- read of such a one, unless a line gave it
+-- it holds of each payload that was ever sent on a link or put on a LAN; and each client frame that
+-- was ever handed out, or that reached the clients of a LAN, is read of such a one, unless a line
+-- gave it
 pub record Carries (P : Mesh → List ℕ → Type 0) (mesh : Mesh) : Type 0 where
   pub frames : (place : ℕ) (frame : SentFrame) → slice_get mesh.frames place ≡ Some frame →
       FrameCarries (P mesh) frame.bytes
+  pub puts : (place : ℕ) (put : LanPut) → slice_get mesh.puts place ≡ Some put →
+      PutCarries (P mesh) put.bytes
   pub handed_out : (moment : ℕ) (node : Mac) (vid : Vid) (src dst : Mac) (text : List ℕ) →
       Has mesh.events (Received moment node vid src dst text) →
       WasGiven mesh (record { dst = dst; src = src; vid = vid; text = text })
       ⊎ IsReadOf (P mesh) (record { dst = dst; src = src; vid = vid; text = text })
+  pub bridged : (moment lan : ℕ) (vid : Vid) (src dst : Mac) (text : List ℕ) →
+      Has mesh.events (Bridged moment lan vid src dst text) →
+      IsReadOf (P mesh) (record { dst = dst; src = src; vid = vid; text = text })
 
 -- it goes on to hold with each step, and holds of the client frames that lines gave, as they are
--- spelled
+-- spelled, and of those that are read of payloads of which it holds, as a gateway spells them again
 pub record IsKept (queries : Mac → Queries) (P : Mesh → List ℕ → Type 0) : Type 0 where
   pub stays : (mesh after : Mesh) (payload : List ℕ) → Steps queries mesh after →
       P mesh payload → P after payload
   pub begun : (mesh : Mesh) (frame : ClientFrame) → WasGiven mesh frame →
       P mesh (payload_spelling frame)
+  pub read_on : (mesh : Mesh) (payload : List ℕ) (frame : ClientFrame) → P mesh payload →
+      client_frame_of payload ≡ Some frame → P mesh (payload_spelling frame)
 
 -- ---- what lines gave
 
--- a payload is the client frame that a line gave some node, as it is spelled
+-- a payload is the client frame that a line gave, as it is spelled
 abbrev pub IsGivenFrame : Mesh → List ℕ → Type 0
 IsGivenFrame mesh payload =
     (frame : ClientFrame) × WasGiven mesh frame × (payload ≡ payload_spelling frame)
@@ -82,6 +98,21 @@ IsGivenFrame mesh payload =
 abbrev pub CarriesGivenFrames : Type 0
 CarriesGivenFrames = (queries : Mac → Queries) → AllKeep queries → (mesh : Mesh) →
     IsReachable queries mesh → Carries IsGivenFrame mesh
+
+-- each client frame that was handed out, or that reached the clients of a LAN, is one that a line
+-- gave
+pub record HandsOutGiven (mesh : Mesh) : Type 0 where
+  pub handed_out : (moment : ℕ) (node : Mac) (vid : Vid) (src dst : Mac) (text : List ℕ) →
+      Has mesh.events (Received moment node vid src dst text) →
+      WasGiven mesh (record { dst = dst; src = src; vid = vid; text = text })
+  pub bridged : (moment lan : ℕ) (vid : Vid) (src dst : Mac) (text : List ℕ) →
+      Has mesh.events (Bridged moment lan vid src dst text) →
+      WasGiven mesh (record { dst = dst; src = src; vid = vid; text = text })
+
+-- so it is in every mesh that is reached
+abbrev pub HandsOutGivenFrames : Type 0
+HandsOutGivenFrames = (queries : Mac → Queries) → AllKeep queries → (mesh : Mesh) →
+    IsReachable queries mesh → HandsOutGiven mesh
 
 -- ---- clients
 

@@ -7,7 +7,7 @@ use Rattle.mesh_base.specs.declared.address.Mac.{Mac}
 use Rattle.mesh_base.specs.declared.event.Event.{Event}
 use Rattle.mesh_base.specs.declared.event.Event.TheVariants.{Alias, FrameSent}
 use Rattle.mesh_base.specs.declared.event.Reason.TheVariants.{Table}
-use Rattle.mesh_base.specs.declared.names.NodeName.{NodeName}
+use Rattle.mesh_base.specs.Names.{NamesGiven}
 use Rattle.mesh_model.specs.declared.act.Act.TheVariants.{Link}
 use Rattle.mesh_model.specs.declared.frame_choice.FrameChoice.{FrameChoice}
 use Rattle.mesh_model.specs.Clients.Log.{Log, LogEntry}
@@ -37,7 +37,7 @@ pub record SentRightly (queries : Mac → Queries) (orig : Mac) (mesh : Mesh) (m
   pub moment_is : entry.moment ≡ moment
   pub to : Option Mac
   pub sent : Has entry.acts (Link to (Some Table) bytes)
-  pub by_table : IsSentInStep queries orig mesh me entry older bytes
+  pub by_table : IsSentInStep queries orig mesh me entry older to bytes
 
 -- no event before told of an alias of an originator
 abbrev pub ToldNoneOf : Mac → List Event → Type 0
@@ -59,7 +59,7 @@ SentRightlyIn run orig moment me bytes =
 -- and so what the run of some lines prints of them
 abbrev pub PrintsRightFrames : FrameChoice → List (List ℕ) → Type 0
 PrintsRightFrames choice lines = (orig : Mac) (before after : List Printed)
-    (names : List NodeName) (number moment : ℕ) (me next : Mac) (bytes : List ℕ) →
+    (names : NamesGiven) (number moment : ℕ) (me next : Mac) (bytes : List ℕ) →
     (after_lines (start choice) lines).state.printed
     ≡ before ++ Happened names (FrameSent number moment me next (Some Table) bytes) ∷ after →
     PrintedNone orig before →

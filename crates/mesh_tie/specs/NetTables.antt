@@ -1,14 +1,15 @@
 -- What a net tells of tables: those that its nodes hold, and the events that its log gains. Both are
 -- right where nodes have addresses of their own and lines name clients that records can tell, unless
 -- an event told of an alias. The main words are `TablesAreRight` and `GainsAreRight`.
-use Rattle.std.specs.Prelude.{◌≡◌, ◌++◌, ◌∷◌, ℕ, List, slice_get, Some, IsTrue, ⊤}
+use Rattle.std.specs.Prelude.{◌≡◌, ◌++◌, ◌∷◌, ℕ, List, slice_get, Some, None, IsTrue, ⊤}
 use Rattle.mesh_base.specs.declared.address.Mac.{Mac}
 use Rattle.mesh_base.specs.declared.event.Event.{Event}
 use Rattle.mesh_base.specs.declared.event.Event.TheVariants.{FrameSent}
 use Rattle.mesh_base.specs.declared.event.Reason.TheVariants.{Table}
-use Rattle.mesh_model.specs.Clients.Log.{Given, Tick, LinkFrame, LanFrame, Line, LogEntry}
-use Rattle.mesh_model.specs.Net.Mesh.{NodeLog, Mesh}
+use Rattle.mesh_model.specs.Clients.Log.{Given, Tick, LinkFrame, LanFrame, Line, Frame, LogEntry}
+use Rattle.mesh_model.specs.Net.Mesh.{NodeLog, LanPut, Mesh}
 use Rattle.mesh_model.specs.Net.Next.{Has}
+use Rattle.mesh_model.specs.Packets.Payload.{ClientFrame, payload_spelling}
 use Rattle.mesh_model.specs.Routes.Queries.{Queries}
 use Rattle.mesh_model.specs.Tables.Known.{LastTold, is_agreed, known_by}
 use Rattle.mesh_model.specs.Tables.Versions.{Version}
@@ -29,8 +30,14 @@ NamesClients (LinkFrame number from throughput bytes) = ⊤
 NamesClients (LanFrame bytes) = ⊤
 NamesClients (Line line) = TellsClient line
 
+-- bytes on a LAN are a client frame, with a client that records can tell, to a whole address
+pub record TellsPut (bytes : List ℕ) : Type 0 where
+  pub frame : ClientFrame
+  pub is : bytes ≡ payload_spelling frame
+  pub tells : TellsClient (Frame frame.src frame.dst frame.vid frame.text)
+
 -- nodes have whole addresses, each its own, and were given clients that records can tell, with
--- frames to whole addresses
+-- frames to whole addresses; and such are the frames that no gateway put on a LAN
 pub record IsTellable (mesh : Mesh) : Type 0 where
   pub whole : (place : ℕ) (node : NodeLog) → slice_get mesh.nodes place ≡ Some node →
       IsWhole node.mac
@@ -39,6 +46,8 @@ pub record IsTellable (mesh : Mesh) : Type 0 where
       node.mac ≡ second.mac → place ≡ other
   pub clients : (place : ℕ) (node : NodeLog) (entry : LogEntry) →
       slice_get mesh.nodes place ≡ Some node → Has node.log entry → NamesClients entry.given
+  pub puts : (place : ℕ) (put : LanPut) → slice_get mesh.puts place ≡ Some put →
+      put.by ≡ None → TellsPut put.bytes
 
 -- every table that a node holds of an originator was committed under the held byte, and one in
 -- agreement is that of the commit that the node was told last

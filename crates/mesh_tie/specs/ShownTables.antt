@@ -4,7 +4,7 @@
 use Rattle.std.specs.Prelude.{◌≡◌, ◌-◌, ◌++◌, ◌∷◌, ℕ, true, List, slice_get, Some}
 use Rattle.mesh_base.specs.declared.address.Mac.{Mac}
 use Rattle.mesh_base.specs.declared.event.Event.TheVariants.{Alias}
-use Rattle.mesh_base.specs.declared.names.NodeName.{NodeName}
+use Rattle.mesh_base.specs.Names.{NamesGiven}
 use Rattle.mesh_model.specs.declared.frame_choice.FrameChoice.{FrameChoice}
 use Rattle.mesh_model.specs.Commits.Announcements.{commit_at_root}
 use Rattle.mesh_model.specs.Net.Mesh.{NodeLog, SentFrame}
@@ -22,7 +22,7 @@ use Rattle.mesh_tie.specs.Tie.{known_at_node}
 
 -- no event that was printed told of an alias of an originator
 abbrev pub PrintedNone : Mac → List Printed → Type 0
-PrintedNone orig printed = (names : List NodeName) (number earlier : ℕ) →
+PrintedNone orig printed = (names : NamesGiven) (number earlier : ℕ) →
     Has printed (Happened names (Alias orig number earlier)) → ⊥
 
 -- a part that a node of a state shows is of a commit: its byte and its entries are those of the

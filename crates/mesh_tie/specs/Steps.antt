@@ -1,18 +1,25 @@
--- The steps of a mesh: a node or a link joins, a node is given what a line gives, a node ticks, a
--- frame that was sent comes to a node. A frame may come to any node, at any later moment, over and
--- over or never, so whatever a network loses, repeats, holds or delivers late is a list of these
--- steps. The main words are `Steps` and `IsReachable`.
-use Rattle.std.specs.Prelude.{◌≡◌, ◌≤◌, ◌<◌, ◌^◌, ℕ, suc, List, [], ◌∷◌, ◌++◌, slice_get, Some, Ok, ⊤}
+-- The steps of a mesh: a node, a link or a LAN joins, a node is given what a line gives, a node
+-- ticks, a frame that was sent comes to a node; a client puts a frame on a LAN, a frame that was put
+-- reaches the clients of a LAN, or comes to a node. A frame may come to any node, at any later
+-- moment, over and over or never, so whatever a network loses, repeats, holds or delivers late is a
+-- list of these steps. The main words are `Steps` and `IsReachable`.
+use Rattle.std.specs.Prelude.{◌≡◌, ◌≤◌, ◌<◌, ◌^◌, ℕ, suc, List, [], ◌∷◌, ◌++◌, slice_get, Some, None, Ok, ⊤}
 use Rattle.std.specs.List.{AllByRecursion}
 use Rattle.mesh_base.specs.declared.address.Mac.{Mac}
 use Rattle.mesh_base.specs.declared.client.Key.{Key}
+use Rattle.mesh_base.specs.declared.event.Event.{Event}
+use Rattle.mesh_base.specs.declared.event.Event.TheVariants.{Bridged}
 use Rattle.mesh_model.specs.declared.happening.Happening.{Happening}
-use Rattle.mesh_model.specs.Clients.Log.{Tick, LinkFrame, Line, LineGiven, Attach, Frame, Gone, Join, Leave, Arp, Dhcp, Sets, Put, Get, Ping, Trace, Log}
+use Rattle.mesh_model.specs.Clients.Log.{Tick, LinkFrame, LanFrame, Line, LineGiven, Attach, Frame, Gone, Join, Leave, Arp, Dhcp, Sets, Put, Get, Ping, Trace, Log}
 use Rattle.mesh_model.specs.Clients.Mentions.{key_of}
 use Rattle.mesh_model.specs.Net.Due.{ticks_in}
 use Rattle.mesh_model.specs.Net.Inputs.{given_to}
+use Rattle.mesh_model.specs.Net.Lans.{with_events, with_lan}
 use Rattle.mesh_model.specs.Net.Limits.{scenario_setup}
-use Rattle.mesh_model.specs.Net.Mesh.{NodeLog, NetLink, SentFrame, Mesh, empty_mesh}
+use Rattle.mesh_model.specs.Net.Mesh.{NodeLog, NetLan, NetLink, LanPut, SentFrame, Mesh, empty_mesh}
+use Rattle.mesh_model.specs.Net.Sending.{put_event}
+use Rattle.mesh_model.specs.Packets.LanFrames.{client_frame_in, lan_message_of}
+use Rattle.mesh_model.specs.Packets.Payload.{ClientFrame, payload_spelling}
 use Rattle.mesh_model.specs.Routes.Queries.{Queries}
 use Rattle.mesh_tvlv.specs.Laws.{FitsKey}
 use Rattle.mesh_tie.specs.Sources.{IsWhole}
@@ -52,6 +59,18 @@ abbrev pub IsNew : Mac → List NodeLog → Type 0
 IsNew mac nodes = (place : ℕ) (other : NodeLog) →
     slice_get nodes place ≡ Some other → other.mac ≡ mac → ⊥
 
+-- the mesh with one more frame on a LAN, and its event
+abbrev pub with_lan_frame : LanPut → Mesh → Mesh
+with_lan_frame put mesh = record mesh {
+  puts = mesh.puts ++ put ∷ [];
+  events = mesh.events ++ put_event mesh put ∷ [];
+}
+
+-- the event of a client frame that reaches the clients of a LAN
+abbrev pub bridged_event : ℕ → LanPut → ClientFrame → Event
+bridged_event now put frame =
+    Bridged now (suc put.lan) frame.vid frame.src frame.dst frame.text
+
 -- one step of a mesh whose nodes have these algorithms
 pub data Steps (queries : Mac → Queries) : Mesh → Mesh → Type 0 where
   node_joins : (mesh : Mesh) (node : NodeLog) →
@@ -74,6 +93,20 @@ pub data Steps (queries : Mac → Queries) : Mesh → Mesh → Type 0 where
       slice_get mesh.frames number ≡ Some frame → IsWhole from →
       given_to (scenario_setup queries) place now frame.root
       (LinkFrame (suc number) from throughput frame.bytes) mesh ≡ Ok after →
+      Steps queries mesh after
+  lan_joins : (mesh : Mesh) (lan : NetLan) → Steps queries mesh (with_lan lan mesh)
+  put_comes : (mesh : Mesh) (put : LanPut) (frame : ClientFrame) → put.by ≡ None →
+      put.bytes ≡ payload_spelling frame →
+      TellsClient (Frame frame.src frame.dst frame.vid frame.text) →
+      Steps queries mesh (with_lan_frame put mesh)
+  put_reaches : (mesh : Mesh) (number now : ℕ) (put : LanPut) (frame : ClientFrame) →
+      slice_get mesh.puts number ≡ Some put →
+      client_frame_in (lan_message_of put.bytes) ≡ Some frame →
+      Steps queries mesh (with_events (bridged_event now put frame ∷ []) mesh)
+  lan_comes : (mesh after : Mesh) (place now number : ℕ) (node : NodeLog) (put : LanPut) →
+      slice_get mesh.nodes place ≡ Some node → MayBeGiven node now →
+      slice_get mesh.puts number ≡ Some put →
+      given_to (scenario_setup queries) place now 0 (LanFrame put.bytes) mesh ≡ Ok after →
       Steps queries mesh after
   time_passes : (mesh : Mesh) (h : Happening) → Steps queries mesh (record mesh { last = h })
 

@@ -37,8 +37,8 @@ AllKeep queries = (me : Mac) → KeepsOriginators me (queries me)
 
 -- every commit of every mesh that is reached can be told
 abbrev pub CommitsAlwaysFit : Type 0
-CommitsAlwaysFit = (queries : Mac → Queries) (mesh : Mesh) → IsReachable queries mesh →
-    CommitsFit mesh
+CommitsAlwaysFit = (queries : Mac → Queries) → AllKeep queries → (mesh : Mesh) →
+    IsReachable queries mesh → CommitsFit mesh
 
 -- each algorithm keeps originator messages their originators'
 abbrev pub AlgorithmsKeep : Type 0

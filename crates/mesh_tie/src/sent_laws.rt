@@ -2,7 +2,7 @@
 //! was ever carried for clients, whatever the aliases.
 
 ghost use Rattle.mesh_tie.specs.ByTable.{FramesByTable};
-ghost use Rattle.mesh_tie.specs.Carried.{CarriesClients, CarriesGivenFrames};
+ghost use Rattle.mesh_tie.specs.Carried.{CarriesClients, CarriesGivenFrames, HandsOutGivenFrames};
 ghost use Rattle.mesh_tie.specs.TieLaws.{AnswersCarry, MessagesAnnounce};
 
 /// Every originator message announces the commit of its root: its byte, its sums, and its changes
@@ -23,11 +23,12 @@ pub fn frames_by_table_are_for_named_clients()
     ensures { FramesByTable }
 {}
 
-/// Every payload that a broadcast or a packet for one node ever carried is a client frame that a
-/// line gave some node, as it is spelled; and each client frame that a node hands out is read of
-/// such a payload, or a line gave it. The client frame that a payload is read as is from a client
-/// that records can tell.
+/// Every payload that a broadcast or a packet for one node ever carried, and every client frame
+/// that was put on a LAN, is a client frame that a line gave, as it is spelled. Each client frame
+/// that a node hands out, or that reaches the clients of a LAN, is one that a line gave. The client
+/// frame that a payload is read as is from a client that records can tell.
 pub fn carried_frames_were_given()
     ensures given { CarriesGivenFrames }
+    ensures handed_out { HandsOutGivenFrames }
     ensures clients { CarriesClients }
 {}

@@ -15,7 +15,7 @@ use Rattle.mesh_model.specs.Run.Passing.{course_outcome}
 use Rattle.mesh_model.specs.Run.Rules.{carried_out, first_refused_rule}
 use Rattle.mesh_model.specs.Run.State.{State}
 use Rattle.mesh_laws.proofs.Lines.Printing.{refused_changes_nothing}
-use Rattle.mesh_laws.proofs.Lines.Ways.{Led, ended, printed, stayed, chose, noded, linked, given, again, passed, led}
+use Rattle.mesh_laws.proofs.Lines.Ways.{Led, ended, printed, stayed, chose, noded, linked, given, again, given_all, lanned, put_there, passed, led}
 
 -- the algorithm of what an outcome leaves
 abbrev algorithm_of : Outcome → Algorithm
@@ -43,6 +43,9 @@ led_keeps setup state command some outcome is (noded node new made few e) = ap a
 led_keeps setup state command some outcome is (linked link has e) = ap algorithm_of e
 led_keeps setup state command some outcome is (given place input after none gives g e) = ap algorithm_of e
 led_keeps setup state command some outcome is (again place after g e) = ap algorithm_of e
+led_keeps setup state command some outcome is (given_all places line after g e) = ap algorithm_of e
+led_keeps setup state command some outcome is (lanned name gateways after g e) = ap algorithm_of e
+led_keeps setup state command some outcome is (put_there put after at low g e) = ap algorithm_of e
 led_keeps setup state command some outcome is (passed time run low e) = ap algorithm_of e
     ∙ course_keeps state (state.clock + time) (run_to setup (state.clock + time) state.mesh).mesh (run_to setup (state.clock + time) state.mesh).stop
 

@@ -16,7 +16,7 @@ use Rattle.mesh_laws.proofs.Schedule.Runs.{Turned, rests, goes, stops, turned, t
 pub record Follows (before after : Mesh) : Type 0 where
   pub more : List Event
   pub events : after.events ≡ before.events ++ more
-  pub names : names_of after.nodes ≡ names_of before.nodes
+  pub names : names_of after ≡ names_of before
 
 pub follows_itself : (mesh : Mesh) → Follows mesh mesh
 follows_itself mesh = record { more = []; events = sym (append-nil mesh.events); names = refl }

@@ -1,13 +1,16 @@
 -- What happens leaves the links as they are.
-use Rattle.std.proofs.Common.{◌≡◌, ℕ, zero, suc, slice_get, Option, Some, None, Ok, refl, sym, ◌∙◌, subst}
+use Rattle.std.proofs.Common.{◌≡◌, ℕ, zero, suc, List, [], ◌∷◌, filter, slice_get, Option, Some, None, Ok, refl, sym, ◌∙◌, subst}
 use Rattle.std.specs.Fn.{iterate}
 use Rattle.mesh_model.specs.declared.happening.Class.{Class}
-use Rattle.mesh_model.specs.declared.happening.Class.TheVariants.{LinkDelivery, NodeTick}
+use Rattle.mesh_model.specs.declared.happening.Class.TheVariants.{LinkDelivery, LanDelivery, NodeTick}
 use Rattle.mesh_model.specs.declared.happening.Happening.{Happening}
-use Rattle.mesh_model.specs.Clients.Log.{Given, LogEntry, Tick, LinkFrame}
+use Rattle.mesh_model.specs.Clients.Log.{Given, LogEntry, Tick, LinkFrame, LanFrame}
 use Rattle.mesh_model.specs.Net.Due.{ticks_in}
-use Rattle.mesh_model.specs.Net.Inputs.{noted_at, noted, after_entry, entry_of, given_node, given_to}
-use Rattle.mesh_model.specs.Net.Mesh.{NodeLog, NetLink, SentFrame, Mesh, Setup, address_at}
+use Rattle.mesh_model.specs.Net.Inputs.{noted_at, noted, after_entry, entry_of, given_node, given_to, all_given}
+use Rattle.mesh_model.specs.Net.Lans.{gets, reach_events, with_events, put_over, put_given}
+use Rattle.mesh_model.specs.Packets.LanFrames.{client_frame_in, lan_message_of}
+use Rattle.mesh_model.specs.Packets.Payload.{ClientFrame}
+use Rattle.mesh_model.specs.Net.Mesh.{NodeLog, NetLan, NetLink, SentFrame, LanPut, Mesh, Setup, address_at}
 use Rattle.mesh_model.specs.Net.Runs.{Course, effect, after_happening, delivered, frame_given, frame_over, tick_given, throughput_between, turn, with_last}
 use Rattle.mesh_model.specs.Net.Sending.{Actor, after_acts}
 use Rattle.mesh_laws.proofs.Schedule.Runs.{Turned, rests, goes, stops, turned}
@@ -39,7 +42,7 @@ node_keeps setup mesh place now root given None after e = same_mesh mesh after e
 node_keeps setup mesh place now root given (Some n) after e =
     let actor : Actor = record { place = place; mac = n.mac; now = now; root = root } in
     let entry : LogEntry = entry_of setup n now given in
-    entry_keeps setup mesh actor entry after (not_passed (setup.client_limit n.mac n.log now given) (after_entry setup actor entry mesh) after e)
+    entry_keeps setup mesh actor entry after (not_passed setup actor mesh (setup.node_limit n.mac n.log now given) (after_entry setup actor entry mesh) after e)
 
 pub given_keeps : (setup : Setup) (mesh : Mesh) (place now root : ℕ) (given : Given) (after : Mesh) → given_to setup place now root given mesh ≡ Ok after
     → KeepsLinks mesh after
@@ -59,12 +62,29 @@ frame_keeps setup mesh place now (Some frame) after e = over_keeps setup mesh pl
 pub delivered_keeps : (setup : Setup) (mesh : Mesh) (place now : ℕ) (after : Mesh) → delivered setup place now mesh ≡ Ok after → KeepsLinks mesh after
 delivered_keeps setup mesh place now after e = frame_keeps setup mesh place now (slice_get mesh.frames place) after e
 
+all_keep : (setup : Setup) (places : List ℕ) (now : ℕ) (given : Given) (mesh after : Mesh) → all_given setup places now given mesh ≡ Ok after → KeepsLinks mesh after
+all_keep setup [] now given mesh after e = same_mesh mesh after e
+all_keep setup (place ∷ rest) now given mesh after e =
+    let p = on_ok_ok (all_given setup rest now given) (given_to setup place now 0 given mesh) after e in
+    keeps_both mesh p.0 after (given_keeps setup mesh place now 0 given p.0 p.1) (all_keep setup rest now given p.0 after p.2)
+
+lan_keeps : (setup : Setup) (mesh : Mesh) (now : ℕ) (put : LanPut) (frame : Option ClientFrame) (o : Option NetLan) (after : Mesh) → put_over setup now put frame o mesh ≡ Ok after
+    → KeepsLinks mesh after
+lan_keeps setup mesh now put frame None after e = same_mesh mesh after e
+lan_keeps setup mesh now put frame (Some lan) after e =
+    all_keep setup (filter (gets frame put.by) lan.gateways) now (LanFrame put.bytes) (with_events (reach_events now put.lan put.by frame) mesh) after e
+
+put_keeps : (setup : Setup) (mesh : Mesh) (now : ℕ) (o : Option LanPut) (after : Mesh) → put_given setup now o mesh ≡ Ok after → KeepsLinks mesh after
+put_keeps setup mesh now None after e = same_mesh mesh after e
+put_keeps setup mesh now (Some put) after e = lan_keeps setup mesh now put (client_frame_in (lan_message_of put.bytes)) (slice_get mesh.lans put.lan) after e
+
 tick_keeps : (setup : Setup) (mesh : Mesh) (place now : ℕ) (o : Option NodeLog) (after : Mesh) → tick_given setup place now o mesh ≡ Ok after → KeepsLinks mesh after
 tick_keeps setup mesh place now None after e = same_mesh mesh after e
 tick_keeps setup mesh place now (Some node) after e = given_keeps setup mesh place now (suc (ticks_in node.log)) (Tick (suc (ticks_in node.log))) after e
 
 effect_keeps : (setup : Setup) (mesh : Mesh) (class : Class) (place now : ℕ) (after : Mesh) → effect setup class place now mesh ≡ Ok after → KeepsLinks mesh after
 effect_keeps setup mesh LinkDelivery place now after e = delivered_keeps setup mesh place now after e
+effect_keeps setup mesh LanDelivery place now after e = put_keeps setup mesh now (slice_get mesh.puts place) after e
 effect_keeps setup mesh NodeTick place now after e = tick_keeps setup mesh place now (slice_get mesh.nodes place) after e
 
 happening_keeps : (setup : Setup) (mesh : Mesh) (h : Happening) (after : Mesh) → after_happening setup h mesh ≡ Ok after → KeepsLinks mesh after

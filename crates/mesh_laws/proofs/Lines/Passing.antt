@@ -15,12 +15,12 @@ use Rattle.mesh_laws.proofs.Schedule.Kept.{fine_start}
 use Rattle.mesh_laws.proofs.Lines.Courses.{Follows, since_both, turn_follows, going_follows}
 
 printed_both : (printed : List Printed) (a b c : Mesh) → Follows a b → Follows b c
-    → printed ++ map (Happened (names_of c.nodes)) (events_since a c) ≡ (printed ++ map (Happened (names_of b.nodes)) (events_since a b)) ++ map (Happened (names_of c.nodes)) (events_since b c)
+    → printed ++ map (Happened (names_of c)) (events_since a c) ≡ (printed ++ map (Happened (names_of b)) (events_since a b)) ++ map (Happened (names_of c)) (events_since b c)
 printed_both printed a b c p q =
-    ap (λ es. printed ++ map (Happened (names_of c.nodes)) es) (since_both a b c p q)
-    ∙ ap (λ ps. printed ++ ps) (map-append (Happened (names_of c.nodes)) (events_since a b) (events_since b c))
-    ∙ ap (λ ns. printed ++ (map (Happened ns) (events_since a b) ++ map (Happened (names_of c.nodes)) (events_since b c))) q.names
-    ∙ sym (append_assoc printed (map (Happened (names_of b.nodes)) (events_since a b)) (map (Happened (names_of c.nodes)) (events_since b c)))
+    ap (λ es. printed ++ map (Happened (names_of c)) es) (since_both a b c p q)
+    ∙ ap (λ ps. printed ++ ps) (map-append (Happened (names_of c)) (events_since a b) (events_since b c))
+    ∙ ap (λ ns. printed ++ (map (Happened ns) (events_since a b) ++ map (Happened (names_of c)) (events_since b c))) q.names
+    ∙ sym (append_assoc printed (map (Happened (names_of b)) (events_since a b)) (map (Happened (names_of c)) (events_since b c)))
 
 -- going on to a mesh by way of another
 gone_on_twice : (state : State) (k t : ℕ) (b c : Mesh) → Follows state.mesh b → Follows b c → gone_on state t c ≡ gone_on (gone_on state k b) t c

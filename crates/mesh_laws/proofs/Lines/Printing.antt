@@ -14,7 +14,7 @@ use Rattle.mesh_model.specs.Run.Passing.{events_since, gone_on, course_outcome}
 use Rattle.mesh_model.specs.Run.Steps.{step_of}
 use Rattle.mesh_model.specs.Run.Rules.{first_refused_rule, unless_refused, after_step, carried_out}
 use Rattle.mesh_laws.specs.LineLaws.{IsRun}
-use Rattle.mesh_laws.proofs.Lines.Ways.{Led, ended, printed, stayed, chose, noded, linked, given, again, passed, led}
+use Rattle.mesh_laws.proofs.Lines.Ways.{Led, ended, printed, stayed, chose, noded, linked, given, again, given_all, lanned, put_there, passed, led}
 
 -- more is printed, by the same choice
 pub record Grows (state after : State) : Type 0 where
@@ -26,7 +26,7 @@ pub grows_by_none : (state after : State) → after.printed ≡ state.printed �
 grows_by_none state after p c = record { more = []; grows = p ∙ sym (append-nil state.printed); choice = c }
 
 pub gone_on_grows : (state : State) (t : ℕ) (mesh : Mesh) → Grows state (gone_on state t mesh)
-gone_on_grows state t mesh = record { more = map (Happened (names_of mesh.nodes)) (events_since state.mesh mesh); grows = refl; choice = refl }
+gone_on_grows state t mesh = record { more = map (Happened (names_of mesh)) (events_since state.mesh mesh); grows = refl; choice = refl }
 
 pub course_grows : (state : State) (t : ℕ) (mesh : Mesh) (stop : Option PassedLimit) → Grows state (reached (course_outcome state t mesh stop))
 course_grows state t mesh None = gone_on_grows state t mesh
@@ -41,6 +41,9 @@ outcome_grows setup state command outcome (noded node new made few e) = subst (�
 outcome_grows setup state command outcome (linked link delay e) = subst (λ o. Grows state (reached o)) (sym e) (grows_by_none state _ refl refl)
 outcome_grows setup state command outcome (given place input after none gives g e) = subst (λ o. Grows state (reached o)) (sym e) (gone_on_grows state state.clock after)
 outcome_grows setup state command outcome (again place after g e) = subst (λ o. Grows state (reached o)) (sym e) (gone_on_grows state state.clock after)
+outcome_grows setup state command outcome (given_all places line after g e) = subst (λ o. Grows state (reached o)) (sym e) (gone_on_grows state state.clock after)
+outcome_grows setup state command outcome (lanned name gateways after g e) = subst (λ o. Grows state (reached o)) (sym e) (gone_on_grows state state.clock after)
+outcome_grows setup state command outcome (put_there put after at low g e) = subst (λ o. Grows state (reached o)) (sym e) (gone_on_grows state state.clock after)
 outcome_grows setup state command outcome (passed time run low e) = subst (λ o. Grows state (reached o)) (sym e)
     (course_grows state (state.clock + time) (run_to setup (state.clock + time) state.mesh).mesh (run_to setup (state.clock + time) state.mesh).stop)
 
@@ -77,4 +80,7 @@ ends_change_nothing setup state after command stop outcome (noded node new made 
 ends_change_nothing setup state after command stop outcome (linked link delay e) f = absurd (no_end _ after stop (sym e ∙ f))
 ends_change_nothing setup state after command stop outcome (given place input mesh none gives g e) f = absurd (no_end _ after stop (sym e ∙ f))
 ends_change_nothing setup state after command stop outcome (again place mesh g e) f = absurd (no_end _ after stop (sym e ∙ f))
+ends_change_nothing setup state after command stop outcome (given_all places line mesh g e) f = absurd (no_end _ after stop (sym e ∙ f))
+ends_change_nothing setup state after command stop outcome (lanned name gateways mesh g e) f = absurd (no_end _ after stop (sym e ∙ f))
+ends_change_nothing setup state after command stop outcome (put_there put mesh at low g e) f = absurd (no_end _ after stop (sym e ∙ f))
 ends_change_nothing setup state after command stop outcome (passed time run low e) f = inl (time, run)

@@ -1,10 +1,12 @@
 -- Where the clock stands, and that nothing is due there.
-use Rattle.std.proofs.Common.{◌≡◌, ℕ, ◌+◌, ◌<◌, ◌⊎◌, inl, inr, Option, Some, None, refl, sym, ap, ◌∙◌, subst, arith}
+use Rattle.std.proofs.Common.{◌≡◌, ℕ, ◌+◌, ◌<◌, ◌⊎◌, inl, inr, List, Option, Some, None, Ok, refl, sym, ap, ◌∙◌, subst, arith}
 use Rattle.mesh_model.specs.declared.ending.Stop.{Stop}
 use Rattle.mesh_model.specs.declared.happening.Happening.{Happening}
 use Rattle.mesh_model.specs.declared.line_form.Command.{Command}
 use Rattle.mesh_model.specs.Net.Happenings.{Before}
-use Rattle.mesh_model.specs.Net.Mesh.{NodeLog, Mesh, Setup}
+use Rattle.mesh_model.specs.Net.Lans.{joins_lan, with_lan}
+use Rattle.mesh_model.specs.Net.Mesh.{NodeLog, NetLan, Mesh, Setup}
+use Rattle.mesh_model.specs.Clients.Log.{Line}
 use Rattle.mesh_model.specs.Net.Next.{Happens, IsQuiet}
 use Rattle.mesh_model.specs.Net.Runs.{PassedLimit, Course, begin, run_to}
 use Rattle.mesh_model.specs.Run.State.{State}
@@ -14,13 +16,13 @@ use Rattle.mesh_model.specs.Run.Shown.{after_print}
 use Rattle.mesh_model.specs.Run.Steps.{with_node, with_link}
 use Rattle.mesh_laws.specs.LineLaws.{IsReached, CanPass, HasDelay, IsQuietNow}
 use Rattle.mesh_laws.specs.Soundness.{FitsPlaces, IsSound}
-use Rattle.mesh_laws.proofs.Schedule.Steps.{Effect, delivered_effect, no_ticks, tickless}
+use Rattle.mesh_laws.proofs.Schedule.Steps.{Effect, all_effect, delivered_effect, lan_joins, no_ticks, tickless}
 use Rattle.mesh_laws.proofs.Schedule.Kept.{runs_end_quiet}
-use Rattle.mesh_laws.proofs.Schedule.Added.{added}
-use Rattle.mesh_laws.proofs.Schedule.ToCome.{links_add_nothing, nodes_add_later}
+use Rattle.mesh_laws.proofs.Schedule.Added.{added, lan_sound}
+use Rattle.mesh_laws.proofs.Schedule.ToCome.{lans_add_nothing, links_add_nothing, nodes_add_later}
 use Rattle.mesh_laws.proofs.Lines.Passing.{begun}
-use Rattle.mesh_laws.proofs.Lines.Keeping.{can_pass}
-use Rattle.mesh_laws.proofs.Lines.Ways.{Led, ended, printed, stayed, chose, noded, linked, given, again, passed}
+use Rattle.mesh_laws.proofs.Lines.Keeping.{can_pass, put_now}
+use Rattle.mesh_laws.proofs.Lines.Ways.{Led, ended, printed, stayed, chose, noded, linked, given, again, given_all, lanned, put_there, passed}
 
 goes_one : (a b : State) → Goes a ≡ Goes b → a ≡ b
 goes_one a b e = cc
@@ -51,6 +53,19 @@ quiet_node state node made quiet x happens later = either (nodes_add_later state
     either (inl old) = quiet x old later
     either (inr l) = omega (arith, l, made)
 
+quiet_lan : (setup : Setup) (state : State) (name gateways : List ℕ) (after : Mesh) → IsSound state.mesh → joins_lan setup name gateways state.clock state.mesh ≡ Ok after → IsQuietNow state → IsQuiet state.clock after
+quiet_lan setup state name gateways after sound e quiet x happens later = either (added setup no_ticks state.clock (with_lan lan state.mesh) after x (lan_sound state.mesh lan sound) effect.nodes effect.adds happens)
+  where
+    lan : NetLan
+    lan = record { name = name; gateways = gateways }
+
+    effect : Effect setup no_ticks state.clock (with_lan lan state.mesh) after
+    effect = lan_joins setup name gateways state.clock state.mesh after e
+
+    either : Happens (with_lan lan state.mesh) x ⊎ (state.clock < x.moment) → state.clock < x.moment
+    either (inl old) = quiet x (lans_add_nothing state.mesh lan x old) (subst (λ (h : Happening). Before h x) effect.last later)
+    either (inr l) = l
+
 quiet_run : (setup : Setup) (t : ℕ) (state after : State) → CanPass setup t state → run_until setup t state ≡ Goes after → IsQuietNow after
 quiet_run setup t state after can e =
     let o : Course = run_to setup t state.mesh in
@@ -68,5 +83,10 @@ goes_quiet setup state after command outcome fits r delay (given place input mes
     (quiet_effect setup state mesh r.sound (tickless setup state.mesh place state.clock 0 input mesh none gives g) quiet)
 goes_quiet setup state after command outcome fits r delay (again place mesh g e) f quiet = subst IsQuietNow (goes_one (gone_on state state.clock mesh) after (sym e ∙ f))
     (quiet_effect setup state mesh r.sound (delivered_effect setup state.mesh place state.clock mesh g) quiet)
+goes_quiet setup state after command outcome fits r delay (given_all places line mesh g e) f quiet = subst IsQuietNow (goes_one (gone_on state state.clock mesh) after (sym e ∙ f))
+    (quiet_effect setup state mesh r.sound (all_effect setup places state.clock (Line line) state.mesh mesh refl (λ fs. tt) g) quiet)
+goes_quiet setup state after command outcome fits r delay (lanned name gateways mesh g e) f quiet = subst IsQuietNow (goes_one (gone_on state state.clock mesh) after (sym e ∙ f)) (quiet_lan setup state name gateways mesh r.sound g quiet)
+goes_quiet setup state after command outcome fits r delay (put_there put mesh at low g e) f quiet = subst IsQuietNow (goes_one (gone_on state state.clock mesh) after (sym e ∙ f))
+    (quiet_effect setup state mesh r.sound (put_now setup state put mesh at low g) quiet)
 goes_quiet setup state after command outcome fits r delay (passed time run low e) f quiet =
     quiet_run setup (state.clock + time) state after (can_pass setup time state fits r low) (sym e ∙ f)

@@ -1,5 +1,6 @@
--- The options of a link line that is read are in their ranges: what each form of lines gives.
-use Rattle.std.proofs.Common.{◌≡◌, ℕ, ◌≤◌, ◌&&◌, Bool, true, false, List, [], ◌∷◌, ◌++◌, Option, Some, None, Result, Ok, Err, refl, subst, arith}
+-- The options of a link line that is read are in their ranges, and a LAN has a gateway: what each form of lines
+-- gives.
+use Rattle.std.proofs.Common.{◌≡◌, ℕ, ◌<◌, ◌≤◌, ◌&&◌, Bool, true, false, List, [], ◌∷◌, ◌++◌, length, Option, Some, None, Result, Ok, Err, refl, subst, arith}
 use Rattle.std.specs.Prelude.{⊤, bytes_eq, codes, fold, unwrap_or, option_map, option_and_then, ok_or, nat_le, if◌then◌else◌}
 use Rattle.std.specs.Option.{option_map_or}
 use Rattle.std.specs.Map.{lookup}
@@ -26,13 +27,13 @@ use Rattle.mesh_laws.specs.LineLaws.{HasLinkRanges, IsInRange}
 
 -- ---- commands and forms
 
--- a command, where it is a link, is in range
+-- a command, where it is a link, is in range, and where it is a LAN, has a gateway
 abbrev InRange : Command → Type 0
 InRange (Link from to delay pattern throughput) = HasLinkRanges delay pattern throughput
 InRange Nothing = ⊤
 InRange (Algo algorithm) = ⊤
 InRange (Node name mac) = ⊤
-InRange (Lan name gateways) = ⊤
+InRange (Lan name gateways) = 0 < length gateways
 InRange (Frame place src dst vid text) = ⊤
 InRange (Gone place key) = ⊤
 InRange (Join node key) = ⊤
@@ -252,7 +253,7 @@ some-gateways false false command h = h
 
 gateways : (name : List ℕ) → FormInRange (the_gateways (Lan name))
 gateways name [] = tt
-gateways name (first ∷ rest) = some-gateways _ _ _ tt
+gateways name (first ∷ rest) = some-gateways _ _ _ (omega arith)
 
 key : (read : List ℕ → Result Mac Refusal) (next : Key → List Word → Reading) → ((k : Key) → FormInRange (next k)) → FormInRange (a_key read next)
 key read next h = field _ _ (λ mac. field _ _ (λ vid. h (record { mac = mac; vid = vid })))
@@ -366,3 +367,7 @@ line-read line = if-read _ _ (command_of_words (line_words line)) (words-read (l
 -- what is read is in range
 pub read-in-range : (line : List ℕ) (command : Command) → command_of_line line ≡ Ok command → IsInRange command
 read-in-range line command h = λ from to pattern delay throughput is. subst InRange is (subst ReadsInRange h (line-read line))
+
+-- a LAN that is read has a gateway
+pub read-has-gateways : (line : List ℕ) (command : Command) (name : List ℕ) (gateways : List (List ℕ)) → command_of_line line ≡ Ok command → command ≡ Lan name gateways → 0 < length gateways
+read-has-gateways line command name gateways h is = subst InRange is (subst ReadsInRange h (line-read line))

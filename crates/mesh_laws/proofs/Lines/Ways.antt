@@ -1,9 +1,11 @@
 -- The few ways in which a command may end.
 use Rattle.std.proofs.Common.{option_map, ◌≡◌, ◌&&◌, not, ℕ, ◌+◌, ◌-◌, ◌<◌, ◌≤◌, Bool, true, false, cond, nat_lt, nat_le, List, [], length, Option, Some, None, Ok, Err, refl}
 use Rattle.std.specs.Option.{option_map_or}
+use Rattle.std.specs.List.{position}
 use Rattle.std.proofs.lemmas.Bool.{ltb-false, leb-false}
+use Rattle.std.proofs.lemmas.List.Quantifiers.{position-Some}
 use Rattle.mesh_base.specs.Address.{is_broadcast, is_group}
-use Rattle.mesh_model.specs.declared.ending.LimitName.TheVariants.{Nodes, Links, Clock}
+use Rattle.mesh_model.specs.declared.ending.LimitName.TheVariants.{Nodes, Links, Lans, Clock}
 use Rattle.mesh_model.specs.declared.ending.Refusal.{Refusal}
 use Rattle.mesh_model.specs.declared.ending.Stop.{Stop}
 use Rattle.mesh_model.specs.declared.ending.Stop.TheVariants.{Refused, Limit}
@@ -14,17 +16,19 @@ use Rattle.mesh_model.specs.declared.line_form.Command.TheVariants.{Nothing, Alg
 use Rattle.mesh_model.specs.Clients.Log.{Given, LineGiven, Line, Sets}
 use Rattle.mesh_model.specs.Clients.Log.{Frame as FrameGiven, Gone as GoneGiven, Join as JoinGiven, Leave as LeaveGiven, Ping as PingGiven, Trace as TraceGiven}
 use Rattle.mesh_model.specs.Clients.Settings.{Wifi as WifiSet}
-use Rattle.mesh_model.specs.Net.Mesh.{NodeLog, NetLink, Mesh, Setup, address_at}
-use Rattle.mesh_model.specs.Net.Sending.{Attempt}
-use Rattle.mesh_model.specs.Net.Inputs.{given_to}
+use Rattle.mesh_model.specs.Net.Mesh.{NodeLog, NetLan, NetLink, LanPut, Mesh, Setup, address_at}
+use Rattle.mesh_model.specs.Net.Lans.{joins_lan}
+use Rattle.mesh_model.specs.Net.Sending.{Attempt, with_put}
+use Rattle.mesh_model.specs.Packets.Payload.{payload_spelling}
+use Rattle.mesh_model.specs.Net.Inputs.{all_given, given_to}
 use Rattle.mesh_model.specs.Net.Due.{ticks_by}
-use Rattle.mesh_model.specs.Net.Limits.{nodes_limit, links_limit, clock_limit}
+use Rattle.mesh_model.specs.Net.Limits.{nodes_limit, links_limit, lans_limit, clock_limit}
 use Rattle.mesh_model.specs.Net.Runs.{delivered}
-use Rattle.mesh_model.specs.Run.State.{Printed, Decoded, State, node_named, place_of}
+use Rattle.mesh_model.specs.Run.State.{Printed, Decoded, State, is_lan_named, lan_place_of, node_named, place_of}
 use Rattle.mesh_model.specs.Run.Outcome.{Outcome, Goes, Ends}
 use Rattle.mesh_model.specs.Run.Passing.{gone_on, run_until, after_attempt}
 use Rattle.mesh_model.specs.Run.Shown.{after_print, shown}
-use Rattle.mesh_model.specs.Run.Steps.{Step, at_node, new_node, with_node, with_link, link_step, input_step, session_step, show_step, step_of}
+use Rattle.mesh_model.specs.Run.Steps.{Step, at_node, at_place, gateways_at, gateways_step, lan_frame_step, new_node, places_named, with_node, with_link, link_step, input_step, session_step, show_step, step_of}
 use Rattle.mesh_model.specs.Run.Rules.{first_refused_rule, unless_refused, after_step, carried_out}
 use Rattle.mesh_laws.specs.LineLaws.{HasDelay}
 use Rattle.mesh_laws.specs.Soundness.{GivesItsBytes}
@@ -40,6 +44,9 @@ pub data Led (setup : Setup) (state : State) (command : Command) (outcome : Outc
   given : (place : ℕ) (given : Given) (after : Mesh) → ticks_by given ≡ 0 → GivesItsBytes state.mesh.frames given → given_to setup place state.clock 0 given state.mesh ≡ Ok after
       → outcome ≡ Goes (gone_on state state.clock after) → Led setup state command outcome
   again : (place : ℕ) (after : Mesh) → delivered setup place state.clock state.mesh ≡ Ok after → outcome ≡ Goes (gone_on state state.clock after) → Led setup state command outcome
+  given_all : (places : List ℕ) (line : LineGiven) (after : Mesh) → all_given setup places state.clock (Line line) state.mesh ≡ Ok after → outcome ≡ Goes (gone_on state state.clock after) → Led setup state command outcome
+  lanned : (name : List ℕ) (gateways : List ℕ) (after : Mesh) → joins_lan setup name gateways state.clock state.mesh ≡ Ok after → outcome ≡ Goes (gone_on state state.clock after) → Led setup state command outcome
+  put_there : (put : LanPut) (after : Mesh) → put.moment ≡ state.clock → put.lan < length state.mesh.lans → with_put setup put state.mesh ≡ Ok after → outcome ≡ Goes (gone_on state state.clock after) → Led setup state command outcome
   passed : (time : ℕ) → command ≡ Run time → state.clock + time ≤ clock_limit → outcome ≡ run_until setup (state.clock + time) state → Led setup state command outcome
 
 node_led : (setup : Setup) (state : State) (command : Command) (node : NodeLog) → node.log ≡ [] → node.made ≡ state.clock → (full : Bool) → nat_le nodes_limit (length state.mesh.nodes) ≡ full
@@ -60,6 +67,21 @@ again_led : (setup : Setup) (state : State) (command : Command) (place : ℕ) (a
 again_led setup state command place (Ok after) e = again place after e refl
 again_led setup state command place (Err limit) e = ended (Limit limit) refl
 
+all_led : (setup : Setup) (state : State) (command : Command) (places : List ℕ) (line : LineGiven) (attempt : Attempt) → all_given setup places state.clock (Line line) state.mesh ≡ attempt
+    → Led setup state command (after_attempt state attempt)
+all_led setup state command places line (Ok after) e = given_all places line after e refl
+all_led setup state command places line (Err limit) e = ended (Limit limit) refl
+
+lan_led : (setup : Setup) (state : State) (command : Command) (name : List ℕ) (gateways : List ℕ) (attempt : Attempt) → joins_lan setup name gateways state.clock state.mesh ≡ attempt
+    → Led setup state command (after_attempt state attempt)
+lan_led setup state command name gateways (Ok after) e = lanned name gateways after e refl
+lan_led setup state command name gateways (Err limit) e = ended (Limit limit) refl
+
+put_led : (setup : Setup) (state : State) (command : Command) (put : LanPut) → put.moment ≡ state.clock → put.lan < length state.mesh.lans → (attempt : Attempt) → with_put setup put state.mesh ≡ attempt
+    → Led setup state command (after_attempt state attempt)
+put_led setup state command put at low (Ok after) e = put_there put after at low e refl
+put_led setup state command put at low (Err limit) e = ended (Limit limit) refl
+
 time_led : (setup : Setup) (state : State) (time : ℕ) (past : Bool) → nat_lt clock_limit (state.clock + time) ≡ past
     → Led setup state (Run time) (cond past (Ends state (Limit Clock)) (run_until setup (state.clock + time) state))
 time_led setup state time true e = ended (Limit Clock) refl
@@ -71,12 +93,22 @@ at_led : (setup : Setup) (state : State) (command : Command) (step : ℕ → Ste
 at_led setup state command step None all = stayed refl
 at_led setup state command step (Some place) all = all place
 
-show_led : (setup : Setup) (state : State) (command : Command) (print : Algorithm → ℕ → NodeLog → Printed) (o : Option NodeLog)
-    → Led setup state command (option_map_or (λ node. Goes (after_print state (print state.algorithm state.clock node))) o (Goes state))
-show_led setup state command print None = stayed refl
-show_led setup state command print (Some node) = printed (print state.algorithm state.clock node) refl
+-- a step at the LAN of a name, or another
+lan_or_led : (setup : Setup) (state : State) (command : Command) (on_lan : ℕ → Step) (other : Outcome) (o : Option ℕ) → ((lan : ℕ) → o ≡ Some lan → Led setup state command (on_lan lan state)) → Led setup state command other
+    → Led setup state command (option_map_or (λ lan. on_lan lan state) o other)
+lan_or_led setup state command on_lan other None all else_ = else_
+lan_or_led setup state command on_lan other (Some lan) all else_ = all lan refl
 
-shown_led : (setup : Setup) (state : State) (command : Command) (name : List ℕ) (o : Option (Algorithm → ℕ → NodeLog → Printed)) → Led setup state command (after_step state (option_map (show_step name) o))
+full_led : (setup : Setup) (state : State) (command : Command) (outcome : Outcome) (full : Bool) → Led setup state command outcome → Led setup state command (cond full (Ends state (Limit Lans)) outcome)
+full_led setup state command outcome true l = ended (Limit Lans) refl
+full_led setup state command outcome false l = l
+
+show_led : (setup : Setup) (state : State) (command : Command) (print : State → NodeLog → Printed) (o : Option NodeLog)
+    → Led setup state command (option_map_or (λ node. Goes (after_print state (print state node))) o (Goes state))
+show_led setup state command print None = stayed refl
+show_led setup state command print (Some node) = printed (print state node) refl
+
+shown_led : (setup : Setup) (state : State) (command : Command) (name : List ℕ) (o : Option (State → NodeLog → Printed)) → Led setup state command (after_step state (option_map (show_step name) o))
 shown_led setup state command name None = stayed refl
 shown_led setup state command name (Some print) = show_led setup state command print (node_named state name)
 
@@ -95,10 +127,30 @@ session_led setup state command line node target =
     let mac = address_at end state.mesh.nodes in
     input_led setup state command place (line mac) (given_to setup place state.clock 0 (Line (line mac)) state.mesh) refl))
 
-frame_led : (setup : Setup) (state : State) (command : Command) (place : List ℕ) (line : LineGiven) (other_group : Bool)
-    → Led setup state command (after_step state (cond other_group None (Some (at_node place (input_step setup line)))))
-frame_led setup state command place line true = stayed refl
-frame_led setup state command place line false = line_led setup state command place line
+-- the LAN of a name is one of the LANs
+place_low : (name : List ℕ) (lan : ℕ) (lans : List NetLan) → position (is_lan_named name) lans ≡ Some lan → lan < length lans
+place_low name lan lans e = (position-Some (is_lan_named name) lans lan (record { name = []; gateways = [] }) e).0
+
+-- a frame comes on the LAN of a name, or is given at the node of it
+place_led : (setup : Setup) (state : State) (command : Command) (place : List ℕ) (line : LineGiven) (bytes : List ℕ)
+    → Led setup state command (at_place place (lan_frame_step setup bytes) (input_step setup line) state)
+place_led setup state command place line bytes =
+    let put : ℕ → LanPut = λ lan. record { lan = lan; moment = state.clock; bytes = bytes; by = None } in
+    lan_or_led setup state command (lan_frame_step setup bytes) (at_node place (input_step setup line) state) (lan_place_of state place)
+    (λ lan found. put_led setup state command (put lan) refl (place_low place lan state.mesh.lans found) (with_put setup (put lan) state.mesh) refl)
+    (line_led setup state command place line)
+
+frame_led : (setup : Setup) (state : State) (command : Command) (place : List ℕ) (line : LineGiven) (bytes : List ℕ) (other_group : Bool)
+    → Led setup state command (after_step state (cond other_group None (Some (at_place place (lan_frame_step setup bytes) (input_step setup line)))))
+frame_led setup state command place line bytes true = stayed refl
+frame_led setup state command place line bytes false = place_led setup state command place line bytes
+
+-- a client is gone from the gateways of the LAN of a name, or from the node of it
+gone_led : (setup : Setup) (state : State) (command : Command) (place : List ℕ) (line : LineGiven) → Led setup state command (at_place place (gateways_step setup line) (input_step setup line) state)
+gone_led setup state command place line =
+    lan_or_led setup state command (gateways_step setup line) (at_node place (input_step setup line) state) (lan_place_of state place)
+    (λ lan found. all_led setup state command (gateways_at lan state.mesh.lans) line (all_given setup (gateways_at lan state.mesh.lans) state.clock (Line line) state.mesh) refl)
+    (line_led setup state command place line)
 
 pub command_led : (setup : Setup) (state : State) (command : Command) → Led setup state command (after_step state (step_of setup command))
 command_led setup state Nothing = stayed refl
@@ -109,9 +161,12 @@ command_led setup state (Link from to delay pattern throughput) =
     at_led setup state (Link from to delay pattern throughput) (λ start. at_node to (λ end. link_step (link start end))) (place_of state from) (λ start.
     at_led setup state (Link from to delay pattern throughput) (λ end. link_step (link start end)) (place_of state to) (λ end.
     link_led setup state (Link from to delay pattern throughput) (link start end) (λ has. has from to pattern delay throughput refl) (nat_le links_limit (length state.mesh.links))))
-command_led setup state (Lan name gateways) = stayed refl
-command_led setup state (Frame place src dst vid text) = frame_led setup state (Frame place src dst vid text) place (FrameGiven src dst vid text) (is_group dst && not (is_broadcast dst))
-command_led setup state (Gone place key) = line_led setup state (Gone place key) place (GoneGiven key)
+command_led setup state (Lan name gateways) =
+    let places = places_named gateways 0 state.mesh.nodes in
+    full_led setup state (Lan name gateways) (after_attempt state (joins_lan setup name places state.clock state.mesh)) (nat_le lans_limit (length state.mesh.lans))
+    (lan_led setup state (Lan name gateways) name places (joins_lan setup name places state.clock state.mesh) refl)
+command_led setup state (Frame place src dst vid text) = frame_led setup state (Frame place src dst vid text) place (FrameGiven src dst vid text) (payload_spelling (record { dst = dst; src = src; vid = vid; text = text })) (is_group dst && not (is_broadcast dst))
+command_led setup state (Gone place key) = gone_led setup state (Gone place key) place (GoneGiven key)
 command_led setup state (Join node key) = line_led setup state (Join node key) node (JoinGiven key)
 command_led setup state (Leave node key) = line_led setup state (Leave node key) node (LeaveGiven key)
 command_led setup state (Arp node mac own asked vid) = stayed refl

@@ -5,9 +5,10 @@ use Rattle.mesh_model.specs.declared.happening.Happening.{Happening}
 use Rattle.mesh_model.specs.declared.happening.Class.TheVariants.{NodeTick}
 use Rattle.mesh_model.specs.Net.Happenings.{Before}
 use Rattle.mesh_model.specs.Clients.Log.{LogEntry}
-use Rattle.mesh_model.specs.Net.Mesh.{NetLink, SentFrame, NodeLog, Mesh, empty_mesh, Setup}
+use Rattle.mesh_model.specs.Net.Lans.{with_lan}
+use Rattle.mesh_model.specs.Net.Mesh.{NetLan, NetLink, SentFrame, NodeLog, Mesh, empty_mesh, Setup}
 use Rattle.mesh_model.specs.Net.Due.{Fate, Once, Never, Twice, Held, fate_of, arrivals_by, arrivals_over, arrivals, tick_time, ticks_in, tick_at, next_due}
-use Rattle.mesh_model.specs.Net.Next.{Has, Happens, delivers, ticks, AtMost, IsNext}
+use Rattle.mesh_model.specs.Net.Next.{Has, Happens, delivers, lan_delivers, ticks, AtMost, IsNext}
 use Rattle.mesh_laws.specs.Soundness.{HadItsTicks, IsSound, FitsPlaces, GivesItsBytes, KeepsBytes, places}
 use Rattle.mesh_model.specs.Net.Runs.{after_happening, Course, turn, going_on}
 use Rattle.mesh_laws.proofs.Schedule.Order.{before_irrefl, before_at_most, at_most_before, by_moment, cases, both_at_most}
@@ -46,6 +47,14 @@ added setup extra now mesh after x sound nodes adds (delivers d) = either (get_e
     either (inr new) =
         let l = later_over mesh d.frame (slice_get mesh.links d.frame.link) x.moment sound refl arrives in
         let m = adds.sent d.frame new in
+        inr (omega (arith, l, m))
+added setup extra now mesh after x sound nodes adds (lan_delivers d) = either (get_either mesh.puts adds.more_puts x.place d.put (subst (λ ps. slice_get ps x.place ≡ Some d.put) adds.puts d.found))
+  where
+    either : (slice_get mesh.puts x.place ≡ Some d.put) ⊎ Has adds.more_puts d.put → Happens mesh x ⊎ (now < x.moment)
+    either (inl found) = inl (lan_delivers (record { put = d.put; found = found; is = d.is }))
+    either (inr new) =
+        let l : x.moment ≡ d.put.moment + 1 = ap (λ (h : Happening). h.moment) d.is in
+        let m = adds.put d.put new in
         inr (omega (arith, l, m))
 added setup extra now mesh after x sound nodes adds (ticks d) =
     let w = nodes x.place d.node d.found in
@@ -133,9 +142,11 @@ pub nodes_sound : (mesh : Mesh) (new : NodeLog) → IsSound mesh → new.log ≡
 nodes_sound mesh new sound empty late few = record {
   ticked = λ place node found. either place node (get_last mesh.nodes new place node found);
   few_frames = sound.few_frames;
+  few_puts = sound.few_puts;
   few_nodes = subst (λ k. k ≤ places) (sym (length-append mesh.nodes (new ∷ []))) (omega (arith, few));
   low_last = sound.low_last;
   on_links = sound.on_links;
+  on_lans = sound.on_lans;
   delays = sound.delays;
 }
   where
@@ -147,11 +158,13 @@ pub links_sound : (mesh : Mesh) (link : NetLink) → IsSound mesh → 1 ≤ link
 links_sound mesh link sound l = record {
   ticked = sound.ticked;
   few_frames = sound.few_frames;
+  few_puts = sound.few_puts;
   few_nodes = sound.few_nodes;
   low_last = sound.low_last;
   on_links = λ place frame found.
       let l = sound.on_links place frame found in
       subst (λ n. frame.link < n) (sym (length-append mesh.links (link ∷ []))) (omega (arith, l));
+  on_lans = sound.on_lans;
   delays = λ place x found. either place x (get_last mesh.links link place x found);
 }
   where
@@ -159,13 +172,30 @@ links_sound mesh link sound l = record {
     either place x (inl found) = sound.delays place x found
     either place x (inr e) = subst (λ (y : NetLink). 1 ≤ y.delay) (sym e) l
 
+-- one more LAN changes nothing else
+pub lan_sound : (mesh : Mesh) (lan : NetLan) → IsSound mesh → IsSound (with_lan lan mesh)
+lan_sound mesh lan s = record {
+  ticked = s.ticked;
+  few_frames = s.few_frames;
+  few_puts = s.few_puts;
+  few_nodes = s.few_nodes;
+  low_last = s.low_last;
+  on_links = s.on_links;
+  on_lans = λ place put found.
+      let l = s.on_lans place put found in
+      subst (λ n. put.lan < n) (sym (length-append mesh.lans (lan ∷ []))) (omega (arith, l));
+  delays = s.delays;
+}
+
 pub empty_sound : IsSound empty_mesh
 empty_sound = record {
   ticked = λ place node found. none place node found;
   few_frames = omega arith;
+  few_puts = omega arith;
   few_nodes = omega arith;
   low_last = omega arith;
   on_links = λ place frame found. cc;
+  on_lans = λ place put found. cc;
   delays = λ place link found. cc;
 }
   where

@@ -1,12 +1,12 @@
 -- The earliest candidate is the next happening.
-use Rattle.std.proofs.Common.{◌≡◌, ◌↔◌, ℕ, zero, suc, ◌+◌, ◌<◌, ◌≤◌, ◌⊎◌, inl, inr, Bool, true, false, cond, nat_le, List, [], ◌∷◌, map, filter, slice_get, Option, Some, None, option_and_then, refl, sym, ap, ◌∙◌, subst, arith}
+use Rattle.std.proofs.Common.{◌≡◌, ◌↔◌, ℕ, zero, suc, ◌+◌, ◌<◌, ◌≤◌, ◌⊎◌, inl, inr, Bool, true, false, cond, nat_le, List, [], ◌∷◌, ◌++◌, map, filter, slice_get, Option, Some, None, option_and_then, refl, sym, ap, ◌∙◌, subst, arith}
 use Rattle.std.proofs.lemmas.Bool.{cases_lt, cases_order, leb-true, leb-false}
 use Rattle.mesh_model.specs.declared.happening.Class.TheVariants.{LinkDelivery}
 use Rattle.mesh_model.specs.declared.happening.Happening.{Happening}
 use Rattle.mesh_model.specs.Net.Happenings.{is_before, Before}
-use Rattle.mesh_model.specs.Net.Mesh.{NetLink, SentFrame, NodeLog, Mesh}
-use Rattle.mesh_model.specs.Net.Due.{arrivals, delivery_at, deliveries, ticks_in, tick_at, first_ticks, candidates, next_happening, next_due, if_due}
-use Rattle.mesh_model.specs.Net.Next.{Has, Happens, delivers, ticks, AtMost, IsNext, IsQuiet}
+use Rattle.mesh_model.specs.Net.Mesh.{NetLink, SentFrame, LanPut, NodeLog, Mesh}
+use Rattle.mesh_model.specs.Net.Due.{arrivals, delivery_at, deliveries, lan_delivery_at, lan_deliveries, ticks_in, tick_at, first_ticks, candidates, next_happening, next_due, if_due}
+use Rattle.mesh_model.specs.Net.Next.{Has, Happens, delivers, lan_delivers, ticks, AtMost, IsNext, IsQuiet}
 use Rattle.mesh_laws.specs.Soundness.{HadItsTicks, IsSound}
 use Rattle.mesh_laws.proofs.Schedule.Members.{has_left, has_right, has_either, has_map, map_has, has_filter, filter_has, one_some, earliest_none, earliest_is}
 use Rattle.mesh_laws.proofs.Schedule.Order.{before_irrefl, by_moment, test_before, before_test, before_at_most, at_most_trans, at_most_moments, both_at_most}
@@ -58,6 +58,31 @@ have_delivery links start (first ∷ rest) (suc i) frame m f a =
     has_right (map (delivery_at start) (arrivals links first)) (deliveries links (suc start) rest) (delivery_at (start + suc i) m)
     (subst (λ p. Has (deliveries links (suc start) rest) (delivery_at p m)) place_is (have_delivery links (suc start) rest i frame m f a))
 
+pub record LanDelivers (start : ℕ) (puts : List LanPut) (h : Happening) : Type 0 where
+  pub offset : ℕ
+  pub put : LanPut
+  pub found : slice_get puts offset ≡ Some put
+  pub is : h ≡ lan_delivery_at (start + offset) put
+
+pub lans_have : (start : ℕ) (puts : List LanPut) (h : Happening) → Has (lan_deliveries start puts) h → LanDelivers start puts h
+lans_have start [] h p = absurd p
+lans_have start (put ∷ rest) h (inl e) =
+    let start_is : start ≡ start + 0 = omega arith in
+    record { offset = 0; put = put; found = refl; is = e ∙ ap (λ p. lan_delivery_at p put) start_is }
+lans_have start (put ∷ rest) h (inr q) =
+    let d = lans_have (suc start) rest h q in
+    let place_is : suc start + d.offset ≡ start + suc d.offset = omega arith in
+    record { offset = suc d.offset; put = d.put; found = d.found; is = d.is ∙ ap (λ p. lan_delivery_at p d.put) place_is }
+
+pub have_lan : (start : ℕ) (puts : List LanPut) (i : ℕ) (put : LanPut) → slice_get puts i ≡ Some put → Has (lan_deliveries start puts) (lan_delivery_at (start + i) put)
+have_lan start [] i put f = cc
+have_lan start (first ∷ rest) zero put f =
+    let start_is : start ≡ start + 0 = omega arith in
+    inl (ap (λ p. lan_delivery_at p put) (sym start_is) ∙ ap (lan_delivery_at start) (sym (one_some first put f)))
+have_lan start (first ∷ rest) (suc i) put f =
+    let place_is : suc start + i ≡ start + suc i = omega arith in
+    inr (subst (λ p. Has (lan_deliveries (suc start) rest) (lan_delivery_at p put)) place_is (have_lan (suc start) rest i put f))
+
 abbrev first_tick : ℕ → NodeLog → Happening
 first_tick place node = tick_at place node (suc (ticks_in node.log))
 
@@ -90,18 +115,18 @@ pub from_zero : (n : ℕ) → zero + n ≡ n
 from_zero n = omega arith
 
 pub candidate_happens : (mesh : Mesh) (h : Happening) → Has (candidates mesh) h → Happens mesh h
-candidate_happens mesh h p = either (has_either (deliveries mesh.links 0 mesh.frames) (first_ticks 0 mesh.nodes) h p)
+candidate_happens mesh h p = either (has_either (deliveries mesh.links 0 mesh.frames) (lan_deliveries 0 mesh.puts ++ first_ticks 0 mesh.nodes) h p)
   where
-    either : Has (deliveries mesh.links 0 mesh.frames) h ⊎ Has (first_ticks 0 mesh.nodes) h → Happens mesh h
-    either (inl q) =
-        let d = deliveries_have mesh.links 0 mesh.frames h q in
-        delivers (record {
-          class_is = d.class_is;
-          frame = d.frame;
-          found = subst (λ i. slice_get mesh.frames i ≡ Some d.frame) (sym (d.place_is ∙ from_zero d.offset)) d.found;
-          arrives = d.arrives;
+    others : Has (lan_deliveries 0 mesh.puts) h ⊎ Has (first_ticks 0 mesh.nodes) h → Happens mesh h
+    others (inl q) =
+        let d = lans_have 0 mesh.puts h q in
+        let place_is : h.place ≡ d.offset = ap (λ (x : Happening). x.place) d.is ∙ from_zero d.offset in
+        lan_delivers (record {
+          put = d.put;
+          found = subst (λ i. slice_get mesh.puts i ≡ Some d.put) (sym place_is) d.found;
+          is = d.is ∙ ap (λ i. lan_delivery_at i d.put) (from_zero d.offset ∙ sym place_is);
         })
-    either (inr q) =
+    others (inr q) =
         let d = ticks_have 0 mesh.nodes h q in
         let place_is : h.place ≡ d.offset = ap (λ (x : Happening). x.place) d.is ∙ from_zero d.offset in
         ticks (record {
@@ -110,6 +135,17 @@ candidate_happens mesh h p = either (has_either (deliveries mesh.links 0 mesh.fr
           index = ticks_in d.node.log;
           is = d.is ∙ ap (λ i. first_tick i d.node) (from_zero d.offset ∙ sym place_is);
         })
+
+    either : Has (deliveries mesh.links 0 mesh.frames) h ⊎ Has (lan_deliveries 0 mesh.puts ++ first_ticks 0 mesh.nodes) h → Happens mesh h
+    either (inl q) =
+        let d = deliveries_have mesh.links 0 mesh.frames h q in
+        delivers (record {
+          class_is = d.class_is;
+          frame = d.frame;
+          found = subst (λ i. slice_get mesh.frames i ≡ Some d.frame) (sym (d.place_is ∙ from_zero d.offset)) d.found;
+          arrives = d.arrives;
+        })
+    either (inr q) = others (has_either (lan_deliveries 0 mesh.puts) (first_ticks 0 mesh.nodes) h q)
 
 pub ticks_rise : (place : ℕ) (node : NodeLog) (i j : ℕ) → i ≤ j → AtMost (tick_at place node i) (tick_at place node j)
 ticks_rise place node i j l = either (cases_order i j)
@@ -138,14 +174,18 @@ pub covered : (mesh : Mesh) → IsSound mesh → (x : Happening) → Happens mes
 covered mesh sound x (delivers d) after =
     let x_is : delivery_at (0 + x.place) x.moment ≡ x = λ i. record { moment = x.moment; class = sym d.class_is i; place = from_zero x.place i } in
     let has : Has (deliveries mesh.links 0 mesh.frames) x = subst (Has (deliveries mesh.links 0 mesh.frames)) x_is (have_delivery mesh.links 0 mesh.frames x.place d.frame x.moment d.found d.arrives) in
-    (x, has_filter (is_before mesh.last) (candidates mesh) x (before_test mesh.last x after) (has_left (deliveries mesh.links 0 mesh.frames) (first_ticks 0 mesh.nodes) x has), inl refl)
+    (x, has_filter (is_before mesh.last) (candidates mesh) x (before_test mesh.last x after) (has_left (deliveries mesh.links 0 mesh.frames) (lan_deliveries 0 mesh.puts ++ first_ticks 0 mesh.nodes) x has), inl refl)
+covered mesh sound x (lan_delivers d) after =
+    let x_is : lan_delivery_at (0 + x.place) d.put ≡ x = ap (λ p. lan_delivery_at p d.put) (from_zero x.place) ∙ sym d.is in
+    let has : Has (lan_deliveries 0 mesh.puts) x = subst (Has (lan_deliveries 0 mesh.puts)) x_is (have_lan 0 mesh.puts x.place d.put d.found) in
+    (x, has_filter (is_before mesh.last) (candidates mesh) x (before_test mesh.last x after) (has_right (deliveries mesh.links 0 mesh.frames) (lan_deliveries 0 mesh.puts ++ first_ticks 0 mesh.nodes) x (has_left (lan_deliveries 0 mesh.puts) (first_ticks 0 mesh.nodes) x has)), inl refl)
 covered mesh sound x (ticks d) after =
     let c = first_tick x.place d.node in
     let ticked = sound.ticked x.place d.node d.found in
     let has : Has (first_ticks 0 mesh.nodes) c = subst (λ p. Has (first_ticks 0 mesh.nodes) (first_tick p d.node)) (from_zero x.place) (have_tick 0 mesh.nodes x.place d.node d.found) in
     let later = tick_not_had mesh.last x.place d.node d.index ticked (subst (Before mesh.last) d.is after) in (
       c,
-      has_filter (is_before mesh.last) (candidates mesh) c (before_test mesh.last c ticked.to_come) (has_right (deliveries mesh.links 0 mesh.frames) (first_ticks 0 mesh.nodes) c has),
+      has_filter (is_before mesh.last) (candidates mesh) c (before_test mesh.last c ticked.to_come) (has_right (deliveries mesh.links 0 mesh.frames) (lan_deliveries 0 mesh.puts ++ first_ticks 0 mesh.nodes) c (has_right (lan_deliveries 0 mesh.puts) (first_ticks 0 mesh.nodes) c has)),
       subst (AtMost c) (sym d.is) (ticks_rise x.place d.node (suc (ticks_in d.node.log)) (suc d.index) (omega (arith, later))),
     )
 

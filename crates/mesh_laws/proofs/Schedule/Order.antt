@@ -7,7 +7,7 @@ use Rattle.std.proofs.lemmas.Cmp.{nat_cmp_total, on_total, then_total, tied_itse
 use Rattle.std.proofs.lemmas.Bool.Decides.{nat_tests}
 use Rattle.std.proofs.lemmas.Map.Lookups.{CmpEqualImpliesEq, exact_unsigned, exact_pairs}
 use Rattle.mesh_model.specs.declared.happening.Class.{Class}
-use Rattle.mesh_model.specs.declared.happening.Class.TheVariants.{LinkDelivery, NodeTick}
+use Rattle.mesh_model.specs.declared.happening.Class.TheVariants.{LinkDelivery, LanDelivery, NodeTick}
 use Rattle.mesh_model.specs.declared.happening.Happening.{Happening}
 use Rattle.mesh_model.specs.Net.Happenings.{class_number, happening_order, is_before, Before}
 use Rattle.mesh_model.specs.Net.Next.{AtMost}
@@ -21,8 +21,13 @@ order_total =
 
 class_exact : (a b : Class) → class_number a ≡ class_number b → a ≡ b
 class_exact LinkDelivery LinkDelivery e = refl
+class_exact LinkDelivery LanDelivery e = absurd (omega (arith, e))
 class_exact LinkDelivery NodeTick e = absurd (omega (arith, e))
+class_exact LanDelivery LinkDelivery e = absurd (omega (arith, e))
+class_exact LanDelivery LanDelivery e = refl
+class_exact LanDelivery NodeTick e = absurd (omega (arith, e))
 class_exact NodeTick LinkDelivery e = absurd (omega (arith, e))
+class_exact NodeTick LanDelivery e = absurd (omega (arith, e))
 class_exact NodeTick NodeTick e = refl
 
 pub exact : CmpEqualImpliesEq happening_order

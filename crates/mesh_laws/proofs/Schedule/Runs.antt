@@ -3,7 +3,7 @@ use Rattle.std.proofs.Common.{◌≡◌, ℕ, zero, suc, ◌+◌, ◌*◌, ◌^�
 use Rattle.std.specs.Fn.{iterate}
 use Rattle.std.proofs.lemmas.Bool.{true≢false, cases_lt, le-leb}
 use Rattle.mesh_model.specs.declared.happening.Class.{Class}
-use Rattle.mesh_model.specs.declared.happening.Class.TheVariants.{LinkDelivery, NodeTick}
+use Rattle.mesh_model.specs.declared.happening.Class.TheVariants.{LinkDelivery, LanDelivery, NodeTick}
 use Rattle.mesh_model.specs.declared.happening.Happening.{Happening}
 use Rattle.mesh_model.specs.Net.Happenings.{class_number}
 use Rattle.mesh_model.specs.Net.Mesh.{Mesh, Setup}
@@ -107,6 +107,7 @@ progress setup t (suc depth) o fits fine =
 
 class_low : (c : Class) → class_number c ≤ 2
 class_low LinkDelivery = omega arith
+class_low LanDelivery = omega arith
 class_low NodeTick = omega arith
 
 pub rank_low : (t : ℕ) (o : Course) → Fine t o → rank o.mesh.last < (t + 1) * 1099511627776

@@ -3,12 +3,12 @@ use Rattle.std.proofs.Common.{◌≡◌, ℕ, suc, ◌+◌, ◌*◌, ◌<◌, �
 use Rattle.std.proofs.lemmas.Bool.{cases_eq, eq-eqb, ne_eqb}
 use Rattle.std.proofs.lemmas.Option.{slice_get_within}
 use Rattle.mesh_model.specs.declared.happening.Class.{Class}
-use Rattle.mesh_model.specs.declared.happening.Class.TheVariants.{LinkDelivery, NodeTick}
+use Rattle.mesh_model.specs.declared.happening.Class.TheVariants.{LinkDelivery, LanDelivery, NodeTick}
 use Rattle.mesh_model.specs.declared.happening.Happening.{Happening}
 use Rattle.mesh_model.specs.Net.Happenings.{Before}
-use Rattle.mesh_model.specs.Net.Mesh.{NodeLog, SentFrame, Mesh, Setup}
+use Rattle.mesh_model.specs.Net.Mesh.{NodeLog, SentFrame, LanPut, Mesh, Setup}
 use Rattle.mesh_model.specs.Net.Due.{tick_time, ticks_in, tick_at}
-use Rattle.mesh_model.specs.Net.Next.{Has, Happens, delivers, ticks, AtMost, IsNext}
+use Rattle.mesh_model.specs.Net.Next.{Has, Happens, delivers, lan_delivers, ticks, AtMost, IsNext}
 use Rattle.mesh_laws.specs.Soundness.{HadItsTicks, IsSound, FitsPlaces, places, rank}
 use Rattle.mesh_model.specs.Net.Runs.{after_happening}
 use Rattle.mesh_laws.proofs.Schedule.Order.{by_moment, ranks, at_most_before, both_at_most}
@@ -47,9 +47,13 @@ before_tick t mesh h place node n found k apart = come (n.first (tick_at place n
 no_tick : NodeTick ≡ LinkDelivery → ⊥
 no_tick e = cc
 
+no_lan_tick : NodeTick ≡ LanDelivery → ⊥
+no_lan_tick e = cc
+
 -- a tick that comes next is the node's first to come
 its_first : (t : ℕ) (mesh : Mesh) (h : Happening) (node : NodeLog) → IsNext t mesh h → slice_get mesh.nodes h.place ≡ Some node → HadItsTicks mesh.last h.place node → h.class ≡ NodeTick → Happens mesh h → h ≡ tick_at h.place node (suc (ticks_in node.log))
 its_first t mesh h node n found k tick_is (delivers d) = absurd (no_tick (sym tick_is ∙ d.class_is))
+its_first t mesh h node n found k tick_is (lan_delivers d) = absurd (no_lan_tick (sym tick_is ∙ ap (λ (x : Happening). x.class) d.is))
 its_first t mesh h node n found k tick_is (ticks d) =
     let same : d.node ≡ node = one_some d.node node (sym d.found ∙ found) in
     let h_is : h ≡ tick_at h.place node (suc d.index) = d.is ∙ ap (λ x. tick_at h.place x (suc d.index)) same in
@@ -70,6 +74,7 @@ goes_on t mesh h node after n found k tick_is made more =
 
 by_class : (t : ℕ) (mesh : Mesh) (h : Happening) (place : ℕ) (node after : NodeLog) (class : Class) → h.class ≡ class → IsNext t mesh h → slice_get mesh.nodes place ≡ Some node → HadItsTicks mesh.last place node → after.made ≡ node.made → ticks_in after.log ≡ ticks_of class h.place place + ticks_in node.log → HadItsTicks h place after
 by_class t mesh h place node after LinkDelivery c n found k made same = stays mesh.last h place node after (inr n.after) k (before_tick t mesh h place node n found k (λ b p. no_tick (sym b ∙ c))) made (same ∙ omega arith)
+by_class t mesh h place node after LanDelivery c n found k made same = stays mesh.last h place node after (inr n.after) k (before_tick t mesh h place node n found k (λ b p. no_lan_tick (sym b ∙ c))) made (same ∙ omega arith)
 by_class t mesh h place node after NodeTick c n found k made same = either (cases_eq h.place place)
   where
     either : (h.place ≡ place) ⊎ (h.place ≡ place → ⊥) → HadItsTicks h place after
@@ -83,6 +88,7 @@ by_class t mesh h place node after NodeTick c n found k made same = either (case
 -- a happening's place is low
 pub low_place : (mesh : Mesh) (h : Happening) → IsSound mesh → Happens mesh h → h.place < places
 low_place mesh h sound (delivers d) = let w = slice_get_within mesh.frames h.place d.frame d.found in let f = sound.few_frames in omega (arith, w, f)
+low_place mesh h sound (lan_delivers d) = let w = slice_get_within mesh.puts h.place d.put d.found in let f = sound.few_puts in omega (arith, w, f)
 low_place mesh h sound (ticks d) = let w = slice_get_within mesh.nodes h.place d.node d.found in let f = sound.few_nodes in omega (arith, w, f)
 
 pub rank_rises : (t : ℕ) (mesh : Mesh) (h : Happening) → IsSound mesh → IsNext t mesh h → rank mesh.last < rank h
@@ -100,18 +106,30 @@ frames_on_links setup now mesh after sound adds place frame found =
     either (inl old) = sound.on_links place frame old
     either (inr new) = adds.on_links frame new
 
+-- the LAN frames of a mesh, and those that joined them, were put on LANs
+puts_on_lans : (setup : Setup) (now : ℕ) (mesh after : Mesh) → IsSound mesh → Adds setup now mesh after → (place : ℕ) (put : LanPut) → slice_get after.puts place ≡ Some put → put.lan < length after.lans
+puts_on_lans setup now mesh after sound adds place put found =
+    subst (λ ls. put.lan < length ls) (sym adds.lans) (either (get_either mesh.puts adds.more_puts place put (subst (λ ps. slice_get ps place ≡ Some put) adds.puts found)))
+  where
+    either : (slice_get mesh.puts place ≡ Some put) ⊎ Has adds.more_puts put → put.lan < length mesh.lans
+    either (inl old) = sound.on_lans place put old
+    either (inr new) = adds.on_lans put new
+
 pub steps_keep_sound : (setup : Setup) (t : ℕ) (mesh after : Mesh) (h : Happening) → FitsPlaces setup → IsSound mesh → IsNext t mesh h → after_happening setup h mesh ≡ Ok after → IsSound after
 steps_keep_sound setup t mesh after h fits sound n e =
     let s = step_is setup mesh h after e in
     let few = s.adds.few fits sound.few_frames in
+    let few_puts = s.adds.few_puts fits sound.few_puts in
     record {
       ticked = λ place node found.
           let w = s.nodes place node found in
           subst (λ x. HadItsTicks x place node) (sym s.last) (by_class t mesh h place w.node node h.class refl n w.found (sound.ticked place w.node w.found) w.grew.made w.grew.ticks);
       few_frames = few;
+      few_puts = few_puts;
       few_nodes = subst (λ k. k ≤ places) (sym s.count) sound.few_nodes;
       low_last = subst (λ (x : Happening). x.place < places) (sym s.last) (low_place mesh h sound n.happens);
       on_links = frames_on_links setup h.moment mesh after sound s.adds;
+      on_lans = puts_on_lans setup h.moment mesh after sound s.adds;
       delays = λ place link found. sound.delays place link (subst (λ ls. slice_get ls place ≡ Some link) s.adds.links found);
     }
 
@@ -119,6 +137,7 @@ steps_keep_sound setup t mesh after h fits sound n e =
 pub lines_keep_sound : (setup : Setup) (mesh : Mesh) (now : ℕ) (after : Mesh) → FitsPlaces setup → IsSound mesh → Effect setup no_ticks now mesh after → IsSound after
 lines_keep_sound setup mesh now after fits sound x =
     let few = x.adds.few fits sound.few_frames in
+    let few_puts = x.adds.few_puts fits sound.few_puts in
     record {
       ticked = λ place node found.
           let w = x.nodes place node found in
@@ -126,9 +145,11 @@ lines_keep_sound setup mesh now after fits sound x =
           let none : ticks_in node.log ≡ ticks_in w.node.log = w.grew.ticks ∙ zero_plus (ticks_in w.node.log) in
           subst (λ l. HadItsTicks l place node) (sym x.last) (stays mesh.last mesh.last place w.node node (inl refl) k k.to_come w.grew.made none);
       few_frames = few;
+      few_puts = few_puts;
       few_nodes = subst (λ k. k ≤ places) (sym x.count) sound.few_nodes;
       low_last = subst (λ (y : Happening). y.place < places) (sym x.last) sound.low_last;
       on_links = frames_on_links setup now mesh after sound x.adds;
+      on_lans = puts_on_lans setup now mesh after sound x.adds;
       delays = λ place link found. sound.delays place link (subst (λ ls. slice_get ls place ≡ Some link) x.adds.links found);
     }
   where

@@ -3,9 +3,10 @@ use Rattle.std.proofs.Common.{◌≡◌, ℕ, zero, suc, ◌+◌, ◌*◌, ◌<�
 use Rattle.std.proofs.lemmas.Option.{slice_get_within}
 use Rattle.mesh_model.specs.declared.happening.Class.TheVariants.{NodeTick}
 use Rattle.mesh_model.specs.declared.happening.Happening.{Happening}
-use Rattle.mesh_model.specs.Net.Mesh.{NodeLog, NetLink, SentFrame, Mesh, Setup}
+use Rattle.mesh_model.specs.Net.Lans.{with_lan}
+use Rattle.mesh_model.specs.Net.Mesh.{NodeLog, NetLan, NetLink, SentFrame, Mesh, Setup}
 use Rattle.mesh_model.specs.Net.Due.{arrivals, arrivals_over, tick_time}
-use Rattle.mesh_model.specs.Net.Next.{Has, Happens, delivers, ticks}
+use Rattle.mesh_model.specs.Net.Next.{Has, Happens, delivers, lan_delivers, ticks}
 use Rattle.mesh_laws.specs.Soundness.{IsSound}
 use Rattle.mesh_laws.proofs.Schedule.Members.{get_last}
 use Rattle.mesh_laws.proofs.Schedule.Sends.{Adds}
@@ -25,6 +26,11 @@ stays_to_come setup extra now mesh after x nodes count adds (delivers d) = deliv
   frame = d.frame;
   found = subst (λ fs. slice_get fs x.place ≡ Some d.frame) (sym adds.frames) (get_front mesh.frames adds.more x.place d.frame d.found);
   arrives = subst (λ ls. Has (arrivals ls d.frame) x.moment) (sym adds.links) d.arrives;
+})
+stays_to_come setup extra now mesh after x nodes count adds (lan_delivers d) = lan_delivers (record {
+  put = d.put;
+  found = subst (λ ps. slice_get ps x.place ≡ Some d.put) (sym adds.puts) (get_front mesh.puts adds.more_puts x.place d.put d.found);
+  is = d.is;
 })
 stays_to_come setup extra now mesh after x nodes count adds (ticks d) =
     let w = slice_get_within mesh.nodes x.place d.node d.found in
@@ -48,10 +54,12 @@ noded mesh node = record mesh { nodes = mesh.nodes ++ node ∷ [] }
 
 pub nodes_stay : (mesh : Mesh) (node : NodeLog) (x : Happening) → Happens mesh x → Happens (noded mesh node) x
 nodes_stay mesh node x (delivers d) = delivers (record { class_is = d.class_is; frame = d.frame; found = d.found; arrives = d.arrives })
+nodes_stay mesh node x (lan_delivers d) = lan_delivers (record { put = d.put; found = d.found; is = d.is })
 nodes_stay mesh node x (ticks d) = ticks (record { node = d.node; found = get_front mesh.nodes (node ∷ []) x.place d.node d.found; index = d.index; is = d.is })
 
 pub nodes_add_later : (mesh : Mesh) (node : NodeLog) (x : Happening) → Happens (noded mesh node) x → Happens mesh x ⊎ (node.made < x.moment)
 nodes_add_later mesh node x (delivers d) = inl (delivers (record { class_is = d.class_is; frame = d.frame; found = d.found; arrives = d.arrives }))
+nodes_add_later mesh node x (lan_delivers d) = inl (lan_delivers (record { put = d.put; found = d.found; is = d.is }))
 nodes_add_later mesh node x (ticks d) = either (get_last mesh.nodes node x.place d.node d.found)
   where
     either : (slice_get mesh.nodes x.place ≡ Some d.node) ⊎ (d.node ≡ node) → Happens mesh x ⊎ (node.made < x.moment)
@@ -76,8 +84,20 @@ same_arrivals mesh link place frame sound found = ap (λ o. arrivals_over o fram
 
 pub links_stay : (mesh : Mesh) (link : NetLink) (x : Happening) → IsSound mesh → Happens mesh x → Happens (linked mesh link) x
 links_stay mesh link x sound (delivers d) = delivers (record { class_is = d.class_is; frame = d.frame; found = d.found; arrives = subst (λ ms. Has ms x.moment) (sym (same_arrivals mesh link x.place d.frame sound d.found)) d.arrives })
+links_stay mesh link x sound (lan_delivers d) = lan_delivers (record { put = d.put; found = d.found; is = d.is })
 links_stay mesh link x sound (ticks d) = ticks (record { node = d.node; found = d.found; index = d.index; is = d.is })
 
 pub links_add_nothing : (mesh : Mesh) (link : NetLink) (x : Happening) → IsSound mesh → Happens (linked mesh link) x → Happens mesh x
 links_add_nothing mesh link x sound (delivers d) = delivers (record { class_is = d.class_is; frame = d.frame; found = d.found; arrives = subst (λ ms. Has ms x.moment) (same_arrivals mesh link x.place d.frame sound d.found) d.arrives })
+links_add_nothing mesh link x sound (lan_delivers d) = lan_delivers (record { put = d.put; found = d.found; is = d.is })
 links_add_nothing mesh link x sound (ticks d) = ticks (record { node = d.node; found = d.found; index = d.index; is = d.is })
+
+pub lans_stay : (mesh : Mesh) (lan : NetLan) (x : Happening) → Happens mesh x → Happens (with_lan lan mesh) x
+lans_stay mesh lan x (delivers d) = delivers (record { class_is = d.class_is; frame = d.frame; found = d.found; arrives = d.arrives })
+lans_stay mesh lan x (lan_delivers d) = lan_delivers (record { put = d.put; found = d.found; is = d.is })
+lans_stay mesh lan x (ticks d) = ticks (record { node = d.node; found = d.found; index = d.index; is = d.is })
+
+pub lans_add_nothing : (mesh : Mesh) (lan : NetLan) (x : Happening) → Happens (with_lan lan mesh) x → Happens mesh x
+lans_add_nothing mesh lan x (delivers d) = delivers (record { class_is = d.class_is; frame = d.frame; found = d.found; arrives = d.arrives })
+lans_add_nothing mesh lan x (lan_delivers d) = lan_delivers (record { put = d.put; found = d.found; is = d.is })
+lans_add_nothing mesh lan x (ticks d) = ticks (record { node = d.node; found = d.found; index = d.index; is = d.is })

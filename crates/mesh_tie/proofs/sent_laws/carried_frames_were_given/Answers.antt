@@ -1,8 +1,11 @@
-use Rattle.mesh_tie.proofs.CarriedClients.{carries_clients, carries_given_frames}
+use Rattle.mesh_tie.proofs.CarriedClients.{carries_clients, carries_given_frames, hands_out_given_frames}
 use Rattle.mesh_tie.proofs.sent_laws.carried_frames_were_given.Goals as goal
 
 pub returns-clause-given : goal.returns-clause-given
 returns-clause-given c = carries_given_frames
+
+pub returns-clause-handed_out : goal.returns-clause-handed_out
+returns-clause-handed_out c = hands_out_given_frames
 
 pub returns-clause-clients : goal.returns-clause-clients
 returns-clause-clients c = carries_clients
