@@ -6,6 +6,7 @@
 
 #![tactic(auto)]
 
+mod claim_table;
 mod container;
 mod container_line;
 mod decoding;
@@ -17,9 +18,11 @@ mod local_table;
 mod packet;
 mod part;
 mod probe_line;
+mod question_line;
 mod route_table;
 mod whole_line;
 
+pub use claim_table::{claim_header, claim_line};
 pub use container_line::vlan_line;
 pub use decoding::decode_text;
 pub use event_line::line;

@@ -1,10 +1,10 @@
-//! The parts of a line: texts, numbers, addresses, VLANs, flags, checksums and ages.
+//! The parts of a line: texts, numbers, addresses, VLANs, flags, checksums, IP addresses and ages.
 
 ghost use Rattle.std.specs.Prelude.{◌≡◌, ◌/◌, ◌%◌, ◌++◌, ◌<◌, codes, decimal, slice_index, List, [], ◌∷◌, OnOk};
 ghost use Rattle.hex.specs.Hex.{encode_lower, lower_digits};
 ghost use Rattle.mesh_base.specs.Address.{hex_of_byte, mac_text, pairs_text};
 ghost use Rattle.mesh_model.specs.Text.PacketLines.{named_number, named_address, named_flags};
-ghost use Rattle.mesh_model.specs.Text.Events.{name_text};
+ghost use Rattle.mesh_model.specs.Text.Events.{ip_text, lan_text, name_text};
 ghost use Rattle.mesh_model.specs.Text.GlobalTables.{byte_text};
 ghost use Rattle.mesh_model.specs.Text.Tables.{address_text, age_text, flag_text, flags_text, sum_text, vid_text};
 ghost use Rattle.batctl_text.specs.Inner.Parts.{part_text};
@@ -41,17 +41,32 @@ pub enum Part<'a> {
     Byte(Option<u8>),
     /// A checksum as eight hex digits.
     Sum(u32),
+    /// An IP address, which is a number: its four bytes in decimal.
+    Ip(u32),
     /// Bytes as two hex digits each.
     Hex(&'a [u8]),
 }
 
+/// A part without text.
+pub const NOTHING: Part<'static> = Part::Text(b"");
+
 /// The name of a node, or its address where it has none.
 pub fn name_part<'a>(names: &'a Names, mac: Mac) -> Part<'a>
-    ensures { part_text result ≡ name_text names.now.nodes mac }
+    ensures { part_text result ≡ name_text names.now mac }
 {
     match names.node_name(mac) {
         Some(name) => Part::Text(name),
         None => Part::Address(b"", mac),
+    }
+}
+
+/// The name of a LAN by its number; nothing where it has none.
+pub fn lan_part(names: &Names, number: u32) -> Part<'_>
+    ensures { part_text result ≡ lan_text names.now number }
+{
+    match names.lan_name(number) {
+        Some(name) => Part::Text(name),
+        None => Part::Text(b""),
     }
 }
 
@@ -192,6 +207,18 @@ fn put_sum(line: &mut LineText, sum: u32) -> Result<(), NoMemory>
     Ok(())
 }
 
+// Appends an IP address: its four bytes in decimal.
+#[tactic(auto, unfolding(mesh_model::specs::Text::Events::ip_text))]
+fn put_ip(line: &mut LineText, ip: u32) -> Result<(), NoMemory>
+    ensures { OnOk result (line.new ≡ line.old ++ ip_text ip) }
+{
+    put_number(line, u64::from(ip / 0x100_0000))?;
+    put_named_number(line, b".", u64::from(ip / 0x1_0000 % 0x100))?;
+    put_named_number(line, b".", u64::from(ip / 0x100 % 0x100))?;
+    put_named_number(line, b".", u64::from(ip % 0x100))?;
+    Ok(())
+}
+
 // The letter of a flag that is set, else `-`.
 fn flag_letter(flags: u8, flag: u8, letter: u8) -> u8
     requires { 0 < flag }
@@ -267,6 +294,7 @@ pub fn put_part(line: &mut LineText, part: &Part<'_>) -> Result<(), NoMemory>
         Part::Hop(mac) => put_hop(line, mac)?,
         Part::Byte(byte) => put_byte(line, byte)?,
         Part::Sum(sum) => put_sum(line, sum)?,
+        Part::Ip(ip) => put_ip(line, ip)?,
         Part::Hex(bytes) => put_hex(line, bytes)?,
     }
     Ok(())

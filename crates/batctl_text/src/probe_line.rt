@@ -6,16 +6,13 @@ ghost use Rattle.mesh_model.specs.Text.Events.{event_line, ping_text, trace_text
 ghost use Rattle.batctl_text.specs.Inner.Parts.{part_text};
 
 use crate::part::Part::{self, Number, Text};
-use crate::part::name_part;
+use crate::part::{NOTHING, name_part};
 use crate::whole_line::put_line;
 use mesh_base::{Mac, Names, NoMemory, PingResult, TraceResult};
 
-/// A part without text.
-const NOTHING: Part<'static> = Text(b"");
-
 // What came of a ping.
 fn ping_parts(names: &Names, came: PingResult) -> [Part<'_>; 3]
-    ensures { flat_map part_text result ≡ ping_text names.now.nodes came }
+    ensures { flat_map part_text result ≡ ping_text names.now came }
 {
     match came {
         PingResult::NoRoute => [Text(b" noroute"), NOTHING, NOTHING],
@@ -35,7 +32,7 @@ fn ping_parts(names: &Names, came: PingResult) -> [Part<'_>; 3]
 
 // What came of a probe of a traceroute: the hop, the node that answered it, and what it said.
 fn trace_parts(names: &Names, came: TraceResult) -> [Part<'_>; 5]
-    ensures { flat_map part_text result ≡ trace_text names.now.nodes came }
+    ensures { flat_map part_text result ≡ trace_text names.now came }
 {
     match came {
         TraceResult::NoRoute => [Text(b" noroute"), NOTHING, NOTHING, NOTHING, NOTHING],
@@ -74,7 +71,7 @@ pub fn ping_line(
     came: PingResult,
 ) -> Result<(), NoMemory>
     ensures ok { OnOk result (out.new.items ≡ out.old.items
-        ++ event_line names.now.nodes (Pinged node target seq came)) }
+        ++ event_line names.now (Pinged node target seq came)) }
     ensures err { OnErr result (out.new.items ≡ out.old.items) }
 {
     let [word, first, second] = ping_parts(names, came);
@@ -103,7 +100,7 @@ pub fn trace_line(
     came: TraceResult,
 ) -> Result<(), NoMemory>
     ensures ok { OnOk result (out.new.items ≡ out.old.items
-        ++ event_line names.now.nodes (Traced node target came)) }
+        ++ event_line names.now (Traced node target came)) }
     ensures err { OnErr result (out.new.items ≡ out.old.items) }
 {
     let [hop, space, from, time, word] = trace_parts(names, came);

@@ -1,7 +1,7 @@
 //! Frames on a LAN: client frames, and the frames by which the gateways of a LAN agree on who
 //! passes a client's frames, after batman-adv's bridge loop avoidance (`bridge_loop_avoidance.c`).
 
-ghost use Rattle.std.specs.Prelude.{◌≡◌, ◌++◌, ◌≤◌, length, IsTrue};
+ghost use Rattle.std.specs.Prelude.{◌≡◌, ◌++◌, ◌≤◌, length, slice_index_or, Some, None, IsTrue, if◌then◌else◌};
 ghost use Rattle.byteorder.specs.Endian.{big_bytes};
 ghost use Rattle.mesh_model.specs.Packets.BodySpellings.{key_spelling};
 ghost use Rattle.mesh_model.specs.Packets.Numbers.{claim_ethertype};
@@ -17,10 +17,10 @@ use mesh_tvlv::key_bytes;
 
 /// The first bytes of a gateway's frame.
 const GATEWAY_MARK: [u8; 3] = [0xff, 0x43, 0x05];
-/// The types of such a frame, in the byte behind these.
-const CLAIM: u8 = 0;
-
-const UNCLAIM: u8 = 1;
+/// The type of a claim, in the byte behind these.
+pub const CLAIM_TYPE: u8 = 0;
+/// The type of an unclaim.
+pub const UNCLAIM_TYPE: u8 = 1;
 
 const ANNOUNCE: u8 = 2;
 /// The bytes of these, of the type, and of the number of the LAN.
@@ -52,6 +52,18 @@ fn is_of_gateway(bytes: &[u8]) -> bool
         && begins_type(CLAIM_ETHERTYPE, &bytes[ADDRESSES_SIZE..])
 }
 
+/// The type of a gateway's frame, or `None` where bytes don't begin as one. Takes no memory.
+pub fn gateway_type(bytes: &[u8]) -> Option<u8>
+    ensures { result
+        ≡ (if is_of_gateway bytes.now then Some (slice_index_or bytes.now 3 255) else None) }
+{
+    if is_of_gateway(bytes) {
+        Some(bytes[GATEWAY_MARK.len()])
+    } else {
+        None
+    }
+}
+
 // Whether a gateway's frame is a claim or an unclaim, and whole.
 fn is_claiming(bytes: &[u8]) -> bool
     ensures claiming { result ≡ is_claiming bytes.now }
@@ -61,7 +73,7 @@ fn is_claiming(bytes: &[u8]) -> bool
         return false;
     }
     let kind = bytes[GATEWAY_MARK.len()];
-    kind == CLAIM || kind == UNCLAIM
+    kind == CLAIM_TYPE || kind == UNCLAIM_TYPE
 }
 
 // The claim or unclaim that a gateway's frame is.
@@ -71,7 +83,7 @@ fn claim_in(bytes: &[u8]) -> LanMessage<'_>
     if !is_claiming(bytes) {
         return LanMessage::Nothing;
     }
-    let claim = bytes[GATEWAY_MARK.len()] == CLAIM;
+    let claim = bytes[GATEWAY_MARK.len()] == CLAIM_TYPE;
     let sender = Cursor::new(&bytes[ADDRESS..]).mac();
     let mut client = Cursor::new(&bytes[FRONT_SIZE..]);
     let mac = client.mac();
@@ -113,7 +125,7 @@ fn claimed(me: Mac, key: Key) -> [u8; CLAIM_SIZE - NUMBER_END]
 pub fn claim_bytes(claim: bool, lan: u16, me: Mac, key: Key) -> [u8; CLAIM_SIZE]
     ensures { result ≡ claim_spelling claim lan me key }
 {
-    let kind = if claim { CLAIM } else { UNCLAIM };
+    let kind = if claim { CLAIM_TYPE } else { UNCLAIM_TYPE };
     let [x, y, z] = GATEWAY_MARK;
     let [high, low] = lan.to_be_bytes();
     let mut bytes = [

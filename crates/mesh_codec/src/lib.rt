@@ -20,7 +20,9 @@ mod writing;
 pub use decoding::decode;
 pub use failure::CodecErr;
 pub use first_packet::Packet;
-pub use lan::{LanMessage, announce_bytes, claim_bytes, read_lan};
+pub use lan::{
+    CLAIM_TYPE, LanMessage, UNCLAIM_TYPE, announce_bytes, claim_bytes, gateway_type, read_lan,
+};
 pub use link_frame::LinkFrame;
 pub use mesh_model::{Ending, Head, NoPacket, TvlvErr};
 pub use payload::{ClientFrame, read_client_frame, write_client_frame};

@@ -1,9 +1,10 @@
 -- A mesh without nodes that is reached is the empty one: without a node no link joins, no frame is sent
 -- and nothing happens. And nothing is due in the empty mesh, so time passes in it.
-use Rattle.std.proofs.Common.{◌≡◌, ℕ, ◌≤◌, List, [], ◌∷◌, length, Some, None, Ok, refl, sym, subst, length-append, arith}
+use Rattle.std.proofs.Common.{◌≡◌, ℕ, ◌≤◌, ◌<◌, inl, List, [], ◌∷◌, length, Some, None, Ok, refl, sym, subst, length-append, arith}
 use Rattle.mesh_model.specs.declared.happening.Happening.{Happening}
 use Rattle.mesh_model.specs.Net.Due.{next_happening}
-use Rattle.mesh_model.specs.Net.Inputs.{given_to}
+use Rattle.mesh_model.specs.Clients.Log.{Given, Line}
+use Rattle.mesh_model.specs.Net.Inputs.{all_given, given_to}
 use Rattle.mesh_model.specs.Net.Limits.{clock_limit}
 use Rattle.mesh_model.specs.Net.Mesh.{Mesh, Setup, empty_mesh}
 use Rattle.mesh_model.specs.Net.Next.{IsQuiet}
@@ -12,8 +13,9 @@ use Rattle.mesh_model.specs.Run.Steps.{new_node}
 use Rattle.mesh_laws.proofs.Schedule.Added.{empty_sound}
 use Rattle.mesh_laws.proofs.Schedule.Due.{due_none_is_quiet}
 use Rattle.mesh_laws.proofs.Schedule.Sends.{ok_one}
-use Rattle.mesh_laws.proofs.Schedule.Steps.{delivered_effect, step_is, tickless}
-use Rattle.mesh_net.specs.Reached.{IsReached, begins, joins, links, is_given, is_delivered, happens, passes}
+use Rattle.mesh_laws.proofs.Schedule.Steps.{all_effect, delivered_effect, put_joins, step_is, tickless}
+use Rattle.mesh_laws.proofs.Schedule.Steps.{lan_joins as joined_effect}
+use Rattle.mesh_net.specs.Reached.{IsNewLan, IsReached, begins, joins, links, lan_joins, lan_comes, all_are_given, is_given, is_delivered, happens, passes}
 use Rattle.mesh_net.proofs.ReachedLemmas.{of_line}
 
 -- nothing is due in the empty mesh
@@ -31,11 +33,35 @@ none_of (x ∷ xs) is = absurd (omega (arith, is))
 no_some : (h : Happening) → None ≡ Some h → ⊥
 no_some h e = cc
 
+-- a LAN has a gateway, and so a node
+new_has_node : (mesh : Mesh) (gateways : List ℕ) → IsNewLan mesh gateways → length mesh.nodes ≡ 0 → ⊥
+new_has_node mesh [] new none = let some = new.some in omega (arith, some)
+new_has_node mesh (gateway ∷ rest) new none = let low = new.can.stand gateway (inl refl) in omega (arith, low, none)
+
+-- no node of the empty mesh is given anything
+all_none : (setup : Setup) (places : List ℕ) (now : ℕ) (given : Given) (after : Mesh) → all_given setup places now given empty_mesh ≡ Ok after → after ≡ empty_mesh
+all_none setup [] now given after e = sym (ok_one empty_mesh after e)
+all_none setup (place ∷ rest) now given after e = all_none setup rest now given after e
+
 -- a mesh that is reached and has no node is the empty one
 pub empty_without_nodes : (setup : Setup) (clock : ℕ) (mesh : Mesh) → IsReached setup clock mesh → length mesh.nodes ≡ 0 → mesh ≡ empty_mesh
 empty_without_nodes setup _ _ begins none = refl
 empty_without_nodes setup _ _ (joins clock mesh name mac way few) none = absurd (omega (arith, none, length-append mesh.nodes (new_node name mac clock ∷ [])))
 empty_without_nodes setup _ _ (links clock mesh link way few new) none = let from = new.from in absurd (omega (arith, none, from))
+empty_without_nodes setup _ _ (lan_joins clock mesh after name gateways way few new e) none =
+    let count = (joined_effect setup name gateways clock mesh after e).count in
+    absurd (new_has_node mesh gateways new (omega (arith, none, count)))
+empty_without_nodes setup _ _ (lan_comes clock mesh after put way by now low e) none =
+    let count = (put_joins setup put mesh after low e).count in
+    let before = empty_without_nodes setup clock mesh way (omega (arith, none, count)) in
+    let P : Mesh → Type 0 = λ m. put.lan < length m.lans in
+    let no_lan : put.lan < 0 = subst P before low in
+    absurd (omega (arith, no_lan))
+empty_without_nodes setup _ _ (all_are_given clock mesh after places line way leaves e) none =
+    let count = (all_effect setup places clock (Line line) mesh after refl (λ frames. tt) e).count in
+    let before = empty_without_nodes setup clock mesh way (omega (arith, none, count)) in
+    let P : Mesh → Type 0 = λ m. all_given setup places clock (Line line) m ≡ Ok after in
+    all_none setup places clock (Line line) after (subst P before e)
 empty_without_nodes setup _ _ (is_given clock mesh after place given way line e) none =
     let l = of_line mesh.frames given line in
     let count = (tickless setup mesh place clock 0 given after l.0 l.1 e).count in

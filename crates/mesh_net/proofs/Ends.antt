@@ -1,28 +1,30 @@
 -- The end of a step: what was sent stands behind the others, and the net stands for the mesh after
 -- the step.
-use Rattle.std.proofs.Common.{◌≡◌, ◌↔◌, ℕ, suc, ◌+◌, ◌*◌, ◌<◌, ◌≤◌, ◌⊎◌, inl, inr, true, false, List, [], ◌∷◌, ◌++◌, filter, length, take, drop, slice_get, Some, Result, Ok, Err, is_ok, refl, sym, ap, ◌∙◌, subst, arith, append-nil}
+use Rattle.std.proofs.Common.{◌≡◌, ◌↔◌, ℕ, suc, ◌+◌, ◌*◌, ◌<◌, ◌≤◌, ◌⊎◌, inl, inr, true, false, List, [], ◌∷◌, ◌++◌, filter, length, take, drop, slice_get, Some, None, Result, Ok, Err, is_ok, refl, sym, ap, ◌∙◌, subst, arith, append-nil}
 use Rattle.std.proofs.Math.Seq.{drop-append_seam}
 use Rattle.std.specs.Result.{OnOk, OnErr, IfOk, IfErr}
 use Rattle.mesh_base.specs.declared.address.Mac.{Mac}
 use Rattle.mesh_base.specs.declared.event.Event.{Event}
 use Rattle.mesh_model.specs.declared.frame_choice.FrameChoice.{FrameChoice}
 use Rattle.mesh_model.specs.declared.happening.Class.{Class}
-use Rattle.mesh_model.specs.declared.happening.Class.TheVariants.{LinkDelivery, NodeTick}
+use Rattle.mesh_model.specs.declared.happening.Class.TheVariants.{LinkDelivery, LanDelivery, NodeTick}
 use Rattle.mesh_model.specs.declared.happening.Happening.{Happening}
-use Rattle.mesh_model.specs.Net.Due.{deliveries, first_ticks, next_happening, tick_at, tick_time, ticks_in}
+use Rattle.mesh_model.specs.Net.Due.{first_ticks, next_happening, tick_at, tick_time, ticks_in}
 use Rattle.mesh_model.specs.Net.Happenings.{Before, is_before}
-use Rattle.mesh_model.specs.Net.Limits.{clock_limit, scenario_setup}
-use Rattle.mesh_model.specs.Net.Mesh.{NodeLog, Mesh, Setup}
+use Rattle.mesh_model.specs.Net.Limits.{clock_limit, lans_limit, scenario_setup}
+use Rattle.mesh_model.specs.Net.Mesh.{NodeLog, LanPut, Mesh, Setup}
 use Rattle.mesh_model.specs.Net.Next.{Has, IsNext}
 use Rattle.mesh_model.specs.Net.Runs.{after_happening, delivered, effect, with_last}
-use Rattle.mesh_model.specs.Net.Inputs.{given_to}
-use Rattle.mesh_model.specs.Net.Sending.{Attempt, on_ok}
-use Rattle.mesh_model.specs.Clients.Log.{Given}
+use Rattle.mesh_model.specs.Net.Inputs.{all_given, given_to}
+use Rattle.mesh_model.specs.Net.Lans.{joins_lan, with_lan}
+use Rattle.mesh_model.specs.Net.Sending.{Attempt, on_ok, with_put}
+use Rattle.mesh_model.specs.Clients.Log.{Given, Tick, LinkFrame, LanFrame, Line}
 use Rattle.mesh_model.specs.Routes.Queries.{Queries}
 use Rattle.mesh_model.specs.Routes.RouteLog.{RouteLog}
 use Rattle.mesh_laws.specs.Soundness.{IsSound}
 use Rattle.mesh_laws.proofs.Schedule.Due.{finds_next, next_due_some}
-use Rattle.mesh_laws.proofs.Schedule.Steps.{Was, delivered_effect, no_ticks, step_is, tickless, ticks_of}
+use Rattle.mesh_laws.proofs.Schedule.Steps.{Was, all_effect, delivered_effect, no_ticks, put_joins, step_is, tickless, ticks_of}
+use Rattle.mesh_laws.proofs.Schedule.Steps.{lan_joins as joined_effect}
 use Rattle.node_ground.specs.declared.failure.NodeErr.{NodeErr}
 use Rattle.node_ground.specs.declared.failure.NodeErr.TheVariants as node_errors
 use Rattle.mesh_net.specs.declared.failure.NetErr.{NetErr}
@@ -31,17 +33,17 @@ use Rattle.mesh_net.specs.declared.net.Net.{Net}
 use Rattle.mesh_post.specs.declared.post.Post.{Post}
 use Rattle.mesh_post.specs.declared.row.Sending.{Sending}
 use Rattle.mesh_net.specs.Given.{GiveTells}
-use Rattle.mesh_post.specs.Kept.{FramesAre}
+use Rattle.mesh_post.specs.Kept.{FramesAre, PutsAre}
 use Rattle.mesh_net.specs.declared.seat.Seat.{Seat}
 use Rattle.std.specs.Global.{Vec}
 use Rattle.mesh_model.specs.Text.Events.{is_shown}
 use Rattle.mesh_net.specs.NetStands.{NetStands, SeatsStand, IsNet, IsLive}
-use Rattle.mesh_net.proofs.PopLemmas.{popped_next, popped_waits, ticker_is, all_others, tick_or_later, ticks_next}
-use Rattle.mesh_net.specs.Reached.{IsReached, is_given, is_delivered, happens, IsOfLine}
+use Rattle.mesh_net.proofs.PopLemmas.{not_lan, not_link, popped_next, popped_waits, ticker_is, all_others, tick_or_later, ticks_next}
+use Rattle.mesh_net.specs.Reached.{IsNewLan, IsReached, all_are_given, is_given, is_delivered, happens, lan_comes, lan_joins, IsOfLine}
 use Rattle.mesh_post.specs.Sent.{InStep, Logged, Grew}
-use Rattle.mesh_net.specs.Steps.{AreOnLinks, ArePast, Begun, Gave, HasNodes, KeepsNet, MayTickAt, Settled, SettleTells, StepFails, Stepped, net_error, ticks_amid}
-use Rattle.mesh_net.specs.Tells.{Carried, Gains, StepTells}
-use Rattle.mesh_post.specs.Waiting.{IsPopped}
+use Rattle.mesh_net.specs.Steps.{AreOnLans, AreOnLinks, HasStage, ArePast, Begun, Gave, HasNodes, KeepsNet, MayTickAt, Settled, SettleTells, StepFails, Stepped, net_error, ticks_amid}
+use Rattle.mesh_net.specs.Tells.{Carried, Gains, StandsAfter, StepTells}
+use Rattle.mesh_post.specs.Waiting.{IsPopped, all_deliveries}
 use Rattle.mesh_post.proofs.LookUps.{some_one}
 use Rattle.mesh_net.proofs.MomentLemmas.{are_past, past_later}
 use Rattle.mesh_net.proofs.ReachedLemmas.{reached, of_line}
@@ -92,7 +94,7 @@ step_ticks post older last a b mesh same step = record {
 }
   where
     Comes : Happening → Type 0
-    Comes x = Has (deliveries mesh.links 0 mesh.frames) x × Before last x
+    Comes x = Has (all_deliveries mesh.links mesh.frames mesh.puts) x × Before last x
 
     to : (x : Happening) → Comes x ⊎ Has a x → Comes x ⊎ Has b x
     to x (inl p) = inl p
@@ -113,7 +115,9 @@ step_last post older last h ticks mesh step = record {
       rows = step.amid.stands.rows;
       turns = step.amid.stands.turns;
       ways = step.amid.stands.ways;
+      lans = step.amid.stands.lans;
       frames = step.amid.stands.frames;
+      puts = step.amid.stands.puts;
       bytes = step.amid.stands.bytes;
       few = step.amid.stands.few;
       small = step.amid.stands.small;
@@ -135,7 +139,9 @@ module _ {A : Type 0} where
         rows = step.amid.stands.rows;
         turns = step.amid.stands.turns;
         ways = step.amid.stands.ways;
+        lans = step.amid.stands.lans;
         frames = subst (λ ss. FramesAre ss mesh.frames a.post.frames.items) sendings step.amid.stands.frames;
+        puts = subst (λ ss. PutsAre ss mesh.puts a.post.puts.items) sendings step.amid.stands.puts;
         bytes = step.amid.stands.bytes;
         few = step.amid.stands.few;
         small = step.amid.stands.small;
@@ -251,6 +257,62 @@ module _ {A : Type 0} (queries : Mac → Queries) (stands : A → Mac → RouteL
       clash e = cc
   live_of net (inr live) alive = live
 
+  -- given to the gateways of a LAN
+  pub carried_all : (net amid done : Net A) (choice : FrameChoice) (mesh : Mesh) (old new new' : List Event) (places : List ℕ) (given : Given)
+      → NetStands queries stands net choice net.clock mesh → KeepsNet net amid → Settled amid done → new' ≡ new → IsOfLine given
+      → Gave queries stands amid choice mesh.last (first_ticks 0 mesh.nodes) mesh old new (all_given (scenario_setup queries) places net.clock given mesh)
+      → Carried queries stands done choice net.clock mesh old new' (all_given (scenario_setup queries) places net.clock given mesh)
+  carried_all net amid done choice mesh old new new' places given s k d told line g =
+      let l = of_line mesh.frames given line in
+      let e = all_effect (scenario_setup queries) places net.clock given mesh g.after l.0 (λ frames. (of_line frames given line).1) g.is in
+      carried net amid done choice mesh old new new' (all_given (scenario_setup queries) places net.clock given mesh) s k d told g
+      (tickless_same mesh g.after e.nodes e.count) e.last (line_reached net.clock mesh g.after places given line s.reached g.is)
+    where
+      line_reached : (clock : ℕ) (mesh after : Mesh) (places : List ℕ) (given : Given) → IsOfLine given → IsReached (scenario_setup queries) clock mesh → all_given (scenario_setup queries) places clock given mesh ≡ Ok after → IsReached (scenario_setup queries) clock after
+      line_reached clock mesh after places (Tick index) of way is = absurd of
+      line_reached clock mesh after places (LinkFrame number from throughput bytes) of way is = absurd of
+      line_reached clock mesh after places (LanFrame bytes) of way is = absurd of
+      line_reached clock mesh after places (Line line) of way is = all_are_given clock mesh after places line way of is
+
+  -- a frame that comes on a LAN
+  pub carried_put : (net amid done : Net A) (choice : FrameChoice) (mesh : Mesh) (old new new' : List Event) (put : LanPut)
+      → NetStands queries stands net choice net.clock mesh → KeepsNet net amid → Settled amid done → new' ≡ new → put.by ≡ None → put.moment ≡ net.clock → put.lan < length mesh.lans
+      → Gave queries stands amid choice mesh.last (first_ticks 0 mesh.nodes) mesh old new (with_put (scenario_setup queries) put mesh)
+      → Carried queries stands done choice net.clock mesh old new' (with_put (scenario_setup queries) put mesh)
+  carried_put net amid done choice mesh old new new' put s k d told none now low g =
+      let e = put_joins (scenario_setup queries) put mesh g.after low g.is in
+      carried net amid done choice mesh old new new' (with_put (scenario_setup queries) put mesh) s k d told g
+      (tickless_same mesh g.after e.nodes e.count) e.last (lan_comes net.clock mesh g.after put s.reached none now low g.is)
+
+  -- a LAN that joins, when its gateways were told
+  pub carried_lan : (net amid done : Net A) (choice : FrameChoice) (mesh : Mesh) (old new : List Event) (name gateways : List ℕ)
+      → NetStands queries stands net choice net.clock mesh → amid.clock ≡ net.clock → amid.last ≡ net.last → amid.dead ≡ net.dead → Settled amid done → length mesh.lans < lans_limit → IsNewLan mesh gateways
+      → Gave queries stands amid choice mesh.last (first_ticks 0 mesh.nodes) (with_lan (record { name = name; gateways = gateways }) mesh) old new (joins_lan (scenario_setup queries) name gateways net.clock mesh)
+      → StandsAfter queries stands done choice net.clock (joins_lan (scenario_setup queries) name gateways net.clock mesh)
+  carried_lan net amid done choice mesh old new name gateways s clock last dead d few joins g =
+      let e = joined_effect (scenario_setup queries) name gateways net.clock mesh g.after g.is in
+      let same = tickless_same (with_lan (record { name = name; gateways = gateways }) mesh) g.after e.nodes e.count in
+      record {
+        after = g.after;
+        is = g.is;
+        standing = stands_for queries stands amid done done choice mesh.last (first_ticks 0 mesh.nodes) net.clock g.after d (record { post = refl; sent = refl; seats = refl; dead = refl })
+            (dead ∙ s.alive) g.choice_is (d.clock ∙ clock) (d.last ∙ last ∙ s.last_is) e.last s.past s.low g.seats_stand g.step (same_has (first_ticks 0 mesh.nodes) (first_ticks 0 g.after.nodes) same)
+            (lan_joins net.clock mesh g.after name gateways s.reached few joins g.is);
+      }
+
+  -- a net stands amid a step that begins now
+  pub has_stage : (net : Net A) → IsLive queries stands net → HasStage queries stands net.seats.items net.post net.clock
+  has_stage net live = record {
+    older = net.sent;
+    last = live.mesh.last;
+    ticks = first_ticks 0 live.mesh.nodes;
+    mesh = live.mesh;
+    stage = (begun_now net live.choice live.mesh (subst (λ k. NetStands queries stands net live.choice k live.mesh) (sym live.standing.clock_is) live.standing)).stage;
+  }
+
+  pub on_lans : (net : Net A) (choice : FrameChoice) (clock : ℕ) (mesh : Mesh) → NetStands queries stands net choice clock mesh → AreOnLans mesh
+  on_lans net choice clock mesh s = (reached queries clock mesh s.reached).sound.on_lans
+
   pub has_nodes : (net : Net A) → IsLive queries stands net → HasNodes queries stands net net.clock
   has_nodes net live = record {
     nodes = live.mesh.nodes;
@@ -298,7 +360,9 @@ module _ {A : Type 0} (queries : Mac → Queries) (stands : A → Mac → RouteL
               rows = s.kept.amid.stands.rows;
               turns = s.kept.amid.stands.turns;
               ways = s.kept.amid.stands.ways;
+              lans = s.kept.amid.stands.lans;
               frames = s.kept.amid.stands.frames;
+              puts = s.kept.amid.stands.puts;
               bytes = s.kept.amid.stands.bytes;
               few = s.kept.amid.stands.few;
               small = s.kept.amid.stands.small;
@@ -313,6 +377,9 @@ module _ {A : Type 0} (queries : Mac → Queries) (stands : A → Mac → RouteL
       };
     }
 
+    pub stage_due : HasStage queries stands net.seats.items (record net.post { queue = rest }) h.moment
+    stage_due = record { older = net.sent; last = h; ticks = waiting_ticks; mesh = mesh; stage = begun_step.stage }
+
     pub tick_due : h.class ≡ NodeTick → MayTickAt queries stands (popped_net net rest) h.place h.moment
     tick_due class =
         let k = ticker_is net.post.queue rest t h mesh sound s.kept.amid.waits popped class in
@@ -325,7 +392,13 @@ module _ {A : Type 0} (queries : Mac → Queries) (stands : A → Mac → RouteL
     ticks_match after LinkDelivery e is x =
         let step = step_is (scenario_setup queries) mesh h after is in
         let same = tickless_same mesh after (λ place n f. subst (λ c. Was mesh.nodes after.frames (ticks_of c h.place place) place n) e (step.nodes place n f)) step.count in
-        let both = all_others net.post.queue rest t h mesh sound s.kept.amid.waits popped e x in
+        let both = all_others net.post.queue rest t h mesh sound s.kept.amid.waits popped (λ n. not_link (sym n ∙ e)) x in
+        subst (λ c. Has (ticks_amid c h.place h.moment waiting_ticks) x ↔ Has (first_ticks 0 after.nodes) x) (sym e)
+        (λ p. subst (λ hs. Has hs x) (sym same) (both.0 p), λ p. both.1 (subst (λ hs. Has hs x) same p))
+    ticks_match after LanDelivery e is x =
+        let step = step_is (scenario_setup queries) mesh h after is in
+        let same = tickless_same mesh after (λ place n f. subst (λ c. Was mesh.nodes after.frames (ticks_of c h.place place) place n) e (step.nodes place n f)) step.count in
+        let both = all_others net.post.queue rest t h mesh sound s.kept.amid.waits popped (λ n. not_lan (sym n ∙ e)) x in
         subst (λ c. Has (ticks_amid c h.place h.moment waiting_ticks) x ↔ Has (first_ticks 0 after.nodes) x) (sym e)
         (λ p. subst (λ hs. Has hs x) (sym same) (both.0 p), λ p. both.1 (subst (λ hs. Has hs x) same p))
     ticks_match after NodeTick e is x =

@@ -9,7 +9,7 @@ use Rattle.mesh_model.specs.declared.ending.LimitName.TheVariants as limits
 use Rattle.mesh_model.specs.declared.frame_choice.FrameChoice.{FrameChoice}
 use Rattle.mesh_model.specs.declared.happening.Happening.{Happening}
 use Rattle.mesh_model.specs.Acts.Choosing.{acts_of}
-use Rattle.mesh_model.specs.Clients.Limits.{passed_limit}
+use Rattle.mesh_model.specs.Acts.NodeLimits.{NodeLimit, node_limit}
 use Rattle.mesh_model.specs.Clients.Log.{Given, LogEntry}
 use Rattle.mesh_model.specs.Net.Inputs.{entry_of, noted_at, noted, given_to, given_node, unless_passed}
 use Rattle.mesh_model.specs.Net.Limits.{scenario_setup}
@@ -25,7 +25,7 @@ use Rattle.node_ground.specs.declared.failure.NodeErr.TheVariants.{Memory, Clien
 use Rattle.mesh_node.specs.declared.node.Node.{Node}
 use Rattle.mesh_node.specs.NodeStands.{NodeStands}
 use Rattle.node_ground.specs.Errors.{HasCause, HasClientCause}
-use Rattle.node_ground.specs.Puts.{TakesAll, StopsAt, Puts, Leaves}
+use Rattle.node_ground.specs.Puts.{TakesAll, StopsAt, StopsBehind, Puts, Leaves}
 use Rattle.mesh_post.specs.declared.port.NetPort.{NetPort}
 use Rattle.mesh_post.specs.declared.post.Post.{Post}
 use Rattle.mesh_post.specs.declared.row.Sender.{Sender}
@@ -72,9 +72,16 @@ puts_kept : (p : NetPort) (acts : List Act) (r : Result Unit NodeErr) (q : NetPo
 puts_kept p acts (Ok done) q t = all_kept p acts q t
 puts_kept p acts (Err error) q t = stop_kept error p acts q t
 
-pub leaves_kept : (o : Option LimitName) (p : NetPort) (acts : List Act) (r : Result Unit NodeErr) (q : NetPort) → Leaves PortTook PortSame port_over o p acts r q → PortKept p q
+behind_kept : (limit : LimitName) (p : NetPort) (acts : List Act) (r : Result Unit NodeErr) (q : NetPort) → StopsBehind PortTook PortSame port_over limit p acts r q → PortKept p q
+behind_kept limit p [] r q t = same_kept p q t.0
+behind_kept limit p (act ∷ acts) r q t = elim t as (λ _. PortKept p q) [
+  | inl s ↦ same_kept p q s.0
+  | inr s ↦ kept_both p s.0 q (took_kept p s.0 act s.1) (behind_kept limit s.0 acts r q s.3)
+]
+
+pub leaves_kept : (o : Option NodeLimit) (p : NetPort) (acts : List Act) (r : Result Unit NodeErr) (q : NetPort) → Leaves PortTook PortSame port_over o p acts r q → PortKept p q
 leaves_kept None p acts r q t = puts_kept p acts r q t
-leaves_kept (Some limit) p acts r q t = same_kept p q t.0
+leaves_kept (Some passed) p acts r q t = behind_kept passed.limit p passed.acts r q t
 
 -- ---- what the mesh becomes
 pub record HasPut (queries : Mac → Queries) (choice : FrameChoice) (sender : Sender) (acts : List Act) (post : Post) (older : List Sending) (last : Happening) (ticks : List Happening) (before : Mesh) (old new : List Event) : Type 0 where
@@ -123,7 +130,7 @@ named_cause Dead over attempt c e = absurd c
 none_named : (error : NodeErr) (attempt : Attempt) → HasCause None error → Named error attempt
 none_named error attempt c = named_cause error None attempt c (λ limit e. cc)
 
-named_map : (error : NodeErr) (a b : Attempt) → ((limit : LimitName) → a ≡ Err limit → b ≡ Err limit) → Named error a → Named error b
+pub named_map : (error : NodeErr) (a b : Attempt) → ((limit : LimitName) → a ≡ Err limit → b ≡ Err limit) → Named error a → Named error b
 named_map Memory a b f n = tt
 named_map Clients a b f n = f limits.Clients n
 named_map Vlans a b f n = f limits.Vlans n
@@ -189,7 +196,9 @@ noted_step post older last ticks place entry mesh step = record {
       };
       turns = step.amid.stands.turns;
       ways = record { count = step.amid.stands.ways.count ∙ sym (noted_length place entry mesh.nodes); each = step.amid.stands.ways.each };
+      lans = step.amid.stands.lans;
       frames = step.amid.stands.frames;
+      puts = step.amid.stands.puts;
       bytes = step.amid.stands.bytes;
       few = step.amid.stands.few;
       small = step.amid.stands.small;
@@ -200,12 +209,18 @@ noted_step post older last ticks place entry mesh step = record {
 }
 
 -- ---- a node is given something
+-- what the acts of a node and its entry leave of a mesh
+abbrev pub noted_after : (Mac → Queries) → Sender → Given → NodeLog → Mesh → Attempt
+noted_after queries sender given row mesh =
+    on_ok (noted sender.place (entry_of (scenario_setup queries) row sender.now given)) (after_acts (scenario_setup queries) (actor_of sender) (acts_of (queries row.mac) row.mac row.log sender.now given) mesh)
+
 given_is : (queries : Mac → Queries) (sender : Sender) (given : Given) (row : NodeLog) (mesh : Mesh) → slice_get mesh.nodes sender.place ≡ Some row → sender.mac ≡ row.mac
     → given_to (scenario_setup queries) sender.place sender.now sender.root given mesh
-    ≡ unless_passed (passed_limit row.mac row.log sender.now given) (on_ok (noted sender.place (entry_of (scenario_setup queries) row sender.now given)) (after_acts (scenario_setup queries) (actor_of sender) (acts_of (queries row.mac) row.mac row.log sender.now given) mesh))
+    ≡ unless_passed (scenario_setup queries) (actor_of sender) mesh (node_limit row.mac row.log sender.now given) (noted_after queries sender given row mesh)
 given_is queries sender given row mesh found mac_is =
     ap (λ o. given_node (scenario_setup queries) sender.place sender.now sender.root given o mesh) found
-    ∙ ap (λ (mac : Mac). unless_passed (passed_limit row.mac row.log sender.now given) (on_ok (noted sender.place (entry_of (scenario_setup queries) row sender.now given)) (after_acts (scenario_setup queries) (record { place = sender.place; mac = mac; now = sender.now; root = sender.root }) (acts_of (queries row.mac) row.mac row.log sender.now given) mesh))) (sym mac_is)
+    ∙ ap (λ (mac : Mac). unless_passed (scenario_setup queries) (record { place = sender.place; mac = mac; now = sender.now; root = sender.root }) mesh (node_limit row.mac row.log sender.now given)
+    (on_ok (noted sender.place (entry_of (scenario_setup queries) row sender.now given)) (after_acts (scenario_setup queries) (record { place = sender.place; mac = mac; now = sender.now; root = sender.root }) (acts_of (queries row.mac) row.mac row.log sender.now given) mesh))) (sym mac_is)
 
 -- the mesh after it, as far as what is kept knows
 pub record GaveMesh (queries : Mac → Queries) (choice : FrameChoice) (sender : Sender) (given : Given) (post : Post) (older : List Sending) (last : Happening) (ticks : List Happening) (row : NodeLog) (before : Mesh) (old new : List Event) : Type 0 where
@@ -228,8 +243,36 @@ client_named Frames limit attempt c e = absurd c
 client_named FrameBytes limit attempt c e = absurd c
 client_named Dead limit attempt c e = absurd c
 
-gave_by : (queries : Mac → Queries) (older : List Sending) (last : Happening) (ticks : List Happening) (p q : NetPort) (row : NodeLog) (given : Given) (mesh : Mesh) (o : Option LimitName) (r : Result Unit NodeErr) → slice_get mesh.nodes p.sender.place ≡ Some row → p.sender.mac ≡ row.mac
-    → passed_limit row.mac row.log p.sender.now given ≡ o → Leaves PortTook PortSame port_over o p (acts_of (queries row.mac) row.mac row.log p.sender.now given) r q → InStep p.post.now older last ticks mesh → MaySend p.sender last mesh
+-- the limit of clients, behind these acts
+abbrev limit_behind : (Mac → Queries) → Sender → List Act → LimitName → Mesh → Attempt
+limit_behind queries sender acts limit mesh = on_ok (λ after. Err limit) (after_acts (scenario_setup queries) (actor_of sender) acts mesh)
+
+no_ok : {X : Type 0} (l : LimitName) → Some l ≡ None → X
+no_ok l e = cc
+
+behind_named : (queries : Mac → Queries) (older : List Sending) (last : Happening) (ticks : List Happening) (limit : LimitName) (error : NodeErr) (p : NetPort) (acts : List Act) (q : NetPort) (mesh : Mesh) → StopsBehind PortTook PortSame port_over limit p acts (Err error) q → InStep p.post.now older last ticks mesh → MaySend p.sender last mesh
+    → Named error (limit_behind queries p.sender acts limit mesh)
+behind_named queries older last ticks limit error p [] q mesh t step may = client_named error limit (Err limit) t.1 refl
+behind_named queries older last ticks limit error p (act ∷ acts) q mesh t step may = elim t as (λ _. Named error (limit_behind queries p.sender (act ∷ acts) limit mesh)) [
+  | inl s ↦ named_cause error (port_over p act) (limit_behind queries p.sender (act ∷ acts) limit mesh) s.1
+      (λ l e. ap (λ a. on_ok (λ after. Err limit) (on_ok (after_acts (scenario_setup queries) (actor_of p.sender) acts) a)) (over_act queries p.post.now older last ticks p.sender act mesh l step may.place e))
+  | inr s ↦
+      let m : NetPort = s.0 in
+      let a = s.1.took queries older last ticks mesh step may in
+      let n = behind_named queries older last ticks limit error m acts q a.after s.3 a.step (may_next p.sender m.sender last mesh a.after s.1.sender a.nodes may) in
+      named_map error (limit_behind queries m.sender acts limit a.after) (limit_behind queries p.sender (act ∷ acts) limit mesh)
+      (λ l e. ap (λ b. on_ok (λ after. Err limit) (on_ok (after_acts (scenario_setup queries) (actor_of p.sender) acts) b)) a.is ∙ ap (λ v. limit_behind queries v acts limit a.after) (sym s.1.sender) ∙ e) n
+]
+
+behind_not_ok : (limit : LimitName) (p : NetPort) (acts : List Act) (done : Unit) (q : NetPort) → StopsBehind PortTook PortSame port_over limit p acts (Ok done) q → ⊥
+behind_not_ok limit p [] done q t = no_ok limit t.1
+behind_not_ok limit p (act ∷ acts) done q t = elim t as (λ _. ⊥) [
+  | inl s ↦ s.1
+  | inr s ↦ behind_not_ok limit s.0 acts done q s.3
+]
+
+gave_by : (queries : Mac → Queries) (older : List Sending) (last : Happening) (ticks : List Happening) (p q : NetPort) (row : NodeLog) (given : Given) (mesh : Mesh) (o : Option NodeLimit) (r : Result Unit NodeErr) → slice_get mesh.nodes p.sender.place ≡ Some row → p.sender.mac ≡ row.mac
+    → node_limit row.mac row.log p.sender.now given ≡ o → Leaves PortTook PortSame port_over o p (acts_of (queries row.mac) row.mac row.log p.sender.now given) r q → InStep p.post.now older last ticks mesh → MaySend p.sender last mesh
     → Gave queries p.post.now.choice p.sender given q.post.now older last ticks row mesh p.log.now q.log.now r
 gave_by queries older last ticks p q row given mesh None (Ok done) found mac_is none t step may =
     let setup = scenario_setup queries in
@@ -237,7 +280,7 @@ gave_by queries older last ticks p q row given mesh None (Ok done) found mac_is 
     let a = put_all queries older last ticks p (acts_of (queries row.mac) row.mac row.log p.sender.now given) q mesh t step may in
     record {
       after = noting_mesh p.sender.place entry a.after;
-      is = given_is queries p.sender given row mesh found mac_is ∙ ap (λ x. unless_passed x (on_ok (noted p.sender.place entry) (after_acts setup (actor_of p.sender) (acts_of (queries row.mac) row.mac row.log p.sender.now given) mesh))) none ∙ ap (on_ok (noted p.sender.place entry)) a.is;
+      is = given_is queries p.sender given row mesh found mac_is ∙ ap (λ x. unless_passed setup (actor_of p.sender) mesh x (noted_after queries p.sender given row mesh)) none ∙ ap (on_ok (noted p.sender.place entry)) a.is;
       nodes = ap (noted_at p.sender.place entry) a.nodes;
       step = noted_step q.post.now older last ticks p.sender.place entry a.after a.step;
       choice_is = a.choice_is;
@@ -247,22 +290,19 @@ gave_by queries older last ticks p q row given mesh None (Err error) found mac_i
     let setup = scenario_setup queries in
     let entry = entry_of setup row p.sender.now given in
     named_map error (after_acts setup (actor_of p.sender) (acts_of (queries row.mac) row.mac row.log p.sender.now given) mesh) (given_to setup p.sender.place p.sender.now p.sender.root given mesh)
-    (λ limit e. given_is queries p.sender given row mesh found mac_is ∙ ap (λ x. unless_passed x (on_ok (noted p.sender.place entry) (after_acts setup (actor_of p.sender) (acts_of (queries row.mac) row.mac row.log p.sender.now given) mesh))) none ∙ ap (on_ok (noted p.sender.place entry)) e)
+    (λ limit e. given_is queries p.sender given row mesh found mac_is ∙ ap (λ x. unless_passed setup (actor_of p.sender) mesh x (noted_after queries p.sender given row mesh)) none ∙ ap (on_ok (noted p.sender.place entry)) e)
     (stop_named queries older last ticks error p (acts_of (queries row.mac) row.mac row.log p.sender.now given) q mesh t step may)
-gave_by queries older last ticks p q row given mesh (Some limit) (Ok done) found mac_is some t step may = cc_none limit t.1
-  where
-    cc_none : {X : Type 0} (l : LimitName) → Some l ≡ None → X
-    cc_none l e = cc
-gave_by queries older last ticks p q row given mesh (Some limit) (Err error) found mac_is some t step may =
+gave_by queries older last ticks p q row given mesh (Some passed) (Ok done) found mac_is some t step may = absurd (behind_not_ok passed.limit p passed.acts done q t)
+gave_by queries older last ticks p q row given mesh (Some passed) (Err error) found mac_is some t step may =
     let setup = scenario_setup queries in
-    let entry = entry_of setup row p.sender.now given in
-    client_named error limit (given_to setup p.sender.place p.sender.now p.sender.root given mesh) t.1
-    (given_is queries p.sender given row mesh found mac_is ∙ ap (λ x. unless_passed x (on_ok (noted p.sender.place entry) (after_acts setup (actor_of p.sender) (acts_of (queries row.mac) row.mac row.log p.sender.now given) mesh))) some)
+    named_map error (limit_behind queries p.sender passed.acts passed.limit mesh) (given_to setup p.sender.place p.sender.now p.sender.root given mesh)
+    (λ limit e. given_is queries p.sender given row mesh found mac_is ∙ ap (λ x. unless_passed setup (actor_of p.sender) mesh x (noted_after queries p.sender given row mesh)) some ∙ e)
+    (behind_named queries older last ticks passed.limit error p passed.acts q mesh t step may)
 
 pub gave : (queries : Mac → Queries) (older : List Sending) (last : Happening) (ticks : List Happening) (p q : NetPort) (row : NodeLog) (given : Given) (mesh : Mesh) (r : Result Unit NodeErr) → slice_get mesh.nodes p.sender.place ≡ Some row → p.sender.mac ≡ row.mac
-    → Leaves PortTook PortSame port_over (passed_limit row.mac row.log p.sender.now given) p (acts_of (queries row.mac) row.mac row.log p.sender.now given) r q → InStep p.post.now older last ticks mesh → MaySend p.sender last mesh
+    → Leaves PortTook PortSame port_over (node_limit row.mac row.log p.sender.now given) p (acts_of (queries row.mac) row.mac row.log p.sender.now given) r q → InStep p.post.now older last ticks mesh → MaySend p.sender last mesh
     → Gave queries p.post.now.choice p.sender given q.post.now older last ticks row mesh p.log.now q.log.now r
-gave queries older last ticks p q row given mesh r found mac_is t step may = gave_by queries older last ticks p q row given mesh (passed_limit row.mac row.log p.sender.now given) r found mac_is refl t step may
+gave queries older last ticks p q row given mesh r found mac_is t step may = gave_by queries older last ticks p q row given mesh (node_limit row.mac row.log p.sender.now given) r found mac_is refl t step may
 
 -- ---- what the caller learns
 pub by_bool : {X : Type 0} (b : Bool) → (b ≡ true → X) → (b ≡ false → X) → X

@@ -13,7 +13,7 @@ use Rattle.mesh_model.specs.Net.Runs.{delivered, frame_given, frame_over, tick_g
 use Rattle.mesh_model.specs.Routes.Queries.{Queries}
 use Rattle.mesh_model.specs.Routes.RouteLog.{RouteLog, MayTick}
 use Rattle.mesh_node.specs.declared.input.Input.{Input}
-use Rattle.mesh_node.specs.declared.input.Input.TheVariants.{Tick, Link, Frame, Gone, Join, Leave, Wifi, Ping, Trace}
+use Rattle.mesh_node.specs.declared.input.Input.TheVariants.{Tick, Link, Lan, Attach, Frame, Gone, Join, Leave, Wifi, Ping, Trace}
 use Rattle.mesh_node.specs.NodeStands.{MayTake, MayFollow, given_by}
 use Rattle.mesh_post.specs.declared.row.Arrival.{Arrival}
 use Rattle.mesh_post.specs.declared.row.Sending.{Sending}
@@ -22,7 +22,7 @@ use Rattle.mesh_net.specs.declared.seat.Seat.{Seat}
 use Rattle.mesh_post.specs.Lanes.{ArrivalIs}
 use Rattle.mesh_net.specs.NetStands.{SeatsStand}
 use Rattle.mesh_net.specs.Reached.{IsOfLine}
-use Rattle.mesh_net.specs.Steps.{AreOnLinks, Begun, Counts, HasNodes, MayTickAt}
+use Rattle.mesh_net.specs.Steps.{AreOnLinks, Begun, Counts, HasNodes, IsTickless, MayTickAt}
 use Rattle.mesh_post.proofs.LookUps.{some_one, got_there}
 use Rattle.mesh_net.proofs.MomentLemmas.{past_at}
 use Rattle.mesh_net.proofs.SeatLemmas.{seat_at, seats_length}
@@ -31,6 +31,8 @@ use Rattle.mesh_net.proofs.SeatLemmas.{seat_at, seats_length}
 pub line_counts : (ticks number : ℕ) (input : Input) → IsOfLine (given_by number input) → Counts ticks input
 line_counts ticks number (Tick index) line = absurd line
 line_counts ticks number (Link from tp bytes) line = absurd line
+line_counts ticks number (Lan bytes) line = absurd line
+line_counts ticks number (Attach lan gateways) line = absurd line
 line_counts ticks number (Frame src dst vid text) line = tt
 line_counts ticks number (Gone key) line = tt
 line_counts ticks number (Join key) line = tt
@@ -42,6 +44,8 @@ line_counts ticks number (Trace target) line = tt
 line_follows : (before : Knowledge) (number : ℕ) (input : Input) → IsOfLine (given_by number input) → MayFollow before input
 line_follows before number (Tick index) line = absurd line
 line_follows before number (Link from tp bytes) line = absurd line
+line_follows before number (Lan bytes) line = absurd line
+line_follows before number (Attach lan gateways) line = absurd line
 line_follows before number (Frame src dst vid text) line = tt
 line_follows before number (Gone key) line = tt
 line_follows before number (Join key) line = tt
@@ -49,6 +53,10 @@ line_follows before number (Leave key) line = tt
 line_follows before number (Wifi on) line = tt
 line_follows before number (Ping target) line = tt
 line_follows before number (Trace target) line = tt
+
+-- so it may come to any node at any time
+pub line_tickless : (number : ℕ) (input : Input) → IsOfLine (given_by number input) → IsTickless input
+line_tickless number input line = record { follows = λ known. line_follows known number input line; counts = λ ticks. line_counts ticks number input line }
 
 module _ {A : Type 0} (queries : Mac → Queries) (stands : A → Mac → RouteLog → Type 0) where
   -- what a node knows

@@ -1,9 +1,9 @@
 -- A net after a node or a link was to join it, when it noted whether that was refused.
-use Rattle.std.proofs.Common.{◌≡◌, ℕ, ◌<◌, inl, inr, Bool, false, [], Result, Ok, Err, is_err, sym, subst}
+use Rattle.std.proofs.Common.{◌≡◌, ℕ, ◌<◌, inl, inr, Bool, false, List, [], Result, Ok, Err, is_err, sym, subst}
 use Rattle.std.specs.Result.{IfErr, IfOk, IsErrAnd, OnOk}
 use Rattle.mesh_base.specs.declared.address.Mac.{Mac}
 use Rattle.mesh_model.specs.declared.frame_choice.FrameChoice.{FrameChoice}
-use Rattle.mesh_model.specs.Net.Limits.{nodes_limit}
+use Rattle.mesh_model.specs.Net.Limits.{nodes_limit, lans_limit}
 use Rattle.mesh_model.specs.Net.Mesh.{NetLink, Mesh}
 use Rattle.mesh_model.specs.Routes.Queries.{Queries}
 use Rattle.mesh_model.specs.Routes.RouteLog.{RouteLog}
@@ -13,9 +13,13 @@ use Rattle.mesh_net.specs.declared.failure.NetErr.TheVariants.{Memory}
 use Rattle.mesh_net.specs.declared.net.Net.{Net}
 use Rattle.mesh_net.specs.NetStands.{NetStands, IsNet}
 use Rattle.mesh_post.specs.Joining.{with_node, with_link}
-use Rattle.mesh_net.specs.Tells.{HasJoined, HasLinked, NodeTells}
+use Rattle.mesh_net.specs.Tells.{HasJoined, HasJoinedLan, HasLinked, LanTells, NodeTells}
 
 -- memory ran out where there was room
+pub lan_memory : (r : Result ℕ NetErr) (count : ℕ) → count < lans_limit → IsErrAnd r (λ e. e ≡ Memory) → IfErr r (LanTells count)
+lan_memory (Ok place) count few h = absurd h
+lan_memory (Err e) count few h = subst (LanTells count) (sym h) few
+
 pub node_memory : (r : Result ℕ NetErr) (count : ℕ) → count < nodes_limit → IsErrAnd r (λ e. e ≡ Memory) → IfErr r (NodeTells count)
 node_memory (Ok place) count few h = absurd h
 node_memory (Err e) count few h = subst (NodeTells count) (sym h) few
@@ -78,3 +82,22 @@ module _ {A : Type 0} (queries : Mac → Queries) (stands : A → Mac → RouteL
     mesh = with_link link live.mesh;
     standing = still new dead live.choice live.clock (with_link link live.mesh) is (joins live.choice live.clock live.mesh live.standing).standing;
   })
+
+  pub still_lan : (r : Result ℕ NetErr) (net : Net A) (dead : Bool) (choice : FrameChoice) (clock : ℕ) (mesh : Mesh) (gateways : List ℕ) → dead ≡ is_err r
+      → IfOk r (HasJoinedLan queries stands net choice clock mesh gateways) → IfOk r (HasJoinedLan queries stands (noting net dead) choice clock mesh gateways)
+  still_lan (Ok place) net dead choice clock mesh gateways is h = record {
+    place_is = h.place_is;
+    room = h.room;
+    joined = λ name. let j = h.joined name in record { after = j.after; is = j.is; standing = still net dead choice clock j.after is j.standing };
+  }
+  still_lan (Err error) net dead choice clock mesh gateways is h = tt
+
+  -- it stands for the mesh with the LAN, or it is dead
+  pub lan_net : (r : Result ℕ NetErr) (old new : Net A) (dead : Bool) (gateways : List ℕ) → IsNet queries stands old → old.dead ≡ false → dead ≡ is_err r
+      → ((choice : FrameChoice) (clock : ℕ) (mesh : Mesh) → NetStands queries stands old choice clock mesh → IfOk r (HasJoinedLan queries stands new choice clock mesh gateways))
+      → IsNet queries stands (noting new dead)
+  lan_net (Err error) old new dead gateways net alive is joins = inl is
+  lan_net (Ok place) old new dead gateways (inl gone) alive is joins = absurd (cc)
+  lan_net (Ok place) old new dead gateways (inr live) alive is joins =
+      let j = (joins live.choice live.clock live.mesh live.standing).joined [] in
+      inr (record { choice = live.choice; clock = live.clock; mesh = j.after; standing = still new dead live.choice live.clock j.after is j.standing })

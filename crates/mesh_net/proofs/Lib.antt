@@ -6,6 +6,7 @@ pub mod SeatLemmas
 pub mod StepLemmas
 pub mod KeptLemmas
 pub mod InputLemmas
+pub mod LanSteps
 pub mod TickLemmas
 pub mod PopLemmas
 pub mod Ends

@@ -1,39 +1,49 @@
 -- What is popped is the next happening, and what waits behind it.
-use Rattle.std.proofs.Common.{◌≡◌, ◌↔◌, ℕ, suc, ◌+◌, ◌*◌, ◌<◌, ◌⊎◌, inl, inr, nat_eq, Bool, true, false, cond, List, ◌∷◌, filter, length, slice_get, Some, refl, sym, ap, ◌∙◌, subst, arith}
+use Rattle.std.proofs.Common.{◌≡◌, ◌↔◌, ℕ, suc, ◌+◌, ◌*◌, ◌<◌, ◌⊎◌, inl, inr, nat_eq, Bool, true, false, cond, List, ◌∷◌, ◌++◌, append_assoc, filter, length, slice_get, Some, refl, sym, ap, ◌∙◌, subst, arith}
 use Rattle.std.proofs.lemmas.Bool.{eq-eqb, eqb-true, ne_eqb}
 use Rattle.std.proofs.lemmas.Option.{slice_get_within}
-use Rattle.mesh_model.specs.declared.happening.Class.TheVariants.{LinkDelivery, NodeTick}
+use Rattle.mesh_model.specs.declared.happening.Class.TheVariants.{LinkDelivery, LanDelivery, NodeTick}
 use Rattle.mesh_model.specs.declared.happening.Happening.{Happening}
-use Rattle.mesh_model.specs.Net.Due.{candidates, deliveries, first_ticks, tick_at, tick_time, ticks_in}
+use Rattle.mesh_model.specs.Net.Due.{candidates, deliveries, first_ticks, lan_deliveries, tick_at, tick_time, ticks_in}
 use Rattle.mesh_model.specs.Net.Happenings.{Before, is_before}
 use Rattle.mesh_model.specs.Net.Mesh.{NodeLog, Mesh}
 use Rattle.mesh_model.specs.Net.Next.{Has, Happens, AtMost, IsNext, IsQuiet}
 use Rattle.mesh_laws.specs.Soundness.{IsSound}
-use Rattle.mesh_laws.proofs.Schedule.Due.{deliveries_have, ticks_have, have_tick, from_zero, candidate_happens, covered}
+use Rattle.mesh_laws.proofs.Schedule.Due.{deliveries_have, lans_have, ticks_have, have_tick, from_zero, candidate_happens, covered}
 use Rattle.mesh_laws.proofs.Schedule.Members.{has_left, has_right, has_either, has_filter, filter_has}
 use Rattle.mesh_laws.proofs.Schedule.Order.{at_most_trans, at_most_moments, before_irrefl, before_test, before_trans, test_before}
 use Rattle.mesh_laws.proofs.Schedule.Steps.{Was, at_place}
 use Rattle.mesh_net.specs.Steps.{tick_now}
-use Rattle.mesh_post.specs.Waiting.{Awaits, IsPopped, IsNoneDue, IsSomeDue}
+use Rattle.mesh_post.specs.Waiting.{Awaits, all_deliveries, IsPopped, IsNoneDue, IsSomeDue}
 use Rattle.mesh_post.proofs.LookUps.{some_one, got_there}
 
 abbrev pub AwaitsIn : List Happening → Mesh → Type 0
-AwaitsIn waiting mesh = Awaits waiting mesh.last (first_ticks 0 mesh.nodes) mesh.links mesh.frames
+AwaitsIn waiting mesh = Awaits waiting mesh.last (first_ticks 0 mesh.nodes) mesh.links mesh.frames mesh.puts
+
+-- the deliveries of all frames
+abbrev deliveries_in : Mesh → List Happening
+deliveries_in mesh = all_deliveries mesh.links mesh.frames mesh.puts
+
+candidates_are : (mesh : Mesh) → deliveries_in mesh ++ first_ticks 0 mesh.nodes ≡ candidates mesh
+candidates_are mesh = append_assoc (deliveries mesh.links 0 mesh.frames) (lan_deliveries 0 mesh.puts) (first_ticks 0 mesh.nodes)
+
+is_candidate : (mesh : Mesh) (x : Happening) → Has (deliveries_in mesh ++ first_ticks 0 mesh.nodes) x → Has (candidates mesh) x
+is_candidate mesh x h = subst (λ hs. Has hs x) (candidates_are mesh) h
 
 abbrev Comes : Mesh → Happening → Type 0
-Comes mesh x = (Has (deliveries mesh.links 0 mesh.frames) x × Before mesh.last x) ⊎ Has (first_ticks 0 mesh.nodes) x
+Comes mesh x = (Has (deliveries_in mesh) x × Before mesh.last x) ⊎ Has (first_ticks 0 mesh.nodes) x
 
 -- ---- what waits happens, after the last happening
 pub comes_happens : (mesh : Mesh) → IsSound mesh → (x : Happening) → Comes mesh x → Happens mesh x × Before mesh.last x
-comes_happens mesh sound x (inl p) = (candidate_happens mesh x (has_left (deliveries mesh.links 0 mesh.frames) (first_ticks 0 mesh.nodes) x p.0), p.1)
+comes_happens mesh sound x (inl p) = (candidate_happens mesh x (is_candidate mesh x (has_left (deliveries_in mesh) (first_ticks 0 mesh.nodes) x p.0)), p.1)
 comes_happens mesh sound x (inr p) =
     let t = ticks_have 0 mesh.nodes x p in
     let later = (sound.ticked t.offset t.node t.found).to_come in (
-      candidate_happens mesh x (has_right (deliveries mesh.links 0 mesh.frames) (first_ticks 0 mesh.nodes) x p),
+      candidate_happens mesh x (is_candidate mesh x (has_right (deliveries_in mesh) (first_ticks 0 mesh.nodes) x p)),
       subst (Before mesh.last) (sym t.is) (subst (λ p. Before mesh.last (tick_at p t.node (suc (ticks_in t.node.log)))) (sym (from_zero t.offset)) later),
     )
 
-comes_from : (mesh : Mesh) (x : Happening) → Before mesh.last x → Has (deliveries mesh.links 0 mesh.frames) x ⊎ Has (first_ticks 0 mesh.nodes) x → Comes mesh x
+comes_from : (mesh : Mesh) (x : Happening) → Before mesh.last x → Has (deliveries_in mesh) x ⊎ Has (first_ticks 0 mesh.nodes) x → Comes mesh x
 comes_from mesh x b (inl p) = inl (p, b)
 comes_from mesh x b (inr p) = inr p
 
@@ -42,7 +52,7 @@ pub waits_for : (waiting : List Happening) (mesh : Mesh) → IsSound mesh → Aw
 waits_for waiting mesh sound waits x p b =
     let c = covered mesh sound x p b in
     let f = filter_has (is_before mesh.last) (candidates mesh) c.0 c.1 in
-    (c.0, (waits c.0).1 (comes_from mesh c.0 (test_before mesh.last c.0 f.0) (has_either (deliveries mesh.links 0 mesh.frames) (first_ticks 0 mesh.nodes) c.0 f.1)), c.2)
+    (c.0, (waits c.0).1 (comes_from mesh c.0 (test_before mesh.last c.0 f.0) (has_either (deliveries_in mesh) (first_ticks 0 mesh.nodes) c.0 (subst (λ hs. Has hs c.0) (sym (candidates_are mesh)) f.1))), c.2)
 
 pub none_quiet : (waiting : List Happening) (t : ℕ) (mesh : Mesh) → IsSound mesh → AwaitsIn waiting mesh → IsNoneDue waiting t → IsQuiet t mesh
 none_quiet waiting t mesh sound waits none x p b =
@@ -57,6 +67,13 @@ some_not_quiet waiting t mesh sound waits some quiet =
     let l = quiet some.0 w.0 w.1 in
     let m = some.2 in
     omega (arith, l, m)
+
+-- a tick is no delivery
+pub not_link : NodeTick ≡ LinkDelivery → ⊥
+not_link e = cc
+
+pub not_lan : NodeTick ≡ LanDelivery → ⊥
+not_lan e = cc
 
 -- ---- what is popped
 module _ (waiting rest : List Happening) (t : ℕ) (h : Happening) (mesh : Mesh) (sound : IsSound mesh) (waits : AwaitsIn waiting mesh) (popped : IsPopped waiting rest t h) where
@@ -93,33 +110,30 @@ module _ (waiting rest : List Happening) (t : ℕ) (h : Happening) (mesh : Mesh)
   not_head x b (inl e) = absurd (before_irrefl h (subst (Before h) e b))
   not_head x b (inr p) = p
 
-  rest_to : (x : Happening) → Before h x → Comes mesh x → (Has (deliveries mesh.links 0 mesh.frames) x × Before h x) ⊎ Has others x
+  rest_to : (x : Happening) → Before h x → Comes mesh x → (Has (deliveries_in mesh) x × Before h x) ⊎ Has others x
   rest_to x b (inl p) = inl (p.0, b)
   rest_to x b (inr p) = inr (has_filter (is_before h) (first_ticks 0 mesh.nodes) x (before_test h x b) p)
 
-  rest_from : (x : Happening) → (Has (deliveries mesh.links 0 mesh.frames) x × Before h x) ⊎ Has others x → Has rest x
+  rest_from : (x : Happening) → (Has (deliveries_in mesh) x × Before h x) ⊎ Has others x → Has rest x
   rest_from x (inl p) = not_head x p.1 (split x ((waits x).1 (inl (p.0, before_trans mesh.last h x popped_next.after p.1))))
   rest_from x (inr p) =
       let f = filter_has (is_before h) (first_ticks 0 mesh.nodes) x p in
       not_head x (test_before h x f.0) (split x ((waits x).1 (inr f.1)))
 
-  pub popped_waits : Awaits rest h others mesh.links mesh.frames
+  pub popped_waits : Awaits rest h others mesh.links mesh.frames mesh.puts
   popped_waits x = (λ p. rest_to x (popped.leaves.above x p) ((waits x).0 (joined x p)), rest_from x)
 
   pub tick_or_later : (x : Happening) → Has (first_ticks 0 mesh.nodes) x → (x ≡ h) ⊎ Before h x
   tick_or_later x p = elim (split x ((waits x).1 (inr p))) as (λ _. (x ≡ h) ⊎ Before h x) [ inl e ↦ inl e | inr r ↦ inr (popped.leaves.above x r) ]
 
   -- behind a delivery, all ticks wait
-  not_tick : h.class ≡ LinkDelivery → (x : Happening) → Has (first_ticks 0 mesh.nodes) x → (x ≡ h) ⊎ Before h x → Has others x
+  not_tick : (h.class ≡ NodeTick → ⊥) → (x : Happening) → Has (first_ticks 0 mesh.nodes) x → (x ≡ h) ⊎ Before h x → Has others x
   not_tick class x p (inl e) =
       let t = ticks_have 0 mesh.nodes x p in
-      clash (sym (ap (λ (y : Happening). y.class) t.is) ∙ ap (λ (y : Happening). y.class) e ∙ class)
-    where
-      clash : {X : Type 0} → NodeTick ≡ LinkDelivery → X
-      clash e = cc
+      absurd (class (sym (ap (λ (y : Happening). y.class) e) ∙ ap (λ (y : Happening). y.class) t.is))
   not_tick class x p (inr b) = has_filter (is_before h) (first_ticks 0 mesh.nodes) x (before_test h x b) p
 
-  pub all_others : h.class ≡ LinkDelivery → (x : Happening) → Has others x ↔ Has (first_ticks 0 mesh.nodes) x
+  pub all_others : (h.class ≡ NodeTick → ⊥) → (x : Happening) → Has others x ↔ Has (first_ticks 0 mesh.nodes) x
   all_others class x = (λ p. (filter_has (is_before h) (first_ticks 0 mesh.nodes) x p).1, λ p. not_tick class x p (tick_or_later x p))
 
   -- a tick is the first to come of its node
@@ -129,10 +143,11 @@ module _ (waiting rest : List Happening) (t : ℕ) (h : Happening) (mesh : Mesh)
     pub is : h ≡ tick_at h.place node (suc (ticks_in node.log))
 
   ticker_from : h.class ≡ NodeTick → Comes mesh h → Ticker
-  ticker_from class (inl p) = clash (sym class ∙ (deliveries_have mesh.links 0 mesh.frames h p.0).class_is)
+  ticker_from class (inl p) = either (has_either (deliveries mesh.links 0 mesh.frames) (lan_deliveries 0 mesh.puts) h p.0)
     where
-      clash : {X : Type 0} → NodeTick ≡ LinkDelivery → X
-      clash e = cc
+      either : Has (deliveries mesh.links 0 mesh.frames) h ⊎ Has (lan_deliveries 0 mesh.puts) h → Ticker
+      either (inl d) = absurd (not_link (sym class ∙ (deliveries_have mesh.links 0 mesh.frames h d).class_is))
+      either (inr d) = absurd (not_lan (sym class ∙ ap (λ (y : Happening). y.class) (lans_have 0 mesh.puts h d).is))
   ticker_from class (inr p) =
       let t = ticks_have 0 mesh.nodes h p in
       let at : h.place ≡ t.offset = ap (λ (y : Happening). y.place) t.is ∙ from_zero t.offset in

@@ -15,7 +15,7 @@ use Rattle.mesh_model.specs.Routes.Queries.{Queries}
 use Rattle.mesh_model.specs.Routes.RouteLog.{RouteLog}
 use Rattle.node_ground.specs.declared.failure.NodeErr.{NodeErr}
 use Rattle.mesh_node.specs.declared.input.Input.{Input}
-use Rattle.mesh_node.specs.declared.input.Input.TheVariants.{Tick, Link, Frame, Gone, Join, Leave, Wifi, Ping, Trace}
+use Rattle.mesh_node.specs.declared.input.Input.TheVariants.{Tick, Link, Lan, Attach, Frame, Gone, Join, Leave, Wifi, Ping, Trace}
 use Rattle.mesh_node.specs.NodeStands.{given_by}
 use Rattle.mesh_post.specs.declared.post.Post.{Post}
 use Rattle.mesh_net.specs.declared.give.Occasion.{Occasion}
@@ -23,7 +23,7 @@ use Rattle.mesh_post.specs.declared.row.Sender.{Sender}
 use Rattle.mesh_post.specs.declared.row.Sending.{Sending}
 use Rattle.mesh_net.specs.declared.seat.Seat.{Seat}
 use Rattle.mesh_net.specs.Given.{HasGiven, GiveTells}
-use Rattle.mesh_model.specs.Net.Due.{deliveries}
+use Rattle.mesh_post.specs.Waiting.{all_deliveries}
 use Rattle.mesh_model.specs.Net.Happenings.{Before}
 use Rattle.mesh_model.specs.Net.Next.{Has}
 use Rattle.mesh_model.specs.Net.Sending.{Attempt}
@@ -37,6 +37,8 @@ use Rattle.mesh_net.proofs.SeatLemmas.{seat_set}
 pub ticks_are : (ticks number : ℕ) (input : Input) → Counts ticks input → ticks_with ticks input ≡ ticks_by (given_by number input) + ticks
 ticks_are ticks number (Tick index) counts = omega (arith, counts)
 ticks_are ticks number (Link from tp bytes) counts = omega arith
+ticks_are ticks number (Lan bytes) counts = omega arith
+ticks_are ticks number (Attach lan gateways) counts = omega arith
 ticks_are ticks number (Frame src dst vid text) counts = omega arith
 ticks_are ticks number (Gone key) counts = omega arith
 ticks_are ticks number (Join key) counts = omega arith
@@ -122,7 +124,9 @@ module _ {A : Type 0} (queries : Mac → Queries) (stands : A → Mac → RouteL
           rows = stage.step.amid.stands.rows;
           turns = stage.step.amid.stands.turns;
           ways = stage.step.amid.stands.ways;
+          lans = stage.step.amid.stands.lans;
           frames = stage.step.amid.stands.frames;
+          puts = stage.step.amid.stands.puts;
           bytes = stage.step.amid.stands.bytes;
           few = stage.step.amid.stands.few;
           small = stage.step.amid.stands.small;
@@ -137,7 +141,7 @@ module _ {A : Type 0} (queries : Mac → Queries) (stands : A → Mac → RouteL
   }
     where
       Comes : Happening → Type 0
-      Comes x = Has (deliveries mesh.links 0 mesh.frames) x × Before last x
+      Comes x = Has (all_deliveries mesh.links mesh.frames mesh.puts) x × Before last x
 
       old_to : (x : Happening) → Comes x ⊎ Has ticks x → Comes x ⊎ Has (next ∷ ticks) x
       old_to x (inl p) = inl p

@@ -1,33 +1,37 @@
 -- Ticks of the nodes of a mesh that is reached: each has its number, and what is to come isn't
 -- before the clock.
-use Rattle.std.proofs.Common.{◌≡◌, ℕ, zero, suc, ◌+◌, ◌<◌, ◌≤◌, ◌⊎◌, inl, inr, Bool, true, false, not, ◌&&◌, if◌then◌else◌, List, [], ◌∷◌, slice_get, Option, Some, None, Ok, refl, sym, ap, ◌∙◌, subst, arith}
+use Rattle.std.proofs.Common.{◌≡◌, ℕ, zero, suc, ◌+◌, ◌<◌, ◌≤◌, ◌⊎◌, inl, inr, Bool, true, false, ◌&&◌, if◌then◌else◌, List, [], ◌∷◌, filter, slice_get, Option, Some, None, Ok, refl, sym, ap, ◌∙◌, subst, arith}
 use Rattle.mesh_base.specs.Address.{is_broadcast}
 use Rattle.mesh_base.specs.declared.address.Mac.{Mac}
 use Rattle.mesh_base.specs.declared.client.Key.{Key}
 use Rattle.mesh_model.specs.declared.act.Act.{Act}
 use Rattle.mesh_model.specs.declared.happening.Class.{Class}
-use Rattle.mesh_model.specs.declared.happening.Class.TheVariants.{LinkDelivery, NodeTick}
+use Rattle.mesh_model.specs.declared.happening.Class.TheVariants.{LinkDelivery, LanDelivery, NodeTick}
 use Rattle.mesh_model.specs.declared.happening.Happening.{Happening}
 use Rattle.mesh_model.specs.declared.packet.Head.{Head}
 use Rattle.mesh_model.specs.declared.packet.Head.TheVariants.{IvOgm, Bcast, Elp, Ogm2, Unicast, Frag, Unicast4, Icmp, Utvlv}
 use Rattle.mesh_model.specs.Clients.Log.{Given, Tick, LinkFrame, LanFrame, Line, LineGiven, Attach, Frame, Gone, Join, Leave, Arp, Dhcp, Sets, Put, Get, Ping, Trace, Log, LogEntry}
-use Rattle.mesh_model.specs.Clients.Mentions.{key_of}
+use Rattle.mesh_model.specs.Clients.Lans.{bridge}
+use Rattle.mesh_model.specs.Clients.Mentions.{Mention, key_of, mentions, next_mentions, passed_from_lan}
 use Rattle.mesh_model.specs.Knowledge.Known.{Broadcast, Knowledge, agreed_byte, is_new_broadcast}
-use Rattle.mesh_model.specs.Knowledge.Steps.{Coming, knowledge, next_knowledge, after_announcement, after_answer, after_broadcast, after_containers, after_frame, after_head, after_message, after_reply, after_packet, after_packets, after_roaming, after_sighting, after_taken, before_announcement, released_under, with_head, line_knowledge}
+use Rattle.mesh_model.specs.Knowledge.Steps.{Coming, stays_on_lan, knowledge, next_knowledge, after_announcement, after_answer, after_broadcast, after_containers, after_frame, after_head, after_message, after_reply, after_packet, after_packets, after_passed, after_roaming, after_sighting, after_taken, before_announcement, released_under, with_head, line_knowledge}
 use Rattle.mesh_model.specs.Knowledge.Told.{Message, TableMessage, Asks, Answers, Neither, message_in, message_of}
 use Rattle.mesh_model.specs.Marks.Calls.{Forgotten}
 use Rattle.mesh_model.specs.Net.Due.{ticks_by, ticks_in}
 use Rattle.mesh_model.specs.Net.Happenings.{Before}
-use Rattle.mesh_model.specs.Net.Inputs.{entry_of, noted, noted_at, given_to, given_node, after_entry}
+use Rattle.mesh_model.specs.Net.Inputs.{all_given, entry_of, noted, noted_at, given_to, given_node, after_entry}
+use Rattle.mesh_model.specs.Net.Lans.{attachment, gets, put_given, put_over, reach_events, with_events, with_lan}
 use Rattle.mesh_model.specs.Net.Limits.{scenario_setup}
-use Rattle.mesh_model.specs.Net.Mesh.{NodeLog, NetLink, SentFrame, Mesh, Setup, address_at}
+use Rattle.mesh_model.specs.Net.Mesh.{NodeLog, NetLan, NetLink, LanPut, SentFrame, Mesh, Setup, address_at}
 use Rattle.mesh_model.specs.Net.Next.{Happens}
 use Rattle.mesh_model.specs.Net.Runs.{after_happening, effect, frame_given, frame_over, throughput_between, tick_given, with_last}
 use Rattle.mesh_model.specs.Net.Sending.{Actor, after_acts}
 use Rattle.mesh_model.specs.Packets.Containers.{containers_of}
 use Rattle.mesh_model.specs.Packets.Contents.{first_roaming, first_table}
 use Rattle.mesh_model.specs.Packets.FirstPacket.{Packet}
+use Rattle.mesh_model.specs.Packets.LanFrames.{client_frame_in, lan_message_of}
 use Rattle.mesh_model.specs.Packets.LinkFrame.{link_frame}
+use Rattle.mesh_model.specs.Packets.Payload.{ClientFrame}
 use Rattle.mesh_model.specs.Probes.OpenProbes.{is_answer}
 use Rattle.mesh_model.specs.Routes.Addresses.{same_mac}
 use Rattle.mesh_model.specs.Routes.Queries.{Queries}
@@ -37,10 +41,12 @@ use Rattle.mesh_model.specs.Tables.Known.{Answered, Dropped, known_by}
 use Rattle.mesh_laws.proofs.Schedule.Added.{added}
 use Rattle.mesh_laws.proofs.Schedule.Members.{get_last}
 use Rattle.mesh_laws.proofs.Schedule.Order.{moments}
-use Rattle.mesh_laws.proofs.Schedule.Sends.{ok_one, on_ok_ok, acts_send}
-use Rattle.mesh_laws.proofs.Schedule.Steps.{delivered_effect, no_ticks, not_passed, step_is, tickless}
+use Rattle.mesh_laws.proofs.LanLemmas.{effect_later, joined_later}
+use Rattle.mesh_laws.proofs.Schedule.Sends.{ok_one, on_ok_ok, acts_send, sends_put}
+use Rattle.mesh_laws.proofs.Schedule.Steps.{all_effect, delivered_effect, no_ticks, not_passed, put_joins, step_is, tickless}
+use Rattle.mesh_laws.proofs.Schedule.Steps.{lan_joins as joined_effect}
 use Rattle.mesh_laws.proofs.Schedule.ToCome.{nodes_add_later, links_add_nothing}
-use Rattle.mesh_net.specs.Reached.{IsReached, begins, joins, links, is_given, is_delivered, happens, passes}
+use Rattle.mesh_net.specs.Reached.{IsReached, begins, joins, links, lan_joins, lan_comes, all_are_given, is_given, is_delivered, happens, passes}
 use Rattle.mesh_post.proofs.LookUps.{some_one}
 use Rattle.mesh_net.proofs.ReachedLemmas.{reached, of_line}
 
@@ -105,6 +111,13 @@ packets_counted q me came known (p ∷ ps) = packets_counted q me came (after_pa
 frame_counted : (dst : Mac) (known : Knowledge) → counted (after_frame dst known) ≡ counted known
 frame_counted dst known = either_counted (is_broadcast dst) (record known { sent = suc known.sent }) known known refl refl
 
+-- nor does a frame from a LAN add a tick
+passed_counted : (q : Queries) (me : Mac) (older : Log) (known : Knowledge) (now : ℕ) (mentions : List Mention) (frame : Option ClientFrame) → counted (after_passed q me older known now mentions frame) ≡ counted known
+passed_counted q me older known now mentions None = refl
+passed_counted q me older known now mentions (Some frame) =
+    let behind : Knowledge = after_sighting q me older now (key_of frame.src frame.vid) known in
+    either_counted (stays_on_lan q mentions (bridge older).lan now (key_of frame.dst frame.vid) behind) behind (after_frame frame.dst behind) known refl (frame_counted frame.dst behind)
+
 -- the index of the last tick after an input
 abbrev pub index_by : Given → Option ℕ → Option ℕ
 index_by (Tick index) last = Some index
@@ -140,7 +153,8 @@ next_counted : (q : Queries) (me : Mac) (older : Log) (known : Knowledge) (now :
 next_counted q me older known now (Tick index) = ap (λ n. (n, Some index)) (omega arith)
 next_counted q me older known now (LinkFrame number from throughput bytes) =
     packets_counted q me (record { now = now; from = from; throughput = throughput; number = number }) known (link_frame bytes).packets ∙ no_more known
-next_counted q me older known now (LanFrame bytes) = no_more known
+next_counted q me older known now (LanFrame bytes) =
+    passed_counted q me older known now (next_mentions me older (mentions me older) now (LanFrame bytes)) (passed_from_lan me older now (client_frame_in (lan_message_of bytes))) ∙ no_more known
 next_counted q me older known now (Line line) = line_counted q me older known now line ∙ no_more known
 
 -- an algorithm has the ticks of its node
@@ -194,13 +208,29 @@ node_numbered setup mesh after place now root given None found e order all = sub
 node_numbered setup mesh after place now root given (Some n) found e order all =
     let actor : Actor = record { place = place; mac = n.mac; now = now; root = root } in
     let entry : LogEntry = entry_of setup n now given in
-    let p = on_ok_ok (noted place entry) (after_acts setup actor entry.acts mesh) after (not_passed (setup.client_limit n.mac n.log now given) (after_entry setup actor entry mesh) after e) in
+    let p = on_ok_ok (noted place entry) (after_acts setup actor entry.acts mesh) after (not_passed setup actor mesh (setup.node_limit n.mac n.log now given) (after_entry setup actor entry mesh) after e) in
     let sends = acts_send setup actor entry.acts mesh p.0 p.1 in
     subst (λ (m : Mesh). AllNumbered m.nodes) (ok_one (record p.0 { nodes = noted_at place entry p.0.nodes }) after p.2)
     (subst (λ ns. AllNumbered (noted_at place entry ns)) (sym sends.nodes) (noted_numbered place entry mesh.nodes order all))
 
 given_numbered : (setup : Setup) (mesh after : Mesh) (place now root : ℕ) (given : Given) → given_to setup place now root given mesh ≡ Ok after → ((node : NodeLog) → slice_get mesh.nodes place ≡ Some node → IsInOrder node.log given) → AllNumbered mesh.nodes → AllNumbered after.nodes
 given_numbered setup mesh after place now root given e order all = node_numbered setup mesh after place now root given (slice_get mesh.nodes place) refl e order all
+
+-- several nodes are given the same, which is no tick
+all_given_numbered : (setup : Setup) (places : List ℕ) (now : ℕ) (given : Given) (mesh after : Mesh) → ticks_by given ≡ 0 → all_given setup places now given mesh ≡ Ok after → AllNumbered mesh.nodes → AllNumbered after.nodes
+all_given_numbered setup [] now given mesh after none e all = subst (λ (m : Mesh). AllNumbered m.nodes) (ok_one mesh after e) all
+all_given_numbered setup (place ∷ rest) now given mesh after none e all =
+    let p = on_ok_ok (all_given setup rest now given) (given_to setup place now 0 given mesh) after e in
+    all_given_numbered setup rest now given p.0 after none p.2 (given_numbered setup mesh p.0 place now 0 given p.1 (λ node found. inl none) all)
+
+put_numbered : (setup : Setup) (mesh after : Mesh) (now : ℕ) (put : LanPut) (frame : Option ClientFrame) (o : Option NetLan) → put_over setup now put frame o mesh ≡ Ok after → AllNumbered mesh.nodes → AllNumbered after.nodes
+put_numbered setup mesh after now put frame None e all = subst (λ (m : Mesh). AllNumbered m.nodes) (ok_one mesh after e) all
+put_numbered setup mesh after now put frame (Some lan) e all =
+    all_given_numbered setup (filter (gets frame put.by) lan.gateways) now (LanFrame put.bytes) (with_events (reach_events now put.lan put.by frame) mesh) after refl e all
+
+lan_numbered : (setup : Setup) (mesh after : Mesh) (now : ℕ) (o : Option LanPut) → put_given setup now o mesh ≡ Ok after → AllNumbered mesh.nodes → AllNumbered after.nodes
+lan_numbered setup mesh after now None e all = subst (λ (m : Mesh). AllNumbered m.nodes) (ok_one mesh after e) all
+lan_numbered setup mesh after now (Some put) e all = put_numbered setup mesh after now put (client_frame_in (lan_message_of put.bytes)) (slice_get mesh.lans put.lan) e all
 
 over_numbered : (setup : Setup) (mesh after : Mesh) (place now : ℕ) (frame : SentFrame) (o : Option NetLink) → frame_over setup place now frame o mesh ≡ Ok after → AllNumbered mesh.nodes → AllNumbered after.nodes
 over_numbered setup mesh after place now frame None e all = subst (λ (m : Mesh). AllNumbered m.nodes) (ok_one mesh after e) all
@@ -218,6 +248,7 @@ tick_numbered setup mesh after place now (Some n) found e all =
 
 effect_numbered : (setup : Setup) (mesh after : Mesh) (class : Class) (place now : ℕ) → effect setup class place now mesh ≡ Ok after → AllNumbered mesh.nodes → AllNumbered after.nodes
 effect_numbered setup mesh after LinkDelivery place now e all = frame_numbered setup mesh after place now (slice_get mesh.frames place) e all
+effect_numbered setup mesh after LanDelivery place now e all = lan_numbered setup mesh after now (slice_get mesh.puts place) e all
 effect_numbered setup mesh after NodeTick place now e all = tick_numbered setup mesh after place now (slice_get mesh.nodes place) refl e all
 
 happening_numbered : (setup : Setup) (mesh after : Mesh) (h : Happening) → after_happening setup h mesh ≡ Ok after → AllNumbered mesh.nodes → AllNumbered after.nodes
@@ -232,6 +263,10 @@ all_numbered queries _ _ (joins clock mesh name mac way few) = λ place node e. 
   | inr new ↦ subst (λ (n : NodeLog). Numbered n.log) (sym new) (omega arith)
 ]
 all_numbered queries _ _ (links clock mesh link way few new) = all_numbered queries clock mesh way
+all_numbered queries _ _ (lan_joins clock mesh after name gateways way few new e) =
+    all_given_numbered (scenario_setup queries) gateways clock (attachment mesh gateways) (with_lan (record { name = name; gateways = gateways }) mesh) after refl e (all_numbered queries clock mesh way)
+all_numbered queries _ _ (lan_comes clock mesh after put way by now low e) = subst AllNumbered (sym (sends_put (scenario_setup queries) put mesh after low e).nodes) (all_numbered queries clock mesh way)
+all_numbered queries _ _ (all_are_given clock mesh after places line way leaves e) = all_given_numbered (scenario_setup queries) places clock (Line line) mesh after refl e (all_numbered queries clock mesh way)
 all_numbered queries _ _ (is_given clock mesh after place given way line e) =
     given_numbered (scenario_setup queries) mesh after place clock 0 given e (λ node found. inl (of_line mesh.frames given line).0) (all_numbered queries clock mesh way)
 all_numbered queries _ _ (is_delivered clock mesh after place way e) = frame_numbered (scenario_setup queries) mesh after place clock (slice_get mesh.frames place) e (all_numbered queries clock mesh way)
@@ -256,6 +291,23 @@ not_before queries _ _ (joins clock mesh name mac way few) x h b = elim (nodes_a
   | inr l ↦ omega (arith, l)
 ]
 not_before queries _ _ (links clock mesh link way few new) x h b = not_before queries clock mesh way x (links_add_nothing mesh link x (reached queries clock mesh way).sound h) b
+not_before queries _ _ (lan_joins clock mesh after name gateways way few new e) x h b =
+    elim ((joined_later (scenario_setup queries) name gateways clock mesh after x (reached queries clock mesh way).sound e).1 h) as (λ _. clock ≤ x.moment) [
+      | inl old ↦ not_before queries clock mesh way x old (subst (λ y. Before y x) (joined_effect (scenario_setup queries) name gateways clock mesh after e).last b)
+      | inr m ↦ omega (arith, m)
+    ]
+not_before queries _ _ (lan_comes clock mesh after put way by now low e) x h b =
+    let s = put_joins (scenario_setup queries) put mesh after low e in
+    elim ((effect_later (scenario_setup queries) put.moment mesh after x (reached queries clock mesh way).sound s).1 h) as (λ _. clock ≤ x.moment) [
+      | inl old ↦ not_before queries clock mesh way x old (subst (λ y. Before y x) s.last b)
+      | inr m ↦ omega (arith, m, now)
+    ]
+not_before queries _ _ (all_are_given clock mesh after places line way leaves e) x h b =
+    let s = all_effect (scenario_setup queries) places clock (Line line) mesh after refl (λ frames. tt) e in
+    elim ((effect_later (scenario_setup queries) clock mesh after x (reached queries clock mesh way).sound s).1 h) as (λ _. clock ≤ x.moment) [
+      | inl old ↦ not_before queries clock mesh way x old (subst (λ y. Before y x) s.last b)
+      | inr m ↦ omega (arith, m)
+    ]
 not_before queries _ _ (is_given clock mesh after place given way line e) x h b =
     let l = of_line mesh.frames given line in
     let s = tickless (scenario_setup queries) mesh place clock 0 given after l.0 l.1 e in

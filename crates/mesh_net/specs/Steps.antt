@@ -8,12 +8,13 @@ use Rattle.mesh_model.specs.declared.ending.LimitName.{LimitName}
 use Rattle.mesh_model.specs.declared.ending.LimitName.TheVariants as limits
 use Rattle.mesh_model.specs.declared.frame_choice.FrameChoice.{FrameChoice}
 use Rattle.mesh_model.specs.declared.happening.Class.{Class}
-use Rattle.mesh_model.specs.declared.happening.Class.TheVariants.{LinkDelivery, NodeTick}
+use Rattle.mesh_model.specs.declared.happening.Class.TheVariants.{LinkDelivery, LanDelivery, NodeTick}
 use Rattle.mesh_model.specs.declared.happening.Happening.{Happening}
+use Rattle.mesh_model.specs.Knowledge.Known.{Knowledge}
 use Rattle.mesh_model.specs.Knowledge.Steps.{knowledge}
 use Rattle.mesh_model.specs.Net.Due.{tick_time, ticks_in}
 use Rattle.mesh_model.specs.Net.Limits.{clock_limit, scenario_setup}
-use Rattle.mesh_model.specs.Net.Mesh.{NodeLog, SentFrame, Mesh, Setup}
+use Rattle.mesh_model.specs.Net.Mesh.{NodeLog, SentFrame, LanPut, Mesh, Setup}
 use Rattle.mesh_model.specs.Net.Next.{IsNext, IsQuiet}
 use Rattle.mesh_model.specs.Net.Runs.{after_happening, begin, turn, going_on, run_to}
 use Rattle.mesh_laws.specs.Soundness.{rank}
@@ -23,8 +24,9 @@ use Rattle.mesh_model.specs.Routes.RouteLog.{RouteLog, MayTick}
 use Rattle.node_ground.specs.declared.failure.NodeErr.{NodeErr}
 use Rattle.node_ground.specs.declared.failure.NodeErr.TheVariants as node_errors
 use Rattle.mesh_node.specs.declared.input.Input.{Input}
-use Rattle.mesh_node.specs.declared.input.Input.TheVariants.{Tick, Link, Frame, Gone, Join, Leave, Wifi, Ping, Trace}
+use Rattle.mesh_node.specs.declared.input.Input.TheVariants.{Tick, Link, Lan, Attach, Frame, Gone, Join, Leave, Wifi, Ping, Trace}
 use Rattle.node_ground.specs.OwnStands.{newest_moment}
+use Rattle.mesh_node.specs.NodeStands.{MayFollow}
 use Rattle.mesh_net.specs.declared.failure.NetErr.{NetErr}
 use Rattle.mesh_net.specs.declared.failure.NetErr.TheVariants as net_errors
 use Rattle.mesh_net.specs.declared.net.Net.{Net}
@@ -40,6 +42,8 @@ use Rattle.mesh_net.specs.Tells.{Ran, StepTells}
 abbrev pub ticks_with : ℕ → Input → ℕ
 ticks_with ticks (Tick index) = index
 ticks_with ticks (Link from tp bytes) = ticks
+ticks_with ticks (Lan bytes) = ticks
+ticks_with ticks (Attach lan gateways) = ticks
 ticks_with ticks (Frame src dst vid text) = ticks
 ticks_with ticks (Gone key) = ticks
 ticks_with ticks (Join key) = ticks
@@ -52,6 +56,8 @@ ticks_with ticks (Trace target) = ticks
 abbrev pub Counts : ℕ → Input → Type 0
 Counts ticks (Tick index) = index ≡ suc ticks
 Counts ticks (Link from tp bytes) = ⊤
+Counts ticks (Lan bytes) = ⊤
+Counts ticks (Attach lan gateways) = ⊤
 Counts ticks (Frame src dst vid text) = ⊤
 Counts ticks (Gone key) = ⊤
 Counts ticks (Join key) = ⊤
@@ -79,6 +85,20 @@ pub record Stage {A : Type 0} (queries : Mac → Queries) (stands : A → Mac �
 abbrev pub CountsOn : ℕ → Input → Mesh → Type 0
 CountsOn place input mesh =
     (row : NodeLog) → slice_get mesh.nodes place ≡ Some row → Counts (ticks_in row.log) input
+
+-- nodes stand amid some step at a moment
+pub record HasStage {A : Type 0} (queries : Mac → Queries) (stands : A → Mac → RouteLog → Type 0)
+    (seats : List (Seat A)) (post : Post) (now : ℕ) : Type 0 where
+  pub older : List Sending
+  pub last : Happening
+  pub ticks : List Happening
+  pub mesh : Mesh
+  pub stage : Stage queries stands seats post older last ticks now mesh
+
+-- an input may come to any node at any time: it is no tick
+pub record IsTickless (input : Input) : Type 0 where
+  pub follows : (known : Knowledge) → MayFollow known input
+  pub counts : (ticks : ℕ) → Counts ticks input
 
 -- something was tried amid a step: the mesh after it
 pub record Tried {A : Type 0} (queries : Mac → Queries) (stands : A → Mac → RouteLog → Type 0)
@@ -108,6 +128,11 @@ pub record Begun {A : Type 0} (queries : Mac → Queries) (stands : A → Mac �
   pub settled : net.post.fresh.items ≡ []
   pub stage : Stage queries stands net.seats.items net.post net.sent last ticks now mesh
 
+-- a step of a net may begin now
+abbrev pub MayBegin : {A : Type 0} → (Mac → Queries) → (A → Mac → RouteLog → Type 0) → Net A
+    → Type 0
+MayBegin queries stands net = HasStage queries stands net.seats.items net.post net.clock
+
 -- something was tried in such a step of a net
 abbrev pub Gave : {A : Type 0} → (Mac → Queries) → (A → Mac → RouteLog → Type 0) → Net A
     → FrameChoice → Happening → List Happening → Mesh → List Event → List Event → Attempt → Type 0
@@ -126,6 +151,11 @@ pub record KeepsNet {A : Type 0} (old new : Net A) : Type 0 where
 abbrev pub AreOnLinks : Mesh → Type 0
 AreOnLinks mesh = (place : ℕ) (frame : SentFrame) → slice_get mesh.frames place ≡ Some frame
     → frame.link < length mesh.links
+
+-- each LAN frame was put on a LAN
+abbrev pub AreOnLans : Mesh → Type 0
+AreOnLans mesh = (place : ℕ) (put : LanPut) → slice_get mesh.puts place ≡ Some put
+    → put.lan < length mesh.lans
 
 -- the node at a place of a net may tick at a moment
 pub record MayTickAt {A : Type 0} (queries : Mac → Queries) (stands : A → Mac → RouteLog → Type 0)
@@ -146,6 +176,7 @@ tick_now place now = record { moment = now; class = NodeTick; place = place }
 -- the node too
 abbrev pub ticks_amid : Class → ℕ → ℕ → List Happening → List Happening
 ticks_amid LinkDelivery place now others = others
+ticks_amid LanDelivery place now others = others
 ticks_amid NodeTick place now others = tick_now place (now + tick_time) ∷ others
 
 -- ---- the end of a step
@@ -173,6 +204,17 @@ pub record Settled {A : Type 0} (old new : Net A) : Type 0 where
   pub clock : new.clock ≡ old.clock
   pub last : new.last ≡ old.last
   pub dead : new.dead ≡ old.dead
+
+-- something was given in a step of a net, and what it sent stands behind the others
+pub record GaveAndKept {A : Type 0} (queries : Mac → Queries)
+    (stands : A → Mac → RouteLog → Type 0) (old new : Net A) (choice : FrameChoice)
+    (last : Happening) (ticks : List Happening) (before : Mesh) (attempt : Attempt) : Type 0 where
+  pub amid : Net A
+  pub told : List Event
+  pub log : List Event
+  pub gave : Gave queries stands amid choice last ticks before told log attempt
+  pub kept : KeepsNet old amid
+  pub settled : Settled amid new
 
 -- the next happening until a moment was carried out
 pub record Stepped {A : Type 0} (queries : Mac → Queries) (stands : A → Mac → RouteLog → Type 0)

@@ -1,23 +1,25 @@
 -- What the calls of a net tell: what a step or a run leaves in the log of events, how far a run
--- came, that what is told of tables is right, and what each refusal means. The main words are `Ran`,
--- `TellsRightly` and `RunTells`.
+-- came, that all gateways of a LAN have the same claims, that what is told of tables is right, and
+-- what each refusal means. The main words are `Ran`, `TellsRightly` and `RunTells`.
 use Rattle.std.specs.Prelude.{◌≡◌, ℕ, ◌<◌, ◌≤◌, ◌⊎◌, Bool, true, false, List, ◌++◌, filter, length, Some, Ok, Err}
 use Rattle.std.specs.Fn.{iterate}
 use Rattle.mesh_base.specs.declared.address.Mac.{Mac}
 use Rattle.mesh_base.specs.declared.event.Event.{Event}
 use Rattle.mesh_model.specs.declared.ending.LimitName.{LimitName}
-use Rattle.mesh_model.specs.declared.ending.LimitName.TheVariants.{Nodes, Links, Clock}
+use Rattle.mesh_model.specs.declared.ending.LimitName.TheVariants.{Nodes, Links, Lans, Clock}
 use Rattle.mesh_model.specs.declared.frame_choice.FrameChoice.{FrameChoice}
 use Rattle.mesh_model.specs.Net.Mesh.{NetLink, Mesh, Setup}
 use Rattle.mesh_model.specs.Net.Sending.{Attempt}
 use Rattle.mesh_model.specs.Net.Runs.{begin, turn, going_on, run_to}
 use Rattle.mesh_model.specs.Net.Next.{IsQuiet}
-use Rattle.mesh_model.specs.Net.Limits.{nodes_limit, links_limit, clock_limit}
+use Rattle.mesh_model.specs.Net.Lans.{joins_lan}
+use Rattle.mesh_model.specs.Net.Limits.{nodes_limit, links_limit, lans_limit, clock_limit, scenario_setup}
 use Rattle.mesh_model.specs.Routes.Queries.{Queries}
 use Rattle.mesh_model.specs.Routes.RouteLog.{RouteLog}
 use Rattle.mesh_model.specs.Run.Passing.{events_since}
 use Rattle.mesh_model.specs.Run.Steps.{new_node}
 use Rattle.mesh_model.specs.Text.Events.{is_shown}
+use Rattle.mesh_laws.specs.GatewayLaws.{LansStand}
 use Rattle.mesh_tie.specs.NetTables.{GainsAreRight, IsTellable, TablesAreRight}
 use Rattle.mesh_tie.specs.TieLaws.{AllKeep}
 use Rattle.mesh_net.specs.declared.failure.NetErr.{NetErr}
@@ -32,6 +34,14 @@ abbrev pub Gains : FrameChoice → Mesh → Mesh → List Event → List Event �
 Gains choice before after old new =
     new ≡ old ++ filter (is_shown choice) (events_since before after)
 
+-- a net stands for the mesh after a step
+pub record StandsAfter {A : Type 0} (queries : Mac → Queries)
+    (stands : A → Mac → RouteLog → Type 0) (net : Net A) (choice : FrameChoice) (clock : ℕ)
+    (attempt : Attempt) : Type 0 where
+  pub after : Mesh
+  pub is : attempt ≡ Ok after
+  pub standing : NetStands queries stands net choice clock after
+
 -- a step at the clock was carried out: what the net stands for then, and what the log gained
 pub record Carried {A : Type 0} (queries : Mac → Queries) (stands : A → Mac → RouteLog → Type 0)
     (net : Net A) (choice : FrameChoice) (clock : ℕ) (before : Mesh) (old new : List Event)
@@ -41,16 +51,17 @@ pub record Carried {A : Type 0} (queries : Mac → Queries) (stands : A → Mac 
   pub standing : NetStands queries stands net choice clock after
   pub gains : Gains choice before after old new
 
--- a net stands for a mesh behind a call whose tables are right, as are the events that the log
--- gained: each frame that was sent by table is for a client that the addressee's commit names, as
--- its sender was told last when it sent the frame. Where an event told of an alias of an originator,
--- this says nothing of it
+-- a net stands for a mesh behind a call whose LANs stand, with gateways that have the same claims,
+-- and whose tables are right, as are the events that the log gained: each frame that was sent by
+-- table is for a client that the addressee's commit names, as its sender was told last when it sent
+-- the frame. Where an event told of an alias of an originator, this says nothing of it
 pub record TellsRightly {A : Type 0} (queries : Mac → Queries)
     (stands : A → Mac → RouteLog → Type 0) (net : Net A) (choice : FrameChoice) (before : Mesh)
     (old new : List Event) : Type 0 where
   pub clock : ℕ
   pub after : Mesh
   pub standing : NetStands queries stands net choice clock after
+  pub lans : LansStand after
   pub tables : AllKeep queries → IsTellable after → TablesAreRight queries after
   pub events : AllKeep queries → IsTellable after → GainsAreRight queries before after old new
 
@@ -75,6 +86,22 @@ pub record HasLinked {A : Type 0} (queries : Mac → Queries) (stands : A → Ma
     : Type 0 where
   pub room : length before.links < links_limit
   pub standing : NetStands queries stands net choice clock (with_link link before)
+
+-- a LAN joined at a place, with gateways at these places, whatever its name is
+pub record HasJoinedLan {A : Type 0} (queries : Mac → Queries)
+    (stands : A → Mac → RouteLog → Type 0) (net : Net A) (choice : FrameChoice) (clock : ℕ)
+    (before : Mesh) (gateways : List ℕ) (place : ℕ) : Type 0 where
+  pub place_is : place ≡ length before.lans
+  pub room : length before.lans < lans_limit
+  pub joined : (name : List ℕ)
+      → StandsAfter queries stands net choice clock
+      (joins_lan (scenario_setup queries) name gateways clock before)
+
+-- why a LAN doesn't join so many
+abbrev pub LanTells : ℕ → NetErr → Type 0
+LanTells count (Limit limit) = (limit ≡ Lans) × (lans_limit ≤ count)
+LanTells count Dead = ⊥
+LanTells count Memory = count < lans_limit
 
 -- why a node doesn't join so many
 abbrev pub NodeTells : ℕ → NetErr → Type 0

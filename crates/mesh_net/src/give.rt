@@ -104,6 +104,8 @@ fn ticks_with(ticks: u64, input: &Input<'_>) -> u64
     match *input {
         Input::Tick { index } => index,
         Input::Link { .. }
+        | Input::Lan { .. }
+        | Input::Attach { .. }
         | Input::Frame { .. }
         | Input::Gone { .. }
         | Input::Join { .. }

@@ -1,12 +1,14 @@
-//! The net: nodes and links between them. Happenings are carried out one after another, each exactly
-//! in its order.
+//! The net: nodes, links between them, and LANs beside them. Happenings are carried out one after
+//! another, each exactly in its order.
 
 #![tactic(auto)]
 
 mod failure;
+mod gateways;
 mod give;
 mod joins;
 mod kept;
+mod lans;
 mod link;
 mod net;
 mod runs;

@@ -31,7 +31,8 @@ impl<A: Algo + Drop> Net<A> {
             OnOk result
             (TellsRightly A.queries A.stands self.new choice mesh log.old log.new) }
 
-        // The first cause counts: an earlier refusal, the clock, the first limit or want of memory.
+        // An earlier refusal comes first, then the clock; want of memory may stand in place of a
+        // limit.
         ensures cause { (choice : FrameChoice) (clock : ℕ) (mesh : Mesh) →
             NetStands A.queries A.stands self.old choice clock mesh →
             IfErr result (RunTells (scenario_setup A.queries) choice mesh t log.old log.new) }
@@ -59,7 +60,8 @@ impl<A: Algo + Drop> Net<A> {
             OnOk result
             (TellsRightly A.queries A.stands self.new choice mesh log.old log.new) }
 
-        // The first cause counts: an earlier refusal, the clock, the first limit or want of memory.
+        // An earlier refusal comes first, then the clock; want of memory may stand in place of a
+        // limit.
         ensures cause { (choice : FrameChoice) (clock : ℕ) (mesh : Mesh) →
             NetStands A.queries A.stands self.old choice clock mesh →
             IfErr result (RunTells (scenario_setup A.queries) choice mesh t log.old log.new) }

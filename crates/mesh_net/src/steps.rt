@@ -12,7 +12,7 @@ ghost use Rattle.mesh_net.specs.NetStands.{NetStands, IsNet, IsDead};
 ghost use Rattle.mesh_net.specs.declared.seat.Seat.{Seat};
 ghost use Rattle.mesh_net.specs.Given.{GiveTells};
 ghost use Rattle.mesh_post.specs.Sent.{Grew};
-ghost use Rattle.mesh_net.specs.Steps.{AreOnLinks, Begun, Gave, HasNodes, KeepsNet, MayTickAt, Settled, SettleTells, net_error, tick_now, ticks_amid};
+ghost use Rattle.mesh_net.specs.Steps.{AreOnLans, AreOnLinks, Begun, Gave, HasNodes, HasStage, KeepsNet, MayTickAt, Settled, SettleTells, net_error, tick_now, ticks_amid};
 ghost use Rattle.mesh_net.specs.Reached.{IsOfLine};
 ghost use Rattle.mesh_net.specs.Tells.{Carried, StepTells, TellsRightly};
 
@@ -41,7 +41,7 @@ impl<A: Algo + Drop> Net<A> {
             OnOk result
             (TellsRightly A.queries A.stands self.new choice mesh log.old log.new) }
 
-        // The first cause counts: an earlier refusal, the limit, memory.
+        // An earlier refusal comes first; want of memory may stand in place of a limit.
         ensures cause { (choice : FrameChoice) (clock : ℕ) (mesh : Mesh) →
             NetStands A.queries A.stands self.old choice clock mesh →
             IfErr result (StepTells
@@ -71,7 +71,7 @@ impl<A: Algo + Drop> Net<A> {
             OnOk result
             (TellsRightly A.queries A.stands self.new choice mesh log.old log.new) }
 
-        // The first cause counts: an earlier refusal, the limit, memory.
+        // An earlier refusal comes first; want of memory may stand in place of a limit.
         ensures cause { (choice : FrameChoice) (clock : ℕ) (mesh : Mesh) →
             NetStands A.queries A.stands self.old choice clock mesh →
             IfErr result
@@ -188,18 +188,18 @@ impl<A: Algo + Drop> Net<A> {
 
     // Carries out what happens.
     pub(crate) fn happen(&mut self, h: Happening, log: &mut Events) -> Result<(), NodeErr>
-        requires nodes { HasNodes A.queries A.stands self.old h.moment }
+        requires stage { HasStage A.queries A.stands self.old.seats.items self.old.post h.moment }
         requires tick { h.class ≡ NodeTick →
             MayTickAt A.queries A.stands self.old h.place h.moment }
         ensures given { (choice : FrameChoice) (last : Happening) (others : List Happening)
             (mesh : Mesh) → Begun A.queries A.stands self.old choice last others h.moment mesh →
-            AreOnLinks mesh →
+            AreOnLinks mesh → AreOnLans mesh →
             OnOk result (Gave A.queries A.stands self.new choice last
             (ticks_amid h.class h.place h.moment others) mesh log.old log.new
             (effect (scenario_setup A.queries) h.class h.place h.moment mesh)) }
         ensures cause { (choice : FrameChoice) (last : Happening) (others : List Happening)
             (mesh : Mesh) → Begun A.queries A.stands self.old choice last others h.moment mesh →
-            AreOnLinks mesh →
+            AreOnLinks mesh → AreOnLans mesh →
             IfErr result (GiveTells
             (effect (scenario_setup A.queries) h.class h.place h.moment mesh)) }
         ensures kept { KeepsNet self.old self.new }
@@ -207,6 +207,7 @@ impl<A: Algo + Drop> Net<A> {
     {
         match h.class {
             Class::LinkDelivery => self.deliver_at(h.place, h.moment, log),
+            Class::LanDelivery => self.deliver_on_lan(h.place, h.moment, log),
             Class::NodeTick => self.tick_at(h.place, h.moment, log),
         }
     }
@@ -244,7 +245,7 @@ impl<A: Algo + Drop> Net<A> {
     }
 
     // Puts the sendings of a step behind the others.
-    fn keep_sendings(&mut self) -> Result<(), NetErr>
+    pub(crate) fn keep_sendings(&mut self) -> Result<(), NetErr>
         ensures ok { OnOk result (Settled self.old self.new) }
         ensures err { IfErr result (λ error. error ≡ NetErr.Memory) }
     {

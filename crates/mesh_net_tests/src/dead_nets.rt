@@ -36,6 +36,9 @@ enum Call {
     Deliver,
     AddNode,
     AddLink,
+    AddLan,
+    LanFrame,
+    InputAll,
 }
 
 // What a net that refused a call answers to a further one.
@@ -60,6 +63,11 @@ fn answer(alloc: Global, mut net: Net<Iv>, call: Call, log: &mut Events) -> Resu
             };
             net.add_link(0, 1, &link)?;
         }
+        Call::AddLan => {
+            let _place = net.add_lan(&[0])?;
+        }
+        Call::LanFrame => net.lan_frame(0, Bytes::from_vec(Vec::new(alloc)), log)?,
+        Call::InputAll => net.input_all(0, &Input::Wifi(true), log)?,
     }
     Ok(())
 }
@@ -73,6 +81,9 @@ fn no_call_is_carried_out_after_a_refusal(rt: HostRuntime) {
         Call::Deliver,
         Call::AddNode,
         Call::AddLink,
+        Call::AddLan,
+        Call::LanFrame,
+        Call::InputAll,
     ];
     let mut log = Events::new(rt.alloc());
     for call in calls {

@@ -3,12 +3,10 @@ use Rattle.std.proofs.Common.{◌≡◌, ◌≤◌, ℕ, Bool, true, false, List
 use Rattle.std.specs.Prelude.{filter_map, if◌then◌else◌}
 use Rattle.mesh_base.specs.declared.address.Mac.{Mac}
 use Rattle.mesh_base.specs.declared.client.Key.{Key}
-use Rattle.mesh_base.specs.declared.client.Vid.{Vid}
-use Rattle.mesh_model.specs.Acts.Rows.{own_by}
 use Rattle.mesh_model.specs.Clients.Limits.{clients_limit, limit_of_mention, limit_of_mentions}
-use Rattle.mesh_model.specs.Clients.Log.{Log, Tick, LinkFrame, Line, Gone, Join, Leave, Sets}
+use Rattle.mesh_model.specs.Clients.Log.{Log, Tick, LinkFrame, Line, Attach, Gone, Join, Leave, Sets}
 use Rattle.mesh_model.specs.Clients.Settings.{Wifi}
-use Rattle.mesh_model.specs.Clients.Mentions.{Mention, Departed, Joined, Left, key_of, mentions, roamed, roamed_by, sighted_after}
+use Rattle.mesh_model.specs.Clients.Mentions.{Mention, Departed, Joined, Left, mentions, roamed, roamed_by}
 use Rattle.mesh_model.specs.Commits.History.{History, after_tick, with_message, committed, first_history, history, is_commit_tick, present_table}
 use Rattle.mesh_model.specs.Commits.Versions.{last_commit}
 use Rattle.mesh_model.specs.Packets.FirstPacket.{Packet}
@@ -16,8 +14,7 @@ use Rattle.mesh_model.specs.Packets.LinkFrame.{link_frame}
 use Rattle.mesh_model.specs.Routes.Queries.{Queries}
 use Rattle.mesh_node.specs.NodeStands.{given_session}
 use Rattle.node_ground.specs.OwnStands.{with_input}
-use Rattle.node_ground.specs.OwnStands.{AreFew, HasClients, OwnStands, newest_moment}
-use Rattle.mesh_laws.proofs.FewLemmas.{few_with}
+use Rattle.node_ground.specs.OwnStands.{AreFew, HasClients, newest_moment}
 use Rattle.node_clients.proofs.RoamingLemmas.{named}
 use Rattle.node_tables.proofs.TickLemmas.{committed_few}
 use Rattle.tt_local.specs.Locals.{LocalsStand, LocalsView}
@@ -131,6 +128,16 @@ has_left q old new me log now key has late stand = record {
 pub has_set : (q : Queries) (locals : LocalsView) (me : Mac) (log : Log) (now : ℕ) (on : Bool) → HasClients locals me log → newest_moment log ≤ now
     → HasClients locals me (with_input q me log now (Line (Sets (Wifi on))))
 has_set q locals me log now on has late = record {
+  since = has.since;
+  stand = has.stand;
+  settled = (let settled = has.settled in omega (arith, settled, late));
+  few = few_later (mentions me log) (history me log) (newest_moment log) now has.few late;
+}
+
+-- after a LAN was joined
+pub has_attached : (q : Queries) (locals : LocalsView) (me : Mac) (log : Log) (now lan : ℕ) (gateways : List Mac) → HasClients locals me log → newest_moment log ≤ now
+    → HasClients locals me (with_input q me log now (Line (Attach lan gateways)))
+has_attached q locals me log now lan gateways has late = record {
   since = has.since;
   stand = has.stand;
   settled = (let settled = has.settled in omega (arith, settled, late));

@@ -1,28 +1,21 @@
 -- The row of a packet that is an originator message.
-use Rattle.mesh_model.specs.Packets.Numbers.{first_ttl}
-use Rattle.std.proofs.Common.{◌≡◌, ◌⊎◌, inl, inr, ℕ, Bool, true, false, List, [], refl, sym, ap, subst, ◌∙◌, Option, Some, Result, Ok}
-use Rattle.std.specs.Prelude.{if◌then◌else◌}
+use Rattle.std.proofs.Common.{◌≡◌, ◌⊎◌, inl, inr, ℕ, refl, sym, subst, Option, Result}
 use Rattle.mesh_base.specs.declared.address.Mac.{Mac}
 use Rattle.mesh_model.specs.declared.act.Act.{Act}
 use Rattle.mesh_model.specs.declared.ending.LimitName.{LimitName}
 use Rattle.mesh_model.specs.declared.packet.Head.{Head}
-use Rattle.mesh_model.specs.declared.packet.Head.TheVariants.{IvOgm, Ogm2, Utvlv}
-use Rattle.mesh_model.specs.declared.table_outcome.Request.{Request}
-use Rattle.mesh_model.specs.declared.route.Hearing.{Hearing}
-use Rattle.mesh_model.specs.Acts.Packing.{request_containers, sent_over}
-use Rattle.mesh_model.specs.Acts.Rows.{Own, accepted_acts, head_acts, message_acts, ogm_acts, packet_acts, taken_acts}
-use Rattle.mesh_model.specs.Acts.TableRows.{request_acts}
+use Rattle.mesh_model.specs.declared.packet.Head.TheVariants.{IvOgm, Ogm2}
+use Rattle.mesh_model.specs.Acts.Rows.{Own, head_acts, packet_acts, taken_acts}
 use Rattle.mesh_model.specs.Knowledge.Known.{Knowledge}
 use Rattle.mesh_model.specs.Knowledge.Steps.{Coming}
-use Rattle.mesh_model.specs.Knowledge.Told.{Message, message_by, message_with, stamp_told}
+use Rattle.mesh_model.specs.Knowledge.Told.{message_by, message_with}
 use Rattle.mesh_model.specs.Packets.Bodies.{TtData}
 use Rattle.mesh_model.specs.Packets.Containers.{containers_of}
 use Rattle.mesh_model.specs.Packets.Contents.{first_table}
 use Rattle.mesh_model.specs.Packets.FirstPacket.{Packet}
 use Rattle.mesh_model.specs.Routes.Queries.{Queries}
 use Rattle.node_ground.specs.declared.failure.NodeErr.{NodeErr}
-use Rattle.node_ground.specs.Puts.{TakesAll, StopsAt, Puts}
-use Rattle.node_ground.proofs.PutsLemmas.{puts_behind, stops_among}
+use Rattle.node_ground.specs.Puts.{Puts}
 
 module _ {P : Type 0} (takes : P → Act → P → Type 0) (same : P → P → Type 0) (over : P → Act → Option LimitName) where
   row_by_head : (q : Queries) (me : Mac) (own : Own) (came : Coming) (known : Knowledge) (packet : Packet) (orig : Mac) (head : Head) (result : Result Unit NodeErr) (old new : P)

@@ -16,15 +16,17 @@ use Rattle.node_ground.specs.KnowledgeStands.{KnowledgeStands, coming}
 use Rattle.node_ground.specs.OwnStands.{OwnStands}
 use Rattle.node_ground.specs.Puts.{Puts}
 use Rattle.node_ground.proofs.PutsLemmas.{puts_behind, stops_among}
+use Rattle.node_lans.specs.BridgeStands.{BridgeStands}
+use Rattle.node_lans.specs.declared.bridge.Bridge as kept_bridge
 use Rattle.tt_local.specs.Locals.{LocalsView}
 
 module _ {A P : Type 0} (stands : A → Mac → RouteLog → Type 0) (queries : Mac → Queries)
     (takes : P → Act → P → Type 0) (same : P → P → Type 0) (over : P → Act → Option LimitName)
-    (locals : LocalsView) (me : Mac) (came : arrived.Coming) where
+    (locals : LocalsView) (bridge : kept_bridge.Bridge) (me : Mac) (came : arrived.Coming) where
   -- what the rest leaves is what the whole leaves, by what is known before the whole and before the rest
   pub record IsBetween (way : Coming) (whole rest : List Packet) (begin here : Knowledge) (old mid : P) : Type 0 where
     pub heard : after_packets (queries me) me way here rest ≡ after_packets (queries me) me way begin whole
-    pub puts : (own : Own) → OwnStands locals own came.now → (result : Result Unit NodeErr) (new : P)
+    pub puts : (own : Own) → OwnStands locals own came.now → BridgeStands bridge me own.bridge → (result : Result Unit NodeErr) (new : P)
         → Puts takes same over mid (packets_acts (queries me) me own way here rest) result new
         → Puts takes same over old (packets_acts (queries me) me own way begin whole) result new
 
@@ -36,13 +38,13 @@ module _ {A P : Type 0} (stands : A → Mac → RouteLog → Type 0) (queries : 
   -- before the first
   pub begins : (whole : List Packet) (kept : NodeKnowledge A) (port : P) → IsUnderway whole whole kept kept port port
   begins whole kept port = record {
-    each = λ known number is. (known, is, record { heard = refl; puts = λ own owns result new puts. puts });
+    each = λ known number is. (known, is, record { heard = refl; puts = λ own owns bridged result new puts. puts });
   }
 
   -- behind one more
   pub goes_on : (whole rest : List Packet) (packet : Packet) (first kept next : NodeKnowledge A) (old mid new : P) → IsUnderway whole (packet ∷ rest) first kept old mid
       → ((known : Knowledge) (number : ℕ) → KnowledgeStands stands kept me known → KnowledgeStands stands next me (after_packet (queries me) me (coming came number) known packet))
-      → ((known : Knowledge) (own : Own) (number : ℕ) → KnowledgeStands stands kept me known → OwnStands locals own came.now
+      → ((known : Knowledge) (own : Own) (number : ℕ) → KnowledgeStands stands kept me known → OwnStands locals own came.now → BridgeStands bridge me own.bridge
       → Puts takes same over mid (packet_acts (queries me) me own (coming came number) known packet) (Ok tt) new)
       → IsUnderway whole rest first next old new
   unfolding packets_acts
@@ -54,9 +56,9 @@ module _ {A P : Type 0} (stands : A → Mac → RouteLog → Type 0) (queries : 
           noted at.0 number at.1,
           record {
             heard = at.2.heard;
-            puts = λ own owns result end puts. at.2.puts own owns result end
+            puts = λ own owns bridged result end puts. at.2.puts own owns bridged result end
                 (puts_behind takes same over mid new end (packet_acts (queries me) me own (coming came number) at.0 packet)
-                (packets_acts (queries me) me own (coming came number) then rest) result (put at.0 own number at.1 owns) puts);
+                (packets_acts (queries me) me own (coming came number) then rest) result (put at.0 own number at.1 owns bridged) puts);
           },
         );
   }
@@ -64,15 +66,15 @@ module _ {A P : Type 0} (stands : A → Mac → RouteLog → Type 0) (queries : 
   -- it stops at one
   pub stops : (whole rest : List Packet) (packet : Packet) (first kept : NodeKnowledge A) (old mid new : P) (error : NodeErr)
       → IsUnderway whole (packet ∷ rest) first kept old mid
-      → ((known : Knowledge) (own : Own) (number : ℕ) → KnowledgeStands stands kept me known → OwnStands locals own came.now
+      → ((known : Knowledge) (own : Own) (number : ℕ) → KnowledgeStands stands kept me known → OwnStands locals own came.now → BridgeStands bridge me own.bridge
       → Puts takes same over mid (packet_acts (queries me) me own (coming came number) known packet) (Err error) new)
-      → (known : Knowledge) (own : Own) (number : ℕ) → KnowledgeStands stands first me known → OwnStands locals own came.now
+      → (known : Knowledge) (own : Own) (number : ℕ) → KnowledgeStands stands first me known → OwnStands locals own came.now → BridgeStands bridge me own.bridge
       → Puts takes same over old (packets_acts (queries me) me own (coming came number) known whole) (Err error) new
   unfolding packets_acts
-  stops whole rest packet first kept old mid new error way put known own number is owns =
+  stops whole rest packet first kept old mid new error way put known own number is owns bridged =
       let at = way.each known number is in
-      at.2.puts own owns (Err error) new (stops_among takes same over error mid new (packet_acts (queries me) me own (coming came number) at.0 packet)
-      (packets_acts (queries me) me own (coming came number) (after_packet (queries me) me (coming came number) at.0 packet) rest) (put at.0 own number at.1 owns))
+      at.2.puts own owns bridged (Err error) new (stops_among takes same over error mid new (packet_acts (queries me) me own (coming came number) at.0 packet)
+      (packets_acts (queries me) me own (coming came number) (after_packet (queries me) me (coming came number) at.0 packet) rest) (put at.0 own number at.1 owns bridged))
 
   -- behind the last
   pub ends_noted : (whole : List Packet) (first kept : NodeKnowledge A) (old mid : P) → IsUnderway whole [] first kept old mid
@@ -83,7 +85,7 @@ module _ {A P : Type 0} (stands : A → Mac → RouteLog → Type 0) (queries : 
       subst (λ here. KnowledgeStands stands kept me here) at.2.heard at.1
 
   pub ends_put : (whole : List Packet) (first kept : NodeKnowledge A) (old mid : P) → IsUnderway whole [] first kept old mid
-      → (known : Knowledge) (own : Own) (number : ℕ) → KnowledgeStands stands first me known → OwnStands locals own came.now
+      → (known : Knowledge) (own : Own) (number : ℕ) → KnowledgeStands stands first me known → OwnStands locals own came.now → BridgeStands bridge me own.bridge
       → Puts takes same over old (packets_acts (queries me) me own (coming came number) known whole) (Ok tt) mid
   unfolding packets_acts
-  ends_put whole first kept old mid way known own number is owns = (way.each known number is).2.puts own owns (Ok tt) mid refl
+  ends_put whole first kept old mid way known own number is owns bridged = (way.each known number is).2.puts own owns bridged (Ok tt) mid refl

@@ -1,8 +1,9 @@
 -- What a node stands for: the log of the node of an address. What it keeps of the others stands for
--- what it knows by that log, its local clients for the mentions and the commits there, and it has
--- refused nothing. `stands` is the algorithm's own word. The main word is `NodeStands`.
+-- what it knows by that log, its local clients for the mentions and the commits there, its bridge for
+-- the LAN and the claims there, and it has refused nothing. `stands` is the algorithm's own word. The main word is `NodeStands`.
 use Rattle.std.specs.Prelude.{◌≡◌, ◌≤◌, ℕ, Bool, true, false, ⊤}
 use Rattle.mesh_base.specs.declared.address.Mac.{Mac}
+use Rattle.mesh_model.specs.Clients.Lans.{bridge}
 use Rattle.mesh_model.specs.Clients.Log.{Given, Log}
 use Rattle.mesh_model.specs.Clients.Log as log
 use Rattle.mesh_model.specs.Clients.Settings as settings
@@ -13,8 +14,9 @@ use Rattle.mesh_model.specs.Routes.Queries.{Queries}
 use Rattle.mesh_model.specs.Routes.RouteLog.{RouteLog, MayTick}
 use Rattle.node_ground.specs.KnowledgeStands.{KnowledgeStands}
 use Rattle.node_ground.specs.OwnStands.{HasClients, newest_moment}
+use Rattle.node_lans.specs.BridgeStands.{BridgeStands}
 use Rattle.mesh_node.specs.declared.input.Input.{Input}
-use Rattle.mesh_node.specs.declared.input.Input.TheVariants.{Tick, Link, Frame, Gone, Join, Leave, Wifi, Ping, Trace}
+use Rattle.mesh_node.specs.declared.input.Input.TheVariants.{Tick, Link, Lan, Attach, Frame, Gone, Join, Leave, Wifi, Ping, Trace}
 use Rattle.mesh_node.specs.declared.node.Node.{Node}
 
 -- the node stands for this log of the node of an address
@@ -23,6 +25,7 @@ pub record NodeStands {A : Type 0} (stands : A → Mac → RouteLog → Type 0)
   pub mac : node.me ≡ me
   pub kept : KnowledgeStands stands node.kept me (knowledge (queries me) me log)
   pub clients : HasClients node.locals me log
+  pub bridge : BridgeStands node.bridge me (bridge log)
   pub wifi : node.wifi ≡ is_wifi_on log
   pub alive : node.dead ≡ false
 
@@ -30,6 +33,8 @@ pub record NodeStands {A : Type 0} (stands : A → Mac → RouteLog → Type 0)
 abbrev pub given_by : ℕ → Input → Given
 given_by number (Tick index) = log.Tick index
 given_by number (Link from tp bytes) = log.LinkFrame number from tp bytes.now
+given_by number (Lan bytes) = log.LanFrame bytes.now
+given_by number (Attach lan gateways) = log.Line (log.Attach lan gateways.now)
 given_by number (Frame src dst vid text) = log.Line (log.Frame src dst vid text.now)
 given_by number (Gone key) = log.Line (log.Gone key)
 given_by number (Join key) = log.Line (log.Join key)
@@ -51,6 +56,8 @@ is_dead node = node.dead
 abbrev pub MayFollow : Knowledge → Input → Type 0
 MayFollow known (Tick index) = MayTick known.routes index
 MayFollow known (Link from tp bytes) = ⊤
+MayFollow known (Lan bytes) = ⊤
+MayFollow known (Attach lan gateways) = ⊤
 MayFollow known (Frame src dst vid text) = ⊤
 MayFollow known (Gone key) = ⊤
 MayFollow known (Join key) = ⊤

@@ -1,6 +1,7 @@
 use mesh_base::{Key, Mac, Vid};
 
-/// What a node is given: a tick, a link frame, or what a line of a scenario gives it.
+/// What a node is given: a tick, a link frame, a frame of its LAN, or what a line of a scenario gives
+/// it.
 #[derive(Clone, Copy, Debug)]
 pub enum Input<'a> {
     /// A tick, by its index from 1.
@@ -12,6 +13,15 @@ pub enum Input<'a> {
         from: Mac,
         tp: u32,
         bytes: &'a [u8],
+    },
+    /// A frame on the LAN of this node.
+    Lan {
+        bytes: &'a [u8],
+    },
+    /// This node becomes a gateway of the LAN of a number, which has these gateways.
+    Attach {
+        lan: u16,
+        gateways: &'a [Mac],
     },
     /// A frame of a client at this node.
     Frame {

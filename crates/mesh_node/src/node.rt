@@ -1,20 +1,24 @@
-ghost use Rattle.std.specs.Prelude.{◌≡◌, ◌↔◌, ◌≤◌, ℕ, true, false, [], Err, OnOk, is_err};
+ghost use Rattle.std.specs.Prelude.{◌≡◌, ◌↔◌, ◌≤◌, ℕ, true, false, [], Err, option_map, OnOk, is_err};
 ghost use Rattle.mesh_base.specs.declared.address.Mac.{Mac};
 ghost use Rattle.mesh_model.specs.Acts.Choosing.{acts_of};
-ghost use Rattle.mesh_model.specs.Clients.Limits.{passed_limit};
+ghost use Rattle.mesh_model.specs.Acts.NodeLimits.{node_limit};
+ghost use Rattle.mesh_model.specs.Clients.Lans.{bridge};
 ghost use Rattle.mesh_model.specs.Clients.Log.{Given, Log};
 ghost use Rattle.mesh_model.specs.Knowledge.Steps.{knowledge};
 ghost use Rattle.mesh_node.specs.NodeStands.{NodeStands, MayTake, given_by, is_dead};
 ghost use Rattle.node_ground.specs.OwnStands.{with_input};
 ghost use Rattle.node_ground.specs.OwnStands.{HasClients, newest_moment};
 ghost use Rattle.node_ground.specs.Puts.{Leaves};
+ghost use Rattle.mesh_bla.specs.Claims.{ClaimsStand};
 ghost use Rattle.tt_global.specs.Globals.{GlobalsStand};
 ghost use Rattle.tt_sync.specs.Sync.{StandsFor};
 
 use crate::input::Input;
 use mesh_algo::Algo;
 use mesh_base::{Mac, Millis};
+use mesh_bla::Claims;
 use node_ground::{NodeErr, NodeKnowledge, Port};
+use node_lans::Bridge;
 use std::alloc::Global;
 use tt_global::Globals;
 use tt_local::Locals;
@@ -26,6 +30,7 @@ pub struct Node<A: Algo> {
     pub(crate) me: Mac,
     pub(crate) locals: Locals,
     pub(crate) kept: NodeKnowledge<A>,
+    pub(crate) bridge: Bridge,
     pub(crate) wifi: bool,
     pub(crate) dead: bool,
 }
@@ -40,6 +45,7 @@ impl<A: Algo> Node<A> {
             me,
             locals: Locals::new(alloc),
             kept: NodeKnowledge::new(alloc, algo),
+            bridge: Bridge::new(alloc, me),
             wifi: false,
             dead: false,
         }
@@ -77,6 +83,25 @@ impl<A: Algo> Node<A> {
         &self.kept.sync
     }
 
+    /// Who holds the clients of its LAN, by the claims that came on it.
+    pub fn claims(&self) -> &Claims
+        ensures { (me : Mac) (log : Log) → NodeStands A.stands A.queries self.now me log →
+            ClaimsStand result.now me (bridge log).claims }
+    {
+        &self.bridge.claims
+    }
+
+    /// The number of the LAN of which it is a gateway, from 1, or `None` where it is none.
+    pub fn lan(&self) -> Option<u16>
+        ensures { (me : Mac) (log : Log) → NodeStands A.stands A.queries self.now me log →
+            result ≡ option_map (λ lan. lan.number) (bridge log).lan }
+    {
+        match &self.bridge.lan {
+            Some(lan) => Some(lan.number),
+            None => None,
+        }
+    }
+
     /// Takes what it is given at a moment, and puts its acts into the port. After a refusal it takes
     /// nothing more.
     pub fn take<P: Port>(
@@ -88,11 +113,12 @@ impl<A: Algo> Node<A> {
         requires { is_dead self.old ≡ false → MayTake A.stands A.queries self.old now input.now }
 
         // The acts are put in order, up to the first that is refused, whatever number a link frame
-        // has; and where the input passes a limit of clients, none. Moments never fall.
+        // has; and where the input passes a limit of clients, those before the sighting. Moments
+        // never fall.
         ensures puts { (me : Mac) (log : Log) (number : ℕ) →
             NodeStands A.stands A.queries self.old me log → newest_moment log ≤ now →
             let given : Given = given_by number input.now in
-            Leaves P.takes P.same P.over (passed_limit me log now given)
+            Leaves P.takes P.same P.over (node_limit me log now given)
             port.old (acts_of (A.queries me) me log now given) result port.new }
         ensures noted { (me : Mac) (log : Log) (number : ℕ) →
             NodeStands A.stands A.queries self.old me log → newest_moment log ≤ now →

@@ -10,12 +10,14 @@ ghost use Rattle.mesh_model.specs.Packets.LinkFrame.{link_frame};
 ghost use Rattle.node_ground.specs.KnowledgeStands.{KnowledgeStands, coming};
 ghost use Rattle.node_ground.specs.OwnStands.{OwnStands};
 ghost use Rattle.node_ground.specs.Puts.{Puts};
+ghost use Rattle.node_lans.specs.BridgeStands.{BridgeStands};
 
 use mesh_algo::Algo;
 use mesh_base::Mac;
 use mesh_codec::{Head, LinkFrame, Packet};
 use node_clients::carried::{broadcast, here, passed};
 use node_ground::{Coming, NodeErr, NodeKnowledge, Place, Port};
+use node_lans::Bridge;
 use node_probes::echoes::icmp;
 use node_probes::icmp_message::IcmpMessage;
 use node_tables::containers::containers_here;
@@ -30,6 +32,7 @@ fn packet<A: Algo, P: Port>(
     kept: &mut NodeKnowledge<A>,
     port: &mut P,
     locals: &Locals,
+    bridge: &Bridge,
     me: Mac,
     came: Coming,
     packet: &Packet<'_>,
@@ -39,6 +42,7 @@ fn packet<A: Algo, P: Port>(
     requires written { HasSpelling packet.now.head packet.now.tail.now }
     ensures puts { (known : Knowledge) (own : Own) (number : ℕ) →
         KnowledgeStands A.stands kept.old me known → OwnStands locals.now own came.now →
+        BridgeStands bridge.now me own.bridge →
         Puts P.takes P.same P.over port.old
         (packet_acts (A.queries me) me own (coming came number) known (seen packet.now))
         result port.new }
@@ -53,8 +57,10 @@ fn packet<A: Algo, P: Port>(
         Head::IvOgm { orig, .. } | Head::Ogm2 { orig, .. } => {
             ogm(kept, port, me, came, orig, packet)?;
         }
-        Head::Bcast { ttl, seq, orig } => broadcast(kept, port, at, ttl, seq, orig, tail)?,
-        Head::Unicast { ttl, dst, .. } if dst == me => here(kept, port, locals, at, ttl, tail)?,
+        Head::Bcast { ttl, seq, orig } => broadcast(kept, port, bridge, at, ttl, seq, orig, tail)?,
+        Head::Unicast { ttl, dst, .. } if dst == me => {
+            here(kept, port, locals, bridge, at, ttl, tail)?;
+        }
         Head::Unicast { ttl, ttvn, dst } => passed(kept, port, at, ttl, ttvn, dst, tail)?,
         Head::Icmp {
             ttl,
@@ -75,7 +81,7 @@ fn packet<A: Algo, P: Port>(
             icmp(kept, port, at, message)?;
         }
         Head::Utvlv { dst, src, .. } if dst == me => {
-            containers_here(kept, port, locals, at, src, tail)?;
+            containers_here(kept, port, locals, bridge, at, src, tail)?;
         }
         Head::Utvlv { ttl, dst, src } => containers_past(kept, port, at, ttl, dst, src, tail)?,
         Head::Elp { .. } => elp(kept, came, &packet.head)?,
@@ -89,6 +95,7 @@ pub(crate) fn link<A: Algo, P: Port>(
     kept: &mut NodeKnowledge<A>,
     port: &mut P,
     locals: &Locals,
+    bridge: &Bridge,
     me: Mac,
     came: Coming,
     bytes: &[u8],
@@ -97,6 +104,7 @@ pub(crate) fn link<A: Algo, P: Port>(
     requires owns { (own : Own) × OwnStands locals.now own came.now }
     ensures puts { (known : Knowledge) (own : Own) (number : ℕ) →
         KnowledgeStands A.stands kept.old me known → OwnStands locals.now own came.now →
+        BridgeStands bridge.now me own.bridge →
         Puts P.takes P.same P.over port.old
         (packets_acts (A.queries me) me own (coming came number) known
         (link_frame bytes.now).packets) result port.new }
@@ -108,7 +116,7 @@ pub(crate) fn link<A: Algo, P: Port>(
 {
     let mut frame = LinkFrame::new(bytes);
     while let Ok(next) = frame.next() {
-        packet(kept, port, locals, me, came, &next)?;
+        packet(kept, port, locals, bridge, me, came, &next)?;
     }
     Ok(())
 }

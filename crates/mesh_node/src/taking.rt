@@ -1,9 +1,10 @@
 //! What a node does with what it is given: for each kind of input one function.
 
-ghost use Rattle.std.specs.Prelude.{◌≡◌, ◌≤◌, ℕ, if◌then◌else◌, OnOk};
+ghost use Rattle.std.specs.Prelude.{◌≡◌, ◌≤◌, ℕ, if◌then◌else◌, IfErr, OnOk};
 ghost use Rattle.mesh_base.specs.declared.address.Mac.{Mac};
 ghost use Rattle.mesh_codec.specs.Payloads.{seen_frame};
 ghost use Rattle.mesh_model.specs.Acts.Choosing.{acts_of, probing_acts};
+ghost use Rattle.mesh_model.specs.Acts.NodeLimits.{node_limit};
 ghost use Rattle.mesh_model.specs.Clients.Limits.{passed_limit};
 ghost use Rattle.mesh_model.specs.Clients.Log.{Given, Log};
 ghost use Rattle.mesh_model.specs.Clients.Log as given;
@@ -25,6 +26,7 @@ use mesh_base::{Key, Mac, Millis};
 use mesh_codec::ClientFrame;
 use mesh_tvlv::layout::WIFI;
 use node_clients::client_frames::frame;
+use node_clients::lan_frames::lan_frame;
 use node_clients::roaming::note_roamed;
 use node_ground::{Coming, NodeErr, Place, Port};
 use node_probes::probes::session;
@@ -42,7 +44,7 @@ impl<A: Algo> Node<A> {
         ensures puts { (me : Mac) (log : Log) (number : ℕ) →
             NodeStands A.stands A.queries self.old me log → newest_moment log ≤ now →
             let given : Given = given_by number input.now in
-            Leaves P.takes P.same P.over (passed_limit me log now given)
+            Leaves P.takes P.same P.over (node_limit me log now given)
             port.old (acts_of (A.queries me) me log now given) result port.new }
         ensures noted { (me : Mac) (log : Log) (number : ℕ) →
             NodeStands A.stands A.queries self.old me log → newest_moment log ≤ now →
@@ -55,6 +57,8 @@ impl<A: Algo> Node<A> {
             Input::Link { from, tp, bytes } => {
                 self.take_link(port, Coming { now, from, tp }, bytes)?;
             }
+            Input::Lan { bytes } => self.take_lan(port, now, bytes)?,
+            Input::Attach { lan, gateways } => self.attach(now, lan, gateways)?,
             Input::Frame {
                 src,
                 dst,
@@ -86,7 +90,7 @@ impl<A: Algo> Node<A> {
             × MayTick (knowledge (A.queries me) me log).routes index }
         ensures puts { (me : Mac) (log : Log) → NodeStands A.stands A.queries self.old me log →
             newest_moment log ≤ now →
-            Leaves P.takes P.same P.over (passed_limit me log now (given.Tick index)) port.old
+            Leaves P.takes P.same P.over (node_limit me log now (given.Tick index)) port.old
             (acts_of (A.queries me) me log now (given.Tick index)) result port.new }
         ensures noted { (me : Mac) (log : Log) → NodeStands A.stands A.queries self.old me log →
             newest_moment log ≤ now →
@@ -95,7 +99,14 @@ impl<A: Algo> Node<A> {
         ensures alive { is_dead self.new ≡ is_dead self.old }
     {
         let at = Place { me: self.me, now };
-        tick(&mut self.kept, port, &mut self.locals, at, index)?;
+        tick(
+            &mut self.kept,
+            port,
+            &mut self.locals,
+            &self.bridge,
+            at,
+            index,
+        )?;
         Ok(())
     }
 
@@ -111,7 +122,7 @@ impl<A: Algo> Node<A> {
         ensures puts { (me : Mac) (log : Log) (number : ℕ) →
             NodeStands A.stands A.queries self.old me log → newest_moment log ≤ came.now →
             let given = given.LinkFrame number came.from came.tp bytes.now in
-            Leaves P.takes P.same P.over (passed_limit me log came.now given) port.old
+            Leaves P.takes P.same P.over (node_limit me log came.now given) port.old
             (acts_of (A.queries me) me log came.now given) result port.new }
         ensures noted { (me : Mac) (log : Log) (number : ℕ) →
             NodeStands A.stands A.queries self.old me log → newest_moment log ≤ came.now →
@@ -120,8 +131,58 @@ impl<A: Algo> Node<A> {
             (with_input (A.queries me) me log came.now given)) }
         ensures alive { is_dead self.new ≡ is_dead self.old }
     {
-        link(&mut self.kept, port, &self.locals, self.me, came, bytes)?;
+        link(
+            &mut self.kept,
+            port,
+            &self.locals,
+            &self.bridge,
+            self.me,
+            came,
+            bytes,
+        )?;
         note_roamed(&mut self.locals, self.me, bytes);
+        Ok(())
+    }
+
+    // Takes a frame on its LAN.
+    fn take_lan<P: Port>(&mut self, port: &mut P, now: Millis, bytes: &[u8]) -> Result<(), NodeErr>
+        requires { (me : Mac) × (log : Log) × NodeStands A.stands A.queries self.old me log
+            × (newest_moment log ≤ now) }
+        ensures puts { (me : Mac) (log : Log) → NodeStands A.stands A.queries self.old me log →
+            newest_moment log ≤ now →
+            let given = given.LanFrame bytes.now in
+            Leaves P.takes P.same P.over (node_limit me log now given) port.old
+            (acts_of (A.queries me) me log now given) result port.new }
+        ensures noted { (me : Mac) (log : Log) → NodeStands A.stands A.queries self.old me log →
+            newest_moment log ≤ now →
+            OnOk result (NodeStands A.stands A.queries self.new me
+            (with_input (A.queries me) me log now (given.LanFrame bytes.now))) }
+        ensures alive { is_dead self.new ≡ is_dead self.old }
+    {
+        let at = Place { me: self.me, now };
+        let flags = client_flags(self.wifi);
+        lan_frame(
+            &mut self.kept,
+            port,
+            &mut self.locals,
+            &mut self.bridge,
+            at,
+            flags,
+            bytes,
+        )?;
+        Ok(())
+    }
+
+    // Becomes a gateway of a LAN.
+    fn attach(&mut self, now: Millis, lan: u16, gateways: &[Mac]) -> Result<(), NodeErr>
+        ensures memory { IfErr result (λ error. error ≡ NodeErr.Memory) }
+        ensures noted { (me : Mac) (log : Log) → NodeStands A.stands A.queries self.old me log →
+            newest_moment log ≤ now →
+            OnOk result (NodeStands A.stands A.queries self.new me
+            (with_input (A.queries me) me log now (given.Line (given.Attach lan gateways.now)))) }
+        ensures alive { is_dead self.new ≡ is_dead self.old }
+    {
+        self.bridge.attach(self.kept.alloc, lan, gateways)?;
         Ok(())
     }
 
@@ -137,7 +198,7 @@ impl<A: Algo> Node<A> {
         ensures puts { (me : Mac) (log : Log) → NodeStands A.stands A.queries self.old me log →
             newest_moment log ≤ now →
             let given = given_frame (seen_frame sent.now) in
-            Leaves P.takes P.same P.over (passed_limit me log now given) port.old
+            Leaves P.takes P.same P.over (node_limit me log now given) port.old
             (acts_of (A.queries me) me log now given) result port.new }
         ensures noted { (me : Mac) (log : Log) → NodeStands A.stands A.queries self.old me log →
             newest_moment log ≤ now →

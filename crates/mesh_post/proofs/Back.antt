@@ -2,14 +2,15 @@
 use Rattle.std.proofs.Common.{◌≡◌, ℕ, zero, suc, ◌+◌, ◌<◌, ◌≤◌, nat_eq, ◌&&◌, Bool, true, false, cond, if◌then◌else◌, List, [], ◌∷◌, ◌++◌, drop, find, length, slice_get, slice_index_or, Option, Some, None, option_and_then, refl, sym, ap, ◌∙◌, subst, arith}
 use Rattle.std.specs.Option.{option_map_or}
 use Rattle.std.proofs.lemmas.Option.{get_or_from_slice_get}
-use Rattle.mesh_model.specs.Net.Mesh.{NetLink, SentFrame, Mesh}
+use Rattle.mesh_model.specs.Net.Mesh.{NetLink, SentFrame, LanPut, Mesh}
 use Rattle.mesh_model.specs.Net.Runs.{leads, throughput_between}
 use Rattle.mesh_model.specs.Net.Sending.{ways}
 use Rattle.mesh_post.specs.declared.post.Post.{Post}
 use Rattle.mesh_post.specs.declared.row.Posted.{Posted}
+use Rattle.mesh_post.specs.declared.row.Put.{Put}
 use Rattle.mesh_post.specs.declared.row.Row.{Row}
 use Rattle.mesh_post.specs.declared.row.Sending.{Sending}
-use Rattle.mesh_post.specs.Kept.{FrameIs, FramesAre, PostStands}
+use Rattle.mesh_post.specs.Kept.{FrameIs, FramesAre, PutIs, PutsAre, PostStands}
 use Rattle.mesh_post.specs.Lanes.{row_leads, row_throughput, if_leads, first_throughput}
 use Rattle.mesh_post.proofs.Chosen.{drop_there, drop_past}
 use Rattle.mesh_post.proofs.LookUps.{got_there, some_one}
@@ -97,3 +98,18 @@ no_frame sendings [] (q ∷ kept) place posted all n e = all
 no_frame sendings (x ∷ frames) [] place posted all n e = cc
 no_frame sendings (x ∷ frames) (q ∷ kept) zero posted all n e = cc
 no_frame sendings (x ∷ frames) (q ∷ kept) (suc place) posted all n e = no_frame sendings frames kept place posted all.1 n e
+
+-- ---- the LAN frame at a place
+pub put_there : (sendings : List Sending) (puts : List LanPut) (kept : List Put) (place : ℕ) (k : Put) → PutsAre sendings puts kept → slice_get kept place ≡ Some k → (put : LanPut) × (slice_get puts place ≡ Some put) × PutIs sendings put k
+put_there sendings [] [] place k all e = cc
+put_there sendings [] (q ∷ kept) place k all e = absurd all
+put_there sendings (x ∷ puts) [] place k all e = absurd all
+put_there sendings (x ∷ puts) (q ∷ kept) zero k all e = (x, refl, subst (PutIs sendings x) (some_one q k e) all.0)
+put_there sendings (x ∷ puts) (q ∷ kept) (suc place) k all e = put_there sendings puts kept place k all.1 e
+
+pub no_put : (sendings : List Sending) (puts : List LanPut) (kept : List Put) (place : ℕ) → PutsAre sendings puts kept → slice_get kept place ≡ None → slice_get puts place ≡ None
+no_put sendings [] [] place all e = refl
+no_put sendings [] (q ∷ kept) place all e = absurd all
+no_put sendings (x ∷ puts) [] place all e = absurd all
+no_put sendings (x ∷ puts) (q ∷ kept) zero all e = cc
+no_put sendings (x ∷ puts) (q ∷ kept) (suc place) all e = no_put sendings puts kept place all.1 e

@@ -6,9 +6,9 @@ use Rattle.std.proofs.lemmas.List.{length-set}
 use Rattle.std.proofs.lemmas.Option.{get_or_from_slice_get}
 use Rattle.mesh_base.specs.declared.address.Mac.{Mac}
 use Rattle.mesh_model.specs.declared.happening.Happening.{Happening}
-use Rattle.mesh_model.specs.Net.Due.{arrivals, arrivals_over, delivery_at, deliveries, first_ticks, tick_at, ticks_in}
+use Rattle.mesh_model.specs.Net.Due.{arrivals, arrivals_over, delivery_at, deliveries, first_ticks, lan_deliveries, tick_at, ticks_in}
 use Rattle.mesh_model.specs.Net.Happenings.{Before}
-use Rattle.mesh_model.specs.Net.Mesh.{NodeLog, NetLink, SentFrame, Mesh, address_at}
+use Rattle.mesh_model.specs.Net.Mesh.{NodeLog, NetLink, SentFrame, LanPut, Mesh, address_at}
 use Rattle.mesh_model.specs.Net.Next.{Has}
 use Rattle.mesh_model.specs.Net.Sending.{frames_on, ways}
 use Rattle.mesh_laws.proofs.Schedule.Members.{has_left, has_right, has_either}
@@ -18,7 +18,7 @@ use Rattle.mesh_post.specs.declared.row.Row.{Row}
 use Rattle.mesh_post.specs.declared.row.Sending.{Sending}
 use Rattle.mesh_post.specs.Kept.{HasRow, RowIs, RowsAre, TurnsAre, WaysAre}
 use Rattle.mesh_post.specs.Sent.{InStep}
-use Rattle.mesh_post.specs.Waiting.{Awaits}
+use Rattle.mesh_post.specs.Waiting.{Awaits, all_deliveries}
 use Rattle.mesh_post.proofs.ActLemmas.{got_last}
 use Rattle.mesh_post.proofs.LookUps.{got_there, some_one}
 use Rattle.mesh_post.proofs.PostLemmas.{length_more, set_got}
@@ -93,14 +93,14 @@ ticks_more start (x ∷ xs) node =
     ∙ ap (λ p. tick_at start x (suc (ticks_in x.log)) ∷ (first_ticks (suc start) xs ++ tick_at p node (suc (ticks_in node.log)) ∷ [])) (omega arith)
 
 -- one tick more waits
-pub awaits_tick : (old new : List Happening) (last : Happening) (ticks : List Happening) (links : List NetLink) (frames : List SentFrame) (h : Happening) → Awaits old last ticks links frames → ((x : Happening) → Has new x ↔ (x ≡ h) ⊎ Has old x) → Awaits new last (ticks ++ h ∷ []) links frames
-awaits_tick old new last ticks links frames h waits joined x = (λ p. to ((joined x).0 p), from)
+pub awaits_tick : (old new : List Happening) (last : Happening) (ticks : List Happening) (links : List NetLink) (frames : List SentFrame) (puts : List LanPut) (h : Happening) → Awaits old last ticks links frames puts → ((x : Happening) → Has new x ↔ (x ≡ h) ⊎ Has old x) → Awaits new last (ticks ++ h ∷ []) links frames puts
+awaits_tick old new last ticks links frames puts h waits joined x = (λ p. to ((joined x).0 p), from)
   where
-    kept : (Has (deliveries links 0 frames) x × Before last x) ⊎ Has ticks x → (Has (deliveries links 0 frames) x × Before last x) ⊎ Has (ticks ++ h ∷ []) x
+    kept : (Has (all_deliveries links frames puts) x × Before last x) ⊎ Has ticks x → (Has (all_deliveries links frames puts) x × Before last x) ⊎ Has (ticks ++ h ∷ []) x
     kept (inl p) = inl p
     kept (inr p) = inr (has_left ticks (h ∷ []) x p)
 
-    to : (x ≡ h) ⊎ Has old x → (Has (deliveries links 0 frames) x × Before last x) ⊎ Has (ticks ++ h ∷ []) x
+    to : (x ≡ h) ⊎ Has old x → (Has (all_deliveries links frames puts) x × Before last x) ⊎ Has (ticks ++ h ∷ []) x
     to (inl e) = inr (has_right ticks (h ∷ []) x (inl e))
     to (inr p) = kept ((waits x).0 p)
 
@@ -109,7 +109,7 @@ awaits_tick old new last ticks links frames h waits joined x = (λ p. to ((joine
     one (inr (inl e)) = (joined x).1 (inl e)
     one (inr (inr p)) = absurd p
 
-    from : (Has (deliveries links 0 frames) x × Before last x) ⊎ Has (ticks ++ h ∷ []) x → Has new x
+    from : (Has (all_deliveries links frames puts) x × Before last x) ⊎ Has (ticks ++ h ∷ []) x → Has new x
     from (inl p) = (joined x).1 (inr ((waits x).1 (inl p)))
     from (inr p) = one (has_either ticks (h ∷ []) x p)
 
@@ -191,5 +191,5 @@ same_deliveries links link start (f ∷ fs) on =
     ap (λ ms. map (delivery_at start) ms ++ deliveries (links ++ link ∷ []) (suc start) fs) (same_arrivals links link f (on 0 f refl))
     ∙ ap (λ hs. map (delivery_at start) (arrivals links f) ++ hs) (same_deliveries links link (suc start) fs (λ i x e. on (suc i) x e))
 
-pub awaits_linked : (waiting : List Happening) (last : Happening) (ticks : List Happening) (links : List NetLink) (link : NetLink) (frames : List SentFrame) → AreOn links frames → Awaits waiting last ticks links frames → Awaits waiting last ticks (links ++ link ∷ []) frames
-awaits_linked waiting last ticks links link frames on waits = subst (λ hs. (x : Happening) → Has waiting x ↔ (Has hs x × Before last x) ⊎ Has ticks x) (sym (same_deliveries links link 0 frames on)) waits
+pub awaits_linked : (waiting : List Happening) (last : Happening) (ticks : List Happening) (links : List NetLink) (link : NetLink) (frames : List SentFrame) (puts : List LanPut) → AreOn links frames → Awaits waiting last ticks links frames puts → Awaits waiting last ticks (links ++ link ∷ []) frames puts
+awaits_linked waiting last ticks links link frames puts on waits = subst (λ hs. (x : Happening) → Has waiting x ↔ (Has (hs ++ lan_deliveries 0 puts) x × Before last x) ⊎ Has ticks x) (sym (same_deliveries links link 0 frames on)) waits

@@ -41,10 +41,10 @@ pub grew_both : (k m n : List Event) → Grew k m → Grew m n → Grew k n
 grew_both k m n p q = record { more = p.more ++ q.more; is = q.is ∙ ap (λ es. es ++ q.more) p.is ∙ append_assoc k p.more q.more }
 
 pub keeps_none : (post : Post) → KeepsAll post post
-keeps_none post = record { alloc = refl; rows = refl; ways = refl; older = refl; fresh = refl; choice = refl }
+keeps_none post = record { alloc = refl; rows = refl; ways = refl; lans = refl; puts = refl; older = refl; fresh = refl; choice = refl }
 
 pub keeps_both : (a b c : Post) → KeepsAll a b → KeepsAll b c → KeepsAll a c
-keeps_both a b c p q = record { alloc = q.alloc ∙ p.alloc; rows = q.rows ∙ p.rows; ways = q.ways ∙ p.ways; older = q.older ∙ p.older; fresh = q.fresh ∙ p.fresh; choice = q.choice ∙ p.choice }
+keeps_both a b c p q = record { alloc = q.alloc ∙ p.alloc; rows = q.rows ∙ p.rows; ways = q.ways ∙ p.ways; lans = q.lans ∙ p.lans; puts = q.puts ∙ p.puts; older = q.older ∙ p.older; fresh = q.fresh ∙ p.fresh; choice = q.choice ∙ p.choice }
 
 -- ---- midway
 -- the links of the first had their frame; the rest follow

@@ -9,10 +9,10 @@ use Rattle.std.specs.BTreeMap.Range.{IsLtBy, IsLeBy}
 use Rattle.mesh_model.specs.declared.happening.Happening.{Happening}
 use Rattle.mesh_model.specs.contracts.happening.HappeningOrd.TheImpl as ord
 use Rattle.mesh_model.specs.declared.happening.Class.{Class}
-use Rattle.mesh_model.specs.declared.happening.Class.TheVariants.{LinkDelivery, NodeTick}
+use Rattle.mesh_model.specs.declared.happening.Class.TheVariants.{LinkDelivery, LanDelivery, NodeTick}
 use Rattle.mesh_model.specs.Net.Happenings.{Before, happening_order, is_before}
 use Rattle.mesh_model.specs.Net.Next.{AtMost, Has}
-use Rattle.mesh_laws.proofs.Schedule.Order.{at_most_before, both_at_most, exact, not_before}
+use Rattle.mesh_laws.proofs.Schedule.Order.{both_at_most, exact, not_before}
 use Rattle.mesh_post.specs.Waiting.{IsEarliest, Joins, Leaves}
 use Rattle.mesh_post.proofs.RisingLemmas.{has_at}
 
@@ -35,8 +35,13 @@ R = ord.cmp-value.it
 
 same_order_at : (m n p q : ℕ) (a b : Class) → R (record { moment = m; class = a; place = p }) (record { moment = n; class = b; place = q }) ≡ happening_order (record { moment = m; class = a; place = p }) (record { moment = n; class = b; place = q })
 same_order_at m n p q LinkDelivery LinkDelivery = refl
+same_order_at m n p q LinkDelivery LanDelivery = refl
 same_order_at m n p q LinkDelivery NodeTick = refl
+same_order_at m n p q LanDelivery LinkDelivery = refl
+same_order_at m n p q LanDelivery LanDelivery = refl
+same_order_at m n p q LanDelivery NodeTick = refl
 same_order_at m n p q NodeTick LinkDelivery = refl
+same_order_at m n p q NodeTick LanDelivery = refl
 same_order_at m n p q NodeTick NodeTick = refl
 
 -- values of the code are ordered as happenings are

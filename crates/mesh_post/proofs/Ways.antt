@@ -13,17 +13,17 @@ use Rattle.mesh_base.specs.declared.event.Reason.{Reason}
 use Rattle.mesh_model.specs.declared.ending.LimitName.{LimitName}
 use Rattle.mesh_model.specs.declared.ending.LimitName.TheVariants.{Frames, FrameBytes}
 use Rattle.mesh_model.specs.Net.Limits.{scenario_setup, frames_limit, frame_bytes_limit}
-use Rattle.mesh_model.specs.Net.Mesh.{NodeLog, NetLink, SentFrame, Mesh, address_at}
+use Rattle.mesh_model.specs.Net.Mesh.{NodeLog, NetLink, SentFrame, LanPut, Mesh, address_at}
 use Rattle.mesh_model.specs.Net.Next.{Has}
-use Rattle.mesh_model.specs.Net.Sending.{Attempt, Actor, frames_on, frames_over, total_bytes, goes_to, ways, end_of, sent_events, with_frames}
+use Rattle.mesh_model.specs.Net.Sending.{Attempt, Actor, frames_on, frames_over, put_bytes, total_bytes, goes_to, ways, end_of, sent_events, with_frames, with_put}
 use Rattle.mesh_model.specs.Routes.Queries.{Queries}
 use Rattle.mesh_post.specs.declared.post.Post.{Post}
 use Rattle.mesh_post.specs.declared.row.Row.{Row}
-use Rattle.mesh_post.specs.Kept.{RowsAre, RowIs}
-use Rattle.mesh_post.specs.Sent.{goes_mac, row_goes, chosen_ways, next_frame, next_event, sent_on, sent_on_all, passed_room}
+use Rattle.mesh_post.specs.Kept.{RowsAre, RowIs, bytes_in, frames_in}
+use Rattle.mesh_post.specs.Sent.{goes_mac, row_goes, chosen_ways, next_frame, next_event, sent_on, sent_on_all, put_in, passed_room}
 use Rattle.mesh_laws.proofs.Schedule.Members.{has_either}
 use Rattle.mesh_post.proofs.LookUps.{got_there}
-use Rattle.mesh_post.proofs.PostLemmas.{on_more}
+use Rattle.mesh_post.proofs.PostLemmas.{length_more, on_more, put_bytes_more}
 
 -- ---- they rise
 abbrev pub Rising : ℕ → List ℕ → Type 0
@@ -196,12 +196,31 @@ attempt_if true b mesh = refl
 attempt_if false true mesh = refl
 attempt_if false false mesh = refl
 
-pub frames_attempt : (queries : Mac → Queries) (actor : Actor) (reason : Option Reason) (bytes ws : List ℕ) (mesh : Mesh) → Rising 0 ws → with_frames (scenario_setup queries) actor.mac reason (over_all actor bytes ws mesh.frames) mesh ≡ attempt_by (passed_room (length mesh.frames) (total_bytes mesh.frames) (length ws) (length bytes)) (sent_on_all actor reason bytes ws mesh)
+pub frames_attempt : (queries : Mac → Queries) (actor : Actor) (reason : Option Reason) (bytes ws : List ℕ) (mesh : Mesh) → Rising 0 ws → with_frames (scenario_setup queries) actor.mac reason (over_all actor bytes ws mesh.frames) mesh ≡ attempt_by (passed_room (frames_in mesh) (bytes_in mesh) (length ws) (length bytes)) (sent_on_all actor reason bytes ws mesh)
 frames_attempt queries actor reason bytes ws mesh r =
-    attempt_if (nat_lt frames_limit (length (mesh.frames ++ new))) (nat_lt frame_bytes_limit (total_bytes (mesh.frames ++ new))) (with_all actor reason new mesh)
-    ∙ ap (λ n. attempt_by (if nat_lt frames_limit n then Some Frames else if nat_lt frame_bytes_limit (total_bytes (mesh.frames ++ new)) then Some FrameBytes else None) (with_all actor reason new mesh)) (length-append mesh.frames new ∙ ap (λ n. length mesh.frames + n) (over_length actor bytes ws mesh.frames))
-    ∙ ap (λ n. attempt_by (if nat_lt frames_limit (length mesh.frames + length ws) then Some Frames else if nat_lt frame_bytes_limit n then Some FrameBytes else None) (with_all actor reason new mesh)) (total_append mesh.frames new ∙ ap (λ n. total_bytes mesh.frames + n) (over_bytes actor bytes ws mesh.frames))
-    ∙ ap (attempt_by (passed_room (length mesh.frames) (total_bytes mesh.frames) (length ws) (length bytes))) (sym (all_sent actor reason bytes ws 0 mesh r))
+    attempt_if (nat_lt frames_limit (length (mesh.frames ++ new) + length mesh.puts)) (nat_lt frame_bytes_limit (total_bytes (mesh.frames ++ new) + put_bytes mesh.puts)) (with_all actor reason new mesh)
+    ∙ ap (λ n. attempt_by (if nat_lt frames_limit n then Some Frames else if nat_lt frame_bytes_limit (total_bytes (mesh.frames ++ new) + put_bytes mesh.puts) then Some FrameBytes else None) (with_all actor reason new mesh)) count_is
+    ∙ ap (λ n. attempt_by (if nat_lt frames_limit (frames_in mesh + length ws) then Some Frames else if nat_lt frame_bytes_limit n then Some FrameBytes else None) (with_all actor reason new mesh)) size_is
+    ∙ ap (attempt_by (passed_room (frames_in mesh) (bytes_in mesh) (length ws) (length bytes))) (sym (all_sent actor reason bytes ws 0 mesh r))
   where
     new : List SentFrame
     new = over_all actor bytes ws mesh.frames
+
+    count_is : length (mesh.frames ++ new) + length mesh.puts ≡ frames_in mesh + length ws
+    count_is = let both = length-append mesh.frames new in let more = over_length actor bytes ws mesh.frames in omega (arith, both, more)
+
+    size_is : total_bytes (mesh.frames ++ new) + put_bytes mesh.puts ≡ bytes_in mesh + length ws * length bytes
+    size_is = let both = total_append mesh.frames new in let more = over_bytes actor bytes ws mesh.frames in omega (arith, both, more)
+
+-- so is what a LAN frame leads to
+pub put_attempt : (queries : Mac → Queries) (put : LanPut) (mesh : Mesh) → with_put (scenario_setup queries) put mesh ≡ attempt_by (passed_room (frames_in mesh) (bytes_in mesh) 1 (length put.bytes)) (put_in put mesh)
+put_attempt queries put mesh =
+    attempt_if (nat_lt frames_limit (length mesh.frames + length (mesh.puts ++ put ∷ []))) (nat_lt frame_bytes_limit (total_bytes mesh.frames + put_bytes (mesh.puts ++ put ∷ []))) (put_in put mesh)
+    ∙ ap (λ n. attempt_by (if nat_lt frames_limit n then Some Frames else if nat_lt frame_bytes_limit (total_bytes mesh.frames + put_bytes (mesh.puts ++ put ∷ [])) then Some FrameBytes else None) (put_in put mesh)) count_is
+    ∙ ap (λ n. attempt_by (if nat_lt frames_limit (frames_in mesh + 1) then Some Frames else if nat_lt frame_bytes_limit n then Some FrameBytes else None) (put_in put mesh)) size_is
+  where
+    count_is : length mesh.frames + length (mesh.puts ++ put ∷ []) ≡ frames_in mesh + 1
+    count_is = let more = length_more mesh.puts put in omega (arith, more)
+
+    size_is : total_bytes mesh.frames + put_bytes (mesh.puts ++ put ∷ []) ≡ bytes_in mesh + 1 * length put.bytes
+    size_is = let more = put_bytes_more mesh.puts put in omega (arith, more)

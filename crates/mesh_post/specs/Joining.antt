@@ -1,4 +1,5 @@
--- A mesh that a node or a link joined. The words are `with_node` and `with_link`.
+-- A mesh that a node or a link joined. The words are `with_node` and `with_link`; that of a LAN is
+-- `with_lan` of the model.
 use Rattle.std.specs.Prelude.{[], ◌∷◌, ◌++◌}
 use Rattle.mesh_model.specs.Net.Mesh.{NodeLog, NetLink, Mesh}
 

@@ -1,14 +1,16 @@
 -- What a net keeps of a mesh besides its nodes: a row for each link, how many frames it carried,
--- the places of the links that leave each node, and of each frame its link and its sending. An act
--- is one sending; the frames of an act share it. The main word is `PostStands`.
-use Rattle.std.specs.Prelude.{◌≡◌, ℕ, ◌<◌, ◌≤◌, List, [], ◌∷◌, length, slice_get, Some, None, ⊤}
-use Rattle.mesh_model.specs.Net.Mesh.{NodeLog, NetLink, SentFrame, Mesh, address_at}
+-- the places of the links that leave each node, the gateways of each LAN, of each link frame its
+-- link and its sending, and of each LAN frame its LAN, its sending and who put it. An act is one
+-- sending; the link frames of an act share it. The main word is `PostStands`.
+use Rattle.std.specs.Prelude.{◌≡◌, ℕ, ◌+◌, ◌<◌, ◌≤◌, List, [], ◌∷◌, length, map, slice_get, Some, None, ⊤}
+use Rattle.mesh_model.specs.Net.Mesh.{NodeLog, NetLink, NetLan, SentFrame, LanPut, Mesh, address_at}
 use Rattle.mesh_model.specs.Net.Limits.{frames_limit, frame_bytes_limit}
-use Rattle.mesh_model.specs.Net.Sending.{frames_on, total_bytes, ways}
+use Rattle.mesh_model.specs.Net.Sending.{frames_on, put_bytes, total_bytes, ways}
 use Rattle.mesh_model.specs.Scenario.LinkOptions.{least_delay, delay_limit}
 use Rattle.mesh_post.specs.declared.post.Post.{Post}
 use Rattle.mesh_post.specs.declared.row.Row.{Row}
 use Rattle.mesh_post.specs.declared.row.Posted.{Posted}
+use Rattle.mesh_post.specs.declared.row.Put.{Put}
 use Rattle.mesh_post.specs.declared.row.Sending.{Sending}
 
 -- a row is that of a link, with the addresses at its ends
@@ -66,12 +68,42 @@ FramesAre sendings (frame ∷ frames) [] = ⊥
 FramesAre sendings (frame ∷ frames) (posted ∷ more) =
     FrameIs sendings frame posted × FramesAre sendings frames more
 
+-- a LAN frame is kept as its LAN, its sending and the gateway that put it, where one did
+pub record PutIs (sendings : List Sending) (put : LanPut) (kept : Put) : Type 0 where
+  pub lan : kept.lan ≡ put.lan
+  pub by : kept.by ≡ put.by
+  pub sending : Sending
+  pub found : slice_get sendings kept.sending ≡ Some sending
+  pub bytes : sending.bytes ≡ put.bytes
+
+-- each LAN frame is kept so, in the order of putting
+abbrev pub PutsAre : List Sending → List LanPut → List Put → Type 0
+PutsAre sendings [] [] = ⊤
+PutsAre sendings [] (kept ∷ more) = ⊥
+PutsAre sendings (put ∷ puts) [] = ⊥
+PutsAre sendings (put ∷ puts) (kept ∷ more) =
+    PutIs sendings put kept × PutsAre sendings puts more
+
+-- the places of the gateways of each LAN
+abbrev pub gateways_of : List NetLan → List (List ℕ)
+gateways_of lans = map (λ (lan : NetLan). lan.gateways) lans
+
+-- how many frames a mesh has, on links and on LANs
+abbrev pub frames_in : Mesh → ℕ
+frames_in mesh = length mesh.frames + length mesh.puts
+
+-- how many bytes they have
+abbrev pub bytes_in : Mesh → ℕ
+bytes_in mesh = total_bytes mesh.frames + put_bytes mesh.puts
+
 -- what is kept is what a mesh has, with these sendings
 pub record PostStands (post : Post) (sendings : List Sending) (mesh : Mesh) : Type 0 where
   pub rows : RowsAre mesh.nodes mesh.links post.rows.items
   pub turns : TurnsAre mesh.links mesh.frames post.turns.items
   pub ways : WaysAre mesh.nodes mesh.links post.ways.items
+  pub lans : post.lans.items ≡ gateways_of mesh.lans
   pub frames : FramesAre sendings mesh.frames post.frames.items
-  pub bytes : post.bytes ≡ total_bytes mesh.frames
-  pub few : length mesh.frames ≤ frames_limit
-  pub small : total_bytes mesh.frames ≤ frame_bytes_limit
+  pub puts : PutsAre sendings mesh.puts post.puts.items
+  pub bytes : post.bytes ≡ bytes_in mesh
+  pub few : frames_in mesh ≤ frames_limit
+  pub small : bytes_in mesh ≤ frame_bytes_limit

@@ -1,6 +1,6 @@
 -- What a net asks of a link before a frame goes on it: the mark of its turn, the delay, and the
--- address at its end. The main word is `LaneIs`.
-use Rattle.std.specs.Prelude.{◌≡◌, ℕ, ◌≤◌, ◌%◌, nat_eq, Bool, false, List, [], ◌∷◌, length, slice_get, slice_index_or, Option, Some, None, if◌then◌else◌}
+-- address at its end; and who gets a frame of a LAN. The main word is `LaneIs`.
+use Rattle.std.specs.Prelude.{◌≡◌, ℕ, ◌≤◌, ◌%◌, nat_eq, not, Bool, true, false, List, [], ◌∷◌, length, slice_get, slice_index_or, Option, Some, None, if◌then◌else◌}
 use Rattle.std.specs.Option.{option_map_or}
 use Rattle.mesh_model.specs.Net.Mesh.{NetLink, SentFrame, Mesh, address_at}
 use Rattle.mesh_model.specs.Net.Runs.{throughput_between}
@@ -49,3 +49,8 @@ abbrev pub first_throughput : List Row → ℕ → List ℕ → ℕ
 first_throughput rows to [] = 0
 first_throughput rows to (way ∷ rest) =
     if row_leads rows to way then row_throughput rows way else first_throughput rows to rest
+
+-- whether a place is another than one, where that is named
+abbrev pub is_other : Option ℕ → ℕ → Bool
+is_other None place = true
+is_other (Some one) place = not (nat_eq one place)

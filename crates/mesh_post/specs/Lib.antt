@@ -1,5 +1,5 @@
 -- What the contracts cite, in reading order: what waits, what is kept of a mesh, and what an act on
--- links does with it.
+-- links or on a LAN does with it.
 pub mod Joining
 pub mod Waiting
 pub mod Kept

@@ -1,6 +1,7 @@
--- What a net does with an act on links: it sends one frame after another. The log of events gains
--- what the choice shows. The main words are `sent_on` and `Logged`.
-use Rattle.std.specs.Prelude.{◌≡◌, ◌↔◌, ℕ, suc, ◌+◌, ◌*◌, ◌<◌, ◌≤◌, ◌⊎◌, nat_lt, bytes_eq, Bool, true, false, List, [], ◌∷◌, ◌++◌, filter, length, map, slice_get, slice_index_or, slice_set, Option, Some, None, Ok, option_and_then, if◌then◌else◌}
+-- What a net does with an act: on links it sends one frame after another, on a LAN it puts one. The
+-- log of events gains what the choice shows. The main words are `sent_on`, `put_in` and `Logged`.
+use Rattle.std.specs.Prelude.{◌≡◌, ◌↔◌, ℕ, suc, ◌+◌, ◌*◌, ◌<◌, ◌≤◌, ◌⊎◌, nat_eq, nat_lt, bytes_eq, Bool, true, false, List, [], ◌∷◌, ◌++◌, filter, length, map, slice_get, slice_index_or, slice_set, Option, Some, None, Ok, option_and_then, if◌then◌else◌}
+use Rattle.std.specs.List.{list_any}
 use Rattle.std.specs.Option.{option_map_or}
 use Rattle.mesh_base.specs.declared.address.Mac.{Mac}
 use Rattle.mesh_model.specs.declared.act.Act.{Act}
@@ -13,19 +14,19 @@ use Rattle.mesh_base.specs.declared.event.Event.TheVariants.{FrameSent}
 use Rattle.mesh_base.specs.declared.event.Reason.{Reason}
 use Rattle.mesh_model.specs.declared.frame_choice.FrameChoice.{FrameChoice}
 use Rattle.mesh_model.specs.declared.happening.Happening.{Happening}
-use Rattle.mesh_model.specs.Net.Mesh.{SentFrame, Mesh, address_at}
+use Rattle.mesh_model.specs.Net.Mesh.{SentFrame, LanPut, Mesh, address_at}
 use Rattle.mesh_model.specs.Net.Next.{Has}
 use Rattle.mesh_model.specs.Routes.Queries.{Queries}
 use Rattle.mesh_post.specs.declared.port.NetPort.{NetPort}
-use Rattle.mesh_model.specs.Net.Sending.{Actor, after_act, frames_on, total_bytes, end_of}
+use Rattle.mesh_model.specs.Net.Sending.{Actor, after_act, frames_on, end_of, put_event, with_put}
 use Rattle.mesh_model.specs.Text.Events.{is_shown}
 use Rattle.mesh_model.specs.Net.Limits.{frames_limit, frame_bytes_limit, clock_limit, scenario_setup}
 use Rattle.mesh_post.specs.declared.post.Post.{Post}
-use Rattle.mesh_model.specs.Net.Due.{arrivals_by, delivery_at, fate_of_mark}
+use Rattle.mesh_model.specs.Net.Due.{arrivals_by, delivery_at, fate_of_mark, lan_delivery_at}
 use Rattle.mesh_post.specs.declared.row.Lane.{Lane}
 use Rattle.mesh_post.specs.declared.row.Sender.{Sender}
 use Rattle.mesh_post.specs.declared.row.Sending.{Sending}
-use Rattle.mesh_post.specs.Kept.{PostStands}
+use Rattle.mesh_post.specs.Kept.{PostStands, bytes_in, frames_in}
 use Rattle.mesh_post.specs.Waiting.{Awaits}
 
 -- the frame of some bytes that goes on a link next
@@ -94,7 +95,7 @@ actor_of sender = record {
 pub record Amid (post : Post) (sendings : List Sending) (last : Happening) (ticks : List Happening)
     (mesh : Mesh) : Type 0 where
   pub stands : PostStands post sendings mesh
-  pub waits : Awaits post.queue last ticks mesh.links mesh.frames
+  pub waits : Awaits post.queue last ticks mesh.links mesh.frames mesh.puts
 
 -- amid a step, a mesh follows another, and the log gained its events
 pub record Sends (choice : FrameChoice) (post : Post) (sendings : List Sending) (last : Happening)
@@ -107,14 +108,16 @@ pub record KeepsAll (old new : Post) : Type 0 where
   pub alloc : new.alloc ≡ old.alloc
   pub rows : new.rows ≡ old.rows
   pub ways : new.ways ≡ old.ways
+  pub lans : new.lans ≡ old.lans
+  pub puts : new.puts ≡ old.puts
   pub older : new.older ≡ old.older
   pub fresh : new.fresh ≡ old.fresh
   pub choice : new.choice ≡ old.choice
 
 -- some more bytes may be sent now
 pub record HasRoom (mesh : Mesh) (now more : ℕ) : Type 0 where
-  pub few : length mesh.frames < frames_limit
-  pub small : total_bytes mesh.frames + more ≤ frame_bytes_limit
+  pub few : frames_in mesh < frames_limit
+  pub small : bytes_in mesh + more ≤ frame_bytes_limit
   pub soon : now ≤ clock_limit
 
 -- what is kept has one frame more, of so many bytes, on the link at a place, and its deliveries
@@ -123,11 +126,35 @@ pub record Carries (old new : Post) (sender : Sender) (parcel size way : ℕ) (l
   where
     pub rows : new.rows.items ≡ old.rows.items
     pub ways : new.ways.items ≡ old.ways.items
+    pub lans : new.lans.items ≡ old.lans.items
+    pub puts : new.puts.items ≡ old.puts.items
     pub turns : new.turns.items ≡ slice_set old.turns.items way (suc lane.turn)
     pub frames : new.frames.items ≡ old.frames.items ++ record { link = way; sending = parcel } ∷ []
     pub bytes : new.bytes ≡ old.bytes + size
     pub queue : Gained old.queue new.queue (map (delivery_at (length old.frames.items))
         (arrivals_by (fate_of_mark lane.mark) sender.now lane.delay))
+
+-- the mesh with one more LAN frame, and its event
+abbrev pub put_in : LanPut → Mesh → Mesh
+put_in put mesh = record mesh {
+  puts = mesh.puts ++ put ∷ [];
+  events = mesh.events ++ put_event mesh put ∷ [];
+}
+
+-- what is kept has one LAN frame more, by its LAN and who put it, with its bytes as a sending, and
+-- its delivery waits
+pub record CarriesPut (old new : Post) (put : LanPut) : Type 0 where
+  pub rows : new.rows.items ≡ old.rows.items
+  pub ways : new.ways.items ≡ old.ways.items
+  pub turns : new.turns.items ≡ old.turns.items
+  pub lans : new.lans.items ≡ old.lans.items
+  pub frames : new.frames.items ≡ old.frames.items
+  pub puts : new.puts.items ≡ old.puts.items
+      ++ record { lan = put.lan; sending = old.older + length old.fresh.items; by = put.by } ∷ []
+  pub fresh : new.fresh.items ≡ old.fresh.items ++ record { root = 0; bytes = put.bytes } ∷ []
+  pub older : new.older ≡ old.older
+  pub bytes : new.bytes ≡ old.bytes + length put.bytes
+  pub queue : Gained old.queue new.queue (lan_delivery_at (length old.puts.items) put ∷ [])
 
 -- ---- an act on links
 -- whether a frame goes to the node of an address: to all, or to the one of this address
@@ -160,17 +187,35 @@ passed_room frames bytes count size =
     else if nat_lt frame_bytes_limit (bytes + count * size) then Some FrameBytes
     else None
 
+-- the limit that so many more frames of so many bytes would pass, behind those that are kept
+abbrev pub passed_more : Post → ℕ → ℕ → Option LimitName
+passed_more post count size =
+    passed_room (length post.frames.items + length post.puts.items) post.bytes count size
+
+-- the place of the LAN that has the node at a place among its gateways, by the gateways of LANs of
+-- which the first stands at a place
+abbrev pub lan_among : ℕ → ℕ → List (List ℕ) → Option ℕ
+lan_among node place [] = None
+lan_among node place (gateways ∷ rest) = if list_any (nat_eq node) gateways then Some place
+    else lan_among node (suc place) rest
+
+-- the limit that one more frame of so many bytes would pass on a LAN, where there is one
+abbrev pub passed_on : Post → Option ℕ → ℕ → Option LimitName
+passed_on post None size = None
+passed_on post (Some lan) size = passed_more post 1 size
+
 -- the limit that an act of the node at a place would pass
 abbrev pub passed_by : Post → ℕ → Act → Option LimitName
-passed_by post place (Link to reason bytes) = passed_room (length post.frames.items) post.bytes
-    (length (chosen_ways post place to)) (length bytes)
-passed_by post place (Lan bytes) = None
+passed_by post place (Link to reason bytes) =
+    passed_more post (length (chosen_ways post place to)) (length bytes)
+passed_by post place (Lan bytes) =
+    passed_on post (lan_among place 0 post.lans.items) (length bytes)
 passed_by post place (Print event) = None
 
 -- so many frames of so many bytes may be sent now
 pub record HasRoomFor (mesh : Mesh) (now count size : ℕ) : Type 0 where
-  pub few : length mesh.frames + count ≤ frames_limit
-  pub small : total_bytes mesh.frames + count * size ≤ frame_bytes_limit
+  pub few : frames_in mesh + count ≤ frames_limit
+  pub small : bytes_in mesh + count * size ≤ frame_bytes_limit
   pub soon : now ≤ clock_limit
 
 -- these are places of links
@@ -189,6 +234,14 @@ pub record SentAll (choice : FrameChoice) (post : Post) (older : List Sending) (
     (ticks : List Happening) (before after : Mesh) (old new : List Event) : Type 0 where
   pub step : InStep post older last ticks after
   pub logged : Logged choice before after old new
+
+-- amid a step, a LAN frame came
+pub record HasCome (queries : Mac → Queries) (choice : FrameChoice) (put : LanPut) (post : Post)
+    (older : List Sending) (last : Happening) (ticks : List Happening) (before : Mesh)
+    (old new : List Event) : Type 0 where
+  pub is : with_put (scenario_setup queries) put before ≡ Ok (put_in put before)
+  pub step : InStep post older last ticks (put_in put before)
+  pub logged : Logged choice before (put_in put before) old new
 
 -- the mesh has the node that sends, now
 pub record MaySend (sender : Sender) (last : Happening) (mesh : Mesh) : Type 0 where

@@ -1,10 +1,11 @@
 -- The queue of a net: the happenings that are to come. Those that wait are the deliveries after the
--- last happening and the first tick to come of each node. The main word is `Awaits`.
-use Rattle.std.specs.Prelude.{◌≡◌, ◌↔◌, ℕ, ◌<◌, ◌≤◌, ◌⊎◌, List, slice_get, Option, Some, None}
+-- last happening, of link frames and of LAN frames, and the first tick to come of each node. The
+-- main word is `Awaits`.
+use Rattle.std.specs.Prelude.{◌≡◌, ◌↔◌, ℕ, ◌<◌, ◌≤◌, ◌⊎◌, List, ◌++◌, slice_get, Option, Some, None}
 use Rattle.mesh_model.specs.declared.happening.Happening.{Happening}
-use Rattle.mesh_model.specs.Net.Due.{deliveries}
+use Rattle.mesh_model.specs.Net.Due.{deliveries, lan_deliveries}
 use Rattle.mesh_model.specs.Net.Happenings.{Before}
-use Rattle.mesh_model.specs.Net.Mesh.{NetLink, SentFrame}
+use Rattle.mesh_model.specs.Net.Mesh.{NetLink, SentFrame, LanPut}
 use Rattle.mesh_model.specs.Net.Next.{AtMost, Has}
 
 -- each comes before those behind it
@@ -41,8 +42,12 @@ IsNoneDue waiting t = (x : Happening) → Has waiting x → t < x.moment
 abbrev pub IsSomeDue : List Happening → ℕ → Type 0
 IsSomeDue waiting t = (x : Happening) × Has waiting x × (x.moment ≤ t)
 
+-- the deliveries of these link frames, and of these LAN frames
+abbrev pub all_deliveries : List NetLink → List SentFrame → List LanPut → List Happening
+all_deliveries links frames puts = deliveries links 0 frames ++ lan_deliveries 0 puts
+
 -- those wait that are deliveries of these frames after a happening, and these ticks
 abbrev pub Awaits : List Happening → Happening → List Happening → List NetLink → List SentFrame
-    → Type 0
-Awaits waiting last ticks links frames = (x : Happening) → Has waiting x ↔
-    (Has (deliveries links 0 frames) x × Before last x) ⊎ Has ticks x
+    → List LanPut → Type 0
+Awaits waiting last ticks links frames puts = (x : Happening) → Has waiting x ↔
+    (Has (all_deliveries links frames puts) x × Before last x) ⊎ Has ticks x

@@ -1,5 +1,5 @@
-//! What a net keeps besides its nodes: links, all frames that were ever sent, and what is to come.
-//! A node's act on links is carried out over it.
+//! What a net keeps besides its nodes: links and LANs, all frames that were ever sent, and what is
+//! to come. A node's act on links or on its LAN is carried out over it.
 
 #![tactic(auto)]
 
@@ -7,6 +7,7 @@ mod arrivals;
 mod leaving;
 mod port;
 mod post;
+mod puts;
 mod queue;
 mod rising;
 mod row;
@@ -15,5 +16,6 @@ mod shown;
 
 pub use port::NetPort;
 pub use post::{Post, place_of};
+pub use puts::Putting;
 pub use queue::Queue;
-pub use row::{Arrival, Row, Sender, Sending};
+pub use row::{Arrival, Gateways, Put, Row, Sender, Sending};

@@ -33,7 +33,7 @@ impl Port for NetPort<'_> {
             Act::Link { to, reason, bytes } => {
                 self.post.put(self.log, self.sender, to, reason, bytes)
             }
-            Act::Lan { .. } => Ok(()),
+            Act::Lan { bytes } => self.post.put_at_gateway(self.log, self.sender, bytes),
             Act::Print(event) => match self.post.print(self.log, event) {
                 Ok(()) => Ok(()),
                 Err(NoMemory) => Err(PortErr::Memory),

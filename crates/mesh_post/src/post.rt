@@ -1,5 +1,6 @@
 ghost use Rattle.std.specs.Prelude.{◌≡◌, ◌∷◌, [], ◌++◌, ◌<◌, List, length, slice_index_or, slice_set, Some, IfOk, ◌+◌, OnOk};
-ghost use Rattle.mesh_model.specs.Net.Mesh.{NodeLog, NetLink, Mesh, empty_mesh};
+ghost use Rattle.mesh_model.specs.Net.Lans.{with_lan};
+ghost use Rattle.mesh_model.specs.Net.Mesh.{NodeLog, NetLan, NetLink, Mesh, empty_mesh};
 ghost use Rattle.mesh_model.specs.declared.frame_choice.FrameChoice.TheVariants.{All};
 ghost use Rattle.mesh_post.specs.declared.row.Sending.{Sending};
 ghost use Rattle.mesh_model.specs.declared.happening.Happening.{Happening};
@@ -9,7 +10,7 @@ ghost use Rattle.mesh_post.specs.Joining.{with_node, with_link};
 ghost use Rattle.mesh_post.specs.Sent.{InStep};
 
 use crate::queue::Queue;
-use crate::row::{Posted, Row, Sending, Ways};
+use crate::row::{Gateways, Posted, Put, Row, Sending, Ways};
 use mesh_base::NoMemory;
 use mesh_model::FrameChoice;
 use std::alloc::Global;
@@ -24,13 +25,17 @@ pub struct Post {
     pub turns: Vec<u32>,
     /// By the places of the nodes.
     pub ways: Vec<Ways>,
+    /// In the order of the LANs.
+    pub lans: Vec<Gateways>,
     /// In the order of sending.
     pub frames: Vec<Posted>,
+    /// In the order of putting.
+    pub puts: Vec<Put>,
     /// How many sendings are older than the fresh ones.
     pub older: usize,
     /// The sendings of the step under way.
     pub fresh: Vec<Sending>,
-    /// How many bytes the frames have together.
+    /// How many bytes the frames on links and on LANs have together.
     pub bytes: u64,
     /// What is to come.
     pub queue: Queue,
@@ -50,7 +55,9 @@ impl Post {
             rows: Vec::new(alloc),
             turns: Vec::new(alloc),
             ways: Vec::new(alloc),
+            lans: Vec::new(alloc),
             frames: Vec::new(alloc),
+            puts: Vec::new(alloc),
             older: 0,
             fresh: Vec::new(alloc),
             bytes: 0,
@@ -86,6 +93,21 @@ impl Post {
         leave(&mut self.ways, row.from, way)?;
         self.turns.push(0)?;
         self.rows.push(row)?;
+        Ok(())
+    }
+
+    // A LAN joins, with gateways at these places.
+    pub fn add_lan(&mut self, gateways: &[u32]) -> Result<(), NoMemory>
+        ensures joins { (older : List Sending) (last : Happening) (ticks : List Happening)
+            (mesh : Mesh) (lan : NetLan) → InStep self.old older last ticks mesh →
+            lan.gateways ≡ gateways.now →
+            OnOk result (InStep self.new older last ticks (with_lan lan mesh)) }
+        ensures settled { self.new.fresh ≡ self.old.fresh }
+        ensures choice { self.new.choice ≡ self.old.choice }
+    {
+        self.lans.push(Gateways {
+            places: Vec::from_slice(self.alloc, gateways)?,
+        })?;
         Ok(())
     }
 }

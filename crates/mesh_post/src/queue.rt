@@ -1,5 +1,6 @@
-ghost use Rattle.std.specs.Prelude.{◌≡◌, ◌++◌, ◌+◌, ◌*◌, ◌^◌, ◌<◌, map, true, false, [], List, OnOk, OnErr, IfSome, IfNone};
-ghost use Rattle.mesh_model.specs.Net.Due.{arrivals_by, delivery_at, fate_of_mark};
+ghost use Rattle.std.specs.Prelude.{◌≡◌, ◌++◌, ◌∷◌, ◌+◌, ◌*◌, ◌^◌, ◌<◌, map, true, false, [], List, OnOk, OnErr, IfSome, IfNone};
+ghost use Rattle.mesh_model.specs.Net.Due.{arrivals_by, delivery_at, fate_of_mark, lan_delivery_at};
+ghost use Rattle.mesh_model.specs.Net.Mesh.{LanPut};
 ghost use Rattle.mesh_model.specs.declared.happening.Happening.{Happening};
 ghost use Rattle.mesh_model.specs.Net.Next.{AtMost, Has};
 ghost use Rattle.mesh_post.specs.Sent.{Gained};
@@ -12,6 +13,9 @@ use mesh_model::{Class, Happening};
 use std::alloc::Global;
 use std::collections::BTreeSet;
 use std::marker::Model;
+
+/// How long a LAN frame is on its way, in milliseconds.
+const LAN_DELAY: Millis = 1;
 
 /// The happenings that are to come. What joins behind all that wait in a list waits there, and what
 /// finds no such list waits among the others. So the deliveries of links of one delay share a list,
@@ -108,6 +112,19 @@ impl Queue {
             self.push(delivery(place, moment))?;
             self.push(delivery(place, moment.saturating_add(delay)))?;
         }
+        Ok(())
+    }
+
+    /// Lets the delivery of the LAN frame at a place wait, which was put at a moment.
+    pub(crate) fn wait_on_lan(&mut self, place: u32, moment: Millis) -> Result<(), NoMemory>
+        ensures { (put : LanPut) → put.moment ≡ moment → moment < 2 ^ 63 →
+            OnOk result (Gained self.old self.new (lan_delivery_at place put ∷ [])) }
+    {
+        self.push(Happening {
+            moment: moment.saturating_add(LAN_DELAY),
+            class: Class::LanDelivery,
+            place,
+        })?;
         Ok(())
     }
 

@@ -1,7 +1,10 @@
-ghost use Rattle.std.specs.Prelude.{◌≡◌, ◌%◌, length, slice_index_or};
+ghost use Rattle.std.specs.Prelude.{◌≡◌, ◌%◌, length, nat_eq, slice_index_or, filter, IfOk};
+ghost use Rattle.std.specs.List.{list_any};
 ghost use Rattle.mesh_model.specs.Scenario.Terms.{held_mark};
+ghost use Rattle.mesh_post.specs.Lanes.{is_other};
 
-use mesh_base::{Bytes, Mac, Millis, Reason};
+use mesh_base::{Bytes, Mac, Millis, NoMemory, Reason};
+use std::alloc::Global;
 use std::marker::Model;
 
 /// The mark of a frame that is delivered once.
@@ -77,6 +80,15 @@ pub struct Posted {
     pub sending: u32,
 }
 
+/// A LAN frame that was put, by the places of its LAN and its sending, and that of the gateway that
+/// put it, where one did.
+#[derive(Clone, Copy, Debug)]
+pub struct Put {
+    pub lan: u32,
+    pub sending: u32,
+    pub by: Option<u32>,
+}
+
 /// The bytes of an act, which its frames share, with the root that they have.
 #[derive(Debug, Drop)]
 pub struct Sending {
@@ -96,6 +108,52 @@ impl Model for Ways {
     ghost Value = { List ℕ };
 
     ghost view = { λ w. w.places.items };
+}
+
+/// The places of the gateways of a LAN, in rising order.
+#[derive(Debug, Drop)]
+pub struct Gateways {
+    pub places: Vec<u32>,
+}
+
+impl Model for Gateways {
+    ghost use Rattle.std.specs.Prelude.{ℕ, List};
+
+    ghost Value = { List ℕ };
+
+    ghost view = { λ g. g.places.items };
+}
+
+impl Gateways {
+    /// Whether the node at a place is one of them.
+    pub fn has(&self, node: u32) -> bool
+        ensures { result ≡ list_any (nat_eq node) self.now }
+    {
+        self.places.as_slice().contains(&node)
+    }
+
+    /// Those of them but the one at a place, where one is named.
+    pub fn but(&self, alloc: Global, one: Option<u32>) -> Result<Vec<u32>, NoMemory>
+        ensures { IfOk result (λ places. places.items ≡ filter (is_other one) self.now) }
+    {
+        let mut places = Vec::new(alloc);
+        for place in self.places.iter() {
+            if is_other(one, *place) {
+                places.push(*place)?;
+            }
+        }
+        Ok(places)
+    }
+}
+
+// Whether a place is another than one, where that is named.
+fn is_other(one: Option<u32>, place: u32) -> bool
+    ensures { result ≡ is_other one place }
+{
+    match one {
+        None => true,
+        Some(one) => one != place,
+    }
 }
 
 impl Row {

@@ -8,7 +8,7 @@ ghost use Rattle.mesh_model.specs.declared.happening.Happening.{Happening};
 ghost use Rattle.mesh_model.specs.declared.act.Act.TheVariants.{Link};
 ghost use Rattle.node_ground.specs.Errors.{HasPortCause};
 ghost use Rattle.mesh_post.specs.Kept.{PostStands};
-ghost use Rattle.mesh_post.specs.Sent.{Amid, AreLow, Carries, Grew, HasRoom, HasRoomFor, IsSending, KeepsAll, Sends, actor_of, sent_on, sent_on_all, InStep, SentAll, Took, chosen_at, chosen_ways, passed_by, passed_room};
+ghost use Rattle.mesh_post.specs.Sent.{Amid, AreLow, Carries, Grew, HasRoom, HasRoomFor, IsSending, KeepsAll, Sends, actor_of, sent_on, sent_on_all, InStep, SentAll, Took, chosen_at, chosen_ways, passed_by, passed_more};
 ghost use Rattle.mesh_post.specs.Lanes.{LaneIs};
 ghost use Rattle.mesh_post.specs.declared.row.Lane.{Lane};
 
@@ -53,8 +53,8 @@ impl Post {
         }
     }
 
-    // Tells of an event of a node, where it is shown.
-    pub(crate) fn print(&self, log: &mut Events, event: Event) -> Result<(), NoMemory>
+    // Tells of an event, where it is shown.
+    pub fn print(&self, log: &mut Events, event: Event) -> Result<(), NoMemory>
         ensures ok { OnOk result
             (log.new ≡ log.old ++ filter (is_shown self.now.choice) (event ∷ [])) }
         ensures err { OnErr result (log.new ≡ log.old) }
@@ -66,13 +66,13 @@ impl Post {
     }
 
     // Refuses so many more frames of so many bytes, where they would pass a limit.
-    fn check_room(&self, count: usize, size: usize) -> Result<(), PortErr>
-        ensures within { OnOk result
-            (passed_room (length self.now.frames.items) self.now.bytes count size ≡ None) }
-        ensures cause { IfErr result (HasPortCause
-            (passed_room (length self.now.frames.items) self.now.bytes count size)) }
+    pub(crate) fn check_room(&self, count: usize, size: usize) -> Result<(), PortErr>
+        ensures within { OnOk result (passed_more self.now count size ≡ None) }
+        ensures cause { IfErr result (HasPortCause (passed_more self.now count size)) }
     {
-        if self.frames.as_slice().len().saturating_add(count) > FRAMES_LIMIT {
+        let frames = self.frames.as_slice().len();
+        let puts = self.puts.as_slice().len();
+        if frames.saturating_add(puts).saturating_add(count) > FRAMES_LIMIT {
             return Err(PortErr::Frames);
         }
         let more = (count as u64).saturating_mul(size as u64);

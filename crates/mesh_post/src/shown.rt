@@ -1,5 +1,5 @@
 ghost use Rattle.std.specs.Prelude.{◌≡◌};
-ghost use Rattle.mesh_model.specs.Text.Events.{shows, is_shown};
+ghost use Rattle.mesh_model.specs.Text.Events.{shows, shows_lan, is_shown};
 
 use mesh_base::Event;
 use mesh_model::FrameChoice;
@@ -25,16 +25,30 @@ pub(crate) fn shows(choice: FrameChoice, bytes: &[u8]) -> bool
     }
 }
 
+// Whether LAN frames become events.
+pub(crate) fn shows_lan(choice: FrameChoice) -> bool
+    ensures { result ≡ shows_lan choice }
+{
+    match choice {
+        FrameChoice::All => true,
+        FrameChoice::Hidden | FrameChoice::Client | FrameChoice::Ogm => false,
+    }
+}
+
 // Whether an event is told.
 pub(crate) fn is_shown(choice: FrameChoice, event: &Event) -> bool
     ensures { result ≡ is_shown choice event.now }
 {
     match event {
         Event::FrameSent { bytes, .. } => shows(choice, bytes.as_slice()),
+        Event::LanSent { .. } => shows_lan(choice),
         Event::Received { .. }
+        | Event::Bridged { .. }
         | Event::Lost { .. }
         | Event::Alias { .. }
         | Event::Pinged { .. }
-        | Event::Traced { .. } => true,
+        | Event::Traced { .. }
+        | Event::Arp { .. }
+        | Event::Alfred { .. } => true,
     }
 }

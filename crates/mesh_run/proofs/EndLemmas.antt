@@ -4,7 +4,7 @@ use Rattle.std.specs.Io.KnownBytes.{Appends}
 use Rattle.std.proofs.lemmas.Bool.Decides.{nat_tests}
 use Rattle.mesh_base.specs.Writes.{AppendsFront}
 use Rattle.mesh_model.specs.declared.frame_choice.FrameChoice.{FrameChoice}
-use Rattle.mesh_model.specs.declared.ending.LimitName.TheVariants.{Line, Input, Nodes, Links, Clients, Vlans, Frames, FrameBytes, Clock}
+use Rattle.mesh_model.specs.declared.ending.LimitName.TheVariants.{Line, Input, Nodes, Links, Lans, Clients, Vlans, Frames, FrameBytes, Clock}
 use Rattle.mesh_model.specs.declared.ending.Stop.{Stop}
 use Rattle.mesh_model.specs.declared.ending.Stop.TheVariants.{Refused, Limit}
 use Rattle.mesh_model.specs.Scenario.Commands.{command_of_line}
@@ -102,6 +102,7 @@ halting_place-last before rest (Limit Line) short within = omega (arith, short)
 halting_place-last before rest (Limit Input) short within = omega (arith, within)
 halting_place-last before rest (Limit Nodes) short within = omega arith
 halting_place-last before rest (Limit Links) short within = omega arith
+halting_place-last before rest (Limit Lans) short within = omega arith
 halting_place-last before rest (Limit Clients) short within = omega arith
 halting_place-last before rest (Limit Vlans) short within = omega arith
 halting_place-last before rest (Limit Frames) short within = omega arith

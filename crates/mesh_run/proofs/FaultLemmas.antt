@@ -2,7 +2,7 @@
 use Rattle.std.proofs.Common.{◌≡◌, ℕ, ◌+◌, ◌<◌, ◌≤◌, List, [], ◌∷◌, ◌++◌, length, Option, refl, sym, ap, ◌∙◌, subst, length-append, arith}
 use Rattle.std.specs.Io.KnownBytes.{Appends}
 use Rattle.mesh_model.specs.declared.frame_choice.FrameChoice.{FrameChoice}
-use Rattle.mesh_model.specs.declared.ending.LimitName.TheVariants.{Line, Input, Nodes, Links, Clients, Vlans, Frames, FrameBytes, Clock}
+use Rattle.mesh_model.specs.declared.ending.LimitName.TheVariants.{Line, Input, Nodes, Links, Lans, Clients, Vlans, Frames, FrameBytes, Clock}
 use Rattle.mesh_model.specs.declared.ending.Stop.{Stop}
 use Rattle.mesh_model.specs.declared.ending.Stop.TheVariants.{Refused, Limit}
 use Rattle.mesh_model.specs.Scenario.Readings.{Reading}
@@ -60,6 +60,7 @@ halting_place-newline before least rest (Limit Line) is short within = omega (ar
 halting_place-newline before least rest (Limit Input) is short within = omega (arith, within)
 halting_place-newline before least rest (Limit Nodes) is short within = omega (arith, is, length-append rest (newline ∷ []))
 halting_place-newline before least rest (Limit Links) is short within = omega (arith, is, length-append rest (newline ∷ []))
+halting_place-newline before least rest (Limit Lans) is short within = omega (arith, is, length-append rest (newline ∷ []))
 halting_place-newline before least rest (Limit Clients) is short within = omega (arith, is, length-append rest (newline ∷ []))
 halting_place-newline before least rest (Limit Vlans) is short within = omega (arith, is, length-append rest (newline ∷ []))
 halting_place-newline before least rest (Limit Frames) is short within = omega (arith, is, length-append rest (newline ∷ []))

@@ -9,7 +9,7 @@ ghost use Rattle.mesh_model.specs.Scenario.Readings.{Reading};
 ghost use Rattle.mesh_scenario.specs.LineErr.{Refuses};
 ghost use Rattle.mesh_run.specs.Inner.Faults.{HasReadingCause};
 ghost use Rattle.mesh_run.specs.Inner.Lines.{BreaksOff, CarriesOn, CountsWrites};
-ghost use Rattle.mesh_scene.specs.CarriesOut.{is_for_scene, outcome_under};
+ghost use Rattle.mesh_scene.specs.CarriesOut.{HasGateways, is_for_scene, outcome_under};
 ghost use Rattle.mesh_scene.specs.SceneStands.{IsSomewhere, SceneStands};
 ghost use Rattle.mesh_scene.specs.StageStands.{IsOnStage, StageStands, outcome_on_stage};
 
@@ -51,6 +51,7 @@ fn carry_whole<A: Choosable + Drop, K: Sink>(
 ) -> Result<(), Fault>
     requires somewhere { IsSomewhere A.algorithm A.queries A.stands scene.old }
     requires ranges { IsInRange command }
+    requires gateways { HasGateways command }
     requires other { is_for_scene command ≡ true }
     ensures ok { CarriesOn (SceneStands A.algorithm A.queries A.stands) (K.taken out.old)
         (K.taken out.new) scene.old scene.new (outcome_under A.queries command) result }
@@ -79,6 +80,7 @@ fn carry_on_stage<K: Sink>(
 ) -> Result<(), Fault>
     requires somewhere { IsOnStage stage.old }
     requires ranges { IsInRange command }
+    requires gateways { HasGateways command }
     requires other { is_for_scene command ≡ true }
     ensures ok { CarriesOn StageStands (K.taken out.old) (K.taken out.new) stage.old stage.new
         (outcome_on_stage command) result }

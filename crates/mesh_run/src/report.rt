@@ -32,6 +32,7 @@ fn refusal_words(refusal: Refusal) -> &'static [u8]
         Refusal::LinkTaken => b"link taken",
         Refusal::AlgoAfterNode => b"algo after node",
         Refusal::NoSuchFrame => b"no such frame",
+        Refusal::Attached => b"attached",
     }
 }
 
@@ -44,6 +45,7 @@ fn limit_words(name: LimitName) -> &'static [u8]
         LimitName::Input => b"input",
         LimitName::Nodes => b"nodes",
         LimitName::Links => b"links",
+        LimitName::Lans => b"lans",
         LimitName::Clients => b"clients",
         LimitName::Vlans => b"vlans",
         LimitName::Frames => b"frames",

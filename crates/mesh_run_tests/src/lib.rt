@@ -15,6 +15,8 @@ mod ended;
 #[cfg(test)]
 mod faults;
 #[cfg(test)]
+mod lans;
+#[cfg(test)]
 mod links;
 #[cfg(test)]
 mod order;

@@ -1,6 +1,7 @@
 -- What the proofs rest on.
 pub mod NetLemmas
 pub mod PlaceLemmas
+pub mod NameLemmas
 pub mod PrintLemmas
 pub mod TopologyLemmas
 pub mod GivenLemmas
@@ -8,3 +9,4 @@ pub mod TableLemmas
 pub mod SessionLemmas
 pub mod PassLemmas
 pub mod CountLemmas
+pub mod LanLemmas

@@ -65,7 +65,7 @@ pub passes : {A : Type 0} (algorithm : Algorithm) (queries : Mac → Queries) (s
     → SceneStands algorithm queries stand old state → OnlyPassed old new net → t ≤ 1099511627776 → passage_by answer ≡ Some passage
     → IfOk answer (RanFrom queries stand net state t before events) → IfErr answer (TellsFrom (scenario_setup queries) state t before events)
     → ((after : Mesh) → before ++ filter (is_shown state.choice) (events_since state.mesh after) ≡ filter (is_shown state.choice) (events_since state.mesh after))
-    → text ≡ flat_map (event_line old.names.nodes) events → Passes (SceneStands algorithm queries stand) (scenario_setup queries) t state new text passage
+    → text ≡ flat_map (event_line old.names) events → Passes (SceneStands algorithm queries stand) (scenario_setup queries) t state new text passage
 passes algorithm queries stand t state old new net before events text (Ok true) passage stands only low is ran tells fresh says =
     let b = behind queries stand net state t before events true ran in
     let named = (behind_follows (scenario_setup queries) t state.mesh ran.after b).names in
@@ -90,8 +90,8 @@ passes algorithm queries stand t state old new net before events text (Ok false)
     })
 passes algorithm queries stand t state old new net before events text (Err (Limit limit)) passage stands only low is ran tells fresh says = either tells
   where
-    named : (stopped : Stopped (scenario_setup queries) state.choice state.mesh t before events limit) → names_of stopped.after.nodes ≡ names_of state.mesh.nodes
-    named stopped = ap (λ (o : Course). names_of o.mesh.nodes) (sym stopped.goes) ∙ (going_follows (scenario_setup queries) t (begin state.mesh)).names
+    named : (stopped : Stopped (scenario_setup queries) state.choice state.mesh t before events limit) → names_of stopped.after ≡ names_of state.mesh
+    named stopped = ap (λ (o : Course). names_of o.mesh) (sym stopped.goes) ∙ (going_follows (scenario_setup queries) t (begin state.mesh)).names
 
     either : IsTooLate t before events limit ⊎ Stopped (scenario_setup queries) state.choice state.mesh t before events limit → Passes (SceneStands algorithm queries stand) (scenario_setup queries) t state new text passage
     either (inl late) = absurd (omega (arith, low, late.late))

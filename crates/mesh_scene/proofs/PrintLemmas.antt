@@ -1,10 +1,10 @@
 -- What a scene prints of what happened, and where it stands behind.
-use Rattle.std.proofs.Common.{◌≡◌, ℕ, Bool, true, false, List, [], ◌∷◌, ◌++◌, map, filter, Ok, refl, sym, ap, ◌∙◌, append-nil}
+use Rattle.std.proofs.Common.{◌≡◌, ℕ, Bool, true, false, List, [], ◌∷◌, ◌++◌, map, filter, Ok, refl, sym, subst, ap, ◌∙◌, append-nil}
 use Rattle.std.specs.Prelude.{flat_map, if◌then◌else◌}
 use Rattle.std.proofs.lemmas.List.Concat.{flat_map-append}
 use Rattle.mesh_base.specs.declared.address.Mac.{Mac}
 use Rattle.mesh_base.specs.declared.event.Event.{Event}
-use Rattle.mesh_base.specs.declared.names.NodeName.{NodeName}
+use Rattle.mesh_base.specs.Names.{NamesGiven}
 use Rattle.mesh_model.specs.declared.line_form.Algorithm.{Algorithm}
 use Rattle.mesh_model.specs.declared.frame_choice.FrameChoice.{FrameChoice}
 use Rattle.mesh_model.specs.Net.Mesh.{Mesh}
@@ -21,7 +21,7 @@ use Rattle.mesh_net.specs.declared.failure.NetErr.{NetErr}
 use Rattle.mesh_net.specs.declared.failure.NetErr.TheVariants.{Limit, Dead, Memory}
 use Rattle.mesh_scene.specs.CarriesOut.{Carries, HasLineCause}
 use Rattle.mesh_net.specs.NetStands.{NetStands}
-use Rattle.mesh_scene.specs.SceneStands.{SceneStands, ends_of}
+use Rattle.mesh_scene.specs.SceneStands.{AreApart, SceneStands, ends_of}
 use Rattle.mesh_scene.specs.Inner.NetAnswers.{fault_of}
 use Rattle.mesh_scene.specs.declared.scene.Scene.{Scene}
 
@@ -32,30 +32,31 @@ told_one : (shows : Bool) (line : List ℕ) (text : Event → List ℕ) (e : Eve
 told_one true line text e rest es is h = ap (λ front. front ++ rest) is ∙ ap (λ more. text e ++ more) h
 told_one false line text e rest es is h = h
 
-told : (choice : FrameChoice) (names : List NodeName) (es : List Event) → flat_map (printed_text choice) (map (Happened names) es) ≡ flat_map (event_line names) (filter (is_shown choice) es)
+told : (choice : FrameChoice) (names : NamesGiven) (es : List Event) → flat_map (printed_text choice) (map (Happened names) es) ≡ flat_map (event_line names) (filter (is_shown choice) es)
 told choice names [] = refl
 told choice names (e ∷ es) = told_one (is_shown choice e) (event_line names e) (event_line names) e (flat_map (printed_text choice) (map (Happened names) es)) (filter (is_shown choice) es) refl (told choice names es)
 
 -- the text of a state that went on, by the events that the log gained
-pub text_gone : {A : Type 0} (algorithm : Algorithm) (queries : Mac → Queries) (stand : A → Mac → RouteLog → Type 0) (old : Scene A) (state : State) (now : ℕ) (after : Mesh) (events : List Event) (text : List ℕ) → SceneStands algorithm queries stand old state → names_of after.nodes ≡ names_of state.mesh.nodes
-    → events ≡ filter (is_shown state.choice) (events_since state.mesh after) → text ≡ flat_map (event_line old.names.nodes) events
+pub text_gone : {A : Type 0} (algorithm : Algorithm) (queries : Mac → Queries) (stand : A → Mac → RouteLog → Type 0) (old : Scene A) (state : State) (now : ℕ) (after : Mesh) (events : List Event) (text : List ℕ) → SceneStands algorithm queries stand old state → names_of after ≡ names_of state.mesh
+    → events ≡ filter (is_shown state.choice) (events_since state.mesh after) → text ≡ flat_map (event_line old.names) events
     → text_of (gone_on state now after) ≡ text_of state ++ text
 text_gone algorithm queries stand old state now after events text stands names are is =
     let since = events_since state.mesh after in
-    let named = names_of after.nodes in
+    let named = names_of after in
     flat_map-append (printed_text state.choice) state.printed (map (Happened named) since)
     ∙ ap (λ more. text_of state ++ more)
     (told state.choice named since ∙ ap (λ ns. flat_map (event_line ns) (filter (is_shown state.choice) since)) (names ∙ sym stands.names_are)
-    ∙ ap (flat_map (event_line old.names.nodes)) (sym are) ∙ sym is)
+    ∙ ap (flat_map (event_line old.names)) (sym are) ∙ sym is)
 
 -- the scene behind a state that went on
 pub stands_gone : {A : Type 0} (algorithm : Algorithm) (queries : Mac → Queries) (stand : A → Mac → RouteLog → Type 0) (old new : Scene A) (state : State) (now : ℕ) (after : Mesh) → SceneStands algorithm queries stand old state → NetStands queries stand new.net state.choice now after
-    → new.names ≡ old.names → new.ends.items ≡ old.ends.items → names_of after.nodes ≡ names_of state.mesh.nodes → after.links ≡ state.mesh.links
+    → new.names ≡ old.names → new.ends.items ≡ old.ends.items → names_of after ≡ names_of state.mesh → after.links ≡ state.mesh.links
     → SceneStands algorithm queries stand new (gone_on state now after)
 stands_gone algorithm queries stand old new state now after stands net names ends named links = record {
   algorithm_is = stands.algorithm_is;
   net_is = net;
-  names_are = ap (λ (n : _). n.nodes) names ∙ stands.names_are ∙ sym named;
+  names_are = names ∙ stands.names_are ∙ sym named;
+  apart = subst (λ (ns : NamesGiven). AreApart ns.nodes) (sym names) stands.apart;
   ends_are = ends ∙ stands.ends_are ∙ ap (map ends_of) (sym links);
 }
 
@@ -67,8 +68,8 @@ attempt_fails state attempt Memory tells = tt
 
 -- a step at the clock that the net carries out
 pub attempt_carries : {A : Type 0} (algorithm : Algorithm) (queries : Mac → Queries) (stand : A → Mac → RouteLog → Type 0) (state : State) (old new : Scene A) (attempt : Attempt) (after : Mesh) (events : List Event) (text : List ℕ) → SceneStands algorithm queries stand old state → attempt ≡ Ok after
-    → SceneStands algorithm queries stand new (gone_on state state.clock after) → names_of after.nodes ≡ names_of state.mesh.nodes
-    → events ≡ filter (is_shown state.choice) (events_since state.mesh after) → text ≡ flat_map (event_line old.names.nodes) events
+    → SceneStands algorithm queries stand new (gone_on state state.clock after) → names_of after ≡ names_of state.mesh
+    → events ≡ filter (is_shown state.choice) (events_since state.mesh after) → text ≡ flat_map (event_line old.names) events
     → Carries (SceneStands algorithm queries stand) (after_attempt state attempt) state new text
 attempt_carries algorithm queries stand state old new attempt after events text stands is standing named are says = record {
   after = gone_on state state.clock after;
@@ -83,7 +84,7 @@ pub carries_print : {A : Type 0} (algorithm : Algorithm) (queries : Mac → Quer
 carries_print algorithm queries stand state scene outcome printed text stands is prints = record {
   after = after_print state printed;
   carried = is;
-  standing = record { algorithm_is = stands.algorithm_is; net_is = stands.net_is; names_are = stands.names_are; ends_are = stands.ends_are };
+  standing = record { algorithm_is = stands.algorithm_is; net_is = stands.net_is; names_are = stands.names_are; apart = stands.apart; ends_are = stands.ends_are };
   text = flat_map-append (printed_text state.choice) state.printed (printed ∷ [])
       ∙ ap (λ more. text_of state ++ more) (append-nil (printed_text state.choice printed) ∙ sym prints);
 }

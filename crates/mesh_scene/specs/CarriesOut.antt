@@ -1,6 +1,6 @@
 -- What a command does to a scene: the state after it and what it prints, or the cause of its fault.
 -- The words are over what a scene stands for. The main words are `CarriesFrom` and `FailsFrom`.
-use Rattle.std.specs.Prelude.{◌≡◌, Bool, true, false, List, ℕ, ◌++◌, Result, OnOk, IfErr}
+use Rattle.std.specs.Prelude.{◌≡◌, ◌<◌, Bool, true, false, List, ℕ, ◌++◌, length, Result, OnOk, IfErr}
 use Rattle.mesh_base.specs.declared.address.Mac.{Mac}
 use Rattle.mesh_model.specs.declared.line_form.Command.{Command}
 use Rattle.mesh_model.specs.declared.line_form.Command.TheVariants.{Nothing, Algo, Node, Link, Lan, Frame, Gone, Join, Leave, Arp, Dhcp, Wifi, GwOff, GwServer, GwClient, Mcast, Dat, Alfred, Put, Get, Ping, Trace, Run, Deliver, Show, Decode}
@@ -41,6 +41,11 @@ FailsFrom stands old outcome result =
 -- the outcome of a command in a mesh whose nodes answer so
 abbrev pub outcome_under : (Mac → Queries) → Command → State → Outcome
 outcome_under queries command state = carried_out (scenario_setup queries) state command
+
+-- a command, where it is a LAN, has a gateway
+abbrev pub HasGateways : Command → Type 0
+HasGateways command = (name : List ℕ) (gateways : List (List ℕ)) → command ≡ Lan name gateways
+    → 0 < length gateways
 
 -- whether a command is one for a scene: `algo` chooses another, and `run` lets time pass slice by
 -- slice

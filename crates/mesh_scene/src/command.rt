@@ -2,7 +2,7 @@
 
 ghost use Rattle.std.specs.Prelude.{◌≡◌, Bool, true, [], None};
 ghost use Rattle.mesh_laws.specs.LineLaws.{IsInRange};
-ghost use Rattle.mesh_scene.specs.CarriesOut.{CarriesFrom, FailsFrom, is_for_scene, outcome_under};
+ghost use Rattle.mesh_scene.specs.CarriesOut.{CarriesFrom, FailsFrom, HasGateways, is_for_scene, outcome_under};
 ghost use Rattle.mesh_scene.specs.Inner.AtNodes.{given_of};
 ghost use Rattle.mesh_scene.specs.SceneStands.{IsSomewhere, SceneStands};
 
@@ -10,6 +10,7 @@ use crate::fault::{LineFault, refused};
 use crate::given::given_of;
 use crate::scene::Scene;
 use batctl_text::decode_text;
+use mesh_codec::ClientFrame;
 use mesh_model::{Command, Refusal};
 use mesh_net::Link;
 use mesh_show::Choosable;
@@ -20,6 +21,7 @@ impl<A: Choosable + Drop> Scene<A> {
         requires somewhere { IsSomewhere A.algorithm A.queries A.stands self.old }
         requires empty { text.old.items ≡ [] }
         requires ranges { IsInRange command }
+        requires gateways { HasGateways command }
         requires other { is_for_scene command ≡ true }
         ensures ok { CarriesFrom (SceneStands A.algorithm A.queries A.stands) self.old self.new
             (outcome_under A.queries command) text.new.items result }
@@ -37,6 +39,7 @@ impl<A: Choosable + Drop> Scene<A> {
         requires somewhere { IsSomewhere A.algorithm A.queries A.stands self.old }
         requires empty { text.old.items ≡ [] }
         requires ranges { IsInRange command }
+        requires gateways { HasGateways command }
         requires other { is_for_scene command ≡ true }
         requires none { given_of command ≡ None }
         ensures ok { CarriesFrom (SceneStands A.algorithm A.queries A.stands) self.old self.new
@@ -61,6 +64,23 @@ impl<A: Choosable + Drop> Scene<A> {
                 };
                 self.add_link(from.as_slice(), to.as_slice(), &link)?;
             }
+            Command::Lan { name, gateways } => self.add_lan(name.as_slice(), &gateways)?,
+            Command::Frame {
+                place,
+                src,
+                dst,
+                vid,
+                text: carried,
+            } => {
+                let frame = ClientFrame {
+                    dst,
+                    src,
+                    vid,
+                    text: carried.as_slice(),
+                };
+                self.frame(place.as_slice(), &frame, text)?;
+            }
+            Command::Gone { place, key } => self.gone(place.as_slice(), key, text)?,
             Command::Ping { node, target } => self.ping(node.as_slice(), target.as_slice(), text)?,
             Command::Trace { node, target } => {
                 self.trace(node.as_slice(), target.as_slice(), text)?;
@@ -69,15 +89,10 @@ impl<A: Choosable + Drop> Scene<A> {
             Command::Show { node, table } => self.show(node.as_slice(), table, text)?,
             Command::Decode { bytes } => decode_text(text, bytes.as_slice())?,
             // These give a node something.
-            Command::Gone { .. }
-            | Command::Join { .. }
-            | Command::Leave { .. }
-            | Command::Wifi { .. } => unreachable!(),
+            Command::Join { .. } | Command::Leave { .. } | Command::Wifi { .. } => unreachable!(),
             // These change more than the scene.
             Command::Algo(_) | Command::Run { .. } => unreachable!(),
-            Command::Frame { .. }
-            | Command::Lan { .. }
-            | Command::Arp { .. }
+            Command::Arp { .. }
             | Command::Dhcp { .. }
             | Command::GwOff { .. }
             | Command::GwServer { .. }

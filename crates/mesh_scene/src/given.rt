@@ -7,7 +7,7 @@ ghost use Rattle.mesh_net.specs.Reached.{IsOfLine};
 ghost use Rattle.mesh_node.specs.NodeStands.{given_by};
 ghost use Rattle.mesh_scene.specs.CarriesOut.{CarriesFrom, FailsFrom, outcome_under};
 ghost use Rattle.mesh_scene.specs.SceneStands.{IsSomewhere, SceneStands};
-ghost use Rattle.mesh_scene.specs.Inner.AtNodes.{given_at, given_of};
+ghost use Rattle.mesh_scene.specs.Inner.AtNodes.{given_at, given_of, given_step};
 
 use crate::fault::{LineFault, refused};
 use crate::scene::Scene;
@@ -15,8 +15,8 @@ use mesh_model::{Command, Refusal};
 use mesh_node::Input;
 use mesh_show::{Choosable, put_events};
 
-/// The name of the node that a command gives something, and what it gives. A frame to a group, other
-/// than to all stations, isn't built.
+/// The name of the node that a command gives something, and what it gives, where it names a node
+/// and no place.
 pub fn given_of(command: &Command) -> Option<(&[u8], Input<'_>)>
     ensures some { IfSome result (λ given.
         given_of command.now ≡ Some (given.0.now, given_by 0 given.1)) }
@@ -24,25 +24,6 @@ pub fn given_of(command: &Command) -> Option<(&[u8], Input<'_>)>
     ensures line { IfSome result (λ given. IsOfLine (given_by 0 given.1)) }
 {
     match command {
-        Command::Frame {
-            place,
-            src,
-            dst,
-            vid,
-            text,
-        } => {
-            if dst.is_group() && !dst.is_broadcast() {
-                return None;
-            }
-            let input = Input::Frame {
-                src: *src,
-                dst: *dst,
-                vid: *vid,
-                text: text.as_slice(),
-            };
-            Some((place.as_slice(), input))
-        }
-        Command::Gone { place, key } => Some((place.as_slice(), Input::Gone { key: *key })),
         Command::Join { node, key } => Some((node.as_slice(), Input::Join { key: *key })),
         Command::Leave { node, key } => Some((node.as_slice(), Input::Leave { key: *key })),
         Command::Wifi { node, on } => Some((node.as_slice(), Input::Wifi(*on))),
@@ -51,6 +32,8 @@ pub fn given_of(command: &Command) -> Option<(&[u8], Input<'_>)>
         | Command::Node { .. }
         | Command::Link { .. }
         | Command::Lan { .. }
+        | Command::Frame { .. }
+        | Command::Gone { .. }
         | Command::Arp { .. }
         | Command::Dhcp { .. }
         | Command::GwOff { .. }
@@ -87,9 +70,26 @@ impl<A: Choosable + Drop> Scene<A> {
         ensures refused { FailsFrom (SceneStands A.algorithm A.queries A.stands) self.old
             (given_at (scenario_setup A.queries) name.now (given_by 0 input.now)) result }
     {
-        let Some(place) = self.place_of(name) else {
-            return Err(refused(Refusal::UnknownName));
-        };
+        let place = self.node_place(name)?;
+        self.give_node(place, input, text)
+    }
+
+    /// Gives the node at a place what a line gives it.
+    pub fn give_node(
+        &mut self,
+        place: u32,
+        input: &Input<'_>,
+        text: &mut Vec<u8>,
+    ) -> Result<(), LineFault>
+        requires somewhere { IsSomewhere A.algorithm A.queries A.stands self.old }
+        requires line { IsOfLine (given_by 0 input.now) }
+        requires empty { text.old.items ≡ [] }
+        ensures ok { CarriesFrom (SceneStands A.algorithm A.queries A.stands) self.old self.new
+            (given_step (scenario_setup A.queries) (given_by 0 input.now) place)
+            text.new.items result }
+        ensures refused { FailsFrom (SceneStands A.algorithm A.queries A.stands) self.old
+            (given_step (scenario_setup A.queries) (given_by 0 input.now) place) result }
+    {
         self.events.cut(0);
         self.net.input(place, input, &mut self.events)?;
         put_events(text, &self.names, &self.events)?;

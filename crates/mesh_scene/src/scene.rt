@@ -4,8 +4,8 @@ ghost use Rattle.std.specs.Prelude.{◌≡◌, ◌≤◌, ◌==◌, ◌&&◌};
 ghost use Rattle.std.specs.List.{list_any};
 ghost use Rattle.mesh_model.specs.Net.Limits.{clock_limit};
 ghost use Rattle.mesh_model.specs.Net.Mesh.{empty_mesh};
-ghost use Rattle.mesh_model.specs.Run.State.{State, place_of};
-ghost use Rattle.mesh_scene.specs.SceneStands.{IsSomewhere, SceneStands};
+ghost use Rattle.mesh_model.specs.Run.State.{State};
+ghost use Rattle.mesh_scene.specs.SceneStands.{SceneStands};
 
 use crate::link_ends::LinkEnds;
 use mesh_algo::Algo;
@@ -43,18 +43,6 @@ impl<A: Choosable + Drop> Scene<A> {
             names: Names::new(alloc),
             ends: Vec::new(alloc),
             events: Events::new(alloc),
-        }
-    }
-
-    /// The place of the node of this name.
-    pub fn place_of(&self, name: &[u8]) -> Option<u32>
-        requires somewhere { IsSomewhere A.algorithm A.queries A.stands self.now }
-        ensures { (state : State) → SceneStands A.algorithm A.queries A.stands self.now state →
-            result ≡ place_of state name.now }
-    {
-        match self.names.node_place(name) {
-            Some(place) => Some(place as u32),
-            None => None,
         }
     }
 

@@ -57,12 +57,8 @@ impl<A: Choosable + Drop> Scene<A> {
             SceneStands A.algorithm A.queries A.stands self.now state → IfErr result
             (HasLineCause state (session_at setup node.now target.now line state)) }
     {
-        if self.place_of(node).is_none() {
-            return Err(refused(Refusal::UnknownName));
-        }
-        let Some(place) = self.place_of(target) else {
-            return Err(refused(Refusal::UnknownName));
-        };
+        self.node_place(node)?;
+        let place = self.node_place(target)?;
         if node == target {
             return Err(refused(Refusal::SameNode));
         }

@@ -2,9 +2,10 @@
 
 ghost use Rattle.std.specs.Prelude.{◌≡◌, [], IfErr, IfOk};
 ghost use Rattle.mesh_model.specs.declared.line_form.Command.TheVariants as command;
+ghost use Rattle.mesh_model.specs.Run.Names.{OfNode};
 ghost use Rattle.mesh_model.specs.Run.State.{State};
 ghost use Rattle.mesh_scene.specs.CarriesOut.{CarriesFrom, FailsFrom, outcome_under};
-ghost use Rattle.mesh_scene.specs.Inner.AtNodes.{IsNodeOf, IsUnknown};
+ghost use Rattle.mesh_scene.specs.Inner.AtNodes.{IsNameFault, IsNodeOf};
 ghost use Rattle.mesh_scene.specs.SceneStands.{IsSomewhere, SceneStands};
 
 use crate::fault::{LineFault, refused};
@@ -27,7 +28,8 @@ impl<A: Choosable + Drop> Scene<A> {
             return Err(refused(Refusal::NotBuilt));
         }
         let node = self.node_of(name)?;
-        show_table(self.alloc, node, name, table, self.net.now(), text)?;
+        let now = self.net.now();
+        show_table(self.alloc, node, &self.names, name, table, now, text)?;
         Ok(())
     }
 
@@ -39,11 +41,9 @@ impl<A: Choosable + Drop> Scene<A> {
             IfOk result (λ node. IsNodeOf A.queries A.stands state name.now node.now) }
         ensures unknown { (state : State) →
             SceneStands A.algorithm A.queries A.stands self.now state →
-            IfErr result (IsUnknown state name.now) }
+            IfErr result (IsNameFault state (OfNode name.now)) }
     {
-        let Some(place) = self.place_of(name) else {
-            return Err(refused(Refusal::UnknownName));
-        };
+        let place = self.node_place(name)?;
         Ok(self.net.node(place))
     }
 }

@@ -23,7 +23,7 @@ impl<A: Choosable + Drop> Scene<A> {
         ensures refused { FailsFrom (SceneStands A.algorithm A.queries A.stands) self.old
             (outcome_under A.queries (command.Node name.now mac)) result }
     {
-        if self.names.node_place(name).is_some() {
+        if self.is_taken(name) {
             return Err(refused(Refusal::NameTaken));
         }
         if self.names.node_name(mac).is_some() {
@@ -45,12 +45,8 @@ impl<A: Choosable + Drop> Scene<A> {
             (outcome_under A.queries (command.Link from.now to.now link.now.delay
             link.now.pattern link.now.tp)) result }
     {
-        let Some(start) = self.place_of(from) else {
-            return Err(refused(Refusal::UnknownName));
-        };
-        let Some(end) = self.place_of(to) else {
-            return Err(refused(Refusal::UnknownName));
-        };
+        let start = self.node_place(from)?;
+        let end = self.node_place(to)?;
         if from == to {
             return Err(refused(Refusal::SameNode));
         }

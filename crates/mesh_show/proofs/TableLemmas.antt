@@ -1,11 +1,39 @@
--- A table that is appended by way of a text of its own.
-use Rattle.std.proofs.Common.{◌≡◌, ℕ, List, [], ◌++◌, Option, Some, None, IfSome, ap, ◌∙◌}
+-- Tables in a state, and a table that is appended by way of a text of its own.
+use Rattle.std.proofs.Common.{◌≡◌, ℕ, List, [], ◌++◌, Option, Some, None, IfSome, sym, ap, ◌∙◌}
+use Rattle.mesh_base.specs.Names.{NamesGiven}
 use Rattle.mesh_model.specs.declared.line_form.Algorithm.{Algorithm}
 use Rattle.mesh_model.specs.declared.line_form.Table.{Table}
+use Rattle.mesh_model.specs.declared.line_form.Table.TheVariants.{Originators, Neighbors, Locals, Globals, Claims}
 use Rattle.mesh_model.specs.Net.Mesh.{NodeLog}
-use Rattle.mesh_model.specs.Run.Shown.{shown}
-use Rattle.mesh_model.specs.Run.State.{printed_text}
-use Rattle.mesh_show.specs.Shown.{AppendsTable}
+use Rattle.mesh_model.specs.Run.Shown.{claim_table, global_table, link_table, local_table, orig_table, shown}
+use Rattle.mesh_model.specs.Run.State.{State, names_of, printed_text}
+use Rattle.mesh_model.specs.Text.Claims.{claim_table_text}
+use Rattle.mesh_model.specs.Text.GlobalTables.{global_table_text}
+use Rattle.mesh_model.specs.Text.Tables.{link_table_text, orig_table_text, table_text}
+use Rattle.mesh_show.specs.Shown.{AppendsTable, IsSeenAt}
+
+-- ---- tables of a state that is seen so
+
+pub locals_shown : (algorithm : Algorithm) (names : NamesGiven) (now : ℕ) (state : State) (row : NodeLog) (old new : List ℕ) → IsSeenAt algorithm names now state → new ≡ old ++ table_text (local_table now row) → AppendsTable state Locals row old new
+locals_shown algorithm names now state row old new seen is = is ∙ ap (λ (n : ℕ). old ++ table_text (local_table n row)) (sym seen.clock_is)
+
+pub globals_shown : (algorithm : Algorithm) (names : NamesGiven) (now : ℕ) (state : State) (row : NodeLog) (old new : List ℕ) → IsSeenAt algorithm names now state → new ≡ old ++ global_table_text (global_table algorithm now row) → AppendsTable state Globals row old new
+globals_shown algorithm names now state row old new seen is =
+    is ∙ ap (λ (n : ℕ). old ++ global_table_text (global_table algorithm n row)) (sym seen.clock_is) ∙ ap (λ (a : Algorithm). old ++ global_table_text (global_table a state.clock row)) (sym seen.algorithm_is)
+
+pub originators_shown : (algorithm : Algorithm) (names : NamesGiven) (now : ℕ) (state : State) (row : NodeLog) (old new : List ℕ) → IsSeenAt algorithm names now state → new ≡ old ++ orig_table_text (orig_table algorithm now row) → AppendsTable state Originators row old new
+originators_shown algorithm names now state row old new seen is =
+    is ∙ ap (λ (n : ℕ). old ++ orig_table_text (orig_table algorithm n row)) (sym seen.clock_is) ∙ ap (λ (a : Algorithm). old ++ orig_table_text (orig_table a state.clock row)) (sym seen.algorithm_is)
+
+pub neighbors_shown : (algorithm : Algorithm) (names : NamesGiven) (now : ℕ) (state : State) (row : NodeLog) (old new : List ℕ) → IsSeenAt algorithm names now state → new ≡ old ++ link_table_text (link_table algorithm now row) → AppendsTable state Neighbors row old new
+neighbors_shown algorithm names now state row old new seen is =
+    is ∙ ap (λ (n : ℕ). old ++ link_table_text (link_table algorithm n row)) (sym seen.clock_is) ∙ ap (λ (a : Algorithm). old ++ link_table_text (link_table a state.clock row)) (sym seen.algorithm_is)
+
+pub claims_shown : (algorithm : Algorithm) (names : NamesGiven) (now : ℕ) (state : State) (row : NodeLog) (old new : List ℕ) → IsSeenAt algorithm names now state → new ≡ old ++ claim_table_text (claim_table names now row) → AppendsTable state Claims row old new
+claims_shown algorithm names now state row old new seen is =
+    is ∙ ap (λ (n : ℕ). old ++ claim_table_text (claim_table names n row)) (sym seen.clock_is) ∙ ap (λ (ns : NamesGiven). old ++ claim_table_text (claim_table ns state.clock row)) (sym seen.names_are)
+
+-- ---- a text of its own
 
 -- what is said of a value that may be there, said otherwise
 if_some : {A : Type 0} (P Q : A → Type 0) (o : Option A) → ((a : A) → P a → Q a) → IfSome o P → IfSome o Q
@@ -13,8 +41,8 @@ if_some P Q (Some a) goes is = goes a is
 if_some P Q None goes is = tt
 
 -- a table that a text without anything gains, and that is appended from there
-pub table-behind : (algorithm : Algorithm) (table : Table) (now : ℕ) (row : NodeLog) (empty text lent old new : List ℕ) → empty ≡ [] → lent ≡ text
-    → AppendsTable algorithm table now row empty text → new ≡ old ++ lent → AppendsTable algorithm table now row old new
-table-behind algorithm table now row empty text lent old new none same appends is = λ choice.
-    if_some (λ print. text ≡ empty ++ printed_text choice (print algorithm now row)) (λ print. new ≡ old ++ printed_text choice (print algorithm now row)) (shown table)
-    (λ print gains. is ∙ ap (λ end. old ++ end) (same ∙ gains ∙ ap (λ front. front ++ printed_text choice (print algorithm now row)) none)) (appends choice)
+pub table-behind : (state : State) (table : Table) (row : NodeLog) (empty text lent old new : List ℕ) → empty ≡ [] → lent ≡ text
+    → AppendsTable state table row empty text → new ≡ old ++ lent → AppendsTable state table row old new
+table-behind state table row empty text lent old new none same appends is =
+    if_some (λ print. text ≡ empty ++ printed_text state.choice (print state row)) (λ print. new ≡ old ++ printed_text state.choice (print state row)) (shown table)
+    (λ print gains. is ∙ ap (λ end. old ++ end) (same ∙ gains ∙ ap (λ front. front ++ printed_text state.choice (print state row)) none)) appends

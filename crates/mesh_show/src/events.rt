@@ -9,9 +9,9 @@ use mesh_base::{Events, Names, NoMemory};
 /// Appends the line of each event. Where memory runs out, those before it were appended.
 pub fn put_events(out: &mut Vec<u8>, names: &Names, events: &Events) -> Result<(), NoMemory>
     ensures ok { OnOk result (out.new.items
-        ≡ out.old.items ++ flat_map (event_line names.now.nodes) events.now) }
+        ≡ out.old.items ++ flat_map (event_line names.now) events.now) }
     ensures err { OnErr result
-        (AppendsFirst names.now.nodes events.now out.old.items out.new.items) }
+        (AppendsFirst names.now events.now out.old.items out.new.items) }
 {
     let mut done = 0;
     while done < events.len() {

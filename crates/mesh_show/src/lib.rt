@@ -3,6 +3,7 @@
 #![tactic(auto)]
 
 mod choosable;
+mod claims;
 mod clients;
 mod events;
 mod known;

@@ -3,69 +3,76 @@
 ghost use Rattle.std.specs.Prelude.{◌≡◌, is_some, true, OnOk, OnErr};
 ghost use Rattle.mesh_model.specs.Net.Mesh.{NodeLog};
 ghost use Rattle.mesh_model.specs.Run.Shown.{shown};
-ghost use Rattle.mesh_show.specs.Shown.{AppendsTable, IsNodeAt};
+ghost use Rattle.mesh_model.specs.Run.State.{State};
+ghost use Rattle.mesh_show.specs.Shown.{AppendsTable, IsNodeAt, IsSeenAt};
 
 use crate::choosable::Choosable;
+use crate::claims::show_claims;
 use crate::clients::show_locals;
 use crate::known::show_globals;
 use crate::routes::{show_neighbors, show_originators};
-use mesh_base::{Millis, NoMemory};
+use mesh_base::{Millis, Names, NoMemory};
 use mesh_model::Table;
 use mesh_node::Node;
 use std::alloc::Global;
 
 /// Whether a table is built: those of local clients, of what is known of the others', of
-/// originators and of neighbours are.
+/// originators, of neighbours and of the claims on a LAN are.
 pub fn is_built(table: Table) -> bool
     ensures { result ≡ is_some (shown table) }
 {
     match table {
-        Table::Locals | Table::Globals | Table::Originators | Table::Neighbors => true,
-        Table::Claims | Table::Gateways | Table::Groups | Table::Addresses | Table::Facts => false,
+        Table::Locals | Table::Globals | Table::Originators | Table::Neighbors | Table::Claims =>
+            true,
+        Table::Gateways | Table::Groups | Table::Addresses | Table::Facts => false,
     }
 }
 
-/// Appends a table of a node of this name, line by line.
+/// Appends a table of a node of this name, line by line. LANs have their names of `names`.
 fn put_shown<A: Choosable>(
     alloc: Global,
     node: &Node<A>,
+    names: &Names,
     name: &[u8],
     table: Table,
     now: Millis,
     out: &mut Vec<u8>,
 ) -> Result<(), NoMemory>
     requires built { is_some (shown table) ≡ true }
-    ensures ok { (row : NodeLog) → IsNodeAt A.queries A.stands node.now name.now now row →
-        OnOk result (AppendsTable A.algorithm table now row out.old.items out.new.items) }
+    ensures ok { (state : State) (row : NodeLog) → IsSeenAt A.algorithm names.now now state →
+        IsNodeAt A.queries A.stands node.now name.now now row →
+        OnOk result (AppendsTable state table row out.old.items out.new.items) }
 {
     match table {
         Table::Locals => show_locals(alloc, node.locals(), name, now, out)?,
         Table::Globals => show_globals(alloc, node, name, now, out)?,
         Table::Originators => show_originators(alloc, node.algo(), name, now, out)?,
         Table::Neighbors => show_neighbors(alloc, node.algo(), name, now, out)?,
-        Table::Claims | Table::Gateways | Table::Groups | Table::Addresses | Table::Facts => {
-            unreachable!()
-        }
+        Table::Claims => show_claims(alloc, node, names, name, now, out)?,
+        Table::Gateways | Table::Groups | Table::Addresses | Table::Facts => unreachable!(),
     }
     Ok(())
 }
 
-/// Appends a table of a node of this name, the whole of it or nothing.
+/// Appends a table of a node of this name, the whole of it or nothing. LANs have their names of
+/// `names`.
 pub fn show_table<A: Choosable>(
     alloc: Global,
     node: &Node<A>,
+    names: &Names,
     name: &[u8],
     table: Table,
     now: Millis,
     out: &mut Vec<u8>,
 ) -> Result<(), NoMemory>
     requires built { is_some (shown table) ≡ true }
-    ensures ok { (row : NodeLog) → IsNodeAt A.queries A.stands node.now name.now now row →
-        OnOk result (AppendsTable A.algorithm table now row out.old.items out.new.items) }
+    ensures ok { (state : State) (row : NodeLog) → IsSeenAt A.algorithm names.now now state →
+        IsNodeAt A.queries A.stands node.now name.now now row →
+        OnOk result (AppendsTable state table row out.old.items out.new.items) }
     ensures err { OnErr result (out.new.items ≡ out.old.items) }
 {
     let mut text = Vec::new(alloc);
-    put_shown(alloc, node, name, table, now, &mut text)?;
+    put_shown(alloc, node, names, name, table, now, &mut text)?;
     out.extend_from_slice(text.as_slice())?;
     Ok(())
 }

@@ -1,3 +1,4 @@
 -- What the rows of client frames rest on.
 pub mod SightLemmas
+pub mod LanLemmas
 pub mod RoamingLemmas

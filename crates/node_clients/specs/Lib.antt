@@ -1,3 +1,4 @@
 -- The words of the contracts, in reading order.
 pub mod FrameRows
+pub mod LanRows
 pub mod Sightings

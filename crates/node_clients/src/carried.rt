@@ -4,22 +4,25 @@ ghost use Rattle.std.specs.Prelude.{◌≡◌, OnOk};
 ghost use Rattle.mesh_codec.specs.Payloads.{seen_frame};
 ghost use Rattle.mesh_model.specs.Acts.Rows.{Own};
 ghost use Rattle.mesh_model.specs.Acts.FrameRows.{broadcast_acts, here_acts, passed_frame, readdressed};
+ghost use Rattle.mesh_model.specs.Clients.Lans as lans;
 ghost use Rattle.mesh_model.specs.Knowledge.Addressee.{addressee};
 ghost use Rattle.mesh_model.specs.Knowledge.Known.{Broadcast, Knowledge};
 ghost use Rattle.mesh_model.specs.Knowledge.Steps.{after_broadcast};
 ghost use Rattle.node_ground.specs.KnowledgeStands.{KnowledgeStands, place};
 ghost use Rattle.node_ground.specs.OwnStands.{OwnStands};
 ghost use Rattle.node_ground.specs.Puts.{Puts};
+ghost use Rattle.node_lans.specs.BridgeStands.{BridgeStands};
 ghost use Rattle.node_clients.specs.FrameRows.{key_to};
 
 use mesh_algo::Algo;
 use mesh_base::{Key, LossReason, Mac, Reason};
 use mesh_codec::{ClientFrame, Head, read_client_frame};
-use node_ground::deliveries::{
-    address, hand_out, hand_out_carried, is_present, lose, lose_carried, send_broadcast_on,
-};
+use node_ground::deliveries::{address, is_present, lose, lose_carried, send_broadcast_on};
 use node_ground::messages::send;
 use node_ground::{NodeErr, NodeKnowledge, Place, Port};
+use node_lans::Bridge;
+use node_lans::bridge::spread_of_packet;
+use node_lans::bridging::{out, out_carried};
 use tt_local::Locals;
 
 /// A broadcast.
@@ -27,16 +30,18 @@ use tt_local::Locals;
 pub fn broadcast<A: Algo, P: Port>(
     kept: &mut NodeKnowledge<A>,
     port: &mut P,
+    bridge: &Bridge,
     at: Place,
     ttl: u8,
     seq: u32,
     orig: Mac,
     tail: &[u8],
 ) -> Result<(), NodeErr>
-    ensures puts { (known : Knowledge) → KnowledgeStands A.stands kept.old at.me known →
+    ensures puts { (known : Knowledge) (gateway : lans.Bridge) →
+        KnowledgeStands A.stands kept.old at.me known → BridgeStands bridge.now at.me gateway →
         let broadcast : Broadcast = record { orig = orig; number = seq } in
         Puts P.takes P.same P.over port.old
-        (broadcast_acts known (place at) ttl broadcast tail.now) result port.new }
+        (broadcast_acts known gateway (place at) ttl broadcast tail.now) result port.new }
     ensures noted { (known : Knowledge) → KnowledgeStands A.stands kept.old at.me known →
         let broadcast : Broadcast = record { orig = orig; number = seq } in
         OnOk result (KnowledgeStands A.stands kept.new at.me
@@ -48,7 +53,7 @@ pub fn broadcast<A: Algo, P: Port>(
     if !kept.broadcasts.take(orig, seq)? {
         return Ok(());
     }
-    hand_out_carried(kept.alloc, port, at, tail)?;
+    out_carried(kept.alloc, port, bridge, at, orig, tail)?;
     send_broadcast_on(kept.alloc, port, ttl, seq, orig, tail)?;
     Ok(())
 }
@@ -90,14 +95,16 @@ pub fn here<A: Algo, P: Port>(
     kept: &NodeKnowledge<A>,
     port: &mut P,
     locals: &Locals,
+    bridge: &Bridge,
     at: Place,
     ttl: u8,
     tail: &[u8],
 ) -> Result<(), NodeErr>
     ensures { (known : Knowledge) (own : Own) →
         KnowledgeStands A.stands kept.now at.me known → OwnStands locals.now own at.now →
+        BridgeStands bridge.now at.me own.bridge →
         Puts P.takes P.same P.over port.old
-        (here_acts (A.queries at.me) known own.mentions (place at) ttl tail.now)
+        (here_acts (A.queries at.me) known own.mentions own.bridge (place at) ttl tail.now)
         result port.new }
 {
     let Some(frame) = read_client_frame(tail) else {
@@ -108,7 +115,8 @@ pub fn here<A: Algo, P: Port>(
         vid: frame.vid,
     };
     if frame.dst.is_group() || is_present(locals, at.now, key) {
-        hand_out(kept.alloc, port, at, &frame)?;
+        let spread = spread_of_packet(&frame);
+        out(kept.alloc, port, bridge, at, spread, &frame)?;
         return Ok(());
     }
     readdress(kept, port, at, ttl, &frame, tail)?;

@@ -6,10 +6,11 @@ ghost use Rattle.mesh_codec.specs.Payloads.{seen_frame};
 ghost use Rattle.mesh_model.specs.Acts.FrameRows.{frame_acts, on_way};
 ghost use Rattle.mesh_model.specs.Acts.Packing.{sent_to_all};
 ghost use Rattle.mesh_model.specs.Acts.Rows.{Own};
-ghost use Rattle.mesh_model.specs.Acts.Choosing.{acts_of};
-ghost use Rattle.mesh_model.specs.Clients.Limits.{passed_limit};
+ghost use Rattle.mesh_model.specs.Acts.Choosing.{acts_of, sighting_acts};
+ghost use Rattle.mesh_model.specs.Acts.NodeLimits.{node_limit};
 ghost use Rattle.mesh_model.specs.Clients.Log.{Log};
-ghost use Rattle.mesh_model.specs.Clients.Mentions.{Sighted, sighted_after};
+ghost use Rattle.mesh_model.specs.Clients.Limits.{limit_of_mentions};
+ghost use Rattle.mesh_model.specs.Clients.Mentions.{Sighted, mentions, sighted_after};
 ghost use Rattle.mesh_model.specs.Knowledge.Addressee.{addressee};
 ghost use Rattle.mesh_model.specs.Knowledge.Known.{Knowledge};
 ghost use Rattle.mesh_model.specs.Knowledge.Steps.{after_frame, after_sighting, knowledge, next_knowledge};
@@ -18,8 +19,8 @@ ghost use Rattle.mesh_model.specs.declared.packet.Head.TheVariants.{Bcast};
 ghost use Rattle.node_ground.specs.KnowledgeStands.{KnowledgeStands, place};
 ghost use Rattle.node_ground.specs.OwnStands.{with_input};
 ghost use Rattle.node_ground.specs.OwnStands.{HasClients, OwnStands};
-ghost use Rattle.node_clients.specs.FrameRows.{Before, IsNewly, given_frame, key_from, sighted_acts};
-ghost use Rattle.node_ground.specs.Puts.{Leaves, Puts};
+ghost use Rattle.node_clients.specs.FrameRows.{Before, HasMentioned, given_frame, key_from, sighting_of};
+ghost use Rattle.node_ground.specs.Puts.{Leaves, Puts, behind};
 ghost use Rattle.node_clients.specs.FrameRows.{key_to};
 
 use crate::sightings::sighting;
@@ -122,37 +123,40 @@ pub(crate) fn client_frame<A: Algo, P: Port>(
     Ok(())
 }
 
-// A client frame whose sighting made its client newly present or not: the sighting, then the frame.
-fn sighted_frame<A: Algo, P: Port>(
+/// A client is sighted by a client frame of it, with these flags: what is then noted of it, and its
+/// advertisement.
+pub(crate) fn sighted<A: Algo, P: Port>(
     kept: &mut NodeKnowledge<A>,
     port: &mut P,
-    locals: &Locals,
+    locals: &mut Locals,
     at: Place,
-    newly: bool,
+    flags: u8,
     frame: &ClientFrame<'_>,
 ) -> Result<(), NodeErr>
-    requires news { (known : Knowledge) × (log : Log)
-        × KnowledgeStands A.stands kept.old at.me known
-        × IsNewly newly at.me log at.now (key_from (seen_frame frame.now)) }
-    ensures puts { (known : Knowledge) (log : Log) (own : Own) →
-        KnowledgeStands A.stands kept.old at.me known → OwnStands locals.now own at.now →
-        IsNewly newly at.me log at.now (key_from (seen_frame frame.now)) →
-        Puts P.takes P.same P.over port.old
-        (sighted_acts (A.queries at.me) known log own.mentions (place at)
-        (seen_frame frame.now)) result port.new }
-    ensures noted { (known : Knowledge) (log : Log) →
-        KnowledgeStands A.stands kept.old at.me known →
-        IsNewly newly at.me log at.now (key_from (seen_frame frame.now)) →
+    ensures puts { (log : Log) →
+        Before A.stands A.queries kept.old locals.old at.me log at.now →
+        Sighted flags ≡ sighted_after log →
         let key = key_from (seen_frame frame.now) in
-        OnOk result (KnowledgeStands A.stands kept.new at.me (after_frame frame.now.dst
-        (after_sighting (A.queries at.me) at.me log at.now key known))) }
+        let limit = limit_of_mentions (mentions at.me log) (sighting_of log at.now key) in
+        Leaves P.takes P.same P.over (behind [] limit) port.old
+        (sighting_acts (A.queries at.me) at.me log at.now key) result port.new }
+    ensures noted { (log : Log) →
+        Before A.stands A.queries kept.old locals.old at.me log at.now →
+        let key = key_from (seen_frame frame.now) in
+        OnOk result (KnowledgeStands A.stands kept.new at.me (after_sighting (A.queries at.me)
+        at.me log at.now key (knowledge (A.queries at.me) at.me log))) }
+    ensures sighted { (log : Log) →
+        Before A.stands A.queries kept.old locals.old at.me log at.now →
+        Sighted flags ≡ sighted_after log →
+        let key = key_from (seen_frame frame.now) in
+        OnOk result (HasMentioned locals.new at.me log (sighting_of log at.now key)) }
 {
     let key = Key {
         mac: frame.src,
         vid: frame.vid,
     };
+    let newly = locals.see(at.now, key, flags)?;
     sighting(kept, port, at, key, newly)?;
-    client_frame(kept, port, locals, at, frame)?;
     Ok(())
 }
 
@@ -171,11 +175,10 @@ pub fn frame<A: Algo, P: Port>(
         Before A.stands A.queries kept.old locals.old at.me log at.now →
         Sighted flags ≡ sighted_after log →
         let given = given_frame (seen_frame frame.now) in
-        Leaves P.takes P.same P.over (passed_limit at.me log at.now given) port.old
+        Leaves P.takes P.same P.over (node_limit at.me log at.now given) port.old
         (acts_of (A.queries at.me) at.me log at.now given) result port.new }
     ensures noted { (log : Log) →
         Before A.stands A.queries kept.old locals.old at.me log at.now →
-        Sighted flags ≡ sighted_after log →
         let given = given_frame (seen_frame frame.now) in
         let before = knowledge (A.queries at.me) at.me log in
         OnOk result (KnowledgeStands A.stands kept.new at.me
@@ -187,11 +190,7 @@ pub fn frame<A: Algo, P: Port>(
         OnOk result (HasClients locals.new at.me
         (with_input (A.queries at.me) at.me log at.now given)) }
 {
-    let key = Key {
-        mac: frame.src,
-        vid: frame.vid,
-    };
-    let newly = locals.see(at.now, key, flags)?;
-    sighted_frame(kept, port, locals, at, newly, frame)?;
+    sighted(kept, port, locals, at, flags, frame)?;
+    client_frame(kept, port, locals, at, frame)?;
     Ok(())
 }

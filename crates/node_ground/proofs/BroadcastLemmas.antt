@@ -4,7 +4,9 @@ use Rattle.std.proofs.Common.{◌≡◌, ℕ, ◌+◌, ◌-◌, nat_lt, nat_le, 
 use Rattle.std.specs.Map.{lookup}
 use Rattle.std.proofs.lemmas.Bool.Decides.{nat_tests}
 use Rattle.mesh_base.specs.declared.address.Mac.{Mac}
-use Rattle.mesh_model.specs.Acts.FrameRows.{Place, broadcast_acts, broadcast_on, handed_out_if}
+use Rattle.mesh_model.specs.Acts.BridgeRows.{Place}
+use Rattle.mesh_model.specs.Acts.FrameRows.{broadcast_acts, broadcast_on, handed_out_if}
+use Rattle.mesh_model.specs.Clients.Lans.{Bridge}
 use Rattle.mesh_model.specs.Knowledge.Known.{Broadcast, Knowledge, is_new_number, broadcast_numbers}
 use Rattle.mesh_model.specs.Packets.Payload.{client_frame_of}
 use Rattle.mesh_model.specs.Routes.Addresses.{same_mac}
@@ -55,10 +57,10 @@ module _ (kept : List (Mac × List ℕ)) (taken : List Broadcast) (stands : Broa
   }
 
 -- a broadcast that is new is handed out and sent on
-pub broadcast_spreads : (known : Knowledge) (at : Place) (ttl : ℕ) (broadcast : Broadcast) (tail : List ℕ) → same_mac broadcast.orig at.me ≡ false
+pub broadcast_spreads : (known : Knowledge) (bridge : Bridge) (at : Place) (ttl : ℕ) (broadcast : Broadcast) (tail : List ℕ) → same_mac broadcast.orig at.me ≡ false
     → is_new_number broadcast.number (broadcast_numbers broadcast.orig known.taken) ≡ true
-    → broadcast_acts known at ttl broadcast tail ≡ handed_out_if at (client_frame_of tail) ++ broadcast_on ttl broadcast tail
+    → broadcast_acts known bridge at ttl broadcast tail ≡ handed_out_if bridge at broadcast.orig (client_frame_of tail) ++ broadcast_on ttl broadcast tail
 unfolding broadcast_acts
-broadcast_spreads known at ttl broadcast tail other new =
-    ap (λ b. cond b (handed_out_if at (client_frame_of tail) ++ broadcast_on ttl broadcast tail) [])
+broadcast_spreads known bridge at ttl broadcast tail other new =
+    ap (λ b. cond b (handed_out_if bridge at broadcast.orig (client_frame_of tail) ++ broadcast_on ttl broadcast tail) [])
     (ap (λ b. not b && is_new_number broadcast.number (broadcast_numbers broadcast.orig known.taken)) other ∙ new)

@@ -5,7 +5,7 @@
 -- `KnowledgeStands`.
 use Rattle.std.specs.Prelude.{◌≡◌, ◌%◌, ◌^◌, ℕ}
 use Rattle.mesh_base.specs.declared.address.Mac.{Mac}
-use Rattle.mesh_model.specs.Acts.FrameRows.{Place}
+use Rattle.mesh_model.specs.Acts.BridgeRows.{Place}
 use Rattle.mesh_model.specs.Knowledge.Known.{Knowledge}
 use Rattle.mesh_model.specs.Knowledge.Steps.{Coming}
 use Rattle.mesh_model.specs.Routes.RouteLog.{RouteLog}

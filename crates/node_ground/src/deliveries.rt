@@ -4,7 +4,8 @@ ghost use Rattle.std.specs.Prelude.{◌≡◌, ◌∷◌, [], IfOk};
 ghost use Rattle.mesh_base.specs.declared.address.Mac.{Mac};
 ghost use Rattle.mesh_codec.specs.Payloads.{seen_frame};
 ghost use Rattle.mesh_model.specs.Acts.Rows.{Own};
-ghost use Rattle.mesh_model.specs.Acts.FrameRows.{addressed, broadcast_on, handed_out, handed_out_if, is_present, lost, lost_if};
+ghost use Rattle.mesh_model.specs.Acts.BridgeRows.{handed_out};
+ghost use Rattle.mesh_model.specs.Acts.FrameRows.{addressed, broadcast_on, is_present, lost, lost_if};
 ghost use Rattle.mesh_model.specs.Knowledge.Known.{Broadcast, Knowledge};
 ghost use Rattle.mesh_model.specs.Packets.Payload.{client_frame_of, payload_spelling};
 ghost use Rattle.node_ground.specs.KnowledgeStands.{KnowledgeStands, place};
@@ -82,23 +83,6 @@ pub fn lose<P: Port>(
         dst: frame.dst,
         reason,
     }))?;
-    Ok(())
-}
-
-/// What is carried reaches the clients of this node, where it is a client frame.
-pub fn hand_out_carried<P: Port>(
-    alloc: Global,
-    port: &mut P,
-    at: Place,
-    tail: &[u8],
-) -> Result<(), NodeErr>
-    ensures { Puts P.takes P.same P.over port.old
-        (handed_out_if (place at) (client_frame_of tail.now)) result port.new }
-{
-    let Some(frame) = read_client_frame(tail) else {
-        return Ok(());
-    };
-    hand_out(alloc, port, at, &frame)?;
     Ok(())
 }
 

@@ -14,7 +14,7 @@ use Rattle.mesh_model.specs.declared.packet.Head.{Head}
 use Rattle.mesh_model.specs.declared.probe.OpenProbe.{OpenProbe}
 use Rattle.mesh_model.specs.declared.probe.Probe.{Probe}
 use Rattle.mesh_model.specs.declared.probe.Told.{Told}
-use Rattle.mesh_model.specs.Acts.FrameRows.{Place}
+use Rattle.mesh_model.specs.Acts.BridgeRows.{Place}
 use Rattle.mesh_model.specs.Acts.ProbeRows.{IcmpMessage, answered_acts, answer_event, answered_by, icmp_head, icmp_on_route, next_acts, passed_icmp, probe_acts, request_of}
 use Rattle.mesh_model.specs.Acts.Packing.{sent_to}
 use Rattle.mesh_model.specs.Knowledge.Known.{Knowledge}

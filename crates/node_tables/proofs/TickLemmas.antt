@@ -1,6 +1,6 @@
 -- What a tick tells of its commit: an alias, if the commit is new and has one, and an announcement
 -- that fits a packet.
-use Rattle.std.proofs.Common.{◌≡◌, ◌≤◌, ◌+◌, ◌*◌, ◌%◌, ℕ, suc, Bool, true, false, List, [], ◌++◌, length, map, refl, sym, ap, subst, ◌∙◌, arith, Option, Some, None}
+use Rattle.std.proofs.Common.{◌≡◌, ◌≤◌, ◌+◌, ◌*◌, ◌%◌, ℕ, suc, Bool, true, false, List, [], ◌++◌, length, map, refl, sym, ap, subst, ◌∙◌, arith, append_assoc, Option, Some, None}
 use Rattle.std.specs.Prelude.{◌==◌, ◌&&◌, nat_lt, nat_le, if◌then◌else◌}
 use Rattle.std.proofs.lemmas.Bool.{and_parts, leb-true}
 use Rattle.std.proofs.lemmas.Bool.Decides.{nat_tests}
@@ -9,6 +9,9 @@ use Rattle.mesh_base.specs.declared.address.Mac.{Mac}
 use Rattle.mesh_base.specs.declared.client.Entry.{Entry}
 use Rattle.mesh_model.specs.Acts.Packing.{table_told}
 use Rattle.mesh_model.specs.declared.table_row.LocalRow.{LocalRow}
+use Rattle.mesh_model.specs.Acts.BridgeRows.{round_acts}
+use Rattle.mesh_model.specs.declared.act.Act.{Act}
+use Rattle.mesh_model.specs.Clients.Lans.{Bridge}
 use Rattle.mesh_model.specs.Acts.Rows.{alias_acts, alias_event, commit_acts, elp_acts, tick_acts}
 use Rattle.mesh_model.specs.Clients.Limits.{clients_limit}
 use Rattle.mesh_model.specs.Clients.Mentions.{Mention}
@@ -95,27 +98,32 @@ is_even index even = ap (λ n. n == 0) even
 pub is_odd : (index : ℕ) → (index % 2 ≡ 0 → ⊥) → is_commit_tick index ≡ false
 is_odd index odd = grind (arith, nat_tests)
 
--- a tick puts its ELP, and then what it puts by its index
-pub tick_parts : (q : Queries) (me : Mac) (routes : RouteLog) (mentions : List Mention) (history : History) (now index : ℕ)
-    → elp_acts q routes index ++ (if is_commit_tick index then commit_acts q me routes index history (committed (present_table mentions now) history) else []) ≡ tick_acts q me routes mentions history now index
+-- what each node puts at a tick
+abbrev pub beat_acts : Queries → Mac → RouteLog → List Mention → History → ℕ → ℕ → List Act
+beat_acts q me routes mentions history now index =
+    elp_acts q routes index ++ (if is_commit_tick index then commit_acts q me routes index history (committed (present_table mentions now) history) else [])
+
+-- a tick puts what each node puts, and then what a gateway does
+pub tick_is : (q : Queries) (me : Mac) (routes : RouteLog) (mentions : List Mention) (history : History) (bridge : Bridge) (now index : ℕ)
+    → beat_acts q me routes mentions history now index ++ round_acts (record { me = me; now = now }) bridge index ≡ tick_acts q me routes mentions history bridge now index
 unfolding tick_acts
-tick_parts q me routes mentions history now index = refl
+tick_is q me routes mentions history bridge now index =
+    append_assoc (elp_acts q routes index) (if is_commit_tick index then commit_acts q me routes index history (committed (present_table mentions now) history) else []) (round_acts (record { me = me; now = now }) bridge index)
 
 -- a tick whose index is that of an even one, or of an odd one
 tick_by : (q : Queries) (me : Mac) (routes : RouteLog) (mentions : List Mention) (history : History) (now index : ℕ) (even : Bool) → is_commit_tick index ≡ even
-    → elp_acts q routes index ++ (if even then commit_acts q me routes index history (committed (present_table mentions now) history) else []) ≡ tick_acts q me routes mentions history now index
+    → elp_acts q routes index ++ (if even then commit_acts q me routes index history (committed (present_table mentions now) history) else []) ≡ beat_acts q me routes mentions history now index
 tick_by q me routes mentions history now index even is =
     sym (ap (λ b. elp_acts q routes index ++ (if b then commit_acts q me routes index history (committed (present_table mentions now) history) else [])) is)
-    ∙ tick_parts q me routes mentions history now index
 
 -- an even tick tells of its commit's alias behind its ELP, and then announces
 pub even_acts : (q : Queries) (me : Mac) (routes : RouteLog) (mentions : List Mention) (history : History) (now index : ℕ) → index % 2 ≡ 0
-    → elp_acts q routes index ++ commit_acts q me routes index history (committed (present_table mentions now) history) ≡ tick_acts q me routes mentions history now index
+    → elp_acts q routes index ++ commit_acts q me routes index history (committed (present_table mentions now) history) ≡ beat_acts q me routes mentions history now index
 even_acts q me routes mentions history now index even = tick_by q me routes mentions history now index true (is_even index even)
 
 -- an odd tick puts its ELP alone
 pub odd_acts : (q : Queries) (me : Mac) (routes : RouteLog) (mentions : List Mention) (history : History) (now index : ℕ) → (index % 2 ≡ 0 → ⊥)
-    → elp_acts q routes index ++ [] ≡ tick_acts q me routes mentions history now index
+    → elp_acts q routes index ++ [] ≡ beat_acts q me routes mentions history now index
 odd_acts q me routes mentions history now index odd = tick_by q me routes mentions history now index false (is_odd index odd)
 
 -- the table that is present at a moment is no longer than the clients that are present

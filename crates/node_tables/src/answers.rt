@@ -1,12 +1,10 @@
-//! The answers for tables that a node takes, and what containers tell it of a client that roamed.
+//! The answers for tables that a node takes, and the marks of clients that roamed.
 
 ghost use Rattle.std.specs.Prelude.{◌≡◌, ◌<◌, ◌∷◌, OnOk};
 ghost use Rattle.mesh_base.specs.declared.address.Mac.{Mac};
 ghost use Rattle.mesh_model.specs.Knowledge.Known.{Knowledge};
 ghost use Rattle.mesh_model.specs.Knowledge.Steps.{after_answer, after_roaming};
 ghost use Rattle.mesh_model.specs.Knowledge.Told.{Answers, carried_told, message_changes, stamp_told};
-ghost use Rattle.mesh_model.specs.Packets.Containers.{containers_of};
-ghost use Rattle.mesh_model.specs.Packets.Contents.{first_roaming};
 ghost use Rattle.mesh_model.specs.Packets.Numbers.{full_table_flag};
 ghost use Rattle.mesh_model.specs.Routes.Ogm.{has_flag};
 ghost use Rattle.mesh_model.specs.Tables.Known.{Answered};
@@ -15,11 +13,11 @@ ghost use Rattle.tt_global.specs.Kept.{stamp_in};
 
 use crate::announcements::release;
 use mesh_algo::Algo;
-use mesh_base::{Mac, Millis, NoMemory, Steps};
+use mesh_base::{Key, Mac, Millis, NoMemory, Steps};
 use mesh_tvlv::TtView;
 use mesh_tvlv::layout::FULL_TABLE;
 use node_ground::NodeKnowledge;
-use node_ground::reading::{announcement_in, first_roaming, has_flag};
+use node_ground::reading::{announcement_in, has_flag};
 use std::marker::Brand;
 use std::sync::ledger::{Blank, Ledger};
 use tt_table::Announcement;
@@ -82,19 +80,18 @@ pub(crate) fn take_answer<A: Algo>(
     Ok(())
 }
 
-/// Marks the client that containers from a node advertise, if any, as having roamed to it.
+/// Marks the client that a node advertises, if any, as having roamed to it.
 pub(crate) fn mark_roamed<A: Algo>(
     kept: &mut NodeKnowledge<A>,
     now: Millis,
     src: Mac,
-    tail: &[u8],
+    roamed: Option<Key>,
 ) -> Result<(), NoMemory>
     ensures { OnOk result ((me : Mac) (known : Knowledge) →
         KnowledgeStands A.stands kept.old me known →
-        KnowledgeStands A.stands kept.new me (after_roaming (A.queries me) now src
-        (first_roaming (containers_of tail.now)) known)) }
+        KnowledgeStands A.stands kept.new me (after_roaming (A.queries me) now src roamed known)) }
 {
-    let Some(key) = first_roaming(tail) else {
+    let Some(key) = roamed else {
         return Ok(());
     };
     let told = kept.told_at(now, src);

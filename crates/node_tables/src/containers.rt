@@ -1,18 +1,20 @@
 //! The row of containers that are for this node.
 
-ghost use Rattle.std.specs.Prelude.{OnOk};
+ghost use Rattle.std.specs.Prelude.{◌++◌, OnOk};
+ghost use Rattle.mesh_model.specs.Acts.BridgeRows.{unclaim_acts};
 ghost use Rattle.mesh_model.specs.Acts.TableRows.{own_answer};
 ghost use Rattle.mesh_model.specs.Acts.Rows.{Own};
 ghost use Rattle.mesh_model.specs.Knowledge.Known.{Knowledge};
 ghost use Rattle.mesh_model.specs.Knowledge.Steps.{after_answer, after_containers};
 ghost use Rattle.mesh_model.specs.Knowledge.Told.{Asks, message_in, stamp_told};
 ghost use Rattle.mesh_model.specs.Packets.Containers.{containers_of};
-ghost use Rattle.mesh_model.specs.Packets.Contents.{first_table};
+ghost use Rattle.mesh_model.specs.Packets.Contents.{first_roaming, first_table};
 ghost use Rattle.mesh_model.specs.Packets.Numbers.{full_table_flag};
 ghost use Rattle.mesh_model.specs.Routes.Ogm.{has_flag};
-ghost use Rattle.node_ground.specs.KnowledgeStands.{KnowledgeStands};
+ghost use Rattle.node_ground.specs.KnowledgeStands.{KnowledgeStands, place};
 ghost use Rattle.node_ground.specs.OwnStands.{OwnStands};
 ghost use Rattle.node_ground.specs.Puts.{Puts};
+ghost use Rattle.node_lans.specs.BridgeStands.{BridgeStands};
 
 use crate::answers::{mark_roamed, take_answer};
 use mesh_algo::Algo;
@@ -22,8 +24,10 @@ use mesh_tvlv::TtView;
 use mesh_tvlv::layout::{FULL_TABLE, REQUEST, RESPONSE};
 use node_ground::messages::send_over;
 use node_ground::packing::{FIRST_TTL, reply_containers};
-use node_ground::reading::{first_table, has_flag};
+use node_ground::reading::{first_roaming, first_table, has_flag};
 use node_ground::{NodeErr, NodeKnowledge, Place, Port};
+use node_lans::Bridge;
+use node_lans::bridging::unclaim;
 use tt_local::Locals;
 use tt_sync::answer_own as own_reply;
 
@@ -97,6 +101,7 @@ pub fn containers_here<A: Algo, P: Port>(
     kept: &mut NodeKnowledge<A>,
     port: &mut P,
     locals: &Locals,
+    bridge: &Bridge,
     at: Place,
     src: Mac,
     tail: &[u8],
@@ -104,14 +109,19 @@ pub fn containers_here<A: Algo, P: Port>(
     requires { (own : Own) × OwnStands locals.now own at.now }
     ensures puts { (known : Knowledge) (own : Own) →
         KnowledgeStands A.stands kept.old at.me known → OwnStands locals.now own at.now →
+        BridgeStands bridge.now at.me own.bridge →
         Puts P.takes P.same P.over port.old
         (own_answer (A.queries at.me) at.me known at.now own.last own.told src
-        (message_in (first_table (containers_of tail.now)))) result port.new }
+        (message_in (first_table (containers_of tail.now)))
+        ++ unclaim_acts (place at) own.bridge (first_roaming (containers_of tail.now)))
+        result port.new }
     ensures noted { (known : Knowledge) → KnowledgeStands A.stands kept.old at.me known →
         OnOk result (KnowledgeStands A.stands kept.new at.me
         (after_containers (A.queries at.me) at.now src tail.now known)) }
 {
     table_here(kept, port, locals, at, src, tail)?;
-    mark_roamed(kept, at.now, src, tail)?;
+    let roamed = first_roaming(tail);
+    unclaim(kept.alloc, port, bridge, at, roamed)?;
+    mark_roamed(kept, at.now, src, roamed)?;
     Ok(())
 }

@@ -1,12 +1,13 @@
 //! The row of ticks.
 
-ghost use Rattle.std.specs.Prelude.{◌≡◌, ◌≤◌, ◌<◌, ◌++◌, ◌∷◌, ℕ, List, length, IfOk, IfSome, IsTrue, OnOk};
+ghost use Rattle.std.specs.Prelude.{◌≡◌, ◌≤◌, ◌<◌, ◌++◌, ◌∷◌, [], ℕ, List, if◌then◌else◌, length, IfOk, IfSome, IsTrue, OnOk};
 ghost use Rattle.mesh_model.specs.Acts.OwnContainers.{own_containers};
-ghost use Rattle.mesh_model.specs.Acts.Rows.{alias_acts, message_acts, tick_acts};
+ghost use Rattle.mesh_model.specs.Acts.Rows.{alias_acts, commit_acts, elp_acts, message_acts, tick_acts};
+ghost use Rattle.mesh_model.specs.Clients.Lans as lans;
 ghost use Rattle.mesh_model.specs.Clients.Limits.{clients_limit};
 ghost use Rattle.mesh_model.specs.Clients.Mentions.{Mention};
 ghost use Rattle.mesh_model.specs.Commits.Announcements.{announcement};
-ghost use Rattle.mesh_model.specs.Commits.History.{History, after_tick, with_message, committed, present_table};
+ghost use Rattle.mesh_model.specs.Commits.History.{History, after_tick, with_message, committed, is_commit_tick, present_table};
 ghost use Rattle.mesh_model.specs.Commits.Versions.{last_commit};
 ghost use Rattle.mesh_model.specs.Knowledge.Known.{Knowledge};
 ghost use Rattle.mesh_model.specs.Packets.Containers.{containers_spelling};
@@ -15,6 +16,7 @@ ghost use Rattle.mesh_model.specs.Routes.RouteLog.{MayTick, OwnTick};
 ghost use Rattle.node_ground.specs.KnowledgeStands.{KnowledgeStands};
 ghost use Rattle.node_ground.specs.OwnStands.{AreFew};
 ghost use Rattle.node_ground.specs.Puts.{Puts};
+ghost use Rattle.node_lans.specs.BridgeStands.{BridgeStands};
 ghost use Rattle.tt_local.specs.Journal.{new_number};
 ghost use Rattle.tt_local.specs.Locals.{LocalsStand};
 
@@ -25,6 +27,8 @@ use mesh_model::Act;
 use node_ground::messages::{send_elp, send_message};
 use node_ground::packing::own_containers;
 use node_ground::{NodeErr, NodeKnowledge, Place, Port};
+use node_lans::Bridge;
+use node_lans::bridging::round;
 use std::alloc::Global;
 use std::marker::Brand;
 use std::sync::ledger::{Blank, Ledger};
@@ -148,10 +152,9 @@ fn own_message<P: Port>(
     Ok(())
 }
 
-/// A tick: a message of the echo location protocol, where the algorithm has one, and at each second
-/// tick a commit, its event where it has an alias, and an originator message.
-#[tactic(auto, unfolding(mesh_model::specs::Acts::Rows::tick_acts))]
-pub fn tick<A: Algo, P: Port>(
+// What each node puts at a tick: a message of the echo location protocol, where the algorithm has
+// one, and at each second tick a commit, its event where it has an alias, and an originator message.
+fn beat<A: Algo, P: Port>(
     kept: &mut NodeKnowledge<A>,
     port: &mut P,
     locals: &mut Locals,
@@ -166,8 +169,10 @@ pub fn tick<A: Algo, P: Port>(
     ensures puts { (known : Knowledge) (mentions : List Mention) (history : History) (since : ℕ) →
         KnowledgeStands A.stands kept.old at.me known →
         LocalsStand locals.old mentions history since → since ≤ at.now →
+        let after : History = committed (present_table mentions at.now) history in
         Puts P.takes P.same P.over port.old
-        (tick_acts (A.queries at.me) at.me known.routes mentions history at.now index)
+        (elp_acts (A.queries at.me) known.routes index ++ (if is_commit_tick index
+        then commit_acts (A.queries at.me) at.me known.routes index history after else []))
         result port.new }
     ensures ticked { (known : Knowledge) → KnowledgeStands A.stands kept.old at.me known →
         OnOk result (KnowledgeStands A.stands kept.new at.me
@@ -183,5 +188,39 @@ pub fn tick<A: Algo, P: Port>(
         return Ok(());
     }
     own_message(kept.alloc, port, locals, at, beats.ogm)?;
+    Ok(())
+}
+
+/// A tick: what each node puts, and at each twentieth what a gateway tells its LAN.
+pub fn tick<A: Algo, P: Port>(
+    kept: &mut NodeKnowledge<A>,
+    port: &mut P,
+    locals: &mut Locals,
+    bridge: &Bridge,
+    at: Place,
+    index: u64,
+) -> Result<(), NodeErr>
+    requires known { (known : Knowledge) × KnowledgeStands A.stands kept.old at.me known
+        × MayTick known.routes index }
+    requires few { (mentions : List Mention) × (history : History) × (since : ℕ)
+        × LocalsStand locals.old mentions history since × (since ≤ at.now)
+        × AreFew mentions history at.now }
+    ensures puts { (known : Knowledge) (mentions : List Mention) (history : History) (since : ℕ)
+        (gateway : lans.Bridge) → KnowledgeStands A.stands kept.old at.me known →
+        LocalsStand locals.old mentions history since → since ≤ at.now →
+        BridgeStands bridge.now at.me gateway →
+        Puts P.takes P.same P.over port.old
+        (tick_acts (A.queries at.me) at.me known.routes mentions history gateway at.now index)
+        result port.new }
+    ensures ticked { (known : Knowledge) → KnowledgeStands A.stands kept.old at.me known →
+        OnOk result (KnowledgeStands A.stands kept.new at.me
+        (record known { routes = OwnTick at.now index ∷ known.routes })) }
+    ensures committed { (mentions : List Mention) (history : History) (since : ℕ) →
+        LocalsStand locals.old mentions history since → since ≤ at.now →
+        OnOk result (LocalsStand locals.new mentions
+        (after_tick index (present_table mentions at.now) history) at.now) }
+{
+    beat(kept, port, locals, at, index)?;
+    round(kept.alloc, port, bridge, at, index)?;
     Ok(())
 }

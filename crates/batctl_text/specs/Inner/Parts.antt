@@ -2,11 +2,12 @@
 use Rattle.std.specs.Prelude.{◌≡◌, ℕ, List, [], ◌∷◌, ◌++◌, codes, flat_map}
 use Rattle.hex.specs.Hex.{encode_lower}
 use Rattle.mesh_model.specs.Scenario.Lines.{newline}
+use Rattle.mesh_model.specs.Text.Events.{ip_text}
 use Rattle.mesh_model.specs.Text.PacketLines.{named_number, named_address, named_flags}
 use Rattle.mesh_model.specs.Text.GlobalTables.{byte_text}
 use Rattle.mesh_model.specs.Text.Tables.{address_text, age_text, flags_text, sum_text, vid_text}
 use Rattle.batctl_text.specs.declared.part.Part.{Part}
-use Rattle.batctl_text.specs.declared.part.Part.TheVariants.{Text, Number, Address, Container, Flags, Vlan, Marks, Age, Hop, Byte, Sum, Hex}
+use Rattle.batctl_text.specs.declared.part.Part.TheVariants.{Text, Number, Address, Container, Flags, Vlan, Marks, Age, Hop, Byte, Sum, Ip, Hex}
 
 -- the text of a part
 abbrev pub part_text : Part → List ℕ
@@ -22,6 +23,7 @@ part_text (Age age) = age_text age
 part_text (Hop mac) = address_text mac
 part_text (Byte byte) = byte_text byte
 part_text (Sum sum) = sum_text sum
+part_text (Ip ip) = ip_text ip
 part_text (Hex bytes) = encode_lower bytes.now
 
 -- the line of parts

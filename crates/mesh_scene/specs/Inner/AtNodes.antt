@@ -1,28 +1,26 @@
 -- What a line does at the node of a name. The main words are `given_at`, `given_of`,
 -- `session_at` and `IsNodeOf`.
-use Rattle.std.specs.Prelude.{◌≡◌, ℕ, ◌&&◌, not, if◌then◌else◌, List, slice_get, Option, Some, None}
-use Rattle.mesh_base.specs.Address.{is_broadcast, is_group}
+use Rattle.std.specs.Prelude.{◌≡◌, ℕ, List, slice_get, Option, Some, None}
 use Rattle.mesh_base.specs.declared.address.Mac.{Mac}
 use Rattle.mesh_model.specs.Clients.Log.{Given, LineGiven, Line, Sets}
-use Rattle.mesh_model.specs.Clients.Log.{Frame as GivenFrame, Gone as GivenGone, Join as GivenJoin, Leave as GivenLeave}
+use Rattle.mesh_model.specs.Clients.Log.{Join as GivenJoin, Leave as GivenLeave}
 use Rattle.mesh_model.specs.Clients.Settings.{Wifi as WifiSet}
-use Rattle.mesh_model.specs.declared.ending.Refusal.TheVariants.{UnknownName}
-use Rattle.mesh_model.specs.declared.ending.Stop.TheVariants.{Refused}
+use Rattle.mesh_model.specs.declared.ending.Stop.TheVariants.{Refused, Limit}
 use Rattle.mesh_model.specs.declared.line_form.Command.{Command}
 use Rattle.mesh_model.specs.declared.line_form.Command.TheVariants.{Nothing, Algo, Node, Link, Lan, Frame, Gone, Join, Leave, Arp, Dhcp, Wifi, GwOff, GwServer, GwClient, Mcast, Dat, Alfred, Put, Get, Ping, Trace, Run, Deliver, Show, Decode}
 use Rattle.mesh_model.specs.Net.Inputs.{given_to}
 use Rattle.mesh_model.specs.Net.Mesh.{NodeLog, Setup}
 use Rattle.mesh_model.specs.Routes.Queries.{Queries}
 use Rattle.mesh_model.specs.Routes.RouteLog.{RouteLog}
-use Rattle.mesh_model.specs.Run.Demands.{is_known, refusal_if}
+use Rattle.mesh_model.specs.Run.Names.{NameUse, OfNode}
 use Rattle.mesh_model.specs.Run.Outcome.{Outcome}
 use Rattle.mesh_model.specs.Run.Passing.{after_attempt}
-use Rattle.mesh_model.specs.Run.Rules.{first_refused_rule, unless_refused}
+use Rattle.mesh_model.specs.Run.Rules.{first_refused_rule, name_refusal, unless_refused}
 use Rattle.mesh_model.specs.Run.State.{State, place_of}
 use Rattle.mesh_model.specs.Run.Steps.{Step, at_node, session_step}
 use Rattle.mesh_node.specs.declared.node.Node.{Node as NodeValue}
 use Rattle.mesh_scene.specs.declared.fault.LineFault.{LineFault}
-use Rattle.mesh_scene.specs.declared.fault.LineFault.TheVariants.{Stopped}
+use Rattle.mesh_scene.specs.declared.fault.LineFault.TheVariants.{Stopped, Memory}
 use Rattle.mesh_show.specs.Shown.{IsNodeAt}
 
 -- the node at a place is given something, now; what it sends has the root 0
@@ -32,21 +30,19 @@ given_step setup given place state =
 
 -- the outcome of a line that gives the node of a name something
 abbrev pub given_at : Setup → List ℕ → Given → State → Outcome
-given_at setup name given state = unless_refused state
-    (refusal_if (not (is_known state name)) UnknownName)
+given_at setup name given state = unless_refused state (name_refusal state (OfNode name))
     (at_node name (given_step setup given) state)
 
--- the node of a name that a command gives something, and what it gives; a frame to a group, other
--- than to all stations, isn't built
+-- the node of a name that a command gives something, and what it gives, where it names a node and
+-- no place
 abbrev pub given_of : Command → Option (List ℕ × Given)
 given_of Nothing = None
 given_of (Algo algorithm) = None
 given_of (Node name mac) = None
 given_of (Link from to delay pattern throughput) = None
 given_of (Lan name gateways) = None
-given_of (Frame place src dst vid text) = if is_group dst && not (is_broadcast dst) then None
-    else Some (place, Line (GivenFrame src dst vid text))
-given_of (Gone place key) = Some (place, Line (GivenGone key))
+given_of (Frame place src dst vid text) = None
+given_of (Gone place key) = None
 given_of (Join node key) = Some (node, Line (GivenJoin key))
 given_of (Leave node key) = Some (node, Line (GivenLeave key))
 given_of (Arp node mac own asked vid) = None
@@ -78,11 +74,18 @@ pub record IsNodeOf {A : Type 0} (queries : Mac → Queries) (stands : A → Mac
     (state : State) (name : List ℕ) (node : NodeValue A) : Type 0 where
   pub place : ℕ
   pub row : NodeLog
+  pub allowed : name_refusal state (OfNode name) ≡ None
   pub at : place_of state name ≡ Some place
   pub found : slice_get state.mesh.nodes place ≡ Some row
   pub kept : IsNodeAt queries stands node name state.clock row
 
--- a fault says that no node has a name, and none has it
-pub record IsUnknown (state : State) (name : List ℕ) (fault : LineFault) : Type 0 where
-  pub fault_is : fault ≡ Stopped (Refused UnknownName)
-  pub nowhere : place_of state name ≡ None
+-- a name can be used where a node is needed, and leads to the node at a place
+pub record IsNodePlace (state : State) (name : List ℕ) (place : ℕ) : Type 0 where
+  pub allowed : name_refusal state (OfNode name) ≡ None
+  pub at : place_of state name ≡ Some place
+
+-- a fault is that of a name that can't be used
+abbrev pub IsNameFault : State → NameUse → LineFault → Type 0
+IsNameFault state used (Stopped (Refused refusal)) = name_refusal state used ≡ Some refusal
+IsNameFault state used (Stopped (Limit limit)) = ⊥
+IsNameFault state used Memory = ⊥

@@ -4,7 +4,7 @@ use Rattle.mesh_model.specs.declared.line_form.Command.{Command}
 use Rattle.mesh_model.specs.Run.Outcome.{Outcome}
 use Rattle.mesh_model.specs.Run.PlainRun.{after_reading}
 use Rattle.mesh_model.specs.Scenario.Commands.{command_of_line}
-use Rattle.mesh_laws.proofs.Lines.ReadRange.{read-in-range}
+use Rattle.mesh_laws.proofs.Lines.ReadRange.{read-has-gateways, read-in-range}
 use Rattle.mesh_scene.specs.StageStands.{outcome_on_stage}
 use Rattle.mesh_run.specs.Inner.Lines.{CarryFails}
 use Rattle.mesh_run.proofs.FaultLemmas.{line_blameless, reading_fails}
@@ -34,6 +34,7 @@ pub carry_on_stage-requires : goal.carry_on_stage-requires
 carry_on_stage-requires g c = record {
   somewhere = c.requires.somewhere;
   ranges = read-in-range c.args.line.now c.in-Ok.command c.in-Ok.ensures.ok;
+  gateways = λ name gateways is. read-has-gateways c.args.line.now c.in-Ok.command name gateways c.in-Ok.ensures.ok is;
   other = search rules;
 }
 

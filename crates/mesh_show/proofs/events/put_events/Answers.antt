@@ -9,7 +9,7 @@ pub loop-done-preserved : goal.loop-done-preserved
 loop-done-preserved c =
     let found = sym c.at.ensures ∙ ap (option_map (λ e. e.now)) c.in-Some.is in
     record {
-      text = texts-next (event_line c.args.names.now.nodes) c.args.out.now.items c.loop-done.out.items c.line.new.out.items c.args.events.now c.loop-done.done c.in-Some.event.now found
+      text = texts-next (event_line c.args.names.now) c.args.out.now.items c.loop-done.out.items c.line.new.out.items c.args.events.now c.loop-done.done c.in-Some.event.now found
           c.loop-done.invariant.text c.in_ok-line.ensures.ok;
       within = omega (arith, slice_get_within c.args.events.now c.loop-done.done c.in-Some.event.now found);
     }

@@ -5,7 +5,7 @@ use Rattle.mesh_show.proofs.events.put_events.Given as goal
 
 abbrev pub invariant-loop-done : goal.invariant-loop-done
 invariant-loop-done l = record {
-  text : l.out.items ≡ l.fn.out.items ++ flat_map (event_line l.names.nodes) (take l.done l.events);
+  text : l.out.items ≡ l.fn.out.items ++ flat_map (event_line l.names) (take l.done l.events);
   within : l.done ≤ length l.events;
 }
 

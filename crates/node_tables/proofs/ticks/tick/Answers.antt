@@ -1,74 +1,37 @@
-use Rattle.std.proofs.Common.{Err, Ok, [], ◌++◌, refl, subst, sym}
-use Rattle.std.specs.Prelude.{if◌then◌else◌}
+use Rattle.std.proofs.Common.{Err, Ok, subst}
 use Rattle.std.proofs.lemmas.Result.{err_from_is_err_and}
-use Rattle.mesh_model.specs.Acts.OwnContainers.{own_containers}
-use Rattle.mesh_model.specs.Acts.Rows.{alias_acts, commit_acts, elp_acts, message_acts}
-use Rattle.mesh_model.specs.Commits.Announcements.{announcement}
-use Rattle.mesh_model.specs.Commits.History.{History, with_message, committed, is_commit_tick, present_table}
-use Rattle.mesh_model.specs.Packets.Containers.{containers_spelling}
-use Rattle.mesh_model.specs.declared.route.Beats.{Beats}
-use Rattle.node_ground.specs.Puts.{Puts, TakesAll}
+use Rattle.mesh_model.specs.Acts.BridgeRows.{round_acts}
+use Rattle.node_ground.specs.KnowledgeStands.{place}
+use Rattle.node_ground.specs.Puts.{Puts}
 use Rattle.node_ground.proofs.PutsLemmas.{puts_behind, stops_among}
-use Rattle.node_tables.proofs.TickLemmas.{even_acts, is_even, odd_acts, odd_stands, tick_parts}
+use Rattle.node_tables.proofs.TickLemmas.{beat_acts, tick_is}
 use Rattle.node_tables.proofs.ticks.tick.Goals as goal
-use Rattle.tt_local.specs.Locals.{LocalsStand}
 
-pub returns-in_err-send_elp-clause-puts : goal.returns-in_err-send_elp-clause-puts
-returns-in_err-send_elp-clause-puts g c = λ known mentions history since is stands late.
+pub returns-in_err-beat-clause-puts : goal.returns-in_err-beat-clause-puts
+returns-in_err-beat-clause-puts g c = λ known mentions history since gateway is stands late bridged.
     let p = err_from_is_err_and c.from_residual.result c.from_residual.ensures.1 in
     let q = g.A.Algo.queries c.args.at.me in
-    let after : History = committed (present_table mentions c.args.at.now) history in
-    let put = subst (λ (beats : Beats). Puts g.P.Port.takes g.P.Port.same g.P.Port.over c.args.port.now (message_acts beats.elp []) (Err c.in_err-send_elp.field-0.0) c.send_elp.new.port)
-    (c.tick-beats.ensures.beats c.args.at.me known.routes is.routes) c.in_err-send_elp.ensures in
-    rw (p.1, p.2) (subst (λ acts. Puts g.P.Port.takes g.P.Port.same g.P.Port.over c.args.port.now acts (Err c.in_err-send_elp.field-0.0) c.send_elp.new.port)
-    (tick_parts q c.args.at.me known.routes mentions history c.args.at.now c.args.index)
-    (stops_among g.P.Port.takes g.P.Port.same g.P.Port.over c.in_err-send_elp.field-0.0 c.args.port.now c.send_elp.new.port (elp_acts q known.routes c.args.index)
-    (if is_commit_tick c.args.index then commit_acts q c.args.at.me known.routes c.args.index history after else []) put))
+    rw (p.1, p.2) (subst (λ acts. Puts g.P.Port.takes g.P.Port.same g.P.Port.over c.args.port.now acts (Err c.in_err-beat.field-0.0) c.beat.new.port)
+    (tick_is q c.args.at.me known.routes mentions history gateway c.args.at.now c.args.index)
+    (stops_among g.P.Port.takes g.P.Port.same g.P.Port.over c.in_err-beat.field-0.0 c.args.port.now c.beat.new.port
+    (beat_acts q c.args.at.me known.routes mentions history c.args.at.now c.args.index) (round_acts (place c.args.at) gateway c.args.index)
+    (c.in_err-beat.ensures.puts known mentions history since is stands late)))
 
-pub returns-then-index-ne0-clause-puts : goal.returns-then-index-ne0-clause-puts
-returns-then-index-ne0-clause-puts g c = λ known mentions history since is stands late.
+pub returns-in_err-round-clause-puts : goal.returns-in_err-round-clause-puts
+returns-in_err-round-clause-puts g c = λ known mentions history since gateway is stands late bridged.
+    let p = err_from_is_err_and c.from_residual-in_err-round.result c.from_residual-in_err-round.ensures.1 in
     let q = g.A.Algo.queries c.args.at.me in
-    let put = subst (λ (beats : Beats). TakesAll g.P.Port.takes g.P.Port.over c.args.port.now (message_acts beats.elp []) c.send_elp.new.port)
-    (c.tick-beats.ensures.beats c.args.at.me known.routes is.routes) c.in_ok-send_elp.ensures in
-    subst (λ acts. Puts g.P.Port.takes g.P.Port.same g.P.Port.over c.args.port.now acts (Ok tt) c.send_elp.new.port)
-    (odd_acts q c.args.at.me known.routes mentions history c.args.at.now c.args.index c.if-index-ne0.true)
-    (puts_behind g.P.Port.takes g.P.Port.same g.P.Port.over c.args.port.now c.send_elp.new.port c.send_elp.new.port (elp_acts q known.routes c.args.index) [] (Ok tt) put refl)
-
-pub returns-in_err-own_message-clause-puts : goal.returns-in_err-own_message-clause-puts
-returns-in_err-own_message-clause-puts g c = λ known mentions history since is stands late.
-    let p = err_from_is_err_and c.from_residual-in_err-own_message.result c.from_residual-in_err-own_message.ensures.1 in
-    let q = g.A.Algo.queries c.args.at.me in
-    let after : History = committed (present_table mentions c.args.at.now) history in
-    let tail = containers_spelling (own_containers (announcement after)) in
-    let beats_are = c.tick-beats.ensures.beats c.args.at.me known.routes is.routes in
-    let elp = subst (λ (beats : Beats). TakesAll g.P.Port.takes g.P.Port.over c.args.port.now (message_acts beats.elp []) c.send_elp.new.port) beats_are c.in_ok-send_elp.ensures in
-    let own = subst (λ (beats : Beats). Puts g.P.Port.takes g.P.Port.same g.P.Port.over c.send_elp.new.port (alias_acts c.args.at.me history.commits after.commits ++ message_acts beats.ogm tail) (Err c.in_err-own_message.field-0.0) c.own_message.new.port)
-    beats_are (c.in_err-own_message.ensures.puts mentions history since stands late) in
-    rw (p.1, p.2) (subst (λ acts. Puts g.P.Port.takes g.P.Port.same g.P.Port.over c.args.port.now acts (Err c.in_err-own_message.field-0.0) c.own_message.new.port)
-    (even_acts q c.args.at.me known.routes mentions history c.args.at.now c.args.index c.if-index-ne0.false)
-    (puts_behind g.P.Port.takes g.P.Port.same g.P.Port.over c.args.port.now c.send_elp.new.port c.own_message.new.port (elp_acts q known.routes c.args.index)
-    (commit_acts q c.args.at.me known.routes c.args.index history after) (Err c.in_err-own_message.field-0.0) elp own))
+    rw (p.1, p.2) (subst (λ acts. Puts g.P.Port.takes g.P.Port.same g.P.Port.over c.args.port.now acts (Err c.in_err-round.field-0.0) c.round.new.port)
+    (tick_is q c.args.at.me known.routes mentions history gateway c.args.at.now c.args.index)
+    (puts_behind g.P.Port.takes g.P.Port.same g.P.Port.over c.args.port.now c.beat.new.port c.round.new.port
+    (beat_acts q c.args.at.me known.routes mentions history c.args.at.now c.args.index) (round_acts (place c.args.at) gateway c.args.index) (Err c.in_err-round.field-0.0)
+    (c.in_ok-beat.ensures.puts known mentions history since is stands late) (c.in_err-round.ensures gateway bridged)))
 
 pub returns-clause-puts : goal.returns-clause-puts
-returns-clause-puts g c = λ known mentions history since is stands late.
+returns-clause-puts g c = λ known mentions history since gateway is stands late bridged.
     let q = g.A.Algo.queries c.args.at.me in
-    let after : History = committed (present_table mentions c.args.at.now) history in
-    let tail = containers_spelling (own_containers (announcement after)) in
-    let beats_are = c.tick-beats.ensures.beats c.args.at.me known.routes is.routes in
-    let elp = subst (λ (beats : Beats). TakesAll g.P.Port.takes g.P.Port.over c.args.port.now (message_acts beats.elp []) c.send_elp.new.port) beats_are c.in_ok-send_elp.ensures in
-    let own = subst (λ (beats : Beats). Puts g.P.Port.takes g.P.Port.same g.P.Port.over c.send_elp.new.port (alias_acts c.args.at.me history.commits after.commits ++ message_acts beats.ogm tail) (Ok tt) c.own_message.new.port)
-    beats_are (c.in_ok-own_message.ensures.puts mentions history since stands late) in
-    subst (λ acts. Puts g.P.Port.takes g.P.Port.same g.P.Port.over c.args.port.now acts (Ok tt) c.own_message.new.port)
-    (even_acts q c.args.at.me known.routes mentions history c.args.at.now c.args.index c.if-index-ne0.false)
-    (puts_behind g.P.Port.takes g.P.Port.same g.P.Port.over c.args.port.now c.send_elp.new.port c.own_message.new.port (elp_acts q known.routes c.args.index)
-    (commit_acts q c.args.at.me known.routes c.args.index history after) (Ok tt) elp own)
-
-pub returns-then-index-ne0-clause-committed : goal.returns-then-index-ne0-clause-committed
-returns-then-index-ne0-clause-committed g c = λ mentions history since stands late.
-    odd_stands c.args.locals.now mentions history since c.args.at.now c.args.index stands late c.if-index-ne0.true
-
-pub returns-clause-committed : goal.returns-clause-committed
-returns-clause-committed g c = λ mentions history since stands late.
-    subst (λ even. LocalsStand c.own_message.new.locals mentions (if even then with_message (committed (present_table mentions c.args.at.now) history) else history) c.args.at.now)
-    (sym (is_even c.args.index c.if-index-ne0.false))
-    (c.in_ok-own_message.ensures.committed mentions history since stands late)
+    subst (λ acts. Puts g.P.Port.takes g.P.Port.same g.P.Port.over c.args.port.now acts (Ok tt) c.round.new.port)
+    (tick_is q c.args.at.me known.routes mentions history gateway c.args.at.now c.args.index)
+    (puts_behind g.P.Port.takes g.P.Port.same g.P.Port.over c.args.port.now c.beat.new.port c.round.new.port
+    (beat_acts q c.args.at.me known.routes mentions history c.args.at.now c.args.index) (round_acts (place c.args.at) gateway c.args.index) (Ok tt)
+    (c.in_ok-beat.ensures.puts known mentions history since is stands late) (c.in_ok-round.ensures gateway bridged))

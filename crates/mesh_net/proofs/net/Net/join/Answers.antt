@@ -87,12 +87,14 @@ returns-clause-joins g c = λ choice clock mesh st.
                   rows = s.rows;
                   turns = s.turns;
                   ways = s.ways;
+                  lans = s.lans;
                   frames = s.frames;
+                  puts = s.puts;
                   bytes = s.bytes;
                   few = s.few;
                   small = s.small;
                 };
-                waits = awaits_tick c.args.self.now.post.queue c.push.new.self mesh.last (first_ticks 0 mesh.nodes) mesh.links mesh.frames c.tick_of.result st.kept.amid.waits c.in_ok-push.ensures.ok;
+                waits = awaits_tick c.args.self.now.post.queue c.push.new.self mesh.last (first_ticks 0 mesh.nodes) mesh.links mesh.frames mesh.puts c.tick_of.result st.kept.amid.waits c.in_ok-push.ensures.ok;
               };
               older_is = st.kept.older_is;
             }));

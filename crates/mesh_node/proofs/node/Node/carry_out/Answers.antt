@@ -1,4 +1,4 @@
-use Rattle.std.proofs.Common.{Err, Ok, subst}
+use Rattle.std.proofs.Common.{Err, Ok, refl, subst}
 use Rattle.std.proofs.lemmas.Result.{err_from_is_err_and}
 use Rattle.mesh_model.specs.Clients.Limits.{passed_limit}
 use Rattle.mesh_model.specs.Clients.Log.{Join, Line}
@@ -47,7 +47,39 @@ pub returns-in_ok-take_link-in-Link-clause-noted : goal.returns-in_ok-take_link-
 returns-in_ok-take_link-in-Link-clause-noted g c = λ me log number is late.
     rw c.in-Link.is (c.in_ok-take_link-in-Link.ensures.noted me log number is late)
 
+-- ---- frames of a LAN
+
+pub take_lan-requires : goal.take_lan-requires
+take_lan-requires g c =
+    let may = c.requires in
+    (may.me, may.log, may.stand, may.later)
+
+pub returns-in_err-take_lan-in-Lan-clause-puts : goal.returns-in_err-take_lan-in-Lan-clause-puts
+returns-in_err-take_lan-in-Lan-clause-puts g c = λ me log number is late.
+    let p = err_from_is_err_and c.from_residual-in_err-take_lan-in-Lan.result c.from_residual-in_err-take_lan-in-Lan.ensures.1 in
+    rw (p.1, p.2, c.in-Lan.is) (c.in_err-take_lan-in-Lan.ensures.puts me log is late)
+
+pub returns-in_ok-take_lan-in-Lan-clause-puts : goal.returns-in_ok-take_lan-in-Lan-clause-puts
+returns-in_ok-take_lan-in-Lan-clause-puts g c = λ me log number is late.
+    rw c.in-Lan.is (c.in_ok-take_lan-in-Lan.ensures.puts me log is late)
+
+pub returns-in_ok-take_lan-in-Lan-clause-noted : goal.returns-in_ok-take_lan-in-Lan-clause-noted
+returns-in_ok-take_lan-in-Lan-clause-noted g c = λ me log number is late.
+    rw c.in-Lan.is (c.in_ok-take_lan-in-Lan.ensures.noted me log is late)
+
 -- ---- what lines give
+
+pub returns-in_err-attach-in-Attach-clause-puts : goal.returns-in_err-attach-in-Attach-clause-puts
+returns-in_err-attach-in-Attach-clause-puts g c = λ me log number is late.
+    let p = err_from_is_err_and c.from_residual-in_err-attach-in-Attach.result c.from_residual-in_err-attach-in-Attach.ensures.1 in
+    rw (p.1, p.2, c.in-Attach.is, c.in_err-attach-in-Attach.ensures.memory) (g.met.P.Port.same_refl c.args.port.now, tt)
+
+pub returns-in_ok-attach-in-Attach-clause-puts : goal.returns-in_ok-attach-in-Attach-clause-puts
+returns-in_ok-attach-in-Attach-clause-puts g c = λ me log number is late. rw c.in-Attach.is refl
+
+pub returns-in_ok-attach-in-Attach-clause-noted : goal.returns-in_ok-attach-in-Attach-clause-noted
+returns-in_ok-attach-in-Attach-clause-noted g c = λ me log number is late.
+    rw c.in-Attach.is (c.in_ok-attach-in-Attach.ensures.noted me log is late)
 
 pub take_frame-requires : goal.take_frame-requires
 take_frame-requires g c =

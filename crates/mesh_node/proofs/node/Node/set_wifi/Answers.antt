@@ -7,6 +7,7 @@ returns-clause-noted g c = λ me log is late. record {
   mac = is.mac;
   kept = is.kept;
   clients = has_set (g.A.Algo.queries me) c.args.self.now.locals me log c.args.now c.args.on is.clients late;
+  bridge = is.bridge;
   wifi = refl;
   alive = is.alive;
 }

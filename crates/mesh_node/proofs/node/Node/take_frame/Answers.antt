@@ -3,7 +3,7 @@ use Rattle.std.specs.Prelude.{if◌then◌else◌}
 use Rattle.std.proofs.lemmas.Result.{err_from_is_err_and}
 use Rattle.mesh_codec.specs.Payloads.{seen_frame}
 use Rattle.mesh_model.specs.Acts.Choosing.{acts_of}
-use Rattle.mesh_model.specs.Clients.Limits.{passed_limit}
+use Rattle.mesh_model.specs.Acts.NodeLimits.{node_limit}
 use Rattle.mesh_model.specs.Clients.Mentions.{Sighted}
 use Rattle.mesh_model.specs.Knowledge.Steps.{knowledge, next_knowledge}
 use Rattle.mesh_model.specs.Packets.Numbers.{wifi_flag}
@@ -29,7 +29,7 @@ returns-in_err-frame-clause-puts g c = λ me log is late.
     let given = given_frame (seen_frame c.args.sent.now) in
     let before = subst (λ m. Before g.A.Algo.stands g.A.Algo.queries c.args.self.now.kept c.args.self.now.locals m log c.args.now) (sym is.mac)
     (record { known = is.kept; clients = is.clients; later = late }) in
-    rw (p.1, p.2) (subst (λ m. Leaves g.P.Port.takes g.P.Port.same g.P.Port.over (passed_limit m log c.args.now given) c.args.port.now
+    rw (p.1, p.2) (subst (λ m. Leaves g.P.Port.takes g.P.Port.same g.P.Port.over (node_limit m log c.args.now given) c.args.port.now
     (acts_of (g.A.Algo.queries m) m log c.args.now given) (Err c.in_err-frame.field-0.0) c.frame.new.port) is.mac
     (c.in_err-frame.ensures.puts log before (ap Sighted c.client_flags-flags.ensures ∙ ap (λ wifi. Sighted (if wifi then wifi_flag else 0)) is.wifi)))
 
@@ -38,7 +38,7 @@ returns-clause-puts g c = λ me log is late.
     let given = given_frame (seen_frame c.args.sent.now) in
     let before = subst (λ m. Before g.A.Algo.stands g.A.Algo.queries c.args.self.now.kept c.args.self.now.locals m log c.args.now) (sym is.mac)
     (record { known = is.kept; clients = is.clients; later = late }) in
-    subst (λ m. Leaves g.P.Port.takes g.P.Port.same g.P.Port.over (passed_limit m log c.args.now given) c.args.port.now
+    subst (λ m. Leaves g.P.Port.takes g.P.Port.same g.P.Port.over (node_limit m log c.args.now given) c.args.port.now
     (acts_of (g.A.Algo.queries m) m log c.args.now given) (Ok tt) c.frame.new.port) is.mac
     (c.in_ok-frame.ensures.puts log before (ap Sighted c.client_flags-flags.ensures ∙ ap (λ wifi. Sighted (if wifi then wifi_flag else 0)) is.wifi))
 
@@ -51,9 +51,10 @@ returns-clause-noted g c = λ me log is late.
     record {
       mac = is.mac;
       kept = subst (λ m. KnowledgeStands g.A.Algo.stands c.frame.new.kept m (next_knowledge (g.A.Algo.queries m) m log (knowledge (g.A.Algo.queries m) m log) c.args.now given)) is.mac
-          (c.in_ok-frame.ensures.noted log before flags);
+          (c.in_ok-frame.ensures.noted log before);
       clients = subst (λ m. HasClients c.frame.new.locals m (with_input (g.A.Algo.queries m) m log c.args.now given)) is.mac
           (c.in_ok-frame.ensures.sighted log before flags);
+      bridge = is.bridge;
       wifi = is.wifi;
       alive = is.alive;
     }

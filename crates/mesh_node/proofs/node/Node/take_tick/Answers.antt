@@ -1,12 +1,14 @@
 use Rattle.std.proofs.Common.{◌∷◌, Err, Ok, arith, subst, sym}
 use Rattle.std.proofs.lemmas.Result.{err_from_is_err_and}
 use Rattle.mesh_model.specs.Acts.Rows.{tick_acts}
+use Rattle.mesh_model.specs.Clients.Lans.{bridge}
 use Rattle.mesh_model.specs.Clients.Mentions.{mentions}
 use Rattle.mesh_model.specs.Commits.History.{history}
 use Rattle.mesh_model.specs.Knowledge.Steps.{knowledge}
 use Rattle.mesh_model.specs.Routes.RouteLog.{OwnTick}
 use Rattle.node_ground.specs.KnowledgeStands.{KnowledgeStands}
 use Rattle.node_ground.specs.Puts.{Puts}
+use Rattle.node_lans.specs.BridgeStands.{BridgeStands}
 use Rattle.mesh_node.proofs.GivenLemmas.{has_ticked}
 use Rattle.mesh_node.proofs.node.Node.take_tick.Goals as goal
 
@@ -38,18 +40,20 @@ returns-in_err-tick-clause-puts g c = λ me log is late.
     let known = knowledge (g.A.Algo.queries me) me log in
     let settled = is.clients.settled in
     rw (p.1, p.2) (subst (λ m. Puts g.P.Port.takes g.P.Port.same g.P.Port.over c.args.port.now
-    (tick_acts (g.A.Algo.queries m) m known.routes (mentions me log) (history me log) c.args.now c.args.index) (Err c.in_err-tick.field-0.0) c.tick.new.port) is.mac
-    (c.in_err-tick.ensures.puts known (mentions me log) (history me log) is.clients.since
-    (subst (λ m. KnowledgeStands g.A.Algo.stands c.args.self.now.kept m known) (sym is.mac) is.kept) is.clients.stand (omega (arith, settled, late))))
+    (tick_acts (g.A.Algo.queries m) m known.routes (mentions me log) (history me log) (bridge log) c.args.now c.args.index) (Err c.in_err-tick.field-0.0) c.tick.new.port) is.mac
+    (c.in_err-tick.ensures.puts known (mentions me log) (history me log) is.clients.since (bridge log)
+    (subst (λ m. KnowledgeStands g.A.Algo.stands c.args.self.now.kept m known) (sym is.mac) is.kept) is.clients.stand (omega (arith, settled, late))
+    (subst (λ m. BridgeStands c.args.self.now.bridge m (bridge log)) (sym is.mac) is.bridge)))
 
 pub returns-clause-puts : goal.returns-clause-puts
 returns-clause-puts g c = λ me log is late.
     let known = knowledge (g.A.Algo.queries me) me log in
     let settled = is.clients.settled in
     subst (λ m. Puts g.P.Port.takes g.P.Port.same g.P.Port.over c.args.port.now
-    (tick_acts (g.A.Algo.queries m) m known.routes (mentions me log) (history me log) c.args.now c.args.index) (Ok tt) c.tick.new.port) is.mac
-    (c.in_ok-tick.ensures.puts known (mentions me log) (history me log) is.clients.since
-    (subst (λ m. KnowledgeStands g.A.Algo.stands c.args.self.now.kept m known) (sym is.mac) is.kept) is.clients.stand (omega (arith, settled, late)))
+    (tick_acts (g.A.Algo.queries m) m known.routes (mentions me log) (history me log) (bridge log) c.args.now c.args.index) (Ok tt) c.tick.new.port) is.mac
+    (c.in_ok-tick.ensures.puts known (mentions me log) (history me log) is.clients.since (bridge log)
+    (subst (λ m. KnowledgeStands g.A.Algo.stands c.args.self.now.kept m known) (sym is.mac) is.kept) is.clients.stand (omega (arith, settled, late))
+    (subst (λ m. BridgeStands c.args.self.now.bridge m (bridge log)) (sym is.mac) is.bridge))
 
 pub returns-clause-noted : goal.returns-clause-noted
 returns-clause-noted g c = λ me log is late.
@@ -61,6 +65,7 @@ returns-clause-noted g c = λ me log is late.
           (c.in_ok-tick.ensures.ticked known (subst (λ m. KnowledgeStands g.A.Algo.stands c.args.self.now.kept m known) (sym is.mac) is.kept));
       clients = has_ticked (g.A.Algo.queries me) c.args.self.now.locals c.tick.new.locals me log c.args.now c.args.index is.clients late
           (c.in_ok-tick.ensures.committed (mentions me log) (history me log) is.clients.since is.clients.stand (omega (arith, settled, late)));
+      bridge = is.bridge;
       wifi = is.wifi;
       alive = is.alive;
     }

@@ -19,12 +19,14 @@ returns-clause-joins c = λ older last ticks mesh link step sound is.
           rows = subst (RowsAre mesh.nodes (mesh.links ++ link ∷ [])) (sym r) (rows_linked mesh.nodes mesh.links link c.args.self.now.rows.items c.args.row s.rows is);
           turns = subst (TurnsAre (mesh.links ++ link ∷ []) mesh.frames) (sym t) (turns_linked mesh.links link mesh.frames c.args.self.now.turns.items sound.on_links s.turns);
           ways = subst (WaysAre mesh.nodes (mesh.links ++ link ∷ [])) (sym (l ∙ ap (λ n. slice_set c.args.self.now.ways.items n (slice_index_or c.args.self.now.ways.items n [] ++ c.in_ok-way.way ∷ [])) is.from)) (ways_linked mesh.nodes mesh.links link c.args.self.now.ways.items c.in_ok-way.way is.starts way_is s.ways);
+          lans = s.lans;
           frames = s.frames;
+          puts = s.puts;
           bytes = s.bytes;
           few = s.few;
           small = s.small;
         };
-        waits = awaits_linked c.args.self.now.queue last ticks mesh.links link mesh.frames sound.on_links step.amid.waits;
+        waits = awaits_linked c.args.self.now.queue last ticks mesh.links link mesh.frames mesh.puts sound.on_links step.amid.waits;
       };
       older_is = step.older_is;
     }

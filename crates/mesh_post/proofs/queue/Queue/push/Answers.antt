@@ -1,4 +1,4 @@
-use Rattle.std.proofs.Common.{sym, subst, ◌++◌, ◌∷◌, [], List}
+use Rattle.std.proofs.Common.{sym, subst, ◌++◌, List}
 use Rattle.mesh_model.specs.declared.happening.Happening.{Happening}
 use Rattle.mesh_post.specs.Waiting.{Joins}
 use Rattle.mesh_post.proofs.QueueLemmas.{joined}

@@ -2,7 +2,7 @@ use Rattle.std.proofs.Common.{ℕ, List, subst, sym}
 use Rattle.std.proofs.lemmas.Result.{err_from_is_err_and}
 use Rattle.mesh_model.specs.Net.Limits.{scenario_setup}
 use Rattle.mesh_model.specs.declared.line_form.Command.{Command}
-use Rattle.mesh_model.specs.declared.line_form.Command.TheVariants.{Node, Link, Ping, Trace, Show}
+use Rattle.mesh_model.specs.declared.line_form.Command.TheVariants.{Node, Link, Lan, Frame, Gone, Ping, Trace, Show}
 use Rattle.mesh_model.specs.Run.Rules.{carried_out}
 use Rattle.mesh_scene.specs.SceneStands.{SceneStands}
 use Rattle.mesh_scene.specs.CarriesOut.{Carries, HasLineCause}
@@ -91,3 +91,35 @@ returns-in_ok-show-in-Show-clause-ok g c = λ state stands.
     let F : List ℕ → Type 0 = λ node. Carries (SceneStands g.A.Choosable.algorithm g.A.Algo.queries g.A.Algo.stands) (carried_out (scenario_setup g.A.Algo.queries) state (Show node show.table)) state c.args.self.now c.show.new.text.items in
     let C : Command → Type 0 = λ command. Carries (SceneStands g.A.Choosable.algorithm g.A.Algo.queries g.A.Algo.stands) (carried_out (scenario_setup g.A.Algo.queries) state command) state c.args.self.now c.show.new.text.items in
     (subst C (sym show.is) (subst F c.as_slice-in-Show.ensures.value (c.in_ok-show-in-Show.ensures.ok state stands)))
+
+pub returns-in_err-add_lan-in-Lan-clause-refused : goal.returns-in_err-add_lan-in-Lan-clause-refused
+returns-in_err-add_lan-in-Lan-clause-refused g c = λ state stands.
+    let p = err_from_is_err_and c.from_residual-in_err-add_lan-in-Lan.result c.from_residual-in_err-add_lan-in-Lan.ensures.1 in
+    let lan = c.in-Lan in
+    let fault = c.in_err-add_lan-in-Lan.field-0.0 in
+    let F : List ℕ → Type 0 = λ name. HasLineCause state (carried_out (scenario_setup g.A.Algo.queries) state (Lan name lan.gateways)) fault in
+    let C : Command → Type 0 = λ command. HasLineCause state (carried_out (scenario_setup g.A.Algo.queries) state command) fault in
+    rw (p.1, p.2)
+    (subst C (sym lan.is) (subst F c.as_slice-in-Lan.ensures.value (c.in_err-add_lan-in-Lan.ensures.refused state stands)))
+
+pub returns-in_err-frame-in-Frame-clause-refused : goal.returns-in_err-frame-in-Frame-clause-refused
+returns-in_err-frame-in-Frame-clause-refused g c = λ state stands.
+    let p = err_from_is_err_and c.from_residual-in_err-frame-in-Frame.result c.from_residual-in_err-frame-in-Frame.ensures.1 in
+    let frame = c.in-Frame in
+    let fault = c.in_err-frame-in-Frame.field-0.0 in
+    let L : List ℕ → List ℕ → Type 0 = λ place text. HasLineCause state (carried_out (scenario_setup g.A.Algo.queries) state (Frame place frame.src frame.dst frame.vid text)) fault in
+    let C : Command → Type 0 = λ command. HasLineCause state (carried_out (scenario_setup g.A.Algo.queries) state command) fault in
+    rw (p.1, p.2)
+    (subst C (sym frame.is)
+    (subst (L frame.place) c.as_slice-in-Frame.ensures.value
+    (subst (λ place. L place c.as_slice-in-Frame.result.now) c.as_slice-in-Frame-2.ensures.value (c.in_err-frame-in-Frame.ensures.refused state stands))))
+
+pub returns-in_err-gone-in-Gone-clause-refused : goal.returns-in_err-gone-in-Gone-clause-refused
+returns-in_err-gone-in-Gone-clause-refused g c = λ state stands.
+    let p = err_from_is_err_and c.from_residual-in_err-gone-in-Gone.result c.from_residual-in_err-gone-in-Gone.ensures.1 in
+    let gone = c.in-Gone in
+    let fault = c.in_err-gone-in-Gone.field-0.0 in
+    let F : List ℕ → Type 0 = λ place. HasLineCause state (carried_out (scenario_setup g.A.Algo.queries) state (Gone place gone.key)) fault in
+    let C : Command → Type 0 = λ command. HasLineCause state (carried_out (scenario_setup g.A.Algo.queries) state command) fault in
+    rw (p.1, p.2)
+    (subst C (sym gone.is) (subst F c.as_slice-in-Gone.ensures.value (c.in_err-gone-in-Gone.ensures.refused state stands)))

@@ -51,4 +51,4 @@ returns-clause-ok g c = λ state stands.
     (attempt_carries g.A.Choosable.algorithm g.A.Algo.queries g.A.Algo.stands state scene new attempt done.after c.deliver.new.log c.put_events.new.out.items stands done.is
     (stands_gone g.A.Choosable.algorithm g.A.Algo.queries g.A.Algo.stands scene new state state.clock done.after stands done.standing refl refl effect.names effect.adds.links) effect.names
     (done.gains ∙ ap (λ (old : List Event). old ++ filter (is_shown state.choice) (events_since state.mesh done.after)) c.cut.ensures.kept)
-    (c.in_ok-put_events.ensures.ok ∙ ap (λ (old : List ℕ). old ++ flat_map (event_line scene.names.nodes) c.deliver.new.log) c.requires.empty))
+    (c.in_ok-put_events.ensures.ok ∙ ap (λ (old : List ℕ). old ++ flat_map (event_line scene.names) c.deliver.new.log) c.requires.empty))

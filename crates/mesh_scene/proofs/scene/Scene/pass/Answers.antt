@@ -13,7 +13,7 @@ returns-clause-ok g c = λ state stands.
     (record { net_is = refl; names_are = refl; ends_are = refl }) c.requires.within (sym c.passage_of.ensures ∙ c.in-Some.is)
     (c.run_some.ensures.ran state.choice state.clock state.mesh stands.net_is) (c.run_some.ensures.cause state.choice state.clock state.mesh stands.net_is)
     (λ after. ap (λ (old : List Event). old ++ filter (is_shown state.choice) (events_since state.mesh after)) c.cut.ensures.kept)
-    (c.in_ok-put_events.ensures.ok ∙ ap (λ (old : List ℕ). old ++ flat_map (event_line scene.names.nodes) c.run_some.new.log) c.requires.empty)
+    (c.in_ok-put_events.ensures.ok ∙ ap (λ (old : List ℕ). old ++ flat_map (event_line scene.names) c.run_some.new.log) c.requires.empty)
 
 pub returns-clause-advances : goal.returns-clause-advances
 returns-clause-advances g c = λ going.

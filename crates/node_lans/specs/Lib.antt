@@ -1,0 +1,2 @@
+-- The words of the contracts, in reading order.
+pub mod BridgeStands
