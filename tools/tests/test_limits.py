@@ -11,6 +11,7 @@ CLIENTS = 1024
 VLANS = 16
 NODES = 64
 LINKS = 512
+LANS = 16
 CLOCK = 1_099_511_627_776
 FRAMES = 4_194_304
 FRAME_BYTES = 536_870_912
@@ -45,6 +46,16 @@ class OfTheMesh(unittest.TestCase):
         self.assertEqual(
             run_lines([*within, "link n0 n32"]), limited(len(within) + 1, "links")
         )
+
+    @needs_program
+    def test_lans(self):
+        within = nodes(LANS + 1) + [f"lan l{number} n{number}" for number in range(LANS)]
+        self.assertEqual(run_lines(within), finished([]))
+        number = len(within) + 1
+        self.assertEqual(run_lines([*within, f"lan l n{LANS}"]), limited(number, "lans"))
+        # What the line says of itself comes first.
+        said = f"batmesh: line {number}: attached\n"
+        self.assertEqual(run_lines([*within, "lan l n0"]), (1, "", said))
 
     @needs_program
     def test_clients(self):
