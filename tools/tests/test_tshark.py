@@ -67,7 +67,9 @@ def sent_packets(text):
     nodes = batmesh_run.nodes_of(batmesh_run.scenario_lines(text))
     with running(PROGRAM):
         frames = batmesh_run.frames_of(batmesh_run.run(text, "all").printed)
-    return [(frame, to_pcap.ethernet_frame(frame, nodes)) for frame in frames]
+    return [
+        (frame, to_pcap.ethernet_frame(frame, nodes)) for frame in frames if not frame.of_lan
+    ]
 
 
 def decoded(text):
