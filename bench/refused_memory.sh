@@ -76,6 +76,15 @@ traceroute B A
 run 100
 frame B 02:00:00:00:01:01 02:00:00:00:01:02 - roamed
 run 2000
+node C 02:00:00:00:00:0c
+node D 02:00:00:00:00:0d
+lan L C D
+frame L 02:00:00:00:01:03 ff:ff:ff:ff:ff:ff - on a LAN
+run 2
+frame L 02:00:00:00:01:03 ff:ff:ff:ff:ff:ff - passed
+run 2
+gone L 02:00:00:00:01:03 -
+show D cl
 show A o
 show A n
 show A tl
