@@ -5,6 +5,7 @@ ghost use Rattle.mesh_base.specs.declared.address.Mac.{Mac};
 ghost use Rattle.mesh_model.specs.Services.Facts.{CameFrom, FactCall, WasPut, facts_at, is_live_fact, kept_fact, key_of_fact, mark_from, outweighs, stays_kept};
 ghost use Rattle.alfred_core.specs.Facts.{FactsStand, IsKeptBy};
 
+use crate::fact_list::copy_of;
 use indexmap::IndexMap;
 use mesh_base::{Bytes, Mac, Millis, NoMemory};
 use mesh_model::{Fact, FactKey, KeptFact, Mark};
@@ -151,19 +152,6 @@ fn key_of(fact: &Fact) -> FactKey
         source: fact.source,
         type_no: fact.type_no,
     }
-}
-
-// A copy of a fact.
-fn copy_of(alloc: Global, fact: &Fact) -> Result<Fact, NoMemory>
-    ensures { IfOk result (λ copy. copy ≡ fact.now) }
-{
-    let bytes = Bytes::from_slice(alloc, fact.bytes.as_slice())?;
-    Ok(Fact {
-        source: fact.source,
-        type_no: fact.type_no,
-        version: fact.version,
-        bytes,
-    })
 }
 
 // The mark of a fact that a node sent.

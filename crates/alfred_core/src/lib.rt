@@ -3,9 +3,15 @@
 
 #![tactic(auto)]
 
+mod fact_list;
 mod facts;
+mod parts;
 mod primaries;
+mod transaction;
+mod txn;
 
+pub use fact_list::FactList;
 pub use facts::Facts;
 pub use mesh_model::{Fact, FactKey, KeptFact, Mark, PrimaryRow};
 pub use primaries::primary_of;
+pub use txn::Txn;
