@@ -1,2 +1,4 @@
 pub mod FactLemmas
+pub mod MomentLemmas
 pub mod PartLemmas
+pub mod TransactionLemmas

@@ -10,7 +10,7 @@ use Rattle.std.proofs.lemmas.Map.Steps.{length-le_from_distinct_below}
 use Rattle.std.proofs.lemmas.Option.{IfSome_then}
 use Rattle.mesh_model.specs.declared.service.Fact.{Fact}
 use Rattle.mesh_model.specs.Services.Transactions.{Part, facts_below, part_at}
-use Rattle.alfred_core.specs.Parts.{ArePartsWithout, kept_part, parts_in}
+use Rattle.alfred_core.specs.Kept.{ArePartsWithout, kept_part, parts_in}
 
 -- a part of a number
 abbrev part_of : ℕ → List Fact → Part

@@ -1,4 +1,4 @@
 -- What the contracts cite: first what callers see, then inner words.
 pub mod Facts
 pub mod Transactions
-pub mod Parts
+pub mod Kept

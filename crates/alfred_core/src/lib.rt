@@ -8,10 +8,12 @@ mod facts;
 mod parts;
 mod primaries;
 mod transaction;
+mod transactions;
 mod txn;
 
 pub use fact_list::FactList;
 pub use facts::Facts;
 pub use mesh_model::{Fact, FactKey, KeptFact, Mark, PrimaryRow};
 pub use primaries::primary_of;
+pub use transactions::Transactions;
 pub use txn::Txn;

@@ -13,15 +13,15 @@ use std::marker::Model;
 pub(crate) struct Parts {
     /// By number.
     kept: IndexMap<u16, FactList>,
-    /// A number of which no part came, mostly the least. Only parts that are all above it, or all
-    /// parts below it, can be asked for without a walk.
+    /// A number of which no part came, mostly the least. So there is no walk over the parts before
+    /// all came that are wanted.
     missing: Option<u16>,
 }
 
 impl Model for Parts {
     ghost use Rattle.std.specs.Prelude.{List};
     ghost use Rattle.mesh_model.specs.Services.Transactions.{Part};
-    ghost use Rattle.alfred_core.specs.Parts.{ArePartsWithout, parts_in};
+    ghost use Rattle.alfred_core.specs.Kept.{ArePartsWithout, parts_in};
 
     ghost Value = { List Part };
 
@@ -86,10 +86,10 @@ impl Parts {
         }
         let mut facts = FactList::new(*self.kept.allocator());
         for number in 0..count {
-            let Some(part) = self.kept.get(&number) else {
-                return Ok(None);
-            };
-            facts.add(part)?;
+            match self.kept.get(&number) {
+                Some(part) => facts.add(part)?,
+                None => return Ok(None),
+            }
         }
         Ok(Some(facts))
     }

@@ -1,7 +1,6 @@
 ghost use Rattle.std.specs.Prelude.{◌≡◌, IfOk, OnErr, OnOk};
 ghost use Rattle.mesh_model.specs.Services.Transactions.{APart, AnEnd, opened_at, with_brought};
-ghost use Rattle.alfred_core.specs.Parts.{brought_in};
-ghost use Rattle.alfred_core.specs.Transactions.{is_open, told};
+ghost use Rattle.alfred_core.specs.Kept.{brought_in, is_open, told};
 
 use crate::fact_list::FactList;
 use crate::parts::Parts;
@@ -14,7 +13,7 @@ use std::marker::Model;
 const TRANSACTION_AGE: Millis = 60_000;
 
 /// What a message of a transaction brings: a part, or the end with how many parts there are.
-#[derive(Clone, Copy, Debug)]
+#[derive(Clone, Copy)]
 pub(crate) enum Brought<'a> {
     Part { number: u16, facts: &'a FactList },
     End { count: u16 },
@@ -78,13 +77,11 @@ impl OpenTransaction {
             return self.told(self.count);
         }
         self.parts.add(number, facts)?;
-        match self.told(self.count) {
-            Ok(txn) => Ok(txn),
-            Err(NoMemory) => {
-                self.parts.drop_last();
-                Err(NoMemory)
-            }
+        let told = self.told(self.count);
+        if told.is_err() {
+            self.parts.drop_last();
         }
+        told
     }
 
     // Takes the end, unless one came before.
@@ -103,17 +100,14 @@ impl OpenTransaction {
     fn told(&self, want: Option<u16>) -> Result<Txn, NoMemory>
         ensures { IfOk result (λ txn. txn ≡ told (record self.now { count = want })) }
     {
-        let whole = match want {
-            Some(count) => self.parts.facts_below(count)?,
-            None => None,
-        };
-        let told = match whole {
-            Some(facts) => Txn::Whole(facts),
-            None => Txn::Open {
-                have: self.parts.len(),
-                want,
-            },
-        };
-        Ok(told)
+        if let Some(count) = want {
+            if let Some(facts) = self.parts.facts_below(count)? {
+                return Ok(Txn::Whole(facts));
+            }
+        }
+        Ok(Txn::Open {
+            have: self.parts.len(),
+            want,
+        })
     }
 }

@@ -6,3 +6,5 @@
 mod facts;
 #[cfg(test)]
 mod primaries;
+#[cfg(test)]
+mod transactions;

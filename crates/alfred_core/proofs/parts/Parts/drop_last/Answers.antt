@@ -1,5 +1,5 @@
 use Rattle.std.proofs.Common.{subst}
-use Rattle.alfred_core.specs.Parts.{ArePartsWithout}
+use Rattle.alfred_core.specs.Kept.{ArePartsWithout}
 use Rattle.alfred_core.proofs.PartLemmas.{fewer}
 use Rattle.alfred_core.proofs.parts.Parts.drop_last.Goals as goal
 

@@ -10,8 +10,8 @@ returns-then-is_some_and c =
     subst (λ parts. None ≡ facts_below parts c.args.count) c.self.view_is
     (sym (not_whole_without c.self.inside.kept.entries c.self.inside.missing c.args.count below c.self.invariant.without))
 
-pub returns-in_default : goal.returns-in_default
-returns-in_default c =
+pub returns-in-None : goal.returns-in-None
+returns-in-None c =
     let none : lookup (nat_eq c.loop-number.number-counter) c.self.inside.kept.entries ≡ None = search rules in
     subst (λ parts. None ≡ facts_below parts c.args.count) c.self.view_is
     (sym (not_whole c.self.inside.kept.entries c.loop-number.number-counter c.args.count none c.loop-number-test.true))
@@ -20,4 +20,4 @@ pub loop-number-preserved : goal.loop-number-preserved
 loop-number-preserved c =
     let found : lookup (nat_eq c.loop-number.number-counter) c.self.inside.kept.entries ≡ Some c.in-Some.part.now = search rules in
     one_more c.self.inside.kept.entries c.loop-number.number-counter c.loop-number.facts c.in-Some.part.now c.loop-number.invariant found
-    ∙ ap (λ facts. Some facts) (sym c.in_ok-add.ensures)
+    ∙ ap (λ facts. Some facts) (sym c.in_ok-add-in-Some.ensures)
