@@ -1,9 +1,9 @@
 -- How what is kept of transactions goes along with a message.
-use Rattle.std.proofs.Common.{◌≡◌, ◌≤◌, ◌+◌, ◌-◌, ◌&&◌, ◌==◌, ℕ, Bool, true, false, cond, nat_eq, nat_lt, List, [], ◌∷◌, ◌++◌, length, map, filter, IsSome, IsSomeAnd, is_some, Option, None, Some, refl, sym, ap, ap₂, ◌∙◌, subst, arith}
+use Rattle.std.proofs.Common.{◌≡◌, ◌≤◌, ◌-◌, ◌==◌, ℕ, Bool, true, false, cond, nat_lt, List, [], ◌∷◌, ◌++◌, length, IsSomeAnd, is_some, Option, None, Some, refl, sym, ap, ap₂, ◌∙◌, subst, arith}
 use Rattle.std.specs.Cmp.{IsEquivalence}
 use Rattle.std.specs.List.{IsDistinct}
 use Rattle.std.specs.Map.{keys_of, lookup, remove_entry, set_value}
-use Rattle.std.proofs.lemmas.Bool.{and_from, and_parts, eqb-true, eq-eqb, false≢true}
+use Rattle.std.proofs.lemmas.Bool.{and_parts, eqb-true}
 use Rattle.std.proofs.lemmas.Cmp.{and_equiv, nat_eq_equiv, on_equiv}
 use Rattle.std.proofs.lemmas.Map.{keys-set_value, lookup-remove_entry, lookup-set_value}
 use Rattle.std.proofs.lemmas.Map.Entries.{lookup-filter-values, option_filter}
@@ -12,8 +12,8 @@ use Rattle.indexmap.specs.IndexMap.{IndexMap, get, insert_entry}
 use Rattle.indexmap.proofs.CallerLemmas.{insert_entry-new}
 use Rattle.mesh_model.specs.declared.service.Fact.{Fact}
 use Rattle.mesh_model.specs.Routes.Addresses.{same_mac}
-use Rattle.mesh_model.specs.Services.Transactions.{APart, AnEnd, Brought, Transaction, TxnCall, going, made_whole, opened_at, part_at, transaction, unless_whole, whole_facts, with_brought}
-use Rattle.mesh_laws.proofs.MacLemmas.{same_equiv, same_exact, same_self}
+use Rattle.mesh_model.specs.Services.Transactions.{APart, AnEnd, Brought, Transaction, TxnCall, going, opened_at, part_at, transaction, unless_whole, whole_facts, with_brought}
+use Rattle.mesh_laws.proofs.MacLemmas.{same_equiv, same_exact}
 use Rattle.alfred_core.specs.Kept.{call_of, is_kept_open, is_open, told, told_with}
 use Rattle.alfred_core.specs.Transactions.{Answers, Rows, TransactionsStand, RiseWithin, first_opening, newest_moment, opened_moments, same_transaction}
 use Rattle.alfred_core.specs.declared.transaction.Brought.{Brought as Bringing}

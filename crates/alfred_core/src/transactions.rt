@@ -1,6 +1,6 @@
 //! The transactions in which facts come.
 
-ghost use Rattle.std.specs.Prelude.{◌≡◌, ◌≤◌, ◌==◌, ℕ, List, [], ◌∷◌, filter, true, false, IfOk, OnErr, OnOk};
+ghost use Rattle.std.specs.Prelude.{◌≡◌, ◌≤◌, ℕ, List, [], ◌∷◌, filter, true, false, IfOk, OnErr, OnOk};
 ghost use Rattle.std.specs.Map.{lookup};
 ghost use Rattle.indexmap.specs.IndexMap.{spare};
 ghost use Rattle.mesh_model.specs.Services.Transactions.{APart, AnEnd, TxnCall};
@@ -22,7 +22,7 @@ struct TransactionKey {
     id: u16,
 }
 
-/// The transactions that are open.
+/// The transactions that are open, each known by its sender and its id.
 #[derive(Debug, Drop)]
 pub struct Transactions {
     /// In the order of opening.
@@ -47,7 +47,10 @@ impl Transactions {
         }
     }
 
-    /// Takes the part of a number, with its facts.
+    /// Takes a part of a transaction, with its facts, unless one of its number came before, and
+    /// tells what there is then. What is whole is open no more: a later message opens a new one.
+    /// Those that were opened 60,000 ms ago or more are dropped. The first two clauses hold where
+    /// moments don't fall from call to call.
     pub fn part(
         &mut self,
         now: Millis,
@@ -70,14 +73,9 @@ impl Transactions {
         self.bring(now, key, Brought::Part { number, facts })
     }
 
-    /// Takes the end, with how many parts there are.
-    pub fn end(
-        &mut self,
-        now: Millis,
-        sender: Mac,
-        id: u16,
-        count: u16,
-    ) -> Result<Txn, NoMemory>
+    /// Takes the end of a transaction, with how many parts there are, unless an end came before,
+    /// and tells what there is then, as `part` does.
+    pub fn end(&mut self, now: Millis, sender: Mac, id: u16, count: u16) -> Result<Txn, NoMemory>
         ensures ok { (calls : List TxnCall) → TransactionsStand self.old calls →
             newest_moment calls ≤ now → OnOk result (TransactionsStand self.new
             (record { moment = now; sender = sender; id = id; brought = AnEnd count } ∷ calls)) }
@@ -91,12 +89,7 @@ impl Transactions {
     }
 
     // Takes what a message brings.
-    fn bring(
-        &mut self,
-        now: Millis,
-        key: TransactionKey,
-        brought: Brought,
-    ) -> Result<Txn, NoMemory>
+    fn bring(&mut self, now: Millis, key: TransactionKey, brought: Brought) -> Result<Txn, NoMemory>
         ensures ok { (calls : List TxnCall) → TransactionsStand self.old calls →
             newest_moment calls ≤ now →
             OnOk result (TransactionsStand self.new (call_of now key brought.entry ∷ calls)) }
@@ -112,21 +105,16 @@ impl Transactions {
         }
     }
 
-    // Whether a transaction is kept that is open still.
+    // Whether a transaction of this sender and id is open still.
     fn is_open(&self, now: Millis, key: TransactionKey) -> bool
         ensures { result ≡ is_kept_open now (lookup (same_transaction key) self.now) }
     {
         self.rows.get(&key).is_some_and(|txn| txn.is_open(now))
     }
 
-    // Takes what a message brings into its transaction, which is open still. Only then, when no
-    // memory is wanted any more, those that aren't are dropped.
-    fn go_on(
-        &mut self,
-        now: Millis,
-        key: TransactionKey,
-        brought: Brought,
-    ) -> Result<Txn, NoMemory>
+    // Takes what a message brings into its transaction, which is open still. Others are dropped
+    // only once no memory is wanted any more, so that a refusal leaves all.
+    fn go_on(&mut self, now: Millis, key: TransactionKey, brought: Brought) -> Result<Txn, NoMemory>
         requires { is_kept_open now (lookup (same_transaction key) self.old) ≡ true }
         ensures ok { (calls : List TxnCall) → TransactionsStand self.old calls →
             newest_moment calls ≤ now →
@@ -145,13 +133,8 @@ impl Transactions {
         Ok(told)
     }
 
-    // Takes what a message brings into a transaction that it opens.
-    fn begin(
-        &mut self,
-        now: Millis,
-        key: TransactionKey,
-        brought: Brought,
-    ) -> Result<Txn, NoMemory>
+    // Takes what a message brings into a transaction that it opens, behind the others.
+    fn begin(&mut self, now: Millis, key: TransactionKey, brought: Brought) -> Result<Txn, NoMemory>
         requires { is_kept_open now (lookup (same_transaction key) self.old) ≡ false }
         ensures ok { (calls : List TxnCall) → TransactionsStand self.old calls →
             newest_moment calls ≤ now →
@@ -172,7 +155,8 @@ impl Transactions {
     }
 }
 
-// Drops the transactions that aren't open any more, of rows in the order of opening.
+// Drops the transactions that aren't open any more. The rows stand in the order of opening, so
+// where the first is open all are.
 fn drop_aged(rows: &mut IndexMap<TransactionKey, OpenTransaction>, now: Millis)
     ensures kept { (first last : ℕ) → RiseWithin first (opened_moments rows.old.entries) last →
         rows.new.entries ≡ filter (λ row. is_open now row.1) rows.old.entries }

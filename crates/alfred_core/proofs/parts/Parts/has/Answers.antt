@@ -1,6 +1,5 @@
-use Rattle.std.proofs.Common.{◌≡◌, ◌∙◌, ap, is_some, nat_eq, rules, subst}
-use Rattle.std.specs.Map.{lookup}
-use Rattle.mesh_model.specs.Services.Transactions.{Part, part_at}
+use Rattle.std.proofs.Common.{◌≡◌, ◌∙◌, is_some, subst}
+use Rattle.mesh_model.specs.Services.Transactions.{part_at}
 use Rattle.alfred_core.proofs.PartLemmas.{has_kept}
 use Rattle.alfred_core.proofs.parts.Parts.has.Goals as goal
 

@@ -1,4 +1,4 @@
-use Rattle.std.proofs.Common.{◌≤◌, Fits-lit, arith, length}
+use Rattle.std.proofs.Common.{◌≤◌, arith, length}
 use Rattle.alfred_core.proofs.PartLemmas.{few_kept}
 use Rattle.alfred_core.proofs.parts.Parts.len.Goals as goal
 
