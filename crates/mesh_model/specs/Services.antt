@@ -8,3 +8,4 @@ pub mod ArpTable
 pub mod Facts
 pub mod Primaries
 pub mod Transactions
+pub mod Parts

@@ -5,8 +5,9 @@ use lib.Utf8.{encode}
 use Rattle.mesh_model.specs.Packets.FactMessages.{facts_within}
 use Rattle.mesh_model.specs.Packets.LanFrames.{lan_message_of}
 use Rattle.mesh_model.specs.Services.ArpTable.{node_place, pair_place}
+use Rattle.mesh_model.specs.Services.Parts.{fact_pieces}
 use Rattle.mesh_model.specs.Tables.Checksum.{crc32c}
 
 unfoldable pub services_on_literals : ⊤
-unfolding encode facts_within lan_message_of node_place pair_place crc32c
+unfolding encode facts_within fact_pieces lan_message_of node_place pair_place crc32c
 services_on_literals = tt
