@@ -5,6 +5,7 @@
 pub mod Packing
 pub mod OwnContainers
 pub mod BridgeRows
+pub mod GroupRows
 pub mod TableRows
 pub mod FrameRows
 pub mod ProbeRows

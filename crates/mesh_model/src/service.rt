@@ -1,13 +1,28 @@
 use mesh_base::{Bytes, Mac, Millis, Vid};
 
-/// A gateway as a node knows it: its throughputs in units of 100 kbit/s, and the metric of the route
-/// to it.
+/// A gateway as a node knows it: its throughputs in units of 100 kbit/s, and the metric of the
+/// route to it.
 #[derive(Clone, Copy, Debug, PartialEq, Eq)]
 pub struct GwRow {
     pub orig: Mac,
     pub down: u32,
     pub up: u32,
     pub metric: u32,
+}
+
+/// A node's part as a gateway: none; it offers throughputs; or its clients choose one.
+#[derive(Clone, Copy, Debug, PartialEq, Eq)]
+pub enum GwMode {
+    Off,
+    Server,
+    Client,
+}
+
+/// An originator that tells multicast flags, and these.
+#[derive(Clone, Copy, Debug, PartialEq, Eq)]
+pub struct GroupRow {
+    pub orig: Mac,
+    pub flags: u8,
 }
 
 /// How a frame to a group is sent to so many receivers.
@@ -21,8 +36,8 @@ pub enum Fan {
     Flood,
 }
 
-/// A pair of the distributed ARP table: an IP address, as a number, and a VLAN. Pairs are ordered by
-/// the IP address, then by the wire number.
+/// A pair of the distributed ARP table: an IP address, as a number, and a VLAN. Pairs are ordered
+/// by the IP address, then by the wire number.
 #[derive(Clone, Copy, Debug, PartialEq, Eq, PartialOrd, Ord, Hash)]
 pub struct Pair {
     pub ip: u32,

@@ -5,6 +5,7 @@ pub mod DecodeRows
 pub mod NetRows
 pub mod NetLines
 pub mod LanLines
+pub mod ServingLines
 pub mod AlgorithmLines
 pub mod TableRows
 pub mod CommitRows

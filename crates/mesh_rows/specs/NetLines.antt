@@ -2,6 +2,7 @@
 use Rattle.std.specs.Prelude.{ℕ, Bool, zero, suc, List, [], ◌∷◌, ◌++◌, replicate, codes, decimal, Option, Some, None, is_some}
 use Rattle.mesh_base.specs.Address.{hex_of_byte}
 use Rattle.mesh_base.specs.declared.address.Mac.{Mac}
+use Rattle.mesh_model.specs.Clients.Settings.{first_settings}
 use Rattle.mesh_model.specs.declared.act.Act.{Act}
 use Rattle.mesh_model.specs.declared.act.Act.TheVariants.{Link}
 use Rattle.mesh_model.specs.declared.ending.LimitName.{LimitName}
@@ -48,8 +49,8 @@ node_mac last = record { 0 = 2 ∷ 0 ∷ 0 ∷ 0 ∷ 0 ∷ last ∷ [] }
 
 -- the containers of a node that has no clients and never had one
 abbrev pub bare_containers : List Container
-bare_containers =
-    own_containers (record { flags = ogm_diff_flag; ttvn = 0; vlans = []; changes = [] })
+bare_containers = own_containers first_settings
+    (record { flags = ogm_diff_flag; ttvn = 0; vlans = []; changes = [] })
 
 -- a node's own originator message in bytes, by the last byte of its address, its number and its
 -- containers

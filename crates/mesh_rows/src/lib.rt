@@ -20,6 +20,7 @@ pub mod probe_rows;
 pub mod route_rows;
 pub mod rows;
 pub mod service_rows;
+pub mod serving_rows;
 pub mod session_rows;
 pub mod table_rows;
 pub mod throughput_rows;

@@ -2,7 +2,7 @@
 -- twentieth tick how many claims it holds. What comes from the mesh for the clients of a node is
 -- handed out at one that is no gateway; at a gateway its verdict decides what goes on the LAN. The
 -- main words are `out_acts`, `unclaim_acts` and `round_acts`.
-use Rattle.std.specs.Prelude.{ℕ, ◌%◌, ◌==◌, Bool, true, false, List, [], ◌∷◌, ◌++◌, Option, Some, None, if◌then◌else◌}
+use Rattle.std.specs.Prelude.{ℕ, Bool, true, false, List, [], ◌∷◌, ◌++◌, Option, Some, None, if◌then◌else◌}
 use Rattle.std.specs.List.{list_any}
 use Rattle.std.specs.Option.{option_map_or}
 use Rattle.mesh_base.specs.Address.{is_group}
@@ -21,6 +21,7 @@ use Rattle.mesh_model.specs.Clients.Mentions.{key_of}
 use Rattle.mesh_model.specs.Packets.LanFrames.{announce_spelling, claim_spelling}
 use Rattle.mesh_model.specs.Packets.Payload.{ClientFrame, payload_spelling}
 use Rattle.mesh_model.specs.Routes.Addresses.{same_mac}
+use Rattle.mesh_model.specs.Routes.RouteLog.{is_round}
 
 -- where and when something is at a node
 pub record Place : Type 0 where
@@ -86,14 +87,6 @@ unclaim_by at bridge key (Some lan) =
 abbrev pub unclaim_acts : Place → Bridge → Option Key → List Act
 unclaim_acts at bridge None = []
 unclaim_acts at bridge (Some key) = unclaim_by at bridge key bridge.lan
-
--- how many ticks pass between two announcements on a LAN
-abbrev pub ticks_of_round : ℕ
-ticks_of_round = 20
-
--- whether a tick begins a round
-abbrev pub is_round : ℕ → Bool
-is_round index = index % ticks_of_round == 0
 
 -- a gateway tells on its LAN how many claims it holds
 abbrev pub holding_acts : Place → ClaimCalls → Option LanOf → List Act

@@ -8,6 +8,7 @@ use Rattle.mesh_base.specs.declared.client.Key.{Key}
 use Rattle.mesh_model.specs.declared.act.Act.{Act}
 use Rattle.mesh_model.specs.Acts.BridgeRows.{claim_acts}
 use Rattle.mesh_model.specs.Acts.FrameRows.{advert_acts, frame_acts}
+use Rattle.mesh_model.specs.Acts.GroupRows.{call_acts}
 use Rattle.mesh_model.specs.Acts.ProbeRows.{session_acts}
 use Rattle.mesh_model.specs.Acts.Rows.{own_by, packets_acts, tick_acts}
 use Rattle.mesh_model.specs.Bridges.Verdicts.{verdict_from_lan}
@@ -17,6 +18,7 @@ use Rattle.mesh_model.specs.Clients.Mentions.{Mention, key_of, mentions, next_me
 use Rattle.mesh_model.specs.Commits.History.{history}
 use Rattle.mesh_model.specs.Knowledge.Known.{Knowledge}
 use Rattle.mesh_model.specs.Knowledge.Steps.{advertised, after_sighting, knowledge, stays_on_lan}
+use Rattle.mesh_model.specs.Packets.Ethernet.{all_stations}
 use Rattle.mesh_model.specs.Packets.LanFrames.{client_frame_in, lan_message_of}
 use Rattle.mesh_model.specs.Packets.LinkFrame.{link_frame}
 use Rattle.mesh_model.specs.Packets.Payload.{ClientFrame}
@@ -34,6 +36,16 @@ client_acts q me log now frame = frame_acts q
     (next_mentions me log (mentions me log) now
     (Line (Frame frame.src frame.dst frame.vid frame.text)))
     (record { me = me; now = now }) frame
+
+-- the client frame that a call for a gateway is
+abbrev pub call_frame : Key → List ℕ → ClientFrame
+call_frame key text = record { dst = all_stations; src = key.mac; vid = key.vid; text = text }
+
+-- a call for a gateway, behind its sighting
+abbrev pub calling_acts : Queries → Mac → Log → ℕ → Key → List ℕ → List Act
+calling_acts q me log now key text = call_acts q
+    (after_sighting q me log now key (knowledge q me log)) (record { me = me; now = now })
+    (call_frame key text)
 
 -- a ping or, for `trace`, a traceroute begins
 abbrev pub probing_acts : Queries → Mac → Log → ℕ → Mac → Bool → List Act
@@ -89,7 +101,8 @@ line_acts q me log now (Join key) = []
 line_acts q me log now (Leave key) = []
 line_acts q me log now (Arp mac own_ip asked_ip vid) =
     sighting_acts q me log now (key_of mac vid)
-line_acts q me log now (Dhcp key text) = sighting_acts q me log now key
+line_acts q me log now (Dhcp key text) =
+    sighting_acts q me log now key ++ calling_acts q me log now key text
 line_acts q me log now (Sets setting) = []
 line_acts q me log now (Put type_no version text) = []
 line_acts q me log now (Get type_no) = []
@@ -99,8 +112,8 @@ line_acts q me log now (Trace target) = probing_acts q me log now target true
 -- the acts, in order, of a node with this algorithm, address and log that is given something at a
 -- moment
 abbrev pub acts_of : Queries → Mac → Log → ℕ → Given → List Act
-acts_of q me log now (Tick index) = tick_acts q me (knowledge q me log).routes (mentions me log)
-    (history me log) (bridge log) now index
+acts_of q me log now (Tick index) = tick_acts q me (knowledge q me log).services.settings
+    (knowledge q me log).routes (mentions me log) (history me log) (bridge log) now index
 acts_of q me log now (LinkFrame number from throughput bytes) =
     packets_acts q me (own_by me log)
     (record { now = now; from = from; throughput = throughput; number = number })

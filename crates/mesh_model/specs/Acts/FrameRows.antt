@@ -1,12 +1,12 @@
 -- The rows of client frames: what a node puts for a client frame that a line or its LAN gives it,
 -- for a broadcast, and for a packet that carries a client frame to it or past it. A sighting comes
--- first, with its advertisement. What is for a client that is present is handed out, at a gateway
+-- first, with its advertisement. What is for all, or for a group, goes to those that receive it.
+-- What is for a client that is present is handed out, at a gateway
 -- to its LAN by its verdict; else it is sent where the client is known to be, or is lost. What is
 -- carried may be no client frame: then nothing is printed of it, and a broadcast of it is sent on
 -- all the same. The main words are `frame_acts`, `broadcast_acts`, `here_acts` and `passed_frame`.
 use Rattle.mesh_model.specs.Packets.Numbers.{first_ttl}
-use Rattle.std.specs.Prelude.{ℕ, suc, ◌-◌, ◌||◌, nat_le, Bool, List, [], ◌∷◌, ◌++◌, Option, Some, None, is_some, if◌then◌else◌}
-use Rattle.std.specs.Option.{unwrap_or}
+use Rattle.std.specs.Prelude.{ℕ, ◌-◌, ◌||◌, nat_le, Bool, List, [], ◌∷◌, ◌++◌, Option, Some, None, is_some, if◌then◌else◌}
 use Rattle.mesh_base.specs.Address.{is_broadcast, is_group}
 use Rattle.mesh_base.specs.declared.address.Mac.{Mac}
 use Rattle.mesh_base.specs.declared.client.Key.{Key}
@@ -18,14 +18,15 @@ use Rattle.mesh_model.specs.declared.act.Act.{Act}
 use Rattle.mesh_model.specs.declared.act.Act.TheVariants.{Print}
 use Rattle.mesh_model.specs.declared.packet.Head.TheVariants.{Bcast, Unicast, Utvlv}
 use Rattle.mesh_model.specs.Acts.BridgeRows.{Place, handed_out, out_acts, spread_of_broadcast, spread_of_packet}
+use Rattle.mesh_model.specs.Acts.GroupRows.{addressed, flooded, group_acts, sent_on}
 use Rattle.mesh_model.specs.Acts.Packing.{roaming_container, sent_to, sent_to_all}
 use Rattle.mesh_model.specs.Clients.Lans.{Bridge}
 use Rattle.mesh_model.specs.Clients.Mentions.{Mention, key_of}
 use Rattle.mesh_model.specs.Clients.Present.{present_row}
 use Rattle.mesh_model.specs.Knowledge.Addressee.{Way, addressee}
-use Rattle.mesh_model.specs.Knowledge.Known.{Broadcast, Knowledge, is_new_broadcast, told_at}
+use Rattle.mesh_model.specs.Knowledge.Known.{Broadcast, Knowledge, is_new_broadcast}
 use Rattle.mesh_model.specs.Packets.Containers.{containers_spelling}
-use Rattle.mesh_model.specs.Packets.Payload.{ClientFrame, client_frame_of, payload_spelling}
+use Rattle.mesh_model.specs.Packets.Payload.{ClientFrame, client_frame_of}
 use Rattle.mesh_model.specs.Routes.Queries.{Queries}
 
 -- ---- what is printed
@@ -48,11 +49,6 @@ lost_if at reason (Some frame) = lost at reason frame ∷ []
 
 -- ---- on a way
 
--- a client frame goes to the node of a way, with the byte that the node told last
-abbrev pub addressed : Queries → Knowledge → ℕ → ℕ → Way → List ℕ → Act
-addressed q known now ttl way payload = sent_to way.next (Some way.reason)
-    (Unicast ttl (unwrap_or (told_at q known now way.orig) 0) way.orig) payload
-
 -- the advertisement of a client that was sighted, where it is advertised
 abbrev pub advert_acts : Mac → Key → Option Way → List Act
 advert_acts me key None = []
@@ -64,20 +60,18 @@ advert_acts me key (Some way) = sent_to way.next None (Utvlv first_ttl way.orig 
 -- a client frame that a client of the node sends on a way, or loses where there is none
 abbrev pub on_way : Queries → Knowledge → Place → ClientFrame → Option Way → List Act
 on_way q known at frame None = lost at Unknown frame ∷ []
-on_way q known at frame (Some way) =
-    addressed q known at.now first_ttl way (payload_spelling frame) ∷ []
+on_way q known at frame (Some way) = sent_on q known at frame way ∷ []
 
 -- whether a client is present, by the mentions at a node
 abbrev pub is_present : List Mention → ℕ → Key → Bool
 is_present mentions now key = is_some (present_row mentions now key)
 
--- a client frame after its sighting, by what is known and mentioned then; a frame to a group goes
--- nowhere yet
+-- a client frame after its sighting, by what is known and mentioned then
 unfoldable pub frame_acts : Queries → Knowledge → List Mention → Place → ClientFrame → List Act
 frame_acts q known mentions at frame =
-    if is_broadcast frame.dst
-    then sent_to_all (Bcast first_ttl (suc known.sent) at.me) (payload_spelling frame) ∷ []
-    else if is_group frame.dst then []
+    if is_broadcast frame.dst then flooded known at frame ∷ []
+    else if is_group frame.dst then group_acts q known at frame
+    (is_present mentions at.now (key_of frame.dst frame.vid))
     else if is_present mentions at.now (key_of frame.dst frame.vid) then handed_out at frame ∷ []
     else on_way q known at frame (addressee q known at.now (key_of frame.dst frame.vid))
 

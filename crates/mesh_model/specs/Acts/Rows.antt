@@ -17,6 +17,7 @@ use Rattle.mesh_model.specs.Acts.TableRows.{other_containers, own_answer, reques
 use Rattle.mesh_model.specs.Clients.Lans.{Bridge, bridge}
 use Rattle.mesh_model.specs.Clients.Log.{Log}
 use Rattle.mesh_model.specs.Clients.Mentions.{Mention, mentions}
+use Rattle.mesh_model.specs.Clients.Settings.{Settings}
 use Rattle.mesh_model.specs.Commits.Aliases.{last_alias}
 use Rattle.mesh_model.specs.Commits.Announcements.{announcement, told_changes}
 use Rattle.mesh_model.specs.Commits.History.{History, committed, history, is_commit_tick, present_table}
@@ -54,19 +55,20 @@ abbrev pub elp_acts : Queries → RouteLog → ℕ → List Act
 elp_acts q routes index = message_acts (q.beats routes index).elp []
 
 -- what is put at an even tick, from the history before and after its commit
-abbrev pub commit_acts : Queries → Mac → RouteLog → ℕ → History → History → List Act
-commit_acts q me routes index before after = alias_acts me before.commits after.commits
+abbrev pub commit_acts : Queries → Mac → Settings → RouteLog → ℕ → History → History → List Act
+commit_acts q me settings routes index before after = alias_acts me before.commits after.commits
     ++ message_acts (q.beats routes index).ogm
-    (containers_spelling (own_containers (announcement after)))
+    (containers_spelling (own_containers settings (announcement after)))
 
 -- a tick: the node sends an ELP on all links, if its algorithm has one; at each second tick it then
 -- commits its clients, tells of an alias, and sends its originator message on all links; at each
 -- twentieth a gateway then tells its LAN how many claims it holds
-unfoldable pub tick_acts : Queries → Mac → RouteLog → List Mention → History → Bridge → ℕ → ℕ
-    → List Act
-tick_acts q me routes mentions before bridge now index = elp_acts q routes index
+unfoldable pub tick_acts : Queries → Mac → Settings → RouteLog → List Mention → History → Bridge → ℕ
+    → ℕ → List Act
+tick_acts q me settings routes mentions before bridge now index = elp_acts q routes index
     ++ ((if is_commit_tick index
-    then commit_acts q me routes index before (committed (present_table mentions now) before)
+    then commit_acts q me settings routes index before
+    (committed (present_table mentions now) before)
     else [])
     ++ round_acts (record { me = me; now = now }) bridge index)
 

@@ -4,6 +4,7 @@
 -- main words are `Knowledge`, `known_at` and `is_new_broadcast`.
 use Rattle.std.specs.Prelude.{ℕ, ◌+◌, ◌&&◌, nat_le, Bool, not, List, [], filter, map, Option, None, option_map, if◌then◌else◌}
 use Rattle.mesh_base.specs.declared.address.Mac.{Mac}
+use Rattle.mesh_model.specs.Knowledge.Served.{Services, no_services}
 use Rattle.mesh_model.specs.Marks.Calls.{Calls}
 use Rattle.mesh_model.specs.Probes.OpenProbes.{ProbeCall}
 use Rattle.mesh_model.specs.Routes.Addresses.{same_mac}
@@ -18,8 +19,8 @@ pub record Broadcast : Type 0 where
   pub number : ℕ
 
 -- all that came, each list newest first: for the routing algorithm, for the tables of originators,
--- on marks, for the node's probes, and the broadcasts that were taken; and how many broadcasts were
--- sent
+-- on marks, for the node's probes, and the broadcasts that were taken; how many broadcasts were
+-- sent; and what is kept for services
 pub record Knowledge : Type 0 where
   pub routes : RouteLog
   pub tables : TableCalls
@@ -27,11 +28,19 @@ pub record Knowledge : Type 0 where
   pub probes : List ProbeCall
   pub taken : List Broadcast
   pub sent : ℕ
+  pub services : Services
 
 -- before anything came
 abbrev pub no_knowledge : Knowledge
-no_knowledge =
-    record { routes = []; tables = []; marks = []; probes = []; taken = []; sent = 0 }
+no_knowledge = record {
+  routes = [];
+  tables = [];
+  marks = [];
+  probes = [];
+  taken = [];
+  sent = 0;
+  services = no_services;
+}
 
 -- what is known of an originator's table at a moment: nothing where it isn't live
 abbrev pub known_at : Queries → Knowledge → ℕ → Mac → Known

@@ -6,11 +6,12 @@
 -- what its new node was told to have. A sighting ends the client's mark, and is advertised where
 -- the client wasn't present just before and was elsewhere. A client frame from a LAN that its
 -- gateway passes is a sighting, and it goes on unless its client is at the gateway or behind
--- another gateway of the LAN. A probe of a ping or a traceroute waits for its answer where it was
--- sent. The main word is `knowledge`.
-use Rattle.std.specs.Prelude.{ℕ, suc, ◌&&◌, ◌||◌, Bool, true, false, List, [], ◌∷◌, fold, Option, Some, None, is_none, is_some, if◌then◌else◌}
+-- another gateway of the LAN. What an accepted message offers is noted; a gateway is chosen at each
+-- second tick, and given up where the node's part as one is set. A probe of a ping or a traceroute
+-- waits for its answer where it was sent. The main word is `knowledge`.
+use Rattle.std.specs.Prelude.{ℕ, suc, ◌&&◌, ◌||◌, Bool, true, false, List, [], ◌∷◌, fold, length, Option, Some, None, is_none, is_some, if◌then◌else◌}
 use Rattle.std.specs.List.{list_any}
-use Rattle.mesh_base.specs.Address.{is_broadcast}
+use Rattle.mesh_base.specs.Address.{is_broadcast, is_group}
 use Rattle.mesh_base.specs.declared.address.Mac.{Mac}
 use Rattle.mesh_base.specs.declared.client.Key.{Key}
 use Rattle.mesh_model.specs.declared.packet.Head.{Head}
@@ -23,8 +24,11 @@ use Rattle.mesh_model.specs.Clients.Log.{Given, Tick, LinkFrame, LanFrame, Line,
 use Rattle.mesh_model.specs.Clients.Lans.{LanOf, bridge}
 use Rattle.mesh_model.specs.Clients.Mentions.{Mention, key_of, mentions, next_mentions, passed_from_lan}
 use Rattle.mesh_model.specs.Clients.Present.{present_row}
+use Rattle.mesh_model.specs.Clients.Settings.{Setting}
 use Rattle.mesh_model.specs.Knowledge.Addressee.{Way, addressee}
 use Rattle.mesh_model.specs.Knowledge.Known.{Broadcast, Knowledge, agreed_byte, is_new_broadcast, no_knowledge, told_at}
+use Rattle.mesh_model.specs.Knowledge.Offers.{after_choice, gateway_way, receivers}
+use Rattle.mesh_model.specs.Knowledge.Served.{after_set, with_offer}
 use Rattle.mesh_model.specs.Knowledge.Told.{Message, TableMessage, Asks, Answers, Neither, message_changes, message_in, message_of, stamp_told}
 use Rattle.mesh_model.specs.Marks.Advertisements.{too_many}
 use Rattle.mesh_model.specs.Marks.Calls.{Calls, Marked, Released, Unmarked, Advised, Asked, Forgotten}
@@ -39,6 +43,7 @@ use Rattle.mesh_model.specs.Probes.OpenProbes.{ProbeCall, Started, Answered, Clo
 use Rattle.mesh_model.specs.Routes.Addresses.{same_mac}
 use Rattle.mesh_model.specs.Routes.Queries.{Queries}
 use Rattle.mesh_model.specs.Routes.RouteLog.{RouteLog, OwnTick, HeadCame}
+use Rattle.mesh_model.specs.Services.Groups.{fan_of, is_flood}
 use Rattle.mesh_model.specs.Tables.Judging.{announcement_row, wanted_request}
 use Rattle.mesh_model.specs.Tables.Known.{TableCall, Announced, Dropped, known_by}
 use Rattle.mesh_model.specs.Tables.Known.{Answered as AnsweredTable}
@@ -189,22 +194,31 @@ after_broadcast me broadcast known =
     if is_new_broadcast me broadcast known.taken
     then record known { taken = broadcast ∷ known.taken } else known
 
--- what is known after an originator message, where one is taken
-abbrev pub after_taken : Queries → Coming → Head → Option Message → Knowledge → Knowledge
-after_taken q came head None known = known
-after_taken q came head (Some message) known = after_message q came head message known
+-- what is known once an originator offered what these containers tell, where its message is
+-- accepted
+abbrev pub with_offered : Bool → Mac → List ℕ → Knowledge → Knowledge
+with_offered accepted orig tail known = record known {
+  services = with_offer accepted orig (containers_of tail) known.services;
+}
+
+-- what is known after an originator message with these containers, where one is taken
+abbrev pub after_taken : Queries → Coming → Head → Option Message → List ℕ → Knowledge → Knowledge
+after_taken q came head None tail known = known
+after_taken q came head (Some message) tail known = with_offered
+    (q.hear known.routes came.now came.from came.throughput head).accepted message.orig tail
+    (after_message q came head message known)
 
 -- what is known after a packet, by its head
 abbrev pub after_head :
     Queries → Mac → Coming → Option Message → List ℕ → Head → Knowledge → Knowledge
 after_head q me came message tail (IvOgm ttl flags seq orig prev tq) known =
-    after_taken q came (IvOgm ttl flags seq orig prev tq) message known
+    after_taken q came (IvOgm ttl flags seq orig prev tq) message tail known
 after_head q me came message tail (Bcast ttl seq orig) known =
     after_broadcast me (record { orig = orig; number = seq }) known
 after_head q me came message tail (Elp orig seq interval) known =
     with_head came (Elp orig seq interval) known
 after_head q me came message tail (Ogm2 ttl flags seq orig throughput) known =
-    after_taken q came (Ogm2 ttl flags seq orig throughput) message known
+    after_taken q came (Ogm2 ttl flags seq orig throughput) message tail known
 after_head q me came message tail (Unicast ttl ttvn dst) known = known
 after_head q me came message tail (Frag ttl number priority dst orig seq total) known = known
 after_head q me came message tail (Unicast4 ttl ttvn dst src subtype) known = known
@@ -243,10 +257,24 @@ after_sighting q me older now key known = record known {
   marks = sighting_calls now key (advertised q me older known now key) known.marks;
 }
 
--- what is known after a client frame was given, which is sent as a broadcast where it is for all
-abbrev pub after_frame : Mac → Knowledge → Knowledge
-after_frame dst known =
-    if is_broadcast dst then record known { sent = suc known.sent } else known
+-- what is known after a broadcast was sent
+abbrev pub after_sent : Knowledge → Knowledge
+after_sent known = record known { sent = suc known.sent }
+
+-- whether a frame for a client or a group is sent as a broadcast: it is for all stations, or for a
+-- group with more receivers than are sent it one by one
+abbrev pub is_flooded : Queries → Knowledge → ℕ → Key → Bool
+is_flooded q known now key = is_broadcast key.mac
+    || (is_group key.mac && is_flood (fan_of (length (receivers q known now key))))
+
+-- what is known after a frame for a client or a group was given
+abbrev pub after_frame : Queries → ℕ → Key → Knowledge → Knowledge
+after_frame q now key known = if is_flooded q known now key then after_sent known else known
+
+-- what is known after a call for a gateway, which is sent as a broadcast where no way leads to the
+-- chosen one
+abbrev pub after_call : Queries → ℕ → Knowledge → Knowledge
+after_call q now known = if is_some (gateway_way q known now) then known else after_sent known
 
 -- ---- client frames from a LAN
 
@@ -263,8 +291,8 @@ stays_on_lan q mentions lan now key known = is_some (present_row mentions now ke
     || leads_to_gateway lan (addressee q known now key)
 
 -- what is known after a client frame from a LAN, behind its sighting, which may stay there
-abbrev pub after_bridged : Bool → Mac → Knowledge → Knowledge
-after_bridged stays dst known = if stays then known else after_frame dst known
+abbrev pub after_bridged : Queries → ℕ → Bool → Key → Knowledge → Knowledge
+after_bridged q now stays key known = if stays then known else after_frame q now key known
 
 -- what is known after a client frame that a gateway passes of its LAN, where it passes one, by the
 -- mentions behind its sighting
@@ -272,24 +300,36 @@ abbrev pub after_passed :
     Queries → Mac → Log → Knowledge → ℕ → List Mention → Option ClientFrame → Knowledge
 after_passed q me older known now mentions None = known
 after_passed q me older known now mentions (Some frame) =
-    after_bridged (stays_on_lan q mentions (bridge older).lan now (key_of frame.dst frame.vid)
-    (after_sighting q me older now (key_of frame.src frame.vid) known)) frame.dst
+    after_bridged q now
+    (stays_on_lan q mentions (bridge older).lan now (key_of frame.dst frame.vid)
+    (after_sighting q me older now (key_of frame.src frame.vid) known))
+    (key_of frame.dst frame.vid)
     (after_sighting q me older now (key_of frame.src frame.vid) known)
 
 -- ---- the log
 
+-- what is known after a tick of an index
+abbrev pub after_tick : Queries → ℕ → ℕ → Knowledge → Knowledge
+after_tick q now index known =
+    after_choice q now index (record known { routes = OwnTick now index ∷ known.routes })
+
+-- what is known after a setting
+abbrev pub with_set : Setting → Knowledge → Knowledge
+with_set setting known = record known { services = after_set setting known.services }
+
 -- what is known after what a line gives right after a log, from what was known before it
 abbrev pub line_knowledge : Queries → Mac → Log → Knowledge → ℕ → LineGiven → Knowledge
 line_knowledge q me older known now (Attach lan gateways) = known
-line_knowledge q me older known now (Frame src dst vid text) =
-    after_frame dst (after_sighting q me older now (key_of src vid) known)
+line_knowledge q me older known now (Frame src dst vid text) = after_frame q now (key_of dst vid)
+    (after_sighting q me older now (key_of src vid) known)
 line_knowledge q me older known now (Gone key) = known
 line_knowledge q me older known now (Join key) = known
 line_knowledge q me older known now (Leave key) = known
 line_knowledge q me older known now (Arp mac own_ip asked_ip vid) =
     after_sighting q me older now (key_of mac vid) known
-line_knowledge q me older known now (Dhcp key text) = after_sighting q me older now key known
-line_knowledge q me older known now (Sets setting) = known
+line_knowledge q me older known now (Dhcp key text) =
+    after_call q now (after_sighting q me older now key known)
+line_knowledge q me older known now (Sets setting) = with_set setting known
 line_knowledge q me older known now (Put type_no version text) = known
 line_knowledge q me older known now (Get type_no) = known
 line_knowledge q me older known now (Ping target) = after_start q now target false known
@@ -297,8 +337,7 @@ line_knowledge q me older known now (Trace target) = after_start q now target tr
 
 -- what is known after an input right after a log, from what was known before it
 abbrev pub next_knowledge : Queries → Mac → Log → Knowledge → ℕ → Given → Knowledge
-next_knowledge q me older known now (Tick index) =
-    record known { routes = OwnTick now index ∷ known.routes }
+next_knowledge q me older known now (Tick index) = after_tick q now index known
 next_knowledge q me older known now (LinkFrame number from throughput bytes) = after_packets q me
     (record { now = now; from = from; throughput = throughput; number = number }) known
     (link_frame bytes).packets

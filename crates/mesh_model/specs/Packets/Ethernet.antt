@@ -2,7 +2,7 @@
 -- VLAN's number in 2 bytes, then the type in 2 bytes and what follows it. A tag names a VLAN from 1
 -- to 4094. Bytes that aren't so, or are of another type, are no frame of a type. The main words are
 -- `ether_spelling` and `ether_frame_of`.
-use Rattle.std.specs.Prelude.{ℕ, ◌+◌, ◌-◌, ◌==◌, ◌&&◌, nat_lt, nat_le, Bool, List, [], ◌++◌, length, take, drop, Option, Some, None, if◌then◌else◌}
+use Rattle.std.specs.Prelude.{replicate, ℕ, ◌+◌, ◌-◌, ◌==◌, ◌&&◌, nat_lt, nat_le, Bool, List, [], ◌++◌, length, take, drop, Option, Some, None, if◌then◌else◌}
 use Rattle.byteorder.specs.Endian.{big_bytes, big_number}
 use Rattle.mesh_base.specs.Vlan.{untagged, tagged_bit, first_vlan, last_vlan}
 use Rattle.mesh_base.specs.declared.address.Mac.{Mac}
@@ -15,6 +15,10 @@ pub record EtherFrame : Type 0 where
   pub src : Mac
   pub vid : Vid
   pub rest : List ℕ
+
+-- the address of all stations
+abbrev pub all_stations : Mac
+all_stations = record { 0 = replicate 6 255 }
 
 -- ---- spelling
 

@@ -41,3 +41,11 @@ pub record MayTick (log : RouteLog) (index : ℕ) : Type 0 where
 -- whether a node sends its originator message at the tick of this index: at each second one
 abbrev pub is_ogm_tick : ℕ → Bool
 is_ogm_tick index = index % 2 == 0
+
+-- how many ticks pass between two rounds, in which gateways and the fact store speak to others
+abbrev pub ticks_of_round : ℕ
+ticks_of_round = 20
+
+-- whether a tick begins a round
+abbrev pub is_round : ℕ → Bool
+is_round index = index % ticks_of_round == 0

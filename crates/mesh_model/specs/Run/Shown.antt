@@ -1,28 +1,33 @@
--- What a line prints at once: the table of a node that is shown, at a moment. The local table, the
--- originators, the neighbours, what is known of the others' clients and the claims on a gateway's
--- LAN are built, each asked of the node's log, under the algorithm of the nodes. The main word is
--- `shown`.
-use Rattle.std.specs.Prelude.{ℕ, [], ◌∷◌, ◌++◌, Option, Some, None, option_and_then}
+-- What a line prints at once: the table of a node that is shown, at a moment, asked of the node's
+-- log under the algorithm of the nodes. The main word is `shown`.
+use Rattle.std.specs.Prelude.{ℕ, List, [], ◌∷◌, ◌++◌, filter, is_none, map, Option, Some, None, option_and_then}
 use Rattle.mesh_base.specs.Names.{NamesGiven, lan_name}
 use Rattle.mesh_model.specs.Bridges.Claims.{claims_at}
 use Rattle.mesh_model.specs.Clients.Lans.{LanOf, bridge}
 use Rattle.mesh_model.specs.declared.line_form.Algorithm.{Algorithm}
 use Rattle.mesh_model.specs.declared.line_form.Table.{Table}
 use Rattle.mesh_model.specs.declared.line_form.Table.TheVariants.{Originators, Neighbors, Locals, Globals, Claims, Gateways, Groups, Addresses, Facts}
+use Rattle.mesh_model.specs.declared.service.GwMode.{GwMode}
+use Rattle.mesh_model.specs.declared.service.GwMode.TheVariants.{Off, Server, Client}
+use Rattle.mesh_model.specs.declared.table_row.LocalRow.{LocalRow}
+use Rattle.mesh_base.specs.declared.client.Key.{Key}
 use Rattle.mesh_model.specs.Clients.Mentions.{mentions}
 use Rattle.mesh_model.specs.Clients.Present.{present_clients}
+use Rattle.mesh_model.specs.Clients.Settings.{GatewayPart, NoPart, Serves, Chooses}
 use Rattle.mesh_model.specs.Commits.History.{commits}
 use Rattle.mesh_model.specs.Commits.Versions.{last_commit}
 use Rattle.mesh_model.specs.Knowledge.Known.{Knowledge}
+use Rattle.mesh_model.specs.Knowledge.Offers.{gateway_rows, group_rows}
 use Rattle.mesh_model.specs.Knowledge.Steps.{knowledge}
 use Rattle.mesh_model.specs.Marks.RoamingMarks.{marks_at}
 use Rattle.mesh_model.specs.Net.Mesh.{NodeLog}
 use Rattle.mesh_model.specs.Routes.Algorithms.{queries_of}
 use Rattle.mesh_model.specs.Run.KnownTables.{parts_at}
-use Rattle.mesh_model.specs.Run.State.{Printed, ClaimsShown, GlobalsShown, LocalsShown, NeighborsShown, OriginatorsShown, State, names_of}
+use Rattle.mesh_model.specs.Run.State.{Printed, ClaimsShown, GlobalsShown, LocalsShown, NeighborsShown, OriginatorsShown, ServiceShown, State, names_of}
 use Rattle.mesh_model.specs.Tables.Sums.{sums_of}
 use Rattle.mesh_model.specs.Text.Claims.{ClaimTable}
 use Rattle.mesh_model.specs.Text.GlobalTables.{GlobalTable}
+use Rattle.mesh_model.specs.Text.Services.{GatewayTable, GatewaysOf, GroupTable, GroupsOf}
 use Rattle.mesh_model.specs.Text.Tables.{LinkTable, LocalTable, OrigTable}
 
 -- the state after one more thing is printed
@@ -74,6 +79,35 @@ claim_table names now node = record {
   rows = claims_at (bridge node.log).claims now;
 }
 
+-- a part as a gateway without its throughputs or its policy
+abbrev pub mode_of : GatewayPart → GwMode
+mode_of NoPart = Off
+mode_of (Serves offered) = Server
+mode_of (Chooses policy) = Client
+
+-- the gateways that a node knows at a moment
+abbrev pub gateway_table : Algorithm → ℕ → NodeLog → GatewayTable
+gateway_table algorithm now node = record {
+  name = node.name;
+  mode = mode_of (known_to algorithm node).services.settings.gateway;
+  chosen = (known_to algorithm node).services.choice;
+  rows = gateway_rows (queries_of algorithm node.mac) (known_to algorithm node) now;
+}
+
+-- the groups that are joined at a node at a moment, in key order: they are present without an age
+abbrev pub joined_groups : ℕ → NodeLog → List Key
+joined_groups now node = map (λ (row : LocalRow). row.entry.key)
+    (filter (λ (row : LocalRow). is_none row.age)
+    (present_clients (mentions node.mac node.log) now))
+
+-- the groups of a node at a moment
+abbrev pub group_table : Algorithm → ℕ → NodeLog → GroupTable
+group_table algorithm now node = record {
+  name = node.name;
+  joined = joined_groups now node;
+  rows = group_rows (queries_of algorithm node.mac) (known_to algorithm node) now;
+}
+
 -- what is printed of a node in a state, for each table that is shown
 abbrev pub shown : Table → Option (State → NodeLog → Printed)
 shown Originators =
@@ -83,7 +117,9 @@ shown Locals = Some (λ state node. LocalsShown (local_table state.clock node))
 shown Globals = Some (λ state node. GlobalsShown (global_table state.algorithm state.clock node))
 shown Claims =
     Some (λ state node. ClaimsShown (claim_table (names_of state.mesh) state.clock node))
-shown Gateways = None
-shown Groups = None
+shown Gateways = Some (λ state node.
+    ServiceShown (GatewaysOf (gateway_table state.algorithm state.clock node)))
+shown Groups =
+    Some (λ state node. ServiceShown (GroupsOf (group_table state.algorithm state.clock node)))
 shown Addresses = None
 shown Facts = None

@@ -14,6 +14,7 @@ use Rattle.mesh_model.specs.Text.Claims.{ClaimTable, claim_table_text}
 use Rattle.mesh_model.specs.Text.Decode.{decode_text}
 use Rattle.mesh_model.specs.Text.Events.{event_text}
 use Rattle.mesh_model.specs.Text.GlobalTables.{GlobalTable, global_table_text}
+use Rattle.mesh_model.specs.Text.Services.{ServiceTable, service_table_text}
 use Rattle.mesh_model.specs.Text.Tables.{LinkTable, LocalTable, OrigTable, link_table_text, orig_table_text, table_text}
 
 -- what a run prints: a table that is shown, the packets in bytes that are decoded, or an event, by
@@ -24,6 +25,7 @@ pub data Printed : Type 0 where
   NeighborsShown : LinkTable → Printed
   GlobalsShown : GlobalTable → Printed
   ClaimsShown : ClaimTable → Printed
+  ServiceShown : ServiceTable → Printed
   Decoded : List ℕ → Printed
   Happened : NamesGiven → Event → Printed
 
@@ -79,6 +81,7 @@ printed_text choice (OriginatorsShown table) = orig_table_text table
 printed_text choice (NeighborsShown table) = link_table_text table
 printed_text choice (GlobalsShown table) = global_table_text table
 printed_text choice (ClaimsShown table) = claim_table_text table
+printed_text choice (ServiceShown table) = service_table_text table
 printed_text choice (Decoded bytes) = decode_text bytes
 printed_text choice (Happened names event) = event_text choice names event
 

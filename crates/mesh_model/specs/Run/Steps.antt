@@ -6,10 +6,9 @@
 -- looked at here: `nodes`, `links` and `lans` are passed by one more than 64, 512 and 16, `clock`
 -- by the end of a run, before its first happening. A command that has no step isn't built: this
 -- version doesn't carry it out. The main word is `step_of`.
-use Rattle.std.specs.Prelude.{ℕ, ◌+◌, ◌-◌, ◌&&◌, not, nat_lt, nat_le, suc, bytes_eq, List, [], ◌∷◌, ◌++◌, length, slice_get, Option, Some, None, option_map, if◌then◌else◌}
+use Rattle.std.specs.Prelude.{ℕ, ◌+◌, ◌-◌, nat_lt, nat_le, suc, bytes_eq, List, [], ◌∷◌, ◌++◌, length, slice_get, Option, Some, None, option_map, if◌then◌else◌}
 use Rattle.std.specs.List.{list_any}
 use Rattle.std.specs.Option.{option_map_or}
-use Rattle.mesh_base.specs.Address.{is_broadcast, is_group}
 use Rattle.mesh_base.specs.declared.address.Mac.{Mac}
 use Rattle.mesh_model.specs.declared.ending.LimitName.{LimitName}
 use Rattle.mesh_model.specs.declared.ending.LimitName.TheVariants.{Nodes, Links, Lans, Clock}
@@ -18,8 +17,9 @@ use Rattle.mesh_model.specs.declared.line_form.Algorithm.{Algorithm}
 use Rattle.mesh_model.specs.declared.line_form.Command.{Command}
 use Rattle.mesh_model.specs.declared.line_form.Command.TheVariants.{Nothing, Algo, Node, Link, Lan, Frame, Gone, Join, Leave, Arp, Dhcp, Wifi, GwOff, GwServer, GwClient, Mcast, Dat, Alfred, Put, Get, Ping, Trace, Run, Deliver, Show, Decode}
 use Rattle.mesh_model.specs.Clients.Log.{LineGiven, Line, Sets}
-use Rattle.mesh_model.specs.Clients.Log.{Frame as GivenFrame, Gone as GivenGone, Join as GivenJoin, Leave as GivenLeave, Ping as GivenPing, Trace as GivenTrace}
-use Rattle.mesh_model.specs.Clients.Settings.{Wifi as SetsWifi}
+use Rattle.mesh_model.specs.Clients.Log.{Frame as GivenFrame, Gone as GivenGone, Join as GivenJoin, Leave as GivenLeave, Dhcp as GivenDhcp, Ping as GivenPing, Trace as GivenTrace}
+use Rattle.mesh_model.specs.Clients.Settings.{Setting, NoPart, Serves, Chooses}
+use Rattle.mesh_model.specs.Clients.Settings.{ArpTable as SetsArpTable, Gateway as SetsGateway, Multicast as SetsMulticast, Wifi as SetsWifi}
 use Rattle.mesh_model.specs.Net.Mesh.{NodeLog, NetLan, NetLink, Setup, address_at}
 use Rattle.mesh_model.specs.Net.Inputs.{all_given, given_to}
 use Rattle.mesh_model.specs.Net.Lans.{joins_lan}
@@ -124,6 +124,10 @@ abbrev pub input_step : Setup → LineGiven → ℕ → Step
 input_step setup line place state =
     after_attempt state (given_to setup place state.clock 0 (Line line) state.mesh)
 
+-- a setting of the node of a name, now
+abbrev pub setting_step : Setup → List ℕ → Setting → Step
+setting_step setup name setting = at_node name (input_step setup (Sets setting))
+
 -- the node of one name begins a session with the node of another
 abbrev pub session_step : Setup → (Mac → LineGiven) → List ℕ → List ℕ → Step
 session_step setup line node target = at_node node (λ place. at_node target (λ end state.
@@ -156,8 +160,7 @@ step_of setup (Link from to delay pattern throughput) = Some (link_between from 
     record { from = start; to = end; delay = delay; pattern = pattern; throughput = throughput }))
 step_of setup (Lan name gateways) = Some (lan_step setup name gateways)
 step_of setup (Frame place src dst vid text) =
-    if is_group dst && not (is_broadcast dst) then None
-    else Some (at_place place
+    Some (at_place place
     (lan_frame_step setup
     (payload_spelling (record { dst = dst; src = src; vid = vid; text = text })))
     (input_step setup (GivenFrame src dst vid text)))
@@ -166,13 +169,15 @@ step_of setup (Gone place key) = Some
 step_of setup (Join node key) = Some (at_node node (input_step setup (GivenJoin key)))
 step_of setup (Leave node key) = Some (at_node node (input_step setup (GivenLeave key)))
 step_of setup (Arp node mac own asked vid) = None
-step_of setup (Dhcp node key text) = None
-step_of setup (Wifi node on) = Some (at_node node (input_step setup (Sets (SetsWifi on))))
-step_of setup (GwOff node) = None
-step_of setup (GwServer node down up) = None
-step_of setup (GwClient node policy) = None
-step_of setup (Mcast node flags) = None
-step_of setup (Dat node on) = None
+step_of setup (Dhcp node key text) = Some (at_node node (input_step setup (GivenDhcp key text)))
+step_of setup (Wifi node on) = Some (setting_step setup node (SetsWifi on))
+step_of setup (GwOff node) = Some (setting_step setup node (SetsGateway NoPart))
+step_of setup (GwServer node down up) = Some
+    (setting_step setup node (SetsGateway (Serves (record { download = down; upload = up }))))
+step_of setup (GwClient node policy) =
+    Some (setting_step setup node (SetsGateway (Chooses policy)))
+step_of setup (Mcast node flags) = Some (setting_step setup node (SetsMulticast flags))
+step_of setup (Dat node on) = Some (setting_step setup node (SetsArpTable on))
 step_of setup (Alfred node mode) = None
 step_of setup (Put node type_no version text) = None
 step_of setup (Get node type_no) = None

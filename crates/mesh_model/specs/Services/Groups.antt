@@ -1,7 +1,7 @@
 -- Groups: which of them multicast flags want, and how a frame goes to so many receivers. Flag bit 0
 -- wants groups that begin 01:00:5e:00:00 and the group 33:33:00:00:00:01, bit 1 those that begin
 -- 01:00:5e, bit 2 those that begin 33:33. The main words are `is_wanted` and `fan_of`.
-use Rattle.std.specs.Prelude.{ℕ, ◌/◌, ◌%◌, ◌==◌, ◌&&◌, ◌||◌, nat_le, Bool, List, [], ◌∷◌, length, take, bytes_eq, if◌then◌else◌}
+use Rattle.std.specs.Prelude.{ℕ, ◌/◌, ◌%◌, ◌==◌, ◌&&◌, ◌||◌, nat_le, Bool, true, false, List, [], ◌∷◌, length, take, bytes_eq, if◌then◌else◌}
 use Rattle.mesh_base.specs.declared.address.Mac.{Mac}
 use Rattle.mesh_model.specs.declared.service.Fan.{Fan}
 use Rattle.mesh_model.specs.declared.service.Fan.TheVariants.{Nobody, Each, Flood}
@@ -25,6 +25,12 @@ is_wanted group flags =
 -- the most receivers to which a frame goes one by one
 abbrev pub most_each : ℕ
 most_each = 16
+
+-- whether a frame goes as a broadcast
+abbrev pub is_flood : Fan → Bool
+is_flood Nobody = false
+is_flood Each = false
+is_flood Flood = true
 
 -- how a frame goes to so many receivers
 abbrev pub fan_of : ℕ → Fan

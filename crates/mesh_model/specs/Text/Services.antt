@@ -1,0 +1,81 @@
+-- The printed gateways (`show NODE gw`): a line `gw NODE mode=M chosen=MAC`, with `chosen=-` for
+-- none, and a line `g MAC down=D up=U metric=M` for each that is known. The printed groups (`show
+-- NODE mc`): a line `mc NODE count=C`, a line `j MAC VID` for each group that is joined at the
+-- node, and a line `m MAC flags=FF` for each originator that tells multicast flags. The main word
+-- is `service_table_text`.
+use Rattle.std.specs.Prelude.{ℕ, ◌+◌, List, [], ◌∷◌, ◌++◌, flat_map, length, Option, codes}
+use Rattle.hex.specs.Hex.{encode_lower}
+use Rattle.mesh_base.specs.declared.address.Mac.{Mac}
+use Rattle.mesh_base.specs.declared.client.Key.{Key}
+use Rattle.mesh_model.specs.declared.service.GroupRow.{GroupRow}
+use Rattle.mesh_model.specs.declared.service.GwMode.{GwMode}
+use Rattle.mesh_model.specs.declared.service.GwMode.TheVariants.{Off, Server, Client}
+use Rattle.mesh_model.specs.declared.service.GwRow.{GwRow}
+use Rattle.mesh_model.specs.Text.PacketLines.{line_of, named_address, named_number}
+use Rattle.mesh_model.specs.Text.Tables.{address_text, vid_text}
+
+-- a node's name, its part as a gateway, the gateway that it chose, and those that it knows
+pub record GatewayTable : Type 0 where
+  pub name : List ℕ
+  pub mode : GwMode
+  pub chosen : Option Mac
+  pub rows : List GwRow
+
+-- a node's name, the groups that are joined at it, and the originators that tell flags
+pub record GroupTable : Type 0 where
+  pub name : List ℕ
+  pub joined : List Key
+  pub rows : List GroupRow
+
+-- the word of a part as a gateway
+abbrev pub mode_word : GwMode → List ℕ
+mode_word Off = codes "off"
+mode_word Server = codes "server"
+mode_word Client = codes "client"
+
+-- the first line of gateways
+unfoldable pub gateway_header : List ℕ → GwMode → Option Mac → List ℕ
+gateway_header name mode chosen = line_of
+    (codes "gw " ∷ name ∷ codes " mode=" ∷ mode_word mode ∷ codes " chosen="
+    ∷ address_text chosen ∷ [])
+
+-- the line of a gateway
+unfoldable pub gateway_line : GwRow → List ℕ
+gateway_line row = line_of
+    (named_address (codes "g ") row.orig ∷ named_number (codes " down=") row.down
+    ∷ named_number (codes " up=") row.up ∷ named_number (codes " metric=") row.metric ∷ [])
+
+-- the gateways as they are printed
+abbrev pub gateway_table_text : GatewayTable → List ℕ
+gateway_table_text table = gateway_header table.name table.mode table.chosen
+    ++ flat_map gateway_line table.rows
+
+-- the first line of groups
+unfoldable pub group_header : List ℕ → ℕ → List ℕ
+group_header name count =
+    line_of (codes "mc " ∷ name ∷ named_number (codes " count=") count ∷ [])
+
+-- the line of a group that is joined at the node
+unfoldable pub joined_line : Key → List ℕ
+joined_line key =
+    line_of (named_address (codes "j ") key.mac ∷ codes " " ∷ vid_text key.vid ∷ [])
+
+-- the line of an originator that tells flags
+unfoldable pub groups_line : GroupRow → List ℕ
+groups_line row = line_of
+    (named_address (codes "m ") row.orig ∷ codes " flags=" ∷ encode_lower (row.flags ∷ []) ∷ [])
+
+-- the groups as they are printed
+abbrev pub group_table_text : GroupTable → List ℕ
+group_table_text table = group_header table.name (length table.joined + length table.rows)
+    ++ flat_map joined_line table.joined ++ flat_map groups_line table.rows
+
+-- a table of a service
+pub data ServiceTable : Type 0 where
+  GatewaysOf : GatewayTable → ServiceTable
+  GroupsOf : GroupTable → ServiceTable
+
+-- a table of a service as it is printed
+abbrev pub service_table_text : ServiceTable → List ℕ
+service_table_text (GatewaysOf table) = gateway_table_text table
+service_table_text (GroupsOf table) = group_table_text table
