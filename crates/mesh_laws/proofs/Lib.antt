@@ -15,6 +15,8 @@ pub mod PresentLemmas
 pub mod FewLemmas
 pub mod RoomLemmas
 pub mod MarkLemmas
+pub mod ChoiceLemmas
+pub mod ReceiverLemmas
 pub mod HeaderLemmas
 pub mod ReadingLemmas
 pub mod FirstPacketLemmas
@@ -25,6 +27,7 @@ pub mod TableChanges
 pub mod PieceLemmas
 pub mod DifferenceLemmas
 pub mod KnownLemmas
+pub mod SettingLemmas
 pub mod LanLemmas
 pub mod Gateways
 pub mod CommitLemmas

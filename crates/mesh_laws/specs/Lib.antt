@@ -12,6 +12,8 @@ pub mod GatewayLaws
 pub mod LineLaws
 pub mod TableLaws
 pub mod KnownLaws
+pub mod SettingLaws
 pub mod Machine
 pub mod HeldLaws
 pub mod MarkLaws
+pub mod ServiceLaws

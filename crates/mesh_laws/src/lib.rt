@@ -14,5 +14,7 @@ pub mod mark_laws;
 pub mod packet_laws;
 pub mod present_laws;
 pub mod run_laws;
+pub mod service_laws;
+pub mod setting_laws;
 pub mod sound_laws;
 pub mod table_laws;

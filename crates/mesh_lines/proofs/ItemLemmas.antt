@@ -1,22 +1,24 @@
 -- The text of what is printed is its lines, one after the other.
-use Rattle.std.proofs.Common.{◌≡◌, ℕ, Bool, true, false, cond, List, [], ◌∷◌, ◌++◌, length, map, refl, sym, ap, ap₂, ◌∙◌, append_assoc, append-nil, inl, inr}
+use Rattle.std.proofs.Common.{◌≡◌, ◌+◌, ℕ, Bool, true, false, cond, List, [], ◌∷◌, ◌++◌, length, map, refl, sym, ap, ap₂, ◌∙◌, append_assoc, append-nil, inl, inr}
 use Rattle.std.specs.Prelude.{codes, flat_map}
 use Rattle.std.specs.List.{concat}
 use Rattle.mesh_base.specs.declared.client.Entry.{Entry}
 use Rattle.mesh_model.specs.declared.frame_choice.FrameChoice.{FrameChoice}
-use Rattle.mesh_model.specs.Run.State.{Printed, ClaimsShown, Decoded, GlobalsShown, Happened, LocalsShown, NeighborsShown, OriginatorsShown, printed_text}
+use Rattle.mesh_model.specs.Run.State.{Printed, ClaimsShown, Decoded, GlobalsShown, Happened, LocalsShown, NeighborsShown, OriginatorsShown, ServiceShown, printed_text}
 use Rattle.mesh_model.specs.Scenario.Lines.{lines_of}
 use Rattle.mesh_model.specs.Text.Claims.{claim_header, claim_line, name_or_dash}
 use Rattle.mesh_model.specs.Text.Decode.{decode_lines, decode_text}
 use Rattle.mesh_model.specs.Text.Events.{event_line, is_shown}
 use Rattle.mesh_model.specs.Text.GlobalTables.{GlobalPart, entry_line, global_header, global_line, mark_line, part_text}
+use Rattle.mesh_model.specs.Text.Services.{GatewaysOf, GroupsOf, ServiceTable, gateway_header, gateway_line, group_header, groups_line, joined_line, service_table_text}
 use Rattle.mesh_model.specs.Text.Tables.{local_header, local_line, neighbor_line, orig_line, route_header, vlan_line}
 use Rattle.mesh_laws.specs.Cuts.{AreLines, IsLine}
 use Rattle.mesh_laws.proofs.CutLemmas.{lines_of-lines_then}
-use Rattle.mesh_lines.specs.ItemLines.{ArePlain, IsPlain, item_lines, lines_printed, part_lines}
+use Rattle.mesh_lines.specs.ItemLines.{ArePlain, IsPlain, item_lines, lines_printed, part_lines, service_lines}
 use Rattle.mesh_lines.proofs.EventParts.{event_told}
 use Rattle.mesh_lines.proofs.LineParts.{claim_header_told, claim_told, entry_told, global_header_told, global_told, link_header_told, local_header_told, local_told, mark_told, neighbor_told, orig_header_told, orig_told, unbroken_word, vlan_told}
 use Rattle.mesh_lines.proofs.PacketParts.{AllOther, decoded_other, other_both, other_map}
+use Rattle.mesh_lines.proofs.ServiceParts.{service_other}
 
 -- ---- texts
 joined_both : (xs ys : List (List ℕ)) → concat (xs ++ ys) ≡ concat xs ++ concat ys
@@ -41,6 +43,11 @@ shown_joined : (b : Bool) (line : List ℕ) → concat (cond b (line ∷ []) [])
 shown_joined true line = append-nil line
 shown_joined false line = refl
 
+service_joined : (table : ServiceTable) → concat (service_lines table) ≡ service_table_text table
+service_joined (GatewaysOf table) = ap (λ more. gateway_header table.name table.mode table.chosen ++ more) (joined_map gateway_line table.rows)
+service_joined (GroupsOf table) =
+    three (group_header table.name (length table.joined + length table.rows)) (map joined_line table.joined) (map groups_line table.rows) (flat_map joined_line table.joined) (flat_map groups_line table.rows) (joined_map joined_line table.joined) (joined_map groups_line table.rows)
+
 pub item_joined : (choice : FrameChoice) (item : Printed) → concat (item_lines choice item) ≡ printed_text choice item
 unfolding decode_text
 item_joined choice (LocalsShown table) = three (local_header table.name table.version (length table.rows)) (map vlan_line table.sums) (map local_line table.rows) (flat_map vlan_line table.sums) (flat_map local_line table.rows) (joined_map vlan_line table.sums) (joined_map local_line table.rows)
@@ -48,6 +55,7 @@ item_joined choice (OriginatorsShown table) = ap (λ more. route_header (codes "
 item_joined choice (NeighborsShown table) = ap (λ more. route_header (codes "n") table.name table.algorithm (length table.rows) ++ more) (joined_map neighbor_line table.rows)
 item_joined choice (GlobalsShown table) = three (global_header table.name (length table.parts)) (flat_map part_lines table.parts) (map mark_line table.marks) (flat_map part_text table.parts) (flat_map mark_line table.marks) (joined_flat part_lines part_text part_joined table.parts) (joined_map mark_line table.marks)
 item_joined choice (ClaimsShown table) = ap (λ more. claim_header table.name table.lan (length table.rows) ++ more) (joined_map claim_line table.rows)
+item_joined choice (ServiceShown table) = service_joined table
 item_joined choice (Decoded bytes) = refl
 item_joined choice (Happened names event) = shown_joined (is_shown choice event) (event_line names event)
 
@@ -85,6 +93,7 @@ item_are_lines choice (GlobalsShown table) plain = (
 )
 item_are_lines choice (ClaimsShown table) plain =
     ((claim_header_told table.name table.lan (length table.rows) (unbroken_word table.name plain.0) (unbroken_word (name_or_dash table.lan) plain.1)).whole, other_lines (map claim_line table.rows) (other_map claim_line claim_told table.rows))
+item_are_lines choice (ServiceShown table) plain = other_lines (service_lines table) (service_other table plain)
 item_are_lines choice (Decoded bytes) plain = other_lines (decode_lines bytes) (decoded_other bytes)
 item_are_lines choice (Happened names event) plain = shown_lines (is_shown choice event) (event_line names event) (event_told names plain.0 event plain.1).whole
 

@@ -88,7 +88,7 @@ vid_word vid = either_word (vid.0 == 0) (codes "-") (cond (nat_le tagged_bit vid
     (either_word (nat_le tagged_bit vid.0) (decimal (vid.0 - tagged_bit)) (codes "raw:" ++ decimal vid.0) (decimal_word (vid.0 - tagged_bit))
     (word_both (codes "raw:") (decimal vid.0) (word_if (codes "raw:") refl) (decimal_word vid.0)))
 
-vid : (v : Vid) → IsUnbroken (vid_text v)
+pub vid : (v : Vid) → IsUnbroken (vid_text v)
 vid v = unbroken_word (vid_text v) (vid_word v)
 
 pub flags_word : (flags : ℕ) → IsWord (flags_text flags)
@@ -118,7 +118,7 @@ pub state_is_word : (o : Option ℕ) (b : Bool) → IsWord (state_word o b)
 state_is_word None b = word_if (codes "none") refl
 state_is_word (Some n) b = agreed_word b
 
-address : (o : Option Mac) → IsUnbroken (address_text o)
+pub address : (o : Option Mac) → IsUnbroken (address_text o)
 address None = said (codes "-") refl
 address (Some m) = unbroken_word (mac_text m) (mac_word m)
 

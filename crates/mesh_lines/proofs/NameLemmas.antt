@@ -1,6 +1,5 @@
 -- The names of a run are words, and each event is printed by names that the nodes have at its end.
-use Rattle.std.proofs.Common.{◌≡◌, ◌+◌, ◌-◌, ◌&&◌, ℕ, Bool, true, false, cond, not, nat_le, nat_lt, List, [], ◌∷◌, length, Option, Some, None, is_some, Ok, Err, refl}
-use Rattle.mesh_base.specs.Address.{is_broadcast, is_group}
+use Rattle.std.proofs.Common.{◌≡◌, ◌+◌, ◌-◌, ℕ, Bool, true, false, cond, nat_le, nat_lt, List, [], ◌∷◌, length, Option, Some, None, is_some, Ok, Err, refl}
 use Rattle.mesh_model.specs.declared.ending.LimitName.TheVariants.{Input, Line, Links, Nodes}
 use Rattle.mesh_model.specs.declared.ending.Refusal.{Refusal}
 use Rattle.mesh_model.specs.declared.ending.Stop.TheVariants.{Limit}
@@ -8,8 +7,9 @@ use Rattle.mesh_model.specs.declared.frame_choice.FrameChoice.{FrameChoice}
 use Rattle.mesh_model.specs.declared.line_form.Command.{Command}
 use Rattle.mesh_model.specs.declared.line_form.Command.TheVariants.{Nothing, Algo, Node, Link, Lan, Frame, Gone, Join, Leave, Arp, Dhcp, Wifi, GwOff, GwServer, GwClient, Mcast, Dat, Alfred, Put, Get, Ping, Trace, Run as RunFor, Deliver, Show, Decode}
 use Rattle.mesh_model.specs.Clients.Log.{Line, Sets}
-use Rattle.mesh_model.specs.Clients.Settings.{Wifi as WifiSet}
-use Rattle.mesh_model.specs.Clients.Log.{Gone as GoneGiven, Join as JoinGiven, Leave as LeaveGiven, Ping as PingGiven, Trace as TraceGiven}
+use Rattle.mesh_model.specs.Clients.Settings.{NoPart, Serves, Chooses}
+use Rattle.mesh_model.specs.Clients.Settings.{ArpTable as ArpTableSet, Gateway as GatewaySet, Multicast as MulticastSet, Wifi as WifiSet}
+use Rattle.mesh_model.specs.Clients.Log.{Gone as GoneGiven, Join as JoinGiven, Leave as LeaveGiven, Dhcp as DhcpGiven, Ping as PingGiven, Trace as TraceGiven}
 use Rattle.mesh_model.specs.Net.Limits.{clock_limit, lans_limit, links_limit, nodes_limit}
 use Rattle.mesh_model.specs.Net.Mesh.{NetLink}
 use Rattle.mesh_model.specs.Net.Runs.{delivered}
@@ -47,18 +47,18 @@ command_named state (Link from to delay pattern throughput) p tell r n =
     at_named state (λ end. link_step (link start end)) (place_of state to) n (λ end.
     full_named (nat_le links_limit (length state.mesh.links)) (Ends state (Limit Links)) (Goes (with_link state (link start end))) (λ of. n) (λ of. record { named = n.named; printed = n.printed; fits = record { logs = n.fits.logs; puts = n.fits.puts } })))
 command_named state (Lan name gateways) p tell r n = lan_named state name (places_named gateways 0 state.mesh.nodes) (nat_le lans_limit (length state.mesh.lans)) p r.low n
-command_named state (Frame place src dst vid text) p tell r n = frame_named state place (record { dst = dst; src = src; vid = vid; text = text }) (is_group dst && not (is_broadcast dst)) r.low tell.1 tell.0.fits.address p n
+command_named state (Frame place src dst vid text) p tell r n = frame_named state place (record { dst = dst; src = src; vid = vid; text = text }) r.low tell.1 tell.0.fits.address p n
 command_named state (Gone place key) p tell r n = gone_from state place (GoneGiven key) r.low tt n
 command_named state (Join node key) p tell r n = line_named state node (JoinGiven key) r.low tt n
 command_named state (Leave node key) p tell r n = line_named state node (LeaveGiven key) r.low tt n
 command_named state (Arp node mac own asked vid) p tell r n = λ of. n
-command_named state (Dhcp node key text) p tell r n = λ of. n
+command_named state (Dhcp node key text) p tell r n = line_named state node (DhcpGiven key text) r.low p n
 command_named state (Wifi node on) p tell r n = line_named state node (Sets (WifiSet on)) r.low tt n
-command_named state (GwOff node) p tell r n = λ of. n
-command_named state (GwServer node down up) p tell r n = λ of. n
-command_named state (GwClient node policy) p tell r n = λ of. n
-command_named state (Mcast node flags) p tell r n = λ of. n
-command_named state (Dat node on) p tell r n = λ of. n
+command_named state (GwOff node) p tell r n = line_named state node (Sets (GatewaySet NoPart)) r.low tt n
+command_named state (GwServer node down up) p tell r n = line_named state node (Sets (GatewaySet (Serves (record { download = down; upload = up })))) r.low tt n
+command_named state (GwClient node policy) p tell r n = line_named state node (Sets (GatewaySet (Chooses policy))) r.low tt n
+command_named state (Mcast node flags) p tell r n = line_named state node (Sets (MulticastSet flags)) r.low tt n
+command_named state (Dat node on) p tell r n = line_named state node (Sets (ArpTableSet on)) r.low tt n
 command_named state (Alfred node mode) p tell r n = λ of. n
 command_named state (Put node type_no version text) p tell r n = λ of. n
 command_named state (Get node type_no) p tell r n = λ of. n

@@ -118,10 +118,9 @@ put_passes setup put mesh after plain e =
     let names : names_of after ≡ names_of mesh = ap names_of (sym (put_is setup put mesh after e)) in
     record { gains = put_gains setup put mesh after e; names = same_names (names_of mesh) (names_of after) names; named = subst AreNamed (sym names); fits = put_fits setup put mesh after plain e }
 
-pub frame_named : (state : State) (name : List ℕ) (frame : ClientFrame) (group : Bool) → state.clock ≤ clock_limit → IsWhole frame.dst → IsWhole frame.src → IsUnbroken frame.text → IsNamed state
-    → NamedOutcome (after_step state (cond group None (Some (at_place name (lan_frame_step (setup_of state.algorithm) (payload_spelling frame)) (input_step (setup_of state.algorithm) (FrameGiven frame.src frame.dst frame.vid frame.text))))))
-frame_named state name frame true low dst src plain n = λ of. n
-frame_named state name frame false low dst src plain n = place_named state name (lan_frame_step (setup_of state.algorithm) (payload_spelling frame)) (FrameGiven frame.src frame.dst frame.vid frame.text) low plain n (λ lan.
+pub frame_named : (state : State) (name : List ℕ) (frame : ClientFrame) → state.clock ≤ clock_limit → IsWhole frame.dst → IsWhole frame.src → IsUnbroken frame.text → IsNamed state
+    → NamedOutcome (at_place name (lan_frame_step (setup_of state.algorithm) (payload_spelling frame)) (input_step (setup_of state.algorithm) (FrameGiven frame.src frame.dst frame.vid frame.text)) state)
+frame_named state name frame low dst src plain n = place_named state name (lan_frame_step (setup_of state.algorithm) (payload_spelling frame)) (FrameGiven frame.src frame.dst frame.vid frame.text) low plain n (λ lan.
     let put : LanPut = record { lan = lan; moment = state.clock; bytes = payload_spelling frame; by = None } in
     attempt_named state (with_put (setup_of state.algorithm) put state.mesh) n (λ after is. put_passes (setup_of state.algorithm) put state.mesh after (spelled_fits put frame refl dst src plain) is))
 
@@ -236,8 +235,8 @@ shows_name Neighbors = λ state node all word. word
 shows_name Locals = λ state node all word. word
 shows_name Globals = λ state node all word. word
 shows_name Claims = λ state node all word. (word, lan_or_dash (names_of state.mesh) all (bridge node.log).lan)
-shows_name Gateways = tt
-shows_name Groups = tt
+shows_name Gateways = λ state node all word. word
+shows_name Groups = λ state node all word. word
 shows_name Addresses = tt
 shows_name Facts = tt
 

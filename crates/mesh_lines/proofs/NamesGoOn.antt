@@ -6,11 +6,12 @@ use Rattle.mesh_base.specs.declared.event.Event.{Event}
 use Rattle.mesh_base.specs.declared.names.NodeName.{NodeName}
 use Rattle.mesh_model.specs.Net.Mesh.{Mesh, Setup}
 use Rattle.mesh_model.specs.Net.Next.{Has}
-use Rattle.mesh_model.specs.Run.State.{Printed, ClaimsShown, LocalsShown, OriginatorsShown, NeighborsShown, GlobalsShown, Decoded, Happened, State, names_of}
+use Rattle.mesh_model.specs.Run.State.{Printed, ClaimsShown, LocalsShown, OriginatorsShown, ServiceShown, NeighborsShown, GlobalsShown, Decoded, Happened, State, names_of}
 use Rattle.mesh_model.specs.Text.Claims.{name_or_dash}
 use Rattle.mesh_laws.proofs.Lines.Courses.{Follows}
 use Rattle.mesh_laws.proofs.Schedule.Members.{has_either, has_left}
 use Rattle.mesh_laws.proofs.Schedule.Steps.{Effect, no_ticks}
+use Rattle.mesh_lines.specs.ItemLines.{service_name}
 use Rattle.mesh_lines.specs.LineWords.{AreNamed, IsWord}
 use Rattle.mesh_tie.proofs.GainLemmas.{GainsEvents, course_gains, effect_gains}
 use Rattle.mesh_lines.proofs.LogFits.{MeshFits}
@@ -62,6 +63,7 @@ HasNames all events (OriginatorsShown table) = IsWord table.name
 HasNames all events (NeighborsShown table) = IsWord table.name
 HasNames all events (GlobalsShown table) = IsWord table.name
 HasNames all events (ClaimsShown table) = IsWord table.name × IsWord (name_or_dash table.lan)
+HasNames all events (ServiceShown table) = IsWord (service_name table)
 HasNames all events (Decoded bytes) = Unit {0}
 HasNames all events (Happened names event) = GoOn names all × IsOfName names.nodes event × Has events event
 
@@ -77,6 +79,7 @@ names_grow names all events new (OriginatorsShown table) g has = has
 names_grow names all events new (NeighborsShown table) g has = has
 names_grow names all events new (GlobalsShown table) g has = has
 names_grow names all events new (ClaimsShown table) g has = has
+names_grow names all events new (ServiceShown table) g has = has
 names_grow names all events new (Decoded bytes) g has = has
 names_grow names all events new (Happened own event) g has = (names_further own names all has.0 g, has.1, has_left events new event has.2)
 

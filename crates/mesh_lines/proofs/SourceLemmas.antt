@@ -7,7 +7,7 @@ use Rattle.mesh_base.specs.declared.event.Event.{Event}
 use Rattle.mesh_base.specs.declared.event.Event.TheVariants.{FrameSent, Received, LanSent, Bridged, Lost, Alias, Pinged, Traced, Arp, Alfred}
 use Rattle.mesh_model.specs.declared.frame_choice.FrameChoice.{FrameChoice}
 use Rattle.mesh_model.specs.Net.Next.{Has}
-use Rattle.mesh_model.specs.Run.State.{Printed, ClaimsShown, Decoded, GlobalsShown, Happened, LocalsShown, NeighborsShown, OriginatorsShown}
+use Rattle.mesh_model.specs.Run.State.{Printed, ClaimsShown, Decoded, GlobalsShown, Happened, LocalsShown, NeighborsShown, OriginatorsShown, ServiceShown}
 use Rattle.mesh_model.specs.Text.Claims.{claim_line, name_or_dash}
 use Rattle.mesh_model.specs.Text.Events.{event_line, is_shown}
 use Rattle.mesh_model.specs.Text.GlobalTables.{GlobalPart, GlobalTable, entry_line, global_line, mark_line}
@@ -20,6 +20,7 @@ use Rattle.mesh_lines.proofs.EventParts.{event_told}
 use Rattle.mesh_lines.proofs.Found.{Found, Split, found, has_at, heads, in_first, in_second, split}
 use Rattle.mesh_lines.proofs.LineParts.{claim_header_told, claim_told, entry_told, global_header_told, global_told, link_header_told, local_header_told, local_told, mark_told, neighbor_told, orig_header_told, orig_told, unbroken_word, vlan_told}
 use Rattle.mesh_lines.proofs.PacketParts.{AllOther, decoded_other, other_both, other_map}
+use Rattle.mesh_lines.proofs.ServiceParts.{service_other}
 
 -- ---- items whose lines are of other kinds
 other_at : (lines : List (List ℕ)) → AllOther lines → (line : List ℕ) → Has lines line → kind_of line ≡ of_other
@@ -37,6 +38,7 @@ NoKind (OriginatorsShown table) = Unit {0}
 NoKind (NeighborsShown table) = Unit {0}
 NoKind (GlobalsShown table) = ⊥
 NoKind (ClaimsShown table) = Unit {0}
+NoKind (ServiceShown table) = Unit {0}
 NoKind (Decoded bytes) = Unit {0}
 NoKind (Happened names event) = ⊥
 
@@ -46,6 +48,7 @@ locals_other choice (OriginatorsShown table) plain none = (orig_header_told tabl
 locals_other choice (NeighborsShown table) plain none = (link_header_told table.name table.algorithm (length table.rows) (unbroken_word table.name plain), other_map neighbor_line neighbor_told table.rows)
 locals_other choice (GlobalsShown table) plain none = absurd none
 locals_other choice (ClaimsShown table) plain none = (claim_header_told table.name table.lan (length table.rows) (unbroken_word table.name plain.0) (unbroken_word (name_or_dash table.lan) plain.1), other_map claim_line claim_told table.rows)
+locals_other choice (ServiceShown table) plain none = service_other table plain
 locals_other choice (Decoded bytes) plain none = decoded_other bytes
 locals_other choice (Happened names event) plain none = absurd none
 
@@ -175,6 +178,7 @@ originators_have_one_source choice printed plain before line after is kind =
     go front (NeighborsShown table) back left right list p one b a = absurd (none front (NeighborsShown table) left right p tt one)
     go front (GlobalsShown table) back left right list p one b a = part_found choice printed before line after front table back left right list b a (in_table table p left line right kind one)
     go front (ClaimsShown table) back left right list p one b a = absurd (none front (ClaimsShown table) left right p tt one)
+    go front (ServiceShown table) back left right list p one b a = absurd (none front (ServiceShown table) left right p tt one)
     go front (Decoded bytes) back left right list p one b a = absurd (none front (Decoded bytes) left right p tt one)
     go front (Happened names event) back left right list p one b a =
         absurd (no_event event (sym (event_kind_is choice names event p left line right (of_event choice names event left line right (is_shown choice event) refl one)) ∙ kind))
@@ -222,6 +226,7 @@ events_have_one_source choice printed plain before line after is kind =
     go front (NeighborsShown table) back left right list p one b a = absurd (none (NeighborsShown table) left right p tt one)
     go front (GlobalsShown table) back left right list p one b a = absurd (table_none table p line (subst (λ ls. Has ls line) (sym one) (has_at left line right)) kind)
     go front (ClaimsShown table) back left right list p one b a = absurd (none (ClaimsShown table) left right p tt one)
+    go front (ServiceShown table) back left right list p one b a = absurd (none (ServiceShown table) left right p tt one)
     go front (Decoded bytes) back left right list p one b a = absurd (none (Decoded bytes) left right p tt one)
     go front (Happened names event) back left right list p one b a =
         let o = of_event choice names event left line right (is_shown choice event) refl one in

@@ -12,7 +12,7 @@ use Rattle.mesh_model.specs.Net.Next.{Has}
 use Rattle.mesh_model.specs.Run.PlainRun.{Run, after_line, after_lines, after_outcome, line_outcome, output, start}
 use Rattle.mesh_model.specs.Run.Outcome.{Outcome, Ends, Goes, reached}
 use Rattle.mesh_model.specs.Scenario.Halt.{Halt}
-use Rattle.mesh_model.specs.Run.State.{ClaimsShown, Decoded, GlobalsShown, LocalsShown, NeighborsShown, OriginatorsShown, Happened, Printed, printed_text}
+use Rattle.mesh_model.specs.Run.State.{ClaimsShown, Decoded, GlobalsShown, LocalsShown, NeighborsShown, OriginatorsShown, ServiceShown, Happened, Printed, printed_text}
 use Rattle.mesh_model.specs.Scenario.Lines.{complete_lines, lines_of}
 use Rattle.mesh_model.specs.Text.Events.{event_line}
 use Rattle.mesh_model.specs.Text.GlobalTables.{GlobalPart, byte_text, entry_line, global_line}
@@ -90,6 +90,7 @@ item_plain all events named (OriginatorsShown table) has texts = has
 item_plain all events named (NeighborsShown table) has texts = has
 item_plain all events named (GlobalsShown table) has texts = has
 item_plain all events named (ClaimsShown table) has texts = has
+item_plain all events named (ServiceShown table) has texts = has
 item_plain all events named (Decoded bytes) has texts = tt
 item_plain all events named (Happened names event) has texts = (front_named names all has.0 named, texts names event refl)
 

@@ -1,14 +1,15 @@
 -- The lines of what a run prints at once, each with its newline: a table has its first line, and
 -- then one for each row; what is decoded has those of its packets; an event that the choice shows
 -- has one. The main word is `item_lines`.
-use Rattle.std.specs.Prelude.{ℕ, List, [], ◌∷◌, ◌++◌, length, flat_map, map, codes, if◌then◌else◌, ⊤}
+use Rattle.std.specs.Prelude.{ℕ, ◌+◌, List, [], ◌∷◌, ◌++◌, length, flat_map, map, codes, if◌then◌else◌, ⊤}
 use Rattle.mesh_model.specs.declared.frame_choice.FrameChoice.{FrameChoice}
 use Rattle.mesh_model.specs.Net.Next.{Has}
-use Rattle.mesh_model.specs.Run.State.{Printed, ClaimsShown, Decoded, GlobalsShown, Happened, LocalsShown, NeighborsShown, OriginatorsShown}
+use Rattle.mesh_model.specs.Run.State.{Printed, ClaimsShown, Decoded, GlobalsShown, Happened, LocalsShown, NeighborsShown, OriginatorsShown, ServiceShown}
 use Rattle.mesh_model.specs.Text.Claims.{ClaimTable, claim_header, claim_line, name_or_dash}
 use Rattle.mesh_model.specs.Text.Decode.{decode_lines}
 use Rattle.mesh_model.specs.Text.Events.{event_line, is_shown}
 use Rattle.mesh_model.specs.Text.GlobalTables.{GlobalPart, GlobalTable, entry_line, global_header, global_line, mark_line}
+use Rattle.mesh_model.specs.Text.Services.{GatewayTable, GatewaysOf, GroupTable, GroupsOf, ServiceTable, gateway_header, gateway_line, group_header, groups_line, joined_line}
 use Rattle.mesh_model.specs.Text.Tables.{LinkTable, LocalTable, OrigTable, local_header, local_line, neighbor_line, orig_line, route_header, vlan_line}
 use Rattle.mesh_lines.specs.LineWords.{AreNamed, HasPlainText, IsWord}
 
@@ -45,6 +46,26 @@ abbrev pub claim_lines : ClaimTable → List (List ℕ)
 claim_lines table = claim_header table.name table.lan (length table.rows)
     ∷ map claim_line table.rows
 
+-- the lines of the gateways of a node
+abbrev pub gateway_lines : GatewayTable → List (List ℕ)
+gateway_lines table = gateway_header table.name table.mode table.chosen
+    ∷ map gateway_line table.rows
+
+-- the lines of the groups of a node
+abbrev pub group_lines : GroupTable → List (List ℕ)
+group_lines table = group_header table.name (length table.joined + length table.rows)
+    ∷ map joined_line table.joined ++ map groups_line table.rows
+
+-- the lines of a table of a service
+abbrev pub service_lines : ServiceTable → List (List ℕ)
+service_lines (GatewaysOf table) = gateway_lines table
+service_lines (GroupsOf table) = group_lines table
+
+-- the name of the node of a table of a service
+abbrev pub service_name : ServiceTable → List ℕ
+service_name (GatewaysOf table) = table.name
+service_name (GroupsOf table) = table.name
+
 -- the lines of what is printed at once
 abbrev pub item_lines : FrameChoice → Printed → List (List ℕ)
 item_lines choice (LocalsShown table) = local_lines table
@@ -52,6 +73,7 @@ item_lines choice (OriginatorsShown table) = orig_lines table
 item_lines choice (NeighborsShown table) = link_lines table
 item_lines choice (GlobalsShown table) = global_lines table
 item_lines choice (ClaimsShown table) = claim_lines table
+item_lines choice (ServiceShown table) = service_lines table
 item_lines choice (Decoded bytes) = decode_lines bytes
 item_lines choice (Happened names event) =
     if is_shown choice event then event_line names event ∷ [] else []
@@ -67,6 +89,7 @@ IsPlain (OriginatorsShown table) = IsWord table.name
 IsPlain (NeighborsShown table) = IsWord table.name
 IsPlain (GlobalsShown table) = IsWord table.name
 IsPlain (ClaimsShown table) = IsWord table.name × IsWord (name_or_dash table.lan)
+IsPlain (ServiceShown table) = IsWord (service_name table)
 IsPlain (Decoded bytes) = ⊤
 IsPlain (Happened names event) = AreNamed names × HasPlainText event
 

@@ -8,7 +8,7 @@ use Rattle.mesh_model.specs.declared.act.Act.{Act}
 use Rattle.mesh_model.specs.declared.act.Act.TheVariants.{Link, Lan, Print}
 use Rattle.mesh_model.specs.declared.packet.Head.{Head}
 use Rattle.mesh_model.specs.declared.packet.Head.TheVariants.{IvOgm, Bcast, Elp, Ogm2, Unicast, Frag, Unicast4, Icmp, Utvlv}
-use Rattle.mesh_model.specs.Acts.Choosing.{acts_of, claimed_first, client_acts, from_lan_acts, on_from_lan, probing_acts, sighting_acts}
+use Rattle.mesh_model.specs.Acts.Choosing.{acts_of, call_frame, calling_acts, claimed_first, client_acts, from_lan_acts, on_from_lan, probing_acts, sighting_acts}
 use Rattle.mesh_model.specs.Acts.BridgeRows.{Place, round_acts, unclaim_acts}
 use Rattle.mesh_model.specs.Acts.FrameRows.{broadcast_acts, here_acts, passed_frame}
 use Rattle.mesh_model.specs.Acts.OwnContainers.{own_containers}
@@ -18,6 +18,7 @@ use Rattle.mesh_model.specs.Acts.TableRows.{other_containers, own_answer}
 use Rattle.mesh_model.specs.Clients.Log.{LinkFrame, LanFrame, Frame, Gone, Join, Leave, Arp, Dhcp, Ping, Trace, Log, Line, LineGiven, Attach, Sets, Put, Get}
 use Rattle.mesh_model.specs.Clients.Lans.{Bridge}
 use Rattle.mesh_model.specs.Clients.Mentions.{Mention, key_of, mentions, next_mentions, passed_from_lan}
+use Rattle.mesh_model.specs.Clients.Settings.{Settings}
 use Rattle.mesh_model.specs.Commits.Aliases.{alias_before, last_alias}
 use Rattle.mesh_model.specs.Commits.Announcements.{announcement}
 use Rattle.mesh_model.specs.Commits.History.{History, with_message, committed, is_commit_tick, present_table}
@@ -38,7 +39,7 @@ use Rattle.mesh_model.specs.Tables.Versions.{Version}
 use Rattle.mesh_laws.proofs.Schedule.Members.{has_either, has_left, has_right}
 use Rattle.mesh_tie.proofs.BridgeActs.{claimed_puts}
 use Rattle.mesh_tie.proofs.LanSteps.{lan_on}
-use Rattle.mesh_tie.proofs.CalmRows.{calm_frame, calm_here, calm_session}
+use Rattle.mesh_tie.proofs.CalmRows.{calm_call, calm_frame, calm_here, calm_session}
 use Rattle.mesh_tie.proofs.CommitLemmas.{Committed, as_before, committed_is, one_more}
 use Rattle.mesh_tie.proofs.EntryLemmas.{each_appended}
 use Rattle.mesh_tie.proofs.NamesRows.{IsPlain, plain_bridges, plain_round, plain_unclaim, plain_advert, plain_broadcast, plain_icmp, plain_message, plain_ogm, plain_other, plain_own, plain_passed}
@@ -131,7 +132,11 @@ line_quiet q me mine now (Gone key) = tt
 line_quiet q me mine now (Join key) = tt
 line_quiet q me mine now (Leave key) = tt
 line_quiet q me mine now (Arp mac own_ip asked_ip vid) = plain_quiet (sighting_acts q me mine now (key_of mac vid)) (plain_advert me (key_of mac vid) (advertised q me mine (knowledge q me mine) now (key_of mac vid)))
-line_quiet q me mine now (Dhcp key text) = plain_quiet (sighting_acts q me mine now key) (plain_advert me key (advertised q me mine (knowledge q me mine) now key))
+line_quiet q me mine now (Dhcp key text) =
+    let known = after_sighting q me mine now key (knowledge q me mine) in
+    each_appended IsQuiet (sighting_acts q me mine now key) (calling_acts q me mine now key text)
+    (plain_quiet (sighting_acts q me mine now key) (plain_advert me key (advertised q me mine (knowledge q me mine) now key)))
+    (calm_quiet (calling_acts q me mine now key text) (calm_call q known (record { me = me; now = now }) (call_frame key text)))
 line_quiet q me mine now (Sets setting) = tt
 line_quiet q me mine now (Put type_no version text) = tt
 line_quiet q me mine now (Get type_no) = tt
@@ -186,13 +191,13 @@ same_length me before = go (length before == length before) (Rattle.std.proofs.l
     go true is = refl
     go false is = cc
 
-commit_gains : (q : Queries) (me : Mac) (routes : RouteLog) (index : ℕ) (before after : History) → Committed before after → Gains me before.commits after.commits (commit_acts q me routes index before after)
-commit_gains q me routes index before after (as_before same) = subst (λ (h : History). Gains me before.commits h.commits (commit_acts q me routes index before h)) (sym same)
-    (gains_none (commit_acts q me routes index before before) (subst (λ acts. AreQuiet (acts ++ message)) (sym (same_length me before.commits)) (plain_quiet message (plain_message (q.beats routes index).ogm (containers_spelling (own_containers (announcement before)))))))
+commit_gains : (q : Queries) (me : Mac) (settings : Settings) (routes : RouteLog) (index : ℕ) (before after : History) → Committed before after → Gains me before.commits after.commits (commit_acts q me settings routes index before after)
+commit_gains q me settings routes index before after (as_before same) = subst (λ (h : History). Gains me before.commits h.commits (commit_acts q me settings routes index before h)) (sym same)
+    (gains_none (commit_acts q me settings routes index before before) (subst (λ acts. AreQuiet (acts ++ message)) (sym (same_length me before.commits)) (plain_quiet message (plain_message (q.beats routes index).ogm (containers_spelling (own_containers settings (announcement before)))))))
   where
     message : List Act
-    message = message_acts (q.beats routes index).ogm (containers_spelling (own_containers (announcement before)))
-commit_gains q me routes index before after (one_more version byte order same) = subst (λ (h : History). Gains me before.commits h.commits (commit_acts q me routes index before h)) (sym same)
+    message = message_acts (q.beats routes index).ogm (containers_spelling (own_containers settings (announcement before)))
+commit_gains q me settings routes index before after (one_more version byte order same) = subst (λ (h : History). Gains me before.commits h.commits (commit_acts q me settings routes index before h)) (sym same)
     (gains_one version (events ++ message) only each)
   where
     more : History
@@ -202,7 +207,7 @@ commit_gains q me routes index before after (one_more version byte order same) =
     events = alias_acts me before.commits (version ∷ before.commits)
 
     message : List Act
-    message = message_acts (q.beats routes index).ogm (containers_spelling (own_containers (announcement more)))
+    message = message_acts (q.beats routes index).ogm (containers_spelling (own_containers settings (announcement more)))
 
     events_are : alias_acts me before.commits (version ∷ before.commits) ≡ alias_event me (length before.commits) (alias_before version before.commits)
     events_are = ap (λ b. cond b [] (alias_event me (length before.commits) (alias_before version before.commits))) (ne_eqb (suc (length before.commits)) (length before.commits) (λ e. omega (arith, e)))
@@ -212,7 +217,7 @@ commit_gains q me routes index before after (one_more version byte order same) =
       where
         go : Has events (Print (Alias mac number earlier)) ⊎ Has message (Print (Alias mac number earlier)) → (mac ≡ me) × (number ≡ length before.commits) × (alias_before version before.commits ≡ Some earlier)
         go (inl told) = event_told me (length before.commits) (alias_before version before.commits) mac number earlier (subst (λ acts. Has acts (Print (Alias mac number earlier))) events_are told)
-        go (inr sent) = absurd (quiet_none message mac number earlier (plain_quiet message (plain_message (q.beats routes index).ogm (containers_spelling (own_containers (announcement more))))) sent)
+        go (inr sent) = absurd (quiet_none message mac number earlier (plain_quiet message (plain_message (q.beats routes index).ogm (containers_spelling (own_containers settings (announcement more))))) sent)
 
     each : (earlier : ℕ) → alias_before version before.commits ≡ Some earlier → Has (events ++ message) (Print (Alias me (length before.commits) earlier))
     each earlier is = has_left events message (Print (Alias me (length before.commits) earlier))
@@ -240,17 +245,17 @@ gains_then me before _ _ quiet none (gains_one version acts only each) = gains_o
     go mac number earlier (inl told) = only mac number earlier told
     go mac number earlier (inr told) = absurd (quiet_none quiet mac number earlier none told)
 
-pub tick_gains : (q : Queries) (me : Mac) (routes : RouteLog) (ms : List Mention) (before : History) (bridge : Bridge) (now index : ℕ)
-    → Gains me before.commits (cond (is_commit_tick index) (with_message (committed (present_table ms now) before)) before).commits (tick_acts q me routes ms before bridge now index)
+pub tick_gains : (q : Queries) (me : Mac) (settings : Settings) (routes : RouteLog) (ms : List Mention) (before : History) (bridge : Bridge) (now index : ℕ)
+    → Gains me before.commits (cond (is_commit_tick index) (with_message (committed (present_table ms now) before)) before).commits (tick_acts q me settings routes ms before bridge now index)
 unfolding tick_acts
-tick_gains q me routes ms before bridge now index =
+tick_gains q me settings routes ms before bridge now index =
     let at : Place = record { me = me; now = now } in
     let round = round_acts at bridge index in
-    let acts = cond (is_commit_tick index) (commit_acts q me routes index before (committed (present_table ms now) before)) [] in
+    let acts = cond (is_commit_tick index) (commit_acts q me settings routes index before (committed (present_table ms now) before)) [] in
     gains_behind me before.commits (cond (is_commit_tick index) (with_message (committed (present_table ms now) before)) before).commits (elp_acts q routes index) (acts ++ round)
     (plain_quiet (elp_acts q routes index) (plain_message (q.beats routes index).elp []))
     (gains_then me before.commits (cond (is_commit_tick index) (with_message (committed (present_table ms now) before)) before).commits acts round (plain_quiet round (plain_round at bridge index)) (go (is_commit_tick index)))
   where
-    go : (b : Bool) → Gains me before.commits (cond b (with_message (committed (present_table ms now) before)) before).commits (cond b (commit_acts q me routes index before (committed (present_table ms now) before)) [])
-    go true = commit_gains q me routes index before (committed (present_table ms now) before) (committed_is ms now before)
+    go : (b : Bool) → Gains me before.commits (cond b (with_message (committed (present_table ms now) before)) before).commits (cond b (commit_acts q me settings routes index before (committed (present_table ms now) before)) [])
+    go true = commit_gains q me settings routes index before (committed (present_table ms now) before) (committed_is ms now before)
     go false = gains_none [] tt

@@ -7,8 +7,9 @@ use Rattle.mesh_base.specs.declared.client.Key.{Key}
 use Rattle.mesh_model.specs.declared.act.Act.{Act}
 use Rattle.mesh_model.specs.declared.act.Act.TheVariants.{Lan}
 use Rattle.mesh_model.specs.declared.claim.Spread.{Spread}
-use Rattle.mesh_model.specs.Acts.BridgeRows.{Place, bridged_acts, claim_acts, handed_out, holding_acts, holds, is_round, out_acts, out_by, round_acts, unclaim_acts, unclaim_by}
+use Rattle.mesh_model.specs.Acts.BridgeRows.{Place, bridged_acts, claim_acts, handed_out, holding_acts, holds, out_acts, out_by, round_acts, unclaim_acts, unclaim_by}
 use Rattle.mesh_model.specs.Acts.Choosing.{claimed_first, claiming_acts}
+use Rattle.mesh_model.specs.Routes.RouteLog.{is_round}
 use Rattle.mesh_model.specs.Bridges.Claims.{ClaimCalls, claims_of}
 use Rattle.mesh_model.specs.Bridges.Verdicts.{verdict_from_lan, verdict_from_mesh}
 use Rattle.mesh_model.specs.Clients.Lans.{Bridge, LanOf}

@@ -13,7 +13,8 @@ use Rattle.mesh_model.specs.declared.act.Act.{Act}
 use Rattle.mesh_model.specs.declared.packet.Head.{Head}
 use Rattle.mesh_model.specs.declared.packet.Head.TheVariants.{IvOgm, Bcast, Elp, Ogm2, Unicast, Frag, Unicast4, Icmp, Utvlv}
 use Rattle.mesh_model.specs.Acts.BridgeRows.{Place, handed_out, out_acts, round_acts, spread_of_broadcast, spread_of_packet, unclaim_acts}
-use Rattle.mesh_model.specs.Acts.FrameRows.{addressed, arrived, broadcast_acts, broadcast_on, frame_acts, handed_out_if, here_acts, is_present, lost, lost_if, on_route, on_way, passed_frame, readdressed}
+use Rattle.mesh_model.specs.Acts.GroupRows.{addressed, call_acts, flooded, group_acts}
+use Rattle.mesh_model.specs.Acts.FrameRows.{arrived, broadcast_acts, broadcast_on, frame_acts, handed_out_if, here_acts, is_present, lost, lost_if, on_route, on_way, passed_frame, readdressed}
 use Rattle.mesh_model.specs.Acts.Packing.{sent_to, sent_to_all}
 use Rattle.mesh_model.specs.Acts.ProbeRows.{IcmpMessage, icmp_head, session_acts}
 use Rattle.mesh_model.specs.Acts.Rows.{elp_acts, icmp_acts, message_acts}
@@ -31,6 +32,7 @@ use Rattle.mesh_tie.proofs.EntryLemmas.{each_appended}
 use Rattle.mesh_tie.proofs.KindLemmas.{bcast_frame, elp_frame, icmp_frame, unicast_frame}
 use Rattle.mesh_tie.proofs.ProbeActs.{AreProbing, IsProbing, icmp_puts, puts_message, puts_pinged, puts_traced, session_puts}
 use Rattle.mesh_tie.proofs.Sayable.{IsCalm}
+use Rattle.mesh_tie.proofs.ServingActs.{IsServing, call_serves, each_serving, group_serves, serves_all, serves_here, serves_one}
 
 -- ---- packets that carry client frames
 pub calm_bcast : (ttl seq : ℕ) (orig : Mac) (tail : List ℕ) → IsCalm (sent_to_all (Bcast ttl seq orig) tail)
@@ -123,14 +125,29 @@ calm_on_way : (q : Queries) (known : Knowledge) (at : Place) (frame : ClientFram
 calm_on_way q known at frame None = ((λ me n e is. cc), tt)
 calm_on_way q known at frame (Some way) = (calm_addressed q known at.now 50 way (payload_spelling frame), tt)
 
+-- ---- groups and calls for a gateway
+calm_serving : (q : Queries) (known : Knowledge) (at : Place) (frame : ClientFrame) (act : Act) → IsServing (λ mac. Unit {0}) q known at frame act → IsCalm act
+calm_serving q known at frame _ (serves_one orig next reason any for) = calm_unicast next (Some reason) 50 (unwrap_or (told_at q known at.now orig) 0) orig (payload_spelling frame)
+calm_serving q known at frame _ serves_all = calm_bcast 50 (suc known.sent) at.me (payload_spelling frame)
+calm_serving q known at frame _ serves_here = λ me n e is. cc
+
+calm_group : (q : Queries) (known : Knowledge) (at : Place) (frame : ClientFrame) (joined : Bool) → AllByRecursion IsCalm (group_acts q known at frame joined)
+calm_group q known at frame joined =
+    each_serving (λ mac. Unit {0}) q known at frame IsCalm (calm_serving q known at frame) (group_acts q known at frame joined) (group_serves (λ mac. Unit {0}) q known at frame joined (λ orig has. tt))
+
+pub calm_call : (q : Queries) (known : Knowledge) (at : Place) (frame : ClientFrame) → AllByRecursion IsCalm (call_acts q known at frame)
+calm_call q known at frame = each_serving (λ mac. Unit {0}) q known at frame IsCalm (calm_serving q known at frame) (call_acts q known at frame) (call_serves (λ mac. Unit {0}) q known at frame (λ orig is. tt))
+
+-- ---- client frames of clients
 pub calm_frame : (q : Queries) (known : Knowledge) (ms : List Mention) (at : Place) (frame : ClientFrame) → AllByRecursion IsCalm (frame_acts q known ms at frame)
 unfolding frame_acts
 calm_frame q known ms at frame =
     let way = on_way q known at frame (addressee q known at.now (key_of frame.dst frame.vid)) in
     let handed = cond (is_present ms at.now (key_of frame.dst frame.vid)) (handed_out at frame ∷ []) way in
-    calm_if (is_broadcast frame.dst) (sent_to_all (Bcast 50 (suc known.sent) at.me) (payload_spelling frame) ∷ []) (cond (is_group frame.dst) [] handed)
+    let group = group_acts q known at frame (is_present ms at.now (key_of frame.dst frame.vid)) in
+    calm_if (is_broadcast frame.dst) (flooded known at frame ∷ []) (cond (is_group frame.dst) group handed)
     (calm_bcast 50 (suc known.sent) at.me (payload_spelling frame), tt)
-    (calm_if (is_group frame.dst) [] handed tt
+    (calm_if (is_group frame.dst) group handed (calm_group q known at frame (is_present ms at.now (key_of frame.dst frame.vid)))
     (calm_if (is_present ms at.now (key_of frame.dst frame.vid)) (handed_out at frame ∷ []) way ((λ me n e is. cc), tt) (calm_on_way q known at frame (addressee q known at.now (key_of frame.dst frame.vid)))))
 
 -- ---- ping and traceroute

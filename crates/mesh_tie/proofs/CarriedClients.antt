@@ -102,7 +102,7 @@ from_spelled frame found client whole is =
 
 -- what a client frame that was given tells
 given_tells : (mesh : Mesh) (frame : ClientFrame) → WasGiven mesh frame → TellsClient (Frame frame.src frame.dst frame.vid frame.text)
-given_tells mesh frame (to_node place node entry found noted is tells) = tells
+given_tells mesh frame (to_node place node entry line found noted is gives tells) = tells
 given_tells mesh frame (on_lan place put found by is tells) = tells
 
 clients_kept : (queries : Mac → Queries) → IsKept queries (λ mesh payload. IsFromClient payload)

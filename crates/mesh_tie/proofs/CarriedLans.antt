@@ -7,7 +7,7 @@ use Rattle.mesh_base.specs.declared.address.Mac.{Mac}
 use Rattle.mesh_base.specs.declared.client.Key.{Key}
 use Rattle.mesh_model.specs.declared.act.Act.TheVariants.{Lan}
 use Rattle.mesh_model.specs.declared.claim.Spread.{Spread}
-use Rattle.mesh_model.specs.Acts.BridgeRows.{Place, bridged_acts, claim_acts, holding_acts, holds, is_round, out_acts, out_by, round_acts, unclaim_acts, unclaim_by}
+use Rattle.mesh_model.specs.Acts.BridgeRows.{Place, bridged_acts, claim_acts, holding_acts, holds, out_acts, out_by, round_acts, unclaim_acts, unclaim_by}
 use Rattle.mesh_model.specs.Acts.Choosing.{claimed_first, claiming_acts}
 use Rattle.mesh_model.specs.Bridges.Claims.{claims_of}
 use Rattle.mesh_model.specs.Bridges.Verdicts.{verdict_from_lan, verdict_from_mesh}
@@ -21,6 +21,7 @@ use Rattle.mesh_model.specs.Packets.Ethernet.{address_in, begin_type}
 use Rattle.mesh_model.specs.Packets.Numbers.{claim_ethertype}
 use Rattle.mesh_model.specs.Packets.LanFrames.{Claims, Nothing, announce_spelling, carried_by, claim_in, claim_spelling, client_frame_in, gateway_front, is_claiming, is_of_gateway, lan_message_of}
 use Rattle.mesh_model.specs.Packets.Payload.{ClientFrame, client_frame_of}
+use Rattle.mesh_model.specs.Routes.RouteLog.{is_round}
 use Rattle.mesh_tie.specs.Sources.{IsWhole}
 use Rattle.mesh_tie.proofs.CarriedHeads.{ActHas, ActsHave, Kept, handed_has}
 use Rattle.mesh_tie.proofs.EntryLemmas.{each_appended}

@@ -25,17 +25,17 @@ use Rattle.mesh_tie.proofs.CarriedSteps.{HasKept, kept_in, step_keeps}
 
 -- ---- what goes on to hold
 given_stays : (queries : Mac → Queries) (mesh after : Mesh) (place now root : ℕ) (node : NodeLog) (given : Given) (frame : ClientFrame) → HasGiven (scenario_setup queries) place now root node given mesh after → WasGiven mesh frame → WasGiven after frame
-given_stays queries mesh after place now root node given frame has (to_node at was entry found noted is tells) =
+given_stays queries mesh after place now root node given frame has (to_node at was entry line found noted is gives tells) =
     let stays = noted_stays place (entry_of (scenario_setup queries) node now given) mesh.nodes at was found in
-    to_node at stays.0 entry (ap (λ ns. slice_get ns at) has.nodes ∙ stays.1) (stays.2 entry noted) is tells
+    to_node at stays.0 entry line (ap (λ ns. slice_get ns at) has.nodes ∙ stays.1) (stays.2 entry noted) is gives tells
 given_stays queries mesh after place now root node given frame has (on_lan at put found by is tells) =
     on_lan at put (ap (λ ps. slice_get ps at) has.puts ∙ get_front mesh.puts has.more_puts at put found) by is tells
 
 -- a client frame that was given stays given
 pub was_given : (queries : Mac → Queries) (mesh after : Mesh) (frame : ClientFrame) → Steps queries mesh after → WasGiven mesh frame → WasGiven after frame
-was_given queries mesh _ frame (node_joins _ new empty whole fresh) (to_node at node entry found noted is tells) = to_node at node entry (get_front mesh.nodes (new ∷ []) at node found) noted is tells
+was_given queries mesh _ frame (node_joins _ new empty whole fresh) (to_node at node entry line found noted is gives tells) = to_node at node entry line (get_front mesh.nodes (new ∷ []) at node found) noted is gives tells
 was_given queries mesh _ frame (node_joins _ new empty whole fresh) (on_lan at put found by is tells) = on_lan at put found by is tells
-was_given queries mesh _ frame (link_joins _ link) (to_node at node entry found noted is tells) = to_node at node entry found noted is tells
+was_given queries mesh _ frame (link_joins _ link) (to_node at node entry line found noted is gives tells) = to_node at node entry line found noted is gives tells
 was_given queries mesh _ frame (link_joins _ link) (on_lan at put found by is tells) = on_lan at put found by is tells
 was_given queries mesh after frame (line_gives _ _ place now node line found may of is) was =
     given_stays queries mesh after place now 0 node (Line line) frame (given_is (scenario_setup queries) place now 0 node (Line line) mesh after found is) was
@@ -45,15 +45,15 @@ was_given queries mesh after frame (node_ticks _ _ place now node found may is) 
 was_given queries mesh after frame (frame_comes _ _ place now number throughput from node sent found may among whole is) was =
     let given = LinkFrame (suc number) from throughput sent.bytes in
     given_stays queries mesh after place now sent.root node given frame (given_is (scenario_setup queries) place now sent.root node given mesh after found is) was
-was_given queries mesh _ frame (lan_joins _ lan) (to_node at node entry found noted is tells) = to_node at node entry found noted is tells
+was_given queries mesh _ frame (lan_joins _ lan) (to_node at node entry line found noted is gives tells) = to_node at node entry line found noted is gives tells
 was_given queries mesh _ frame (lan_joins _ lan) (on_lan at put found by is tells) = on_lan at put found by is tells
-was_given queries mesh _ frame (put_comes _ new one none spelled client) (to_node at node entry found noted is tells) = to_node at node entry found noted is tells
+was_given queries mesh _ frame (put_comes _ new one none spelled client) (to_node at node entry line found noted is gives tells) = to_node at node entry line found noted is gives tells
 was_given queries mesh _ frame (put_comes _ new one none spelled client) (on_lan at put found by is tells) = on_lan at put (get_front mesh.puts (new ∷ []) at put found) by is tells
-was_given queries mesh _ frame (put_reaches _ number now new one there carries) (to_node at node entry found noted is tells) = to_node at node entry found noted is tells
+was_given queries mesh _ frame (put_reaches _ number now new one there carries) (to_node at node entry line found noted is gives tells) = to_node at node entry line found noted is gives tells
 was_given queries mesh _ frame (put_reaches _ number now new one there carries) (on_lan at put found by is tells) = on_lan at put found by is tells
 was_given queries mesh after frame (lan_comes _ _ place now number node put found may among is) was =
     given_stays queries mesh after place now 0 node (LanFrame put.bytes) frame (given_is (scenario_setup queries) place now 0 node (LanFrame put.bytes) mesh after found is) was
-was_given queries mesh _ frame (time_passes _ happening) (to_node at node entry found noted is tells) = to_node at node entry found noted is tells
+was_given queries mesh _ frame (time_passes _ happening) (to_node at node entry line found noted is gives tells) = to_node at node entry line found noted is gives tells
 was_given queries mesh _ frame (time_passes _ happening) (on_lan at put found by is tells) = on_lan at put found by is tells
 
 -- one that holds of more

@@ -12,7 +12,8 @@ use Rattle.mesh_model.specs.declared.packet.Head.{Head}
 use Rattle.mesh_model.specs.declared.packet.Head.TheVariants.{IvOgm, Bcast, Elp, Ogm2, Unicast, Frag, Unicast4, Icmp, Utvlv}
 use Rattle.mesh_model.specs.declared.table_outcome.Request.{Request}
 use Rattle.mesh_model.specs.Acts.BridgeRows.{Place, handed_out, out_acts, round_acts, spread_of_broadcast, spread_of_packet, unclaim_acts}
-use Rattle.mesh_model.specs.Acts.FrameRows.{addressed, advert_acts, arrived, broadcast_acts, broadcast_on, frame_acts, handed_out_if, here_acts, is_present, lost, lost_if, on_route, on_way, passed_frame, readdressed}
+use Rattle.mesh_model.specs.Acts.GroupRows.{addressed, call_acts, flooded, group_acts}
+use Rattle.mesh_model.specs.Acts.FrameRows.{advert_acts, arrived, broadcast_acts, broadcast_on, frame_acts, handed_out_if, here_acts, is_present, lost, lost_if, on_route, on_way, passed_frame, readdressed}
 use Rattle.mesh_model.specs.Acts.OwnContainers.{own_containers}
 use Rattle.mesh_model.specs.Acts.Packing.{reply_containers, request_containers, roaming_container, sent_over, sent_to_all}
 use Rattle.mesh_model.specs.Acts.ProbeRows.{IcmpMessage, icmp_head, session_acts}
@@ -20,6 +21,7 @@ use Rattle.mesh_model.specs.Acts.Rows.{Own, accepted_acts, alias_acts, alias_eve
 use Rattle.mesh_model.specs.Acts.TableRows.{on_the_way, other_containers, own_answer, request_acts, way_reply}
 use Rattle.mesh_model.specs.Clients.Lans.{Bridge}
 use Rattle.mesh_model.specs.Clients.Mentions.{Mention, key_of}
+use Rattle.mesh_model.specs.Clients.Settings.{Settings}
 use Rattle.mesh_model.specs.Commits.Aliases.{last_alias}
 use Rattle.mesh_model.specs.Commits.Announcements.{announcement}
 use Rattle.mesh_model.specs.Commits.History.{History, committed, is_commit_tick, present_table}
@@ -41,6 +43,8 @@ use Rattle.mesh_tie.specs.Tie.{KnowsWhole}
 use Rattle.mesh_tie.proofs.CarriedLans.{out_has, round_has, unclaim_has}
 use Rattle.mesh_tie.proofs.EntryLemmas.{each_appended}
 use Rattle.mesh_tie.proofs.KnowsLemmas.{IfWay, addressee_whole}
+use Rattle.mesh_tie.proofs.ServesLemmas.{receiver_whole}
+use Rattle.mesh_tie.proofs.ServingActs.{IsServing, call_serves, each_serving, group_serves, serves_all, serves_here, serves_one}
 use Rattle.mesh_tie.proofs.ProbeActs.{AreProbing, IsProbing, icmp_puts, puts_message, puts_pinged, puts_traced, session_puts}
 use Rattle.mesh_tie.proofs.CarriedHeads.{IsCarried, Kept, handed_has, ActHas, ActsHave, HeadHas, PacketHas, bcast_has, elp_none, icmp_none, iv_none, ogm2_none, unicast_has, utvlv_none}
 
@@ -177,6 +181,20 @@ here_has P q known ms bridge at ttl tail mine k p = go (client_frame_of tail) re
         let way = addressee q known at.now key in
         have_if P (is_group frame.dst || is_present ms at.now key) (out_acts bridge at (spread_of_packet frame) frame) (readdressed q known at ttl frame tail way) (out_has P bridge at (spread_of_packet frame) frame tail mine p is) (anew frame way (addressee_whole q known at.now key k))
 
+-- for a group, or for a gateway
+serving_has : (P : Kept) (q : Queries) (known : Knowledge) (at : Place) (frame : ClientFrame) → IsWhole at.me → IsCarried P frame → P.carried (payload_spelling frame) → (act : Act) → IsServing IsWhole q known at frame act → ActHas P act
+serving_has P q known at frame mine given p _ (serves_one orig next reason whole for) = unicast_has P next (Some reason) 50 (unwrap_or (told_at q known at.now orig) 0) orig (payload_spelling frame) whole p
+serving_has P q known at frame mine given p _ serves_all = bcast_has P 50 (suc known.sent) at.me (payload_spelling frame) mine p
+serving_has P q known at frame mine given p _ serves_here = handed_has P at frame given
+
+group_has : (P : Kept) (q : Queries) (known : Knowledge) (at : Place) (frame : ClientFrame) (joined : Bool) → IsWhole at.me → KnowsWhole known → IsCarried P frame → P.carried (payload_spelling frame) → ActsHave P (group_acts q known at frame joined)
+group_has P q known at frame joined mine k given p =
+    each_serving IsWhole q known at frame (ActHas P) (serving_has P q known at frame mine given p) (group_acts q known at frame joined) (group_serves IsWhole q known at frame joined (receiver_whole q known at.now (key_of frame.dst frame.vid) k.services))
+
+pub call_has : (P : Kept) (q : Queries) (known : Knowledge) (at : Place) (frame : ClientFrame) → IsWhole at.me → KnowsWhole known → IsCarried P frame → P.carried (payload_spelling frame) → ActsHave P (call_acts q known at frame)
+call_has P q known at frame mine k given p =
+    each_serving IsWhole q known at frame (ActHas P) (serving_has P q known at frame mine given p) (call_acts q known at frame) (call_serves IsWhole q known at frame k.services.choice)
+
 pub frame_has : (P : Kept) (q : Queries) (known : Knowledge) (ms : List Mention) (at : Place) (frame : ClientFrame) → IsWhole at.me → KnowsWhole known → IsCarried P frame → P.carried (payload_spelling frame) → ActsHave P (frame_acts q known ms at frame)
 unfolding frame_acts
 frame_has P q known ms at frame mine k given p =
@@ -184,9 +202,10 @@ frame_has P q known ms at frame mine k given p =
     let way = addressee q known at.now key in
     let sent = on_way q known at frame way in
     let handed = cond (is_present ms at.now key) (handed_out at frame ∷ []) sent in
-    have_if P (is_broadcast frame.dst) (sent_to_all (Bcast 50 (suc known.sent) at.me) (payload_spelling frame) ∷ []) (cond (is_group frame.dst) [] handed)
+    let group = group_acts q known at frame (is_present ms at.now key) in
+    have_if P (is_broadcast frame.dst) (flooded known at frame ∷ []) (cond (is_group frame.dst) group handed)
     (bcast_has P 50 (suc known.sent) at.me (payload_spelling frame) mine p, tt)
-    (have_if P (is_group frame.dst) [] handed tt (have_if P (is_present ms at.now key) (handed_out at frame ∷ []) sent (handed_has P at frame given, tt) (go way (addressee_whole q known at.now key k))))
+    (have_if P (is_group frame.dst) group handed (group_has P q known at frame (is_present ms at.now key) mine k given p) (have_if P (is_present ms at.now key) (handed_out at frame ∷ []) sent (handed_has P at frame given, tt) (go way (addressee_whole q known at.now key k))))
   where
     go : (way : Option Way) → IfWay way → ActsHave P (on_way q known at frame way)
     go None whole = (lost_one P at Unknown frame, tt)
@@ -221,16 +240,16 @@ packet_has P q me own came packet known keeps mine from k whole has = go packet.
         (each_appended (ActHas P) answer unclaim (own_has P q me known came.now own src (message_in (first_table (containers_of tail)))) (unclaim_has P (place_at me came) own.bridge (first_roaming (containers_of tail)) mine)) (other_has P q known came.now ttl dst src tail)
 
 -- ---- ticks
-pub tick_has : (P : Kept) (q : Queries) (me : Mac) (routes : RouteLog) (ms : List Mention) (before : History) (bridge : Bridge) (now index : ℕ) → KeepsOriginators me q → IsWhole me → ActsHave P (tick_acts q me routes ms before bridge now index)
+pub tick_has : (P : Kept) (q : Queries) (me : Mac) (settings : Settings) (routes : RouteLog) (ms : List Mention) (before : History) (bridge : Bridge) (now index : ℕ) → KeepsOriginators me q → IsWhole me → ActsHave P (tick_acts q me settings routes ms before bridge now index)
 unfolding tick_acts
-tick_has P q me routes ms before bridge now index keeps whole =
+tick_has P q me settings routes ms before bridge now index keeps whole =
     let after = committed (present_table ms now) before in
-    let tail = containers_spelling (own_containers (announcement after)) in
-    let made = cond (is_commit_tick index) (commit_acts q me routes index before after) [] in
+    let tail = containers_spelling (own_containers settings (announcement after)) in
+    let made = cond (is_commit_tick index) (commit_acts q me settings routes index before after) [] in
     let at : Place = record { me = me; now = now } in
     each_appended (ActHas P) (elp_acts q routes index) (made ++ round_acts at bridge index)
     (elps_none P (q.beats routes index).elp (λ head is. keeps.elps routes index head is))
-    (each_appended (ActHas P) made (round_acts at bridge index) (have_if P (is_commit_tick index) (commit_acts q me routes index before after) []
+    (each_appended (ActHas P) made (round_acts at bridge index) (have_if P (is_commit_tick index) (commit_acts q me settings routes index before after) []
     (each_appended (ActHas P) (alias_acts me before.commits after.commits) (message_acts (q.beats routes index).ogm tail)
     (have_if P (length after.commits == length before.commits) [] (alias_event me (length before.commits) (last_alias after.commits)) tt (event (last_alias after.commits)))
     (messages_none P me (q.beats routes index).ogm tail (λ head is. keeps.own routes index head whole is))) tt) (round_has P at bridge index whole))

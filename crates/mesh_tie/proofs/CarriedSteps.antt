@@ -5,7 +5,7 @@ use Rattle.mesh_base.specs.declared.event.Event.{Event}
 use Rattle.mesh_model.specs.declared.act.Act.{Act}
 use Rattle.mesh_model.specs.declared.act.Act.TheVariants.{Lan, Link, Print}
 use Rattle.mesh_model.specs.Acts.BridgeRows.{Place}
-use Rattle.mesh_model.specs.Acts.Choosing.{acts_of, claimed_first, client_acts, from_lan_acts, on_from_lan, sighting_acts}
+use Rattle.mesh_model.specs.Acts.Choosing.{acts_of, call_frame, calling_acts, claimed_first, client_acts, from_lan_acts, on_from_lan, sighting_acts}
 use Rattle.mesh_model.specs.Acts.FrameRows.{frame_acts}
 use Rattle.mesh_model.specs.Acts.Rows.{Own, own_by, packet_acts, packets_acts}
 use Rattle.mesh_model.specs.Clients.Lans.{bridge}
@@ -27,14 +27,14 @@ use Rattle.mesh_model.specs.Packets.LinkFrame.{link_frame}
 use Rattle.mesh_model.specs.Packets.Payload.{ClientFrame, client_frame_of, payload_spelling}
 use Rattle.mesh_model.specs.Routes.Queries.{Queries}
 use Rattle.mesh_laws.proofs.Schedule.Members.{get_either, get_last, has_either}
-use Rattle.mesh_tie.specs.Carried.{IsKept, IsReadOf, PutCarries, WasGiven, on_lan, to_node}
+use Rattle.mesh_tie.specs.Carried.{IsKept, IsReadOf, PutCarries, WasGiven, frame_of_line, on_lan, to_node}
 use Rattle.mesh_tie.specs.Sources.{HasWholeAddresses, IsWhole, KeepsOriginators}
 use Rattle.mesh_tie.specs.Steps.{Steps, TellsClient, bridged_event, frame_comes, lan_comes, lan_joins, line_gives, link_joins, node_joins, node_ticks, put_comes, put_reaches, time_passes, with_lan_frame}
 use Rattle.mesh_tie.specs.Tie.{IsOrderly, KnowsWhole, known_at_node}
 use Rattle.mesh_tie.specs.TieLaws.{AllKeep}
 use Rattle.mesh_tie.proofs.CarriedHeads.{Kept, Tells, ActHas, ActsHave, FrameHas, PacketHas}
 use Rattle.mesh_tie.proofs.CarriedLans.{claimed_has}
-use Rattle.mesh_tie.proofs.CarriedRows.{advert_has, frame_has, have_if, packet_has, session_has, tick_has}
+use Rattle.mesh_tie.proofs.CarriedRows.{advert_has, call_has, frame_has, have_if, packet_has, session_has, tick_has}
 use Rattle.mesh_tie.proofs.EntryLemmas.{each_appended}
 use Rattle.mesh_tie.proofs.KnowsLemmas.{packet_knows, sighting_knows}
 use Rattle.mesh_tie.proofs.AddressLemmas.{heads_whole}
@@ -56,7 +56,7 @@ packets_have P q me own came (packet ∷ rest) known keeps mine from k each =
 
 -- the client frame of a line is given, and is carried as it is spelled
 abbrev Begins : Kept → LineGiven → Type 0
-Begins P line = (frame : ClientFrame) → line ≡ Frame frame.src frame.dst frame.vid frame.text → P.given frame × P.carried (payload_spelling frame)
+Begins P line = (frame : ClientFrame) → frame_of_line line ≡ Some frame → P.given frame × P.carried (payload_spelling frame)
 
 line_has : (P : Kept) (q : Queries) (me : Mac) (mine : Log) (now : ℕ) (line : LineGiven) → Begins P line → IsWhole me → KnowsWhole (knowledge q me mine) → ActsHave P (acts_of q me mine now (Line line))
 line_has P q me mine now (Attach lan gateways) begin whole k = tt
@@ -72,7 +72,12 @@ line_has P q me mine now (Gone key) begin whole k = tt
 line_has P q me mine now (Join key) begin whole k = tt
 line_has P q me mine now (Leave key) begin whole k = tt
 line_has P q me mine now (Arp mac own_ip asked_ip vid) begin whole k = advert_has P me (key_of mac vid) (advertised q me mine (knowledge q me mine) now (key_of mac vid))
-line_has P q me mine now (Dhcp key text) begin whole k = advert_has P me key (advertised q me mine (knowledge q me mine) now key)
+line_has P q me mine now (Dhcp key text) begin whole k =
+    let known = knowledge q me mine in
+    let frame = call_frame key text in
+    let begun = begin frame refl in
+    each_appended (ActHas P) (sighting_acts q me mine now key) (calling_acts q me mine now key text) (advert_has P me key (advertised q me mine known now key))
+    (call_has P q (after_sighting q me mine now key known) (record { me = me; now = now }) frame whole (sighting_knows q me mine now key known k) (inl begun.0) begun.1)
 line_has P q me mine now (Sets setting) begin whole k = tt
 line_has P q me mine now (Put type_no version text) begin whole k = tt
 line_has P q me mine now (Get type_no) begin whole k = tt
@@ -148,13 +153,28 @@ given_keep P queries mesh after place now root node given has old acts = record 
 abbrev pub kept_in : (queries : Mac → Queries) (P : Mesh → List ℕ → Type 0) → IsKept queries P → Mesh → Kept
 kept_in queries P kept mesh = record { carried = P mesh; given = WasGiven mesh; read_on = kept.read_on mesh }
 
+-- a line tells its client frame
+line_tells : (line : LineGiven) (frame : ClientFrame) → TellsClient line → frame_of_line line ≡ Some frame → TellsClient (Frame frame.src frame.dst frame.vid frame.text)
+line_tells (Attach lan gateways) frame of is = cc
+line_tells (Frame src dst vid text) frame of is = let same : record { dst = dst; src = src; vid = vid; text = text } ≡ frame = cc in subst (λ (f : ClientFrame). TellsClient (Frame f.src f.dst f.vid f.text)) same of
+line_tells (Gone key) frame of is = cc
+line_tells (Join key) frame of is = cc
+line_tells (Leave key) frame of is = cc
+line_tells (Arp mac own_ip asked_ip vid) frame of is = cc
+line_tells (Dhcp key text) frame of is = let same : call_frame key text ≡ frame = cc in subst (λ (f : ClientFrame). TellsClient (Frame f.src f.dst f.vid f.text)) same (of, refl)
+line_tells (Sets setting) frame of is = cc
+line_tells (Put type_no version text) frame of is = cc
+line_tells (Get type_no) frame of is = cc
+line_tells (Ping target) frame of is = cc
+line_tells (Trace target) frame of is = cc
+
 -- the client frame of a line, behind the line's step
 line_begins : (queries : Mac → Queries) (P : Mesh → List ℕ → Type 0) (mesh after : Mesh) (place now : ℕ) (node : NodeLog) (line : LineGiven) → (kept : IsKept queries P) → slice_get mesh.nodes place ≡ Some node → TellsClient line
     → HasGiven (scenario_setup queries) place now 0 node (Line line) mesh after → Begins (kept_in queries P kept after) line
 line_begins queries P mesh after place now node line kept found of has frame is =
     let entry = entry_of (scenario_setup queries) node now (Line line) in
-    let given : WasGiven after frame = to_node place (noting entry node) entry
-    (ap (λ ns. slice_get ns place) has.nodes ∙ got_noted mesh.nodes place node entry found) (inl refl) (ap (λ l. Line l) is) (subst TellsClient is of) in
+    let given : WasGiven after frame = to_node place (noting entry node) entry line
+    (ap (λ ns. slice_get ns place) has.nodes ∙ got_noted mesh.nodes place node entry found) (inl refl) refl is (line_tells line frame of is) in
     (given, kept.begun after frame given)
 
 at_end : {X : Type 0} (xs : List X) (x : X) → slice_get (xs ++ x ∷ []) (length xs) ≡ Some x
@@ -201,7 +221,7 @@ step_keeps queries P mesh after kept keep o (line_gives _ _ place now node line 
 step_keeps queries P mesh after kept keep o (node_ticks _ _ place now node found may is) old =
     let index = suc (ticks_in node.log) in
     given_keep (kept_in queries P kept after) queries mesh after place now index node (Tick index) (given_is (scenario_setup queries) place now index node (Tick index) mesh after found is) old
-    (tick_has (kept_in queries P kept after) (queries node.mac) node.mac (known_at_node queries node).routes (mentions node.mac node.log) (history node.mac node.log) (bridge node.log) now index (keep node.mac) (o.whole place node found))
+    (tick_has (kept_in queries P kept after) (queries node.mac) node.mac (known_at_node queries node).services.settings (known_at_node queries node).routes (mentions node.mac node.log) (history node.mac node.log) (bridge node.log) now index (keep node.mac) (o.whole place node found))
 step_keeps queries P mesh after kept keep o (frame_comes _ _ place now number throughput from node frame found may sent whole is) old =
     let came : Coming = record { now = now; from = from; throughput = throughput; number = suc number } in
     let given = LinkFrame (suc number) from throughput frame.bytes in

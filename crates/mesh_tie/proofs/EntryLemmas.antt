@@ -16,7 +16,7 @@ use Rattle.mesh_laws.specs.Machine.World.{Node, Saying, Announcement, Difference
 use Rattle.mesh_laws.proofs.MachineInvariant.{last_numbered, numbered_kept}
 
 -- ---- lists
-each_filtered : {X : Type 0} (P : X → Type 0) (test : X → Bool) (xs : List X) → AllByRecursion P xs → AllByRecursion P (filter test xs)
+pub each_filtered : {X : Type 0} (P : X → Type 0) (test : X → Bool) (xs : List X) → AllByRecursion P xs → AllByRecursion P (filter test xs)
 each_filtered P test [] all = tt
 each_filtered P test (x ∷ xs) all = go (test x) (each_filtered P test xs all.1)
   where

@@ -15,7 +15,7 @@ use Rattle.mesh_model.specs.Clients.Log.{Log}
 use Rattle.mesh_model.specs.Clients.Present.{same_key}
 use Rattle.mesh_model.specs.Knowledge.Addressee.{Way, addressee, best_holder, marked_way, table_reason, table_way, way_to}
 use Rattle.mesh_model.specs.Knowledge.Known.{Knowledge, agreed_byte, is_new_broadcast}
-use Rattle.mesh_model.specs.Knowledge.Steps.{Coming, advertised, after_announcement, after_answer, after_containers, after_head, after_packet, after_reply, after_roaming, after_sighting, after_taken, announced_table, asked_by_request, before_announcement, released_under, request_out, sighting_calls, with_announcement, with_head, with_life}
+use Rattle.mesh_model.specs.Knowledge.Steps.{Coming, advertised, after_announcement, after_answer, after_containers, after_head, after_message, after_packet, after_reply, after_roaming, after_sighting, after_taken, announced_table, asked_by_request, before_announcement, released_under, request_out, sighting_calls, with_announcement, with_head, with_life}
 use Rattle.mesh_model.specs.Knowledge.Told.{Message, TableMessage, Asks, Answers, Neither, message_in, message_of, message_with}
 use Rattle.mesh_model.specs.Marks.Calls.{Call, Calls, Marked, Released, Unmarked, Advised, Asked, Forgotten}
 use Rattle.mesh_model.specs.Marks.RoamingMarks.{is_ended, is_young, mark_by, mark_of, mark_to, next_mark, target_by}
@@ -30,6 +30,7 @@ use Rattle.mesh_model.specs.Routes.Queries.{Queries}
 use Rattle.mesh_model.specs.Tables.Known.{Announced, Answered, Dropped, TableCalls, holders_by, known_by, names, originators_by}
 use Rattle.mesh_tie.specs.Sources.{HasWholeAddresses, IsWhole}
 use Rattle.mesh_tie.specs.Tie.{HasWholeSource, HasWholeTarget, KnowsWhole}
+use Rattle.mesh_tie.proofs.ServesLemmas.{offer_whole}
 
 -- ---- packets
 knows_if : (b : Bool) (one other : Knowledge) → KnowsWhole one → KnowsWhole other → KnowsWhole (cond b one other)
@@ -45,10 +46,10 @@ asked_whole now orig None calls all = all
 asked_whole now orig (Some request) calls all = (tt, all)
 
 with_head_knows : (came : Coming) (head : Head) (known : Knowledge) → KnowsWhole known → KnowsWhole (with_head came head known)
-with_head_knows came head known k = record { tables = k.tables; marks = k.marks }
+with_head_knows came head known k = record { tables = k.tables; marks = k.marks; services = k.services }
 
 with_life_knows : (orig : Mac) (b : Bool) (known : Knowledge) → KnowsWhole known → KnowsWhole (with_life orig b known)
-with_life_knows orig true known k = record { tables = (tt, k.tables); marks = (tt, k.marks) }
+with_life_knows orig true known k = record { tables = (tt, k.tables); marks = (tt, k.marks); services = k.services }
 with_life_knows orig false known k = k
 
 announcement_knows : (came : Coming) (message : Message) (request : Option Request) (known : Knowledge) → IsWhole message.orig → KnowsWhole known → KnowsWhole (with_announcement came message request known)
@@ -56,40 +57,51 @@ announcement_knows came message request known whole k = record {
   tables = (whole, k.tables);
   marks = asked_whole came.now message.orig request (released_under message.orig (agreed_byte (known_by (announced_table came message ∷ known.tables) message.orig)) known.marks)
       (released_whole message.orig (agreed_byte (known_by (announced_table came message ∷ known.tables) message.orig)) known.marks k.marks);
+  services = k.services;
 }
 
-taken_knows : (q : Queries) (came : Coming) (head : Head) (source : Mac) (o : Option TtData) (known : Knowledge) → IsWhole source → KnowsWhole known → KnowsWhole (after_taken q came head (message_with source o) known)
-taken_knows q came head source None known whole k = k
-taken_knows q came head source (Some table) known whole k =
-    let message : Message = record { orig = source; table = table } in
-    let before : Knowledge = before_announcement q came head source known in
+message_knows : (q : Queries) (came : Coming) (head : Head) (message : Message) (known : Knowledge) → IsWhole message.orig → KnowsWhole known → KnowsWhole (after_message q came head message known)
+message_knows q came head message known whole k =
+    let before : Knowledge = before_announcement q came head message.orig known in
     knows_if (q.hear known.routes came.now came.from came.throughput head).accepted (after_announcement q came message before) (with_head came head known)
-    (announcement_knows came message (request_out q before came.now message) before whole (with_life_knows source (q.hear known.routes came.now came.from came.throughput head).began (with_head came head known) (with_head_knows came head known k)))
+    (announcement_knows came message (request_out q before came.now message) before whole (with_life_knows message.orig (q.hear known.routes came.now came.from came.throughput head).began (with_head came head known) (with_head_knows came head known k)))
     (with_head_knows came head known k)
+
+taken_knows : (q : Queries) (came : Coming) (head : Head) (source : Mac) (o : Option TtData) (tail : List ℕ) (known : Knowledge) → IsWhole source → KnowsWhole known → KnowsWhole (after_taken q came head (message_with source o) tail known)
+taken_knows q came head source None tail known whole k = k
+taken_knows q came head source (Some table) tail known whole k =
+    let message : Message = record { orig = source; table = table } in
+    let after : Knowledge = after_message q came head message known in
+    let knows = message_knows q came head message known whole k in
+    record {
+      tables = knows.tables;
+      marks = knows.marks;
+      services = offer_whole (q.hear known.routes came.now came.from came.throughput head).accepted source (containers_of tail) after.services whole knows.services;
+    }
 
 answer_knows : (q : Queries) (now : ℕ) (src : Mac) (message : TableMessage) (known : Knowledge) → KnowsWhole known → KnowsWhole (after_answer q now src message known)
 answer_knows q now src (Asks full stamp) known k = k
 answer_knows q now src (Answers stamp carried) known k =
     let more : Knowledge = record known { tables = Answered src stamp carried ∷ known.tables; marks = released_under src (agreed_byte (known_by (Answered src stamp carried ∷ known.tables) src)) known.marks } in
-    knows_if (q.live known.routes now src) more known (record { tables = (tt, k.tables); marks = released_whole src (agreed_byte (known_by (Answered src stamp carried ∷ known.tables) src)) known.marks k.marks }) k
+    knows_if (q.live known.routes now src) more known (record { tables = (tt, k.tables); marks = released_whole src (agreed_byte (known_by (Answered src stamp carried ∷ known.tables) src)) known.marks k.marks; services = k.services }) k
 answer_knows q now src Neither known k = k
 
 roaming_knows : (q : Queries) (now : ℕ) (src : Mac) (o : Option Key) (known : Knowledge) → IsWhole src → KnowsWhole known → KnowsWhole (after_roaming q now src o known)
 roaming_knows q now src None known whole k = k
-roaming_knows q now src (Some key) known whole k = record { tables = k.tables; marks = (whole, k.marks) }
+roaming_knows q now src (Some key) known whole k = record { tables = k.tables; marks = (whole, k.marks); services = k.services }
 
 pub packet_knows : (q : Queries) (me : Mac) (came : Coming) (packet : Packet) (known : Knowledge) → HasWholeAddresses packet.head → KnowsWhole known → KnowsWhole (after_packet q me came known packet)
 packet_knows q me came packet known whole k = go packet.head packet.tail whole
   where
     go : (head : Head) (tail : List ℕ) → HasWholeAddresses head → KnowsWhole (after_head q me came (message_of (record { head = head; tail = tail })) tail head known)
-    go (IvOgm ttl flags seq o prev tq) tail whole = taken_knows q came (IvOgm ttl flags seq o prev tq) o (first_table (containers_of tail)) known whole.0 k
-    go (Bcast ttl seq o) tail whole = knows_if (is_new_broadcast me (record { orig = o; number = seq }) known.taken) (record known { taken = record { orig = o; number = seq } ∷ known.taken }) known (record { tables = k.tables; marks = k.marks }) k
+    go (IvOgm ttl flags seq o prev tq) tail whole = taken_knows q came (IvOgm ttl flags seq o prev tq) o (first_table (containers_of tail)) tail known whole.0 k
+    go (Bcast ttl seq o) tail whole = knows_if (is_new_broadcast me (record { orig = o; number = seq }) known.taken) (record known { taken = record { orig = o; number = seq } ∷ known.taken }) known (record { tables = k.tables; marks = k.marks; services = k.services }) k
     go (Elp o seq interval) tail whole = with_head_knows came (Elp o seq interval) known k
-    go (Ogm2 ttl flags seq o throughput) tail whole = taken_knows q came (Ogm2 ttl flags seq o throughput) o (first_table (containers_of tail)) known whole k
+    go (Ogm2 ttl flags seq o throughput) tail whole = taken_knows q came (Ogm2 ttl flags seq o throughput) o (first_table (containers_of tail)) tail known whole k
     go (Unicast ttl ttvn dst) tail whole = k
     go (Frag ttl number priority dst o seq total) tail whole = k
     go (Unicast4 ttl ttvn dst src subtype) tail whole = k
-    go (Icmp ttl msg dst o uid seq) tail whole = knows_if (same_mac dst me && is_answer msg) (after_reply q came.now msg seq known) known (record { tables = k.tables; marks = k.marks }) k
+    go (Icmp ttl msg dst o uid seq) tail whole = knows_if (same_mac dst me && is_answer msg) (after_reply q came.now msg seq known) known (record { tables = k.tables; marks = k.marks; services = k.services }) k
     go (Utvlv ttl dst src) tail whole =
         let answer : Knowledge = after_answer q came.now src (message_in (first_table (containers_of tail))) known in
         knows_if (same_mac dst me) (after_containers q came.now src tail known) known
@@ -101,7 +113,7 @@ sighting_whole now key None calls all = (tt, all)
 sighting_whole now key (Some way) calls all = (tt, (tt, all))
 
 pub sighting_knows : (q : Queries) (me : Mac) (older : Log) (now : ℕ) (key : Key) (known : Knowledge) → KnowsWhole known → KnowsWhole (after_sighting q me older now key known)
-sighting_knows q me older now key known k = record { tables = k.tables; marks = sighting_whole now key (advertised q me older known now key) known.marks k.marks }
+sighting_knows q me older now key known k = record { tables = k.tables; marks = sighting_whole now key (advertised q me older known now key) known.marks k.marks; services = k.services }
 
 -- ---- where a node sends
 -- an address, where there is one, is whole

@@ -2,6 +2,7 @@
 use Rattle.std.proofs.Common.{◌≡◌, ℕ, Bool, true, false, cond, List, [], Option, Some, None, refl, sym, ◌∙◌}
 use Rattle.std.specs.List.{AllByRecursion}
 use Rattle.mesh_base.specs.declared.address.Mac.{Mac}
+use Rattle.mesh_base.specs.declared.client.Key.{Key}
 use Rattle.mesh_model.specs.Acts.Choosing.{acts_of, claimed_first, from_lan_acts, on_from_lan, sighting_acts}
 use Rattle.mesh_model.specs.Acts.FrameRows.{frame_acts}
 use Rattle.mesh_model.specs.Bridges.Verdicts.{verdict_from_lan}
@@ -84,29 +85,29 @@ lan_row orig log root w q me mine now bytes brings whole k =
         (calm_row orig log root w (on_from_lan q me mine now known ms frame) (lan_on q me mine now known ms frame))
 
 -- ---- what the node knows
-bridged_same : (stays : Bool) (dst : Mac) (known : Knowledge) → (after_bridged stays dst known).tables ≡ known.tables
-bridged_same true dst known = refl
-bridged_same false dst known = frame_same dst known
+bridged_same : (q : Queries) (now : ℕ) (stays : Bool) (key : Key) (known : Knowledge) → (after_bridged q now stays key known).tables ≡ known.tables
+bridged_same q now true key known = refl
+bridged_same q now false key known = frame_same q now key known
 
 passed_same : (q : Queries) (me : Mac) (mine : Log) (known : Knowledge) (now : ℕ) (ms : List Mention) (o : Option ClientFrame) → (after_passed q me mine known now ms o).tables ≡ known.tables
 passed_same q me mine known now ms None = refl
 passed_same q me mine known now ms (Some frame) =
     let seen = after_sighting q me mine now (key_of frame.src frame.vid) known in
-    bridged_same (stays_on_lan q ms (bridge mine).lan now (key_of frame.dst frame.vid) seen) frame.dst seen
+    bridged_same q now (stays_on_lan q ms (bridge mine).lan now (key_of frame.dst frame.vid) seen) (key_of frame.dst frame.vid) seen
 
 pub lan_same : (q : Queries) (me : Mac) (mine : Log) (known : Knowledge) (now : ℕ) (bytes : List ℕ) → (next_knowledge q me mine known now (LanFrame bytes)).tables ≡ known.tables
 lan_same q me mine known now bytes = passed_same q me mine known now (next_mentions me mine (mentions me mine) now (LanFrame bytes)) (passed_from_lan me mine now (client_frame_in (lan_message_of bytes)))
 
-bridged_knows : (stays : Bool) (dst : Mac) (known : Knowledge) → KnowsWhole known → KnowsWhole (after_bridged stays dst known)
-bridged_knows true dst known k = k
-bridged_knows false dst known k = frame_knows dst known k
+bridged_knows : (q : Queries) (now : ℕ) (stays : Bool) (key : Key) (known : Knowledge) → KnowsWhole known → KnowsWhole (after_bridged q now stays key known)
+bridged_knows q now true key known k = k
+bridged_knows q now false key known k = frame_knows q now key known k
 
 passed_knows : (q : Queries) (me : Mac) (mine : Log) (known : Knowledge) (now : ℕ) (ms : List Mention) (o : Option ClientFrame) → KnowsWhole known → KnowsWhole (after_passed q me mine known now ms o)
 passed_knows q me mine known now ms None k = k
 passed_knows q me mine known now ms (Some frame) k =
     let key = key_of frame.src frame.vid in
     let seen = after_sighting q me mine now key known in
-    bridged_knows (stays_on_lan q ms (bridge mine).lan now (key_of frame.dst frame.vid) seen) frame.dst seen (sighting_knows q me mine now key known k)
+    bridged_knows q now (stays_on_lan q ms (bridge mine).lan now (key_of frame.dst frame.vid) seen) (key_of frame.dst frame.vid) seen (sighting_knows q me mine now key known k)
 
 pub lan_knows : (q : Queries) (me : Mac) (mine : Log) (known : Knowledge) (now : ℕ) (bytes : List ℕ) → KnowsWhole known → KnowsWhole (next_knowledge q me mine known now (LanFrame bytes))
 lan_knows q me mine known now bytes k = passed_knows q me mine known now (next_mentions me mine (mentions me mine) now (LanFrame bytes)) (passed_from_lan me mine now (client_frame_in (lan_message_of bytes))) k

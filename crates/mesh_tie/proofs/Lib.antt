@@ -10,9 +10,11 @@ pub mod CommitLemmas
 pub mod Sayable
 pub mod ProbeActs
 pub mod BridgeActs
+pub mod ServingActs
 pub mod CalmRows
 pub mod TableRows
 pub mod PacketSteps
+pub mod ServesLemmas
 pub mod KnowsLemmas
 pub mod NodeSteps
 pub mod LanSteps

@@ -1,9 +1,8 @@
 -- Each line leads to a mesh that steps reach, and so does every plain run.
-use Rattle.std.proofs.Common.{map, ◌≡◌, ◌⊎◌, inl, inr, ◌≤◌, ◌+◌, ◌-◌, ◌&&◌, ◌||◌, ℕ, zero, suc, Bool, true, false, cond, not, nat_lt, nat_le, List, [], ◌∷◌, length, slice_get, Option, Some, None, option_map, is_some, Ok, Err, refl, sym, ap, subst, ◌∙◌, arith}
+use Rattle.std.proofs.Common.{map, ◌≡◌, ◌⊎◌, inl, inr, ◌≤◌, ◌+◌, ◌-◌, ◌||◌, ℕ, zero, suc, Bool, true, false, cond, nat_lt, nat_le, List, [], ◌∷◌, length, slice_get, Option, Some, None, option_map, is_some, Ok, Err, refl, sym, ap, subst, ◌∙◌, arith}
 use Rattle.std.specs.List.{list_any}
 use Rattle.std.specs.Option.{option_map_or, option_or}
 use Rattle.std.proofs.lemmas.Bool.{ltb-false, true≢false}
-use Rattle.mesh_base.specs.Address.{is_broadcast, is_group}
 use Rattle.mesh_base.specs.declared.address.Mac.{Mac}
 use Rattle.mesh_model.specs.declared.ending.LimitName.TheVariants.{Clock, Input, Lans, Line, Links, Nodes}
 use Rattle.mesh_model.specs.declared.ending.Refusal.{Refusal}
@@ -15,8 +14,9 @@ use Rattle.mesh_model.specs.declared.line_form.Algorithm.{Algorithm}
 use Rattle.mesh_model.specs.declared.line_form.Command.{Command}
 use Rattle.mesh_model.specs.declared.line_form.Command.TheVariants.{Nothing, Algo, Node, Link, Lan, Frame, Gone, Join, Leave, Arp, Dhcp, Wifi, GwOff, GwServer, GwClient, Mcast, Dat, Alfred, Put, Get, Ping, Trace, Run as RunFor, Deliver, Show, Decode}
 use Rattle.mesh_model.specs.Clients.Log.{Line, LineGiven, Attach, Sets}
-use Rattle.mesh_model.specs.Clients.Settings.{Wifi as WifiSet}
-use Rattle.mesh_model.specs.Clients.Log.{Frame as FrameGiven, Gone as GoneGiven, Join as JoinGiven, Leave as LeaveGiven, Ping as PingGiven, Trace as TraceGiven}
+use Rattle.mesh_model.specs.Clients.Settings.{NoPart, Serves, Chooses}
+use Rattle.mesh_model.specs.Clients.Settings.{ArpTable as ArpTableSet, Gateway as GatewaySet, Multicast as MulticastSet, Wifi as WifiSet}
+use Rattle.mesh_model.specs.Clients.Log.{Frame as FrameGiven, Gone as GoneGiven, Join as JoinGiven, Leave as LeaveGiven, Dhcp as DhcpGiven, Ping as PingGiven, Trace as TraceGiven}
 use Rattle.mesh_model.specs.Net.Inputs.{all_given, given_to}
 use Rattle.mesh_model.specs.Net.Lans.{joins_lan, with_lan}
 use Rattle.mesh_model.specs.Net.Limits.{clock_limit, lans_limit, links_limit, nodes_limit}
@@ -158,10 +158,9 @@ put_leads state lan frame b of =
     subst (λ m. Comes (queries_of state.algorithm) state.mesh m state.clock) same
     (record { reachable = goes_on state.mesh (with_lan_frame put state.mesh) b.reachable (put_comes state.mesh put frame refl refl of); settled = b.settled }))
 
-frame_leads : (state : State) (name : List ℕ) (frame : ClientFrame) (group : Bool) → IsBetweenLines state → TellsClient (FrameGiven frame.src frame.dst frame.vid frame.text)
-    → Leads (after_step state (cond group None (Some (at_place name (lan_frame_step (setup_of state.algorithm) (payload_spelling frame)) (input_step (setup_of state.algorithm) (FrameGiven frame.src frame.dst frame.vid frame.text))))))
-frame_leads state name frame true b of = stays_leads state b
-frame_leads state name frame false b of = place_leads state name (FrameGiven frame.src frame.dst frame.vid frame.text) (lan_frame_step (setup_of state.algorithm) (payload_spelling frame)) b of (λ lan. put_leads state lan frame b of)
+frame_leads : (state : State) (name : List ℕ) (frame : ClientFrame) → IsBetweenLines state → TellsClient (FrameGiven frame.src frame.dst frame.vid frame.text)
+    → Leads (at_place name (lan_frame_step (setup_of state.algorithm) (payload_spelling frame)) (input_step (setup_of state.algorithm) (FrameGiven frame.src frame.dst frame.vid frame.text)) state)
+frame_leads state name frame b of = place_leads state name (FrameGiven frame.src frame.dst frame.vid frame.text) (lan_frame_step (setup_of state.algorithm) (payload_spelling frame)) b of (λ lan. put_leads state lan frame b of)
 
 gone_leads : (state : State) (name : List ℕ) (line : LineGiven) → IsBetweenLines state → TellsClient line → Leads (at_place name (gateways_step (setup_of state.algorithm) line) (input_step (setup_of state.algorithm) line) state)
 gone_leads state name line b of = place_leads state name line (gateways_step (setup_of state.algorithm) line) b of (λ lan.
@@ -224,18 +223,18 @@ step_leads state (Link from to delay pattern throughput) b tell none =
     at_leads state (λ start. at_node to (λ end. link_step (link start end))) (place_of state from) b (λ start.
     at_leads state (λ end. link_step (link start end)) (place_of state to) b (λ end. link_leads state (link start end) b (nat_le links_limit (length state.mesh.links))))
 step_leads state (Lan name gateways) b tell none = lan_leads state name (places_named gateways 0 state.mesh.nodes) (nat_le lans_limit (length state.mesh.lans)) b
-step_leads state (Frame place src dst vid text) b tell none = frame_leads state place (record { dst = dst; src = src; vid = vid; text = text }) (is_group dst && not (is_broadcast dst)) b tell
+step_leads state (Frame place src dst vid text) b tell none = frame_leads state place (record { dst = dst; src = src; vid = vid; text = text }) b tell
 step_leads state (Gone place key) b tell none = gone_leads state place (GoneGiven key) b tell
 step_leads state (Join node key) b tell none = line_leads state node (JoinGiven key) b tell
 step_leads state (Leave node key) b tell none = line_leads state node (LeaveGiven key) b tell
 step_leads state (Arp node mac own asked vid) b tell none = stays_leads state b
-step_leads state (Dhcp node key text) b tell none = stays_leads state b
+step_leads state (Dhcp node key text) b tell none = line_leads state node (DhcpGiven key text) b tell
 step_leads state (Wifi node on) b tell none = line_leads state node (Sets (WifiSet on)) b tt
-step_leads state (GwOff node) b tell none = stays_leads state b
-step_leads state (GwServer node down up) b tell none = stays_leads state b
-step_leads state (GwClient node policy) b tell none = stays_leads state b
-step_leads state (Mcast node flags) b tell none = stays_leads state b
-step_leads state (Dat node on) b tell none = stays_leads state b
+step_leads state (GwOff node) b tell none = line_leads state node (Sets (GatewaySet NoPart)) b tt
+step_leads state (GwServer node down up) b tell none = line_leads state node (Sets (GatewaySet (Serves (record { download = down; upload = up })))) b tt
+step_leads state (GwClient node policy) b tell none = line_leads state node (Sets (GatewaySet (Chooses policy))) b tt
+step_leads state (Mcast node flags) b tell none = line_leads state node (Sets (MulticastSet flags)) b tt
+step_leads state (Dat node on) b tell none = line_leads state node (Sets (ArpTableSet on)) b tt
 step_leads state (Alfred node mode) b tell none = stays_leads state b
 step_leads state (Put node type_no version text) b tell none = stays_leads state b
 step_leads state (Get node type_no) b tell none = stays_leads state b

@@ -38,7 +38,7 @@ use Rattle.mesh_tie.proofs.EntryLemmas.{OfCommits, changes_of}
 use Rattle.mesh_tie.proofs.LanSteps.{BringsClient, lan_row, lan_same}
 use Rattle.mesh_tie.proofs.LogLemmas.{Grows, log_first, log_rest, frame_grows, grows_entry, grows_same, log_found, log_itself, log_other, node_grows, node_later}
 use Rattle.mesh_tie.proofs.NodeLists.{Renewed, another, got_front, got_noted, itself, none_front, noted_none, other_place, renewed}
-use Rattle.mesh_tie.proofs.NodeSteps.{Announcer, Goes, Ready, goes_by, line_row, line_same, packets_go, stays_tied, tick_row}
+use Rattle.mesh_tie.proofs.NodeSteps.{Announcer, Goes, Ready, goes_by, line_row, line_same, packets_go, stays_tied, tick_row, tick_same}
 use Rattle.mesh_tie.proofs.NodeMoves.{Comes}
 use Rattle.mesh_tie.proofs.OrderSteps.{joined, orderly}
 use Rattle.mesh_tie.proofs.PacketSteps.{CameIn}
@@ -267,8 +267,9 @@ tick_does : (queries : Mac → Queries) (orig : Mac) (mesh : Mesh) (place now : 
     → FitsLog node (entry_of (scenario_setup queries) node now (Tick (suc (ticks_in node.log))))
     → DoesIt queries orig mesh place node (entry_of (scenario_setup queries) node now (Tick (suc (ticks_in node.log)))) (suc (ticks_in node.log)) log
 tick_does queries orig mesh place now node before log keeps o found l fit v midway =
-    goes_by orig log mesh.frames index v place (tick_acts q node.mac known.routes ms old (bridge node.log) now index) known.tables
-    (tick_row orig log v q node.mac known.routes ms old (bridge node.log) now index keeps announcer) (stays_tied orig log mesh.frames v place known.tables (midway.nodes place node found))
+    subst (Goes orig log mesh.frames index v place acts) (sym (tick_same q now index known))
+    (goes_by orig log mesh.frames index v place acts known.tables
+    (tick_row orig log v q node.mac known.services.settings known.routes ms old (bridge node.log) now index keeps announcer) (stays_tied orig log mesh.frames v place known.tables (midway.nodes place node found)))
   where
     q : Queries
     q = queries node.mac
@@ -284,6 +285,9 @@ tick_does queries orig mesh place now node before log keeps o found l fit v midw
 
     index : ℕ
     index = suc (ticks_in node.log)
+
+    acts : List Act
+    acts = tick_acts q node.mac known.services.settings known.routes ms old (bridge node.log) now index
 
     entry : LogEntry
     entry = entry_of (scenario_setup queries) node now (Tick index)

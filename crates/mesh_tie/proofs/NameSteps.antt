@@ -5,7 +5,7 @@ use Rattle.mesh_base.specs.declared.address.Mac.{Mac}
 use Rattle.mesh_base.specs.declared.event.Reason.TheVariants.{Table}
 use Rattle.mesh_model.specs.declared.act.Act.{Act}
 use Rattle.mesh_model.specs.declared.act.Act.TheVariants.{Link, Lan, Print}
-use Rattle.mesh_model.specs.Acts.Choosing.{acts_of, claimed_first, client_acts, from_lan_acts, on_from_lan, probing_acts, sighting_acts}
+use Rattle.mesh_model.specs.Acts.Choosing.{acts_of, call_frame, calling_acts, claimed_first, client_acts, from_lan_acts, on_from_lan, probing_acts, sighting_acts}
 use Rattle.mesh_model.specs.Acts.FrameRows.{frame_acts}
 use Rattle.mesh_model.specs.Acts.Rows.{Own, own_by, packet_acts, packets_acts}
 use Rattle.mesh_model.specs.Clients.Lans.{bridge}
@@ -48,7 +48,7 @@ use Rattle.mesh_tie.proofs.LanSteps.{lan_read, passed_came}
 use Rattle.mesh_tie.proofs.MeshSteps.{LogAfter, Reached, came_in, fits_among, frame_ready, grows_after, log_after, log_joined, midway_of}
 use Rattle.mesh_tie.proofs.NodeLists.{Renewed, another, got_front, itself, renewed}
 use Rattle.mesh_tie.proofs.ReachLemmas.{reached}
-use Rattle.mesh_tie.proofs.NamesRows.{ActNames, CanName, IsClear, found_told, frame_names, names_if, names_tick, packet_names, plain_advert, plain_bridges, plain_names, plain_session}
+use Rattle.mesh_tie.proofs.NamesRows.{ActNames, CanName, IsClear, found_told, frame_names, names_if, names_tick, packet_names, plain_advert, plain_call, plain_bridges, plain_names, plain_session}
 use Rattle.mesh_tie.proofs.NodeSteps.{Ready, packet_goes, ready_later}
 use Rattle.mesh_tie.proofs.PacketSteps.{CameIn}
 use Rattle.mesh_tie.proofs.Sayable.{one_or_two, packet_more}
@@ -129,7 +129,10 @@ line_names orig log frames v m q me mine now (Leave key) of k clear tied = tt
 line_names orig log frames v m q me mine now (Arp mac own_ip asked_ip vid) of k clear tied =
     plain_names (Before q me mine) orig log frames (sighting_acts q me mine now (key_of mac vid)) (plain_advert me (key_of mac vid) (advertised q me mine (knowledge q me mine) now (key_of mac vid)))
 line_names orig log frames v m q me mine now (Dhcp key text) of k clear tied =
-    plain_names (Before q me mine) orig log frames (sighting_acts q me mine now key) (plain_advert me key (advertised q me mine (knowledge q me mine) now key))
+    let known = after_sighting q me mine now key (knowledge q me mine) in
+    each_appended (ActNames (Before q me mine) orig log frames) (sighting_acts q me mine now key) (calling_acts q me mine now key text)
+    (plain_names (Before q me mine) orig log frames (sighting_acts q me mine now key) (plain_advert me key (advertised q me mine (knowledge q me mine) now key)))
+    (plain_names (Before q me mine) orig log frames (calling_acts q me mine now key text) (plain_call q known (record { me = me; now = now }) (call_frame key text)))
 line_names orig log frames v m q me mine now (Sets setting) of k clear tied = tt
 line_names orig log frames v m q me mine now (Put type_no version text) of k clear tied = tt
 line_names orig log frames v m q me mine now (Get type_no) of k clear tied = tt
@@ -328,7 +331,7 @@ pub tick_names : (queries : Mac → Queries) (mesh : Mesh) (place now : ℕ) (no
     → EntryNames queries orig node.mac log mesh.frames node.log (entry_of (scenario_setup queries) node now (Tick (suc (ticks_in node.log))))
 tick_names queries mesh place now node orig log =
     let known = known_at_node queries node in
-    names_tick (Before (queries node.mac) node.mac node.log) orig log mesh.frames (queries node.mac) node.mac known.routes (mentions node.mac node.log) (history node.mac node.log) (bridge node.log) now (suc (ticks_in node.log))
+    names_tick (Before (queries node.mac) node.mac node.log) orig log mesh.frames (queries node.mac) node.mac known.services.settings known.routes (mentions node.mac node.log) (history node.mac node.log) (bridge node.log) now (suc (ticks_in node.log))
 
 pub frame_acts_name : (queries : Mac → Queries) (mesh after : Mesh) (place now number throughput : ℕ) (from : Mac) (node : NodeLog) (frame : SentFrame) (orig : Mac) → AllKeep queries → Reached queries mesh → CommitsFit after → slice_get mesh.nodes place ≡ Some node
     → slice_get mesh.frames number ≡ Some frame → IsWhole from → given_to (scenario_setup queries) place now frame.root (LinkFrame (suc number) from throughput frame.bytes) mesh ≡ Ok after

@@ -1,5 +1,5 @@
 -- What acts send by table: no row does but those of client frames.
-use Rattle.std.proofs.Common.{◌≡◌, ◌⊎◌, inl, inr, ◌≤◌, ◌-◌, ◌&&◌, ◌||◌, ◌==◌, ℕ, suc, Bool, true, false, cond, nat_eq, nat_lt, nat_le, List, [], ◌∷◌, ◌++◌, length, filter, slice_get, Option, Some, None, option_map, option_and_then, is_some, IsTrue, refl, sym, ap, subst, ◌∙◌}
+use Rattle.std.proofs.Common.{◌≡◌, ◌⊎◌, inl, inr, ◌≤◌, ◌-◌, ◌&&◌, ◌||◌, ◌==◌, ℕ, Bool, true, false, cond, nat_eq, nat_lt, nat_le, List, [], ◌∷◌, ◌++◌, length, filter, slice_get, Option, Some, None, option_map, option_and_then, is_some, IsTrue, refl, sym, ap, subst, ◌∙◌}
 use Rattle.std.specs.List.{AllByRecursion}
 use Rattle.std.specs.Option.{option_or, unwrap_or}
 use Rattle.mesh_base.specs.Address.{is_broadcast, is_group}
@@ -16,7 +16,8 @@ use Rattle.mesh_model.specs.declared.packet.Head.{Head}
 use Rattle.mesh_model.specs.declared.packet.Head.TheVariants.{IvOgm, Bcast, Elp, Ogm2, Unicast, Frag, Unicast4, Icmp, Utvlv}
 use Rattle.mesh_model.specs.declared.table_outcome.Request.{Request}
 use Rattle.mesh_model.specs.Acts.BridgeRows.{Place, handed_out, out_acts, round_acts, spread_of_broadcast, spread_of_packet, unclaim_acts}
-use Rattle.mesh_model.specs.Acts.FrameRows.{addressed, advert_acts, arrived, broadcast_acts, broadcast_on, frame_acts, handed_out_if, here_acts, is_present, lost, lost_if, on_route, on_way, passed_frame, readdressed}
+use Rattle.mesh_model.specs.Acts.GroupRows.{addressed, call_acts, flooded, group_acts}
+use Rattle.mesh_model.specs.Acts.FrameRows.{advert_acts, arrived, broadcast_acts, broadcast_on, frame_acts, handed_out_if, here_acts, is_present, lost, lost_if, on_route, on_way, passed_frame, readdressed}
 use Rattle.mesh_model.specs.Acts.OwnContainers.{own_containers}
 use Rattle.mesh_model.specs.Acts.Packing.{reply_containers, request_containers, sent_over, sent_to_all}
 use Rattle.mesh_model.specs.Acts.ProbeRows.{IcmpMessage, session_acts}
@@ -24,6 +25,7 @@ use Rattle.mesh_model.specs.Acts.Rows.{Own, accepted_acts, alias_acts, alias_eve
 use Rattle.mesh_model.specs.Acts.TableRows.{on_the_way, other_containers, own_answer, request_acts, way_reply}
 use Rattle.mesh_model.specs.Clients.Lans.{Bridge}
 use Rattle.mesh_model.specs.Clients.Mentions.{Mention, key_of}
+use Rattle.mesh_model.specs.Clients.Settings.{Settings}
 use Rattle.mesh_model.specs.Commits.Aliases.{last_alias}
 use Rattle.mesh_model.specs.Commits.Announcements.{announcement, commit_at_root}
 use Rattle.mesh_model.specs.Commits.History.{History, commits, committed, is_commit_tick, present_table}
@@ -62,6 +64,7 @@ use Rattle.mesh_tie.proofs.BridgeActs.{AreBridging, IsBridging, hands_out, out_p
 use Rattle.mesh_tie.proofs.CommitLemmas.{at_root}
 use Rattle.mesh_tie.proofs.EntryLemmas.{each_appended}
 use Rattle.mesh_tie.proofs.KnowsLemmas.{addressee_whole}
+use Rattle.mesh_tie.proofs.ServingActs.{IsServing, call_serves, each_serving, for_gateway, for_group, group_serves, serves_all, serves_here, serves_one}
 use Rattle.mesh_tie.proofs.ProbeActs.{AreProbing, IsProbing, icmp_puts, puts_message, puts_pinged, puts_traced, session_puts}
 use Rattle.mesh_tie.proofs.Sayable.{IsNoAlias}
 
@@ -168,6 +171,19 @@ plain_session q known at target trace = plain_probes (session_acts q known at ta
 
 pub plain_icmp : (q : Queries) (known : Knowledge) (at : Place) (m : IcmpMessage) → AllByRecursion IsPlain (icmp_acts q known at m)
 plain_icmp q known at m = plain_probes (icmp_acts q known at m) (icmp_puts q known at m)
+
+plain_serving : (q : Queries) (known : Knowledge) (at : Place) (frame : ClientFrame) (act : Act) → IsServing (λ mac. Unit {0}) q known at frame act → IsPlain act
+plain_serving q known at frame _ (serves_one orig next _ any for_group) = λ is. cc
+plain_serving q known at frame _ (serves_one orig next _ any for_gateway) = λ is. cc
+plain_serving q known at frame _ serves_all = λ is. cc
+plain_serving q known at frame _ serves_here = ((λ number moment from to reason bytes is. cc), (λ me n e is. cc))
+
+plain_group : (q : Queries) (known : Knowledge) (at : Place) (frame : ClientFrame) (joined : Bool) → AllByRecursion IsPlain (group_acts q known at frame joined)
+plain_group q known at frame joined =
+    each_serving (λ mac. Unit {0}) q known at frame IsPlain (plain_serving q known at frame) (group_acts q known at frame joined) (group_serves (λ mac. Unit {0}) q known at frame joined (λ orig has. tt))
+
+pub plain_call : (q : Queries) (known : Knowledge) (at : Place) (frame : ClientFrame) → AllByRecursion IsPlain (call_acts q known at frame)
+plain_call q known at frame = each_serving (λ mac. Unit {0}) q known at frame IsPlain (plain_serving q known at frame) (call_acts q known at frame) (call_serves (λ mac. Unit {0}) q known at frame (λ orig is. tt))
 
 -- ---- why something is sent by table
 some_one : {X : Type 0} (x y : X) → Some x ≡ Some y → x ≡ y
@@ -333,23 +349,23 @@ names_event : (looks : Act → TableCalls → Type 0) (orig : Mac) (log : Log) (
 names_event looks orig log frames me n None = tt
 names_event looks orig log frames me n (Some earlier) = ((λ number moment from to reason bytes is. cc), tt)
 
-pub names_tick : (looks : Act → TableCalls → Type 0) (orig : Mac) (log : Log) (frames : List SentFrame) (q : Queries) (me : Mac) (routes : RouteLog) (ms : List Mention) (before : History) (bridge : Bridge) (now index : ℕ)
-    → AllByRecursion (ActNames looks orig log frames) (tick_acts q me routes ms before bridge now index)
+pub names_tick : (looks : Act → TableCalls → Type 0) (orig : Mac) (log : Log) (frames : List SentFrame) (q : Queries) (me : Mac) (settings : Settings) (routes : RouteLog) (ms : List Mention) (before : History) (bridge : Bridge) (now index : ℕ)
+    → AllByRecursion (ActNames looks orig log frames) (tick_acts q me settings routes ms before bridge now index)
 unfolding tick_acts
-names_tick looks orig log frames q me routes ms before bridge now index =
+names_tick looks orig log frames q me settings routes ms before bridge now index =
     let after = committed (present_table ms now) before in
-    let message = message_acts (q.beats routes index).ogm (containers_spelling (own_containers (announcement after))) in
+    let message = message_acts (q.beats routes index).ogm (containers_spelling (own_containers settings (announcement after))) in
     let elps = elp_acts q routes index in
-    let made = cond (is_commit_tick index) (commit_acts q me routes index before after) [] in
+    let made = cond (is_commit_tick index) (commit_acts q me settings routes index before after) [] in
     let at : Place = record { me = me; now = now } in
     each_appended (ActNames looks orig log frames) elps (made ++ round_acts at bridge index)
     (plain_names looks orig log frames elps (plain_message (q.beats routes index).elp []))
     (each_appended (ActNames looks orig log frames) made (round_acts at bridge index)
-    (names_if looks orig log frames (is_commit_tick index) (commit_acts q me routes index before after) []
+    (names_if looks orig log frames (is_commit_tick index) (commit_acts q me settings routes index before after) []
     (each_appended (ActNames looks orig log frames) (alias_acts me before.commits after.commits) message
     (names_if looks orig log frames (length after.commits == length before.commits) [] (alias_event me (length before.commits) (last_alias after.commits)) tt
     (names_event looks orig log frames me (length before.commits) (last_alias after.commits)))
-    (plain_names looks orig log frames message (plain_message (q.beats routes index).ogm (containers_spelling (own_containers (announcement after)))))) tt)
+    (plain_names looks orig log frames message (plain_message (q.beats routes index).ogm (containers_spelling (own_containers settings (announcement after)))))) tt)
     (plain_names looks orig log frames (round_acts at bridge index) (plain_round at bridge index)))
 
 -- a client frame of a line
@@ -360,8 +376,9 @@ frame_names looks orig log frames q known ms at client dst src can =
     let key = key_of client.dst client.vid in
     let sent = on_way q known at client (addressee q known at.now key) in
     let handed = cond (is_present ms at.now key) (handed_out at client ∷ []) sent in
-    names_if looks orig log frames (is_broadcast client.dst) (sent_to_all (Bcast 50 (suc known.sent) at.me) (payload_spelling client) ∷ []) (cond (is_group client.dst) [] handed) ((λ is. cc), tt)
-    (names_if looks orig log frames (is_group client.dst) [] handed tt
+    let group = group_acts q known at client (is_present ms at.now key) in
+    names_if looks orig log frames (is_broadcast client.dst) (flooded known at client ∷ []) (cond (is_group client.dst) group handed) ((λ is. cc), tt)
+    (names_if looks orig log frames (is_group client.dst) group handed (plain_names looks orig log frames group (plain_group q known at client (is_present ms at.now key)))
     (names_if looks orig log frames (is_present ms at.now key) (handed_out at client ∷ []) sent ((λ number moment from to reason bytes is. cc), tt) (go (addressee q known at.now key) refl)))
   where
     go : (o : Option Way) → addressee q known at.now (key_of client.dst client.vid) ≡ o → AllByRecursion (ActNames looks orig log frames) (on_way q known at client o)

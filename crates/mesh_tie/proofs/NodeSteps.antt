@@ -1,5 +1,5 @@
 -- What a node does with one input: its acts are said, and what it knows then is tied again.
-use Rattle.std.proofs.Common.{◌≡◌, ◌≢◌, ◌⊎◌, inl, inr, ◌≤◌, ℕ, suc, Bool, true, false, cond, ◌==◌, List, [], ◌∷◌, ◌++◌, length, Option, Some, None, refl, sym, ap, subst, ◌∙◌, arith}
+use Rattle.std.proofs.Common.{◌≡◌, ◌≢◌, ◌⊎◌, inl, inr, ◌≤◌, ℕ, Bool, true, false, cond, ◌==◌, List, [], ◌∷◌, ◌++◌, length, is_some, Option, Some, None, refl, sym, ap, subst, ◌∙◌, arith}
 use Rattle.std.specs.List.{AllByRecursion}
 use Rattle.mesh_base.specs.declared.address.Mac.{Mac}
 use Rattle.mesh_base.specs.declared.client.Key.{Key}
@@ -8,7 +8,7 @@ use Rattle.mesh_model.specs.declared.packet.Head.{Head}
 use Rattle.mesh_model.specs.declared.packet.Head.TheVariants.{Utvlv}
 use Rattle.mesh_model.specs.declared.table_change.Change.{Change}
 use Rattle.mesh_model.specs.Acts.BridgeRows.{round_acts}
-use Rattle.mesh_model.specs.Acts.Choosing.{acts_of, client_acts, probing_acts, sighting_acts}
+use Rattle.mesh_model.specs.Acts.Choosing.{acts_of, call_frame, calling_acts, client_acts, probing_acts, sighting_acts}
 use Rattle.mesh_model.specs.Acts.FrameRows.{advert_acts}
 use Rattle.mesh_model.specs.Acts.OwnContainers.{own_containers}
 use Rattle.mesh_model.specs.Acts.Packing.{roaming_container, sent_to_all}
@@ -16,13 +16,15 @@ use Rattle.mesh_model.specs.Acts.Rows.{Own, alias_acts, alias_event, commit_acts
 use Rattle.mesh_model.specs.Clients.Lans.{Bridge}
 use Rattle.mesh_model.specs.Clients.Log.{Frame, Gone, Join, Leave, Arp, Dhcp, Ping, Trace, Log, Line, LineGiven, Attach, Sets, Put, Get}
 use Rattle.mesh_model.specs.Clients.Mentions.{Mention, key_of, mentions, next_mentions}
+use Rattle.mesh_model.specs.Clients.Settings.{Settings}
 use Rattle.mesh_model.specs.Commits.Announcements.{announced_changes, announcement}
 use Rattle.mesh_model.specs.Commits.History.{History, committed, is_commit_tick, present_table}
 use Rattle.mesh_model.specs.Commits.Aliases.{last_alias}
 use Rattle.mesh_model.specs.Commits.Versions.{last_commit}
 use Rattle.mesh_model.specs.Knowledge.Addressee.{Way}
 use Rattle.mesh_model.specs.Knowledge.Known.{Knowledge}
-use Rattle.mesh_model.specs.Knowledge.Steps.{Coming, advertised, after_frame, line_knowledge, after_packet, after_packets, after_sighting, knowledge}
+use Rattle.mesh_model.specs.Knowledge.Steps.{Coming, advertised, after_call, after_frame, after_sent, after_tick, is_flooded, line_knowledge, after_packet, after_packets, after_sighting, knowledge}
+use Rattle.mesh_model.specs.Knowledge.Offers.{choice_by, gateway_way}
 use Rattle.mesh_model.specs.Knowledge.Told.{stamp_told}
 use Rattle.mesh_model.specs.Net.Due.{ticks_in}
 use Rattle.mesh_model.specs.Net.Mesh.{SentFrame}
@@ -32,7 +34,7 @@ use Rattle.mesh_model.specs.Packets.FirstPacket.{Packet}
 use Rattle.mesh_model.specs.Packets.Layout.{spelling}
 use Rattle.mesh_model.specs.Packets.Payload.{ClientFrame}
 use Rattle.mesh_model.specs.Routes.Queries.{Queries}
-use Rattle.mesh_model.specs.Routes.RouteLog.{RouteLog}
+use Rattle.mesh_model.specs.Routes.RouteLog.{RouteLog, OwnTick}
 use Rattle.mesh_model.specs.Tables.Known.{TableCalls, known_by}
 use Rattle.mesh_model.specs.Tables.Sums.{sums_of}
 use Rattle.mesh_model.specs.Tables.Versions.{Stamp, Version}
@@ -44,13 +46,14 @@ use Rattle.mesh_tie.specs.Sayings.{FrameSays, IsAnnounced, PacketSays}
 use Rattle.mesh_tie.specs.Sources.{IsWhole, KeepsOriginators}
 use Rattle.mesh_tie.specs.Steps.{TellsClient}
 use Rattle.mesh_tie.specs.Tie.{FitsAnswer, FitsEntry, KnowsWhole, NodeIsTied}
-use Rattle.mesh_tie.proofs.CalmRows.{calm_elps, calm_frame, calm_round, calm_session}
+use Rattle.mesh_tie.proofs.CalmRows.{calm_call, calm_elps, calm_frame, calm_round, calm_session}
 use Rattle.mesh_tie.proofs.CommitLemmas.{Chain, announced_are, last_and_older}
 use Rattle.mesh_tie.proofs.EntryLemmas.{OfCommits, each_appended, reached_entries}
 use Rattle.mesh_tie.proofs.KnowsLemmas.{advertised_whole, packet_knows, sighting_knows}
 use Rattle.mesh_tie.proofs.NodeMoves.{Comes, at_same}
 use Rattle.mesh_tie.proofs.PacketSteps.{CameIn, packet_comes, packet_row}
 use Rattle.mesh_tie.proofs.Sayable.{ActSays, IsLater, Sayable, Speaks, Within, act_more, all_said, calm_row, containers_say, frame_sayable, itself, message_says, no_answer, one_or_two, packet_more, says_one, silent, then_path}
+use Rattle.mesh_tie.proofs.ServesLemmas.{choice_whole, set_whole}
 use Rattle.mesh_tie.proofs.TableLemmas.{FitsChange, IsToldAgain, advert_answers_none, advert_small, own_again}
 use Rattle.mesh_tie.proofs.TableRows.{Holder, Speaker}
 
@@ -168,12 +171,12 @@ pub record Announcer (orig : Mac) (log : Log) (w : World) (me : Mac) (index : �
   pub past : me ≡ orig → index ≤ ticks_in log
   pub number : me ≡ orig → number_at_root orig log index ≡ last_number after.commits
 
-own_message : (orig : Mac) (log : Log) (w : World) (q : Queries) (me : Mac) (routes : RouteLog) (index : ℕ) (after : History) (head : Head) → KeepsOriginators me q → Announcer orig log w me index after → (q.beats routes index).ogm ≡ Some head
-    → Sayable orig log index w (sent_to_all head (containers_spelling (own_containers (announcement after))))
-own_message orig log w q me routes index after head keeps a is y later = go (one_or_two me orig)
+own_message : (orig : Mac) (log : Log) (w : World) (q : Queries) (me : Mac) (settings : Settings) (routes : RouteLog) (index : ℕ) (after : History) (head : Head) → KeepsOriginators me q → Announcer orig log w me index after → (q.beats routes index).ogm ≡ Some head
+    → Sayable orig log index w (sent_to_all head (containers_spelling (own_containers settings (announcement after))))
+own_message orig log w q me settings routes index after head keeps a is y later = go (one_or_two me orig)
   where
     tail : List ℕ
-    tail = containers_spelling (own_containers (announcement after))
+    tail = containers_spelling (own_containers settings (announcement after))
 
     changes : List Change
     changes = announced_changes after
@@ -182,7 +185,7 @@ own_message orig log w q me routes index after head keeps a is y later = go (one
     last = last_commit after.commits
 
     again : IsToldAgain 1 last changes tail
-    again = let few = (announced_are after a.chain).1 in own_again last changes a.fits a.changes_fit (omega (arith, few))
+    again = let few = (announced_are after a.chain).1 in own_again settings last changes a.fits a.changes_fit (omega (arith, few))
 
     Said : List Saying → Type 0
     Said said = FrameSays orig log said index (spelling head tail)
@@ -208,11 +211,11 @@ own_message orig log w q me routes index after head keeps a is y later = go (one
               ∙ ap (λ cs. Announcement (number_at_root orig log index) (stamp_told (announcement after)).byte (stamp_told (announcement after)).sums cs) (sym again.changes)) was;
         }))
 
-own_row : (orig : Mac) (log : Log) (w : World) (q : Queries) (me : Mac) (routes : RouteLog) (index : ℕ) (after : History) (o : Option Head) → KeepsOriginators me q → Announcer orig log w me index after → (q.beats routes index).ogm ≡ o
-    → AllByRecursion (Sayable orig log index w) (message_acts o (containers_spelling (own_containers (announcement after))))
+own_row : (orig : Mac) (log : Log) (w : World) (q : Queries) (me : Mac) (settings : Settings) (routes : RouteLog) (index : ℕ) (after : History) (o : Option Head) → KeepsOriginators me q → Announcer orig log w me index after → (q.beats routes index).ogm ≡ o
+    → AllByRecursion (Sayable orig log index w) (message_acts o (containers_spelling (own_containers settings (announcement after))))
 unfolding message_acts
-own_row orig log w q me routes index after None keeps a is = tt
-own_row orig log w q me routes index after (Some head) keeps a is = (own_message orig log w q me routes index after head keeps a is, tt)
+own_row orig log w q me settings routes index after None keeps a is = tt
+own_row orig log w q me settings routes index after (Some head) keeps a is = (own_message orig log w q me settings routes index after head keeps a is, tt)
 
 -- an event says nothing
 event_row : (orig : Mac) (log : Log) (root : ℕ) (w : World) (me : Mac) (number : ℕ) (o : Option ℕ) → AllByRecursion (Sayable orig log root w) (alias_event me number o)
@@ -226,14 +229,14 @@ alias_row orig log root w me before after = go (length after == length before)
     go true = tt
     go false = event_row orig log root w me (length before) (last_alias after)
 
-pub tick_row : (orig : Mac) (log : Log) (w : World) (q : Queries) (me : Mac) (routes : RouteLog) (ms : List Mention) (before : History) (bridge : Bridge) (now index : ℕ) → KeepsOriginators me q
+pub tick_row : (orig : Mac) (log : Log) (w : World) (q : Queries) (me : Mac) (settings : Settings) (routes : RouteLog) (ms : List Mention) (before : History) (bridge : Bridge) (now index : ℕ) → KeepsOriginators me q
     → (is_commit_tick index ≡ true → Announcer orig log w me index (committed (present_table ms now) before))
-    → AllByRecursion (Sayable orig log index w) (tick_acts q me routes ms before bridge now index)
+    → AllByRecursion (Sayable orig log index w) (tick_acts q me settings routes ms before bridge now index)
 unfolding tick_acts
-tick_row orig log w q me routes ms before bridge now index keeps a =
-    each_appended (Sayable orig log index w) (elp_acts q routes index) (cond (is_commit_tick index) (commit_acts q me routes index before after) [] ++ round)
+tick_row orig log w q me settings routes ms before bridge now index keeps a =
+    each_appended (Sayable orig log index w) (elp_acts q routes index) (cond (is_commit_tick index) (commit_acts q me settings routes index before after) [] ++ round)
     (calm_row orig log index w (elp_acts q routes index) (calm_elps me q routes index keeps))
-    (each_appended (Sayable orig log index w) (cond (is_commit_tick index) (commit_acts q me routes index before after) []) round (go (is_commit_tick index) refl)
+    (each_appended (Sayable orig log index w) (cond (is_commit_tick index) (commit_acts q me settings routes index before after) []) round (go (is_commit_tick index) refl)
     (calm_row orig log index w round (calm_round (record { me = me; now = now }) bridge index)))
   where
     round : List Act
@@ -242,10 +245,10 @@ tick_row orig log w q me routes ms before bridge now index keeps a =
     after : History
     after = committed (present_table ms now) before
 
-    go : (b : Bool) → is_commit_tick index ≡ b → AllByRecursion (Sayable orig log index w) (cond b (commit_acts q me routes index before after) [])
-    go true is = each_appended (Sayable orig log index w) (alias_acts me before.commits after.commits) (message_acts (q.beats routes index).ogm (containers_spelling (own_containers (announcement after))))
+    go : (b : Bool) → is_commit_tick index ≡ b → AllByRecursion (Sayable orig log index w) (cond b (commit_acts q me settings routes index before after) [])
+    go true is = each_appended (Sayable orig log index w) (alias_acts me before.commits after.commits) (message_acts (q.beats routes index).ogm (containers_spelling (own_containers settings (announcement after))))
         (alias_row orig log index w me before.commits after.commits)
-        (own_row orig log w q me routes index after (q.beats routes index).ogm keeps (a is) refl)
+        (own_row orig log w q me settings routes index after (q.beats routes index).ogm keeps (a is) refl)
     go false is = tt
 
 -- ---- lines
@@ -276,36 +279,75 @@ line_row orig log root w q me mine now (Gone key) of whole k = tt
 line_row orig log root w q me mine now (Join key) of whole k = tt
 line_row orig log root w q me mine now (Leave key) of whole k = tt
 line_row orig log root w q me mine now (Arp mac own_ip asked_ip vid) of whole k = sighting_row orig log root w q me mine now (key_of mac vid) whole k of.fits
-line_row orig log root w q me mine now (Dhcp key text) of whole k = sighting_row orig log root w q me mine now key whole k of.fits
+line_row orig log root w q me mine now (Dhcp key text) of whole k =
+    let known = after_sighting q me mine now key (knowledge q me mine) in
+    each_appended (Sayable orig log root w) (sighting_acts q me mine now key) (calling_acts q me mine now key text) (sighting_row orig log root w q me mine now key whole k of.fits)
+    (calm_row orig log root w (calling_acts q me mine now key text) (calm_call q known (record { me = me; now = now }) (call_frame key text)))
 line_row orig log root w q me mine now (Sets setting) of whole k = tt
 line_row orig log root w q me mine now (Put type_no version text) of whole k = tt
 line_row orig log root w q me mine now (Get type_no) of whole k = tt
 line_row orig log root w q me mine now (Ping target) of whole k = calm_row orig log root w (probing_acts q me mine now target false) (calm_session q (knowledge q me mine) (record { me = me; now = now }) target false)
 line_row orig log root w q me mine now (Trace target) of whole k = calm_row orig log root w (probing_acts q me mine now target true) (calm_session q (knowledge q me mine) (record { me = me; now = now }) target true)
 
-pub frame_knows : (dst : Mac) (known : Knowledge) → KnowsWhole known → KnowsWhole (after_frame dst known)
-frame_knows dst known k = go (Rattle.mesh_base.specs.Address.is_broadcast dst)
-  where
-    go : (b : Bool) → KnowsWhole (cond b (record known { sent = suc known.sent }) known)
-    go true = record { tables = k.tables; marks = k.marks }
-    go false = k
+-- what is known after a broadcast was sent, or not
+sent_knows : (b : Bool) (known : Knowledge) → KnowsWhole known → KnowsWhole (cond b (after_sent known) known)
+sent_knows true known k = record { tables = k.tables; marks = k.marks; services = k.services }
+sent_knows false known k = k
 
-pub frame_same : (dst : Mac) (known : Knowledge) → (after_frame dst known).tables ≡ known.tables
-frame_same dst known = go (Rattle.mesh_base.specs.Address.is_broadcast dst)
+sent_same : (b : Bool) (known : Knowledge) → (cond b (after_sent known) known).tables ≡ known.tables
+sent_same true known = refl
+sent_same false known = refl
+
+pub frame_knows : (q : Queries) (now : ℕ) (key : Key) (known : Knowledge) → KnowsWhole known → KnowsWhole (after_frame q now key known)
+frame_knows q now key known k = sent_knows (is_flooded q known now key) known k
+
+pub frame_same : (q : Queries) (now : ℕ) (key : Key) (known : Knowledge) → (after_frame q now key known).tables ≡ known.tables
+frame_same q now key known = sent_same (is_flooded q known now key) known
+
+call_knows : (q : Queries) (now : ℕ) (known : Knowledge) → KnowsWhole known → KnowsWhole (after_call q now known)
+call_knows q now known k = go (is_some (gateway_way q known now))
   where
-    go : (b : Bool) → (cond b (record known { sent = suc known.sent }) known).tables ≡ known.tables
+    go : (b : Bool) → KnowsWhole (cond b known (after_sent known))
+    go true = k
+    go false = sent_knows true known k
+
+call_same : (q : Queries) (now : ℕ) (known : Knowledge) → (after_call q now known).tables ≡ known.tables
+call_same q now known = go (is_some (gateway_way q known now))
+  where
+    go : (b : Bool) → (cond b known (after_sent known)).tables ≡ known.tables
+    go true = refl
+    go false = refl
+
+-- a tick
+pub tick_knows : (q : Queries) (now index : ℕ) (known : Knowledge) → KnowsWhole known → KnowsWhole (after_tick q now index known)
+tick_knows q now index known k = go (is_commit_tick index)
+  where
+    ticked : Knowledge
+    ticked = record known { routes = OwnTick now index ∷ known.routes }
+
+    go : (b : Bool) → KnowsWhole (cond b (record ticked { services = record ticked.services { choice = choice_by known.services.settings.gateway q ticked now } }) ticked)
+    go true = record { tables = k.tables; marks = k.marks; services = record { offers = k.services.offers; choice = choice_whole known.services.settings.gateway q ticked now k.services } }
+    go false = record { tables = k.tables; marks = k.marks; services = k.services }
+
+pub tick_same : (q : Queries) (now index : ℕ) (known : Knowledge) → (after_tick q now index known).tables ≡ known.tables
+tick_same q now index known = go (is_commit_tick index)
+  where
+    ticked : Knowledge
+    ticked = record known { routes = OwnTick now index ∷ known.routes }
+
+    go : (b : Bool) → (cond b (record ticked { services = record ticked.services { choice = choice_by known.services.settings.gateway q ticked now } }) ticked).tables ≡ known.tables
     go true = refl
     go false = refl
 
 -- a line leaves what is known of tables as it is
 pub line_same : (q : Queries) (me : Mac) (mine : Log) (known : Knowledge) (now : ℕ) (line : LineGiven) → (line_knowledge q me mine known now line).tables ≡ known.tables
 line_same q me mine known now (Attach lan gateways) = refl
-line_same q me mine known now (Frame src dst vid text) = frame_same dst (after_sighting q me mine now (key_of src vid) known)
+line_same q me mine known now (Frame src dst vid text) = frame_same q now (key_of dst vid) (after_sighting q me mine now (key_of src vid) known)
 line_same q me mine known now (Gone key) = refl
 line_same q me mine known now (Join key) = refl
 line_same q me mine known now (Leave key) = refl
 line_same q me mine known now (Arp mac own_ip asked_ip vid) = refl
-line_same q me mine known now (Dhcp key text) = refl
+line_same q me mine known now (Dhcp key text) = call_same q now (after_sighting q me mine now key known)
 line_same q me mine known now (Sets setting) = refl
 line_same q me mine known now (Put type_no version text) = refl
 line_same q me mine known now (Get type_no) = refl
@@ -314,14 +356,14 @@ line_same q me mine known now (Trace target) = refl
 
 pub line_knows : (q : Queries) (me : Mac) (mine : Log) (known : Knowledge) (now : ℕ) (line : LineGiven) → KnowsWhole known → KnowsWhole (line_knowledge q me mine known now line)
 line_knows q me mine known now (Attach lan gateways) k = k
-line_knows q me mine known now (Frame src dst vid text) k = frame_knows dst (after_sighting q me mine now (key_of src vid) known) (sighting_knows q me mine now (key_of src vid) known k)
+line_knows q me mine known now (Frame src dst vid text) k = frame_knows q now (key_of dst vid) (after_sighting q me mine now (key_of src vid) known) (sighting_knows q me mine now (key_of src vid) known k)
 line_knows q me mine known now (Gone key) k = k
 line_knows q me mine known now (Join key) k = k
 line_knows q me mine known now (Leave key) k = k
 line_knows q me mine known now (Arp mac own_ip asked_ip vid) k = sighting_knows q me mine now (key_of mac vid) known k
-line_knows q me mine known now (Dhcp key text) k = sighting_knows q me mine now key known k
-line_knows q me mine known now (Sets setting) k = k
+line_knows q me mine known now (Dhcp key text) k = call_knows q now (after_sighting q me mine now key known) (sighting_knows q me mine now key known k)
+line_knows q me mine known now (Sets setting) k = record { tables = k.tables; marks = k.marks; services = set_whole setting known.services k.services }
 line_knows q me mine known now (Put type_no version text) k = k
 line_knows q me mine known now (Get type_no) k = k
-line_knows q me mine known now (Ping target) k = record { tables = k.tables; marks = k.marks }
-line_knows q me mine known now (Trace target) k = record { tables = k.tables; marks = k.marks }
+line_knows q me mine known now (Ping target) k = record { tables = k.tables; marks = k.marks; services = k.services }
+line_knows q me mine known now (Trace target) k = record { tables = k.tables; marks = k.marks; services = k.services }

@@ -16,7 +16,7 @@ use Rattle.mesh_tie.specs.Tie.{IsOrderly, KnowsWhole, known_at_node}
 use Rattle.mesh_tie.proofs.AddressLemmas.{heads_whole}
 use Rattle.mesh_tie.proofs.LanSteps.{lan_knows}
 use Rattle.mesh_tie.proofs.NodeLists.{Renewed, another, got_front, itself, no_length, renewed}
-use Rattle.mesh_tie.proofs.NodeSteps.{line_knows, packets_know}
+use Rattle.mesh_tie.proofs.NodeSteps.{line_knows, packets_know, tick_knows}
 use Rattle.mesh_tie.proofs.SentLemmas.{HasGiven, given_is}
 
 -- a mesh that a node joined
@@ -43,7 +43,7 @@ joined_orderly queries mesh new empty whole fresh o = record {
 
     knows : (at : ℕ) (n : NodeLog) → (slice_get mesh.nodes at ≡ Some n) ⊎ ((n ≡ new) × (slice_get mesh.nodes at ≡ None)) → KnowsWhole (known_at_node queries n)
     knows at n (inl old) = o.knows at n old
-    knows at n (inr is) = subst (λ l. KnowsWhole (knowledge (queries n.mac) n.mac l)) (sym (ap (λ (x : NodeLog). x.log) is.0 ∙ empty)) (record { tables = tt; marks = tt })
+    knows at n (inr is) = subst (λ l. KnowsWhole (knowledge (queries n.mac) n.mac l)) (sym (ap (λ (x : NodeLog). x.log) is.0 ∙ empty)) (record { tables = tt; marks = tt; services = record { offers = tt; choice = λ gateway is. cc } })
 
 knows_after : (queries : Mac → Queries) (orig : Mac) (mesh after : Mesh) (place now root : ℕ) (node : NodeLog) (given : Given) → IsOrderly queries mesh → slice_get mesh.nodes place ≡ Some node
     → given_to (scenario_setup queries) place now root given mesh ≡ Ok after → KnowsWhole (next_knowledge (queries node.mac) node.mac node.log (known_at_node queries node) now given) → IsOrderly queries after
@@ -82,8 +82,8 @@ step_orderly queries mesh _ o (link_joins _ link) = record { whole = o.whole; di
 step_orderly queries mesh after o (line_gives _ _ place now node line found may of is) =
     knows_after queries node.mac mesh after place now 0 node (Line line) o found is (line_knows (queries node.mac) node.mac node.log (known_at_node queries node) now line (o.knows place node found))
 step_orderly queries mesh after o (node_ticks _ _ place now node found may is) =
-    let k = o.knows place node found in
-    knows_after queries node.mac mesh after place now (suc (ticks_in node.log)) node (Tick (suc (ticks_in node.log))) o found is (record { tables = k.tables; marks = k.marks })
+    let index = suc (ticks_in node.log) in
+    knows_after queries node.mac mesh after place now index node (Tick index) o found is (tick_knows (queries node.mac) now index (known_at_node queries node) (o.knows place node found))
 step_orderly queries mesh after o (frame_comes _ _ place now number throughput from node frame found may sent whole is) =
     knows_after queries node.mac mesh after place now frame.root node (LinkFrame (suc number) from throughput frame.bytes) o found is
     (packets_know (queries node.mac) node.mac (record { now = now; from = from; throughput = throughput; number = suc number }) (link_frame frame.bytes).packets (known_at_node queries node)

@@ -98,7 +98,7 @@ message_comes orig log frames w m q root came head message tail known f t c = go
     go false = c
 
 taken_comes : (orig : Mac) (log : Log) (frames : List SentFrame) (w : World) (m : ℕ) (q : Queries) (root : ℕ) (came : Coming) (head : Head) (message : Option Message) (tail : List ℕ) (known : Knowledge)
-    → CameIn frames root came.number → ((one : Message) → message ≡ Some one → IsTaken orig log w.said root head one tail) → Tied orig log frames w m known.tables → Tied orig log frames w m (after_taken q came head message known).tables
+    → CameIn frames root came.number → ((one : Message) → message ≡ Some one → IsTaken orig log w.said root head one tail) → Tied orig log frames w m known.tables → Tied orig log frames w m (after_taken q came head message tail known).tables
 taken_comes orig log frames w m q root came head None tail known f t c = c
 taken_comes orig log frames w m q root came head (Some message) tail known f t c = message_comes orig log frames w m q root came head message tail known f (t message refl) c
 

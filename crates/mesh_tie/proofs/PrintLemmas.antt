@@ -1,7 +1,6 @@
 -- What is printed of frames that were sent by table.
-use Rattle.std.proofs.Common.{◌≡◌, inl, inr, ◌+◌, ◌-◌, ◌&&◌, ℕ, Bool, true, false, cond, not, nat_le, nat_lt, List, [], ◌∷◌, ◌++◌, length, map, Option, Some, None, option_map, is_some, Ok, Err, refl, sym, ap, subst, ◌∙◌, append-nil}
+use Rattle.std.proofs.Common.{◌≡◌, inl, inr, ◌+◌, ◌-◌, ℕ, Bool, true, false, cond, nat_le, nat_lt, List, [], ◌∷◌, ◌++◌, length, map, Option, Some, None, option_map, is_some, Ok, Err, refl, sym, ap, subst, ◌∙◌, append-nil}
 use Rattle.std.specs.Option.{option_map_or}
-use Rattle.mesh_base.specs.Address.{is_broadcast, is_group}
 use Rattle.mesh_base.specs.declared.address.Mac.{Mac}
 use Rattle.mesh_base.specs.declared.event.Event.{Event}
 use Rattle.mesh_base.specs.declared.event.Event.TheVariants.{Alias, FrameSent}
@@ -17,8 +16,9 @@ use Rattle.mesh_model.specs.declared.line_form.Command.TheVariants.{Nothing, Alg
 use Rattle.mesh_model.specs.declared.line_form.Table.{Table}
 use Rattle.mesh_model.specs.declared.line_form.Table.TheVariants.{Originators, Neighbors, Locals, Globals, Claims, Gateways, Groups, Addresses, Facts}
 use Rattle.mesh_model.specs.Clients.Log.{Line, LineGiven, Sets}
-use Rattle.mesh_model.specs.Clients.Settings.{Wifi as WifiSet}
-use Rattle.mesh_model.specs.Clients.Log.{Frame as FrameGiven, Gone as GoneGiven, Join as JoinGiven, Leave as LeaveGiven, Ping as PingGiven, Trace as TraceGiven}
+use Rattle.mesh_model.specs.Clients.Settings.{NoPart, Serves, Chooses}
+use Rattle.mesh_model.specs.Clients.Settings.{ArpTable as ArpTableSet, Gateway as GatewaySet, Multicast as MulticastSet, Wifi as WifiSet}
+use Rattle.mesh_model.specs.Clients.Log.{Frame as FrameGiven, Gone as GoneGiven, Join as JoinGiven, Leave as LeaveGiven, Dhcp as DhcpGiven, Ping as PingGiven, Trace as TraceGiven}
 use Rattle.mesh_model.specs.Net.Inputs.{all_given, given_to}
 use Rattle.mesh_model.specs.Net.Lans.{joins_lan}
 use Rattle.mesh_model.specs.Net.Limits.{clock_limit, lans_limit, links_limit, nodes_limit}
@@ -33,7 +33,7 @@ use Rattle.mesh_model.specs.Run.Passing.{after_attempt, course_outcome, events_s
 use Rattle.mesh_model.specs.Run.PlainRun.{Run, after_line, after_lines, after_outcome, after_reading, line_outcome, passes_input, passes_line, start}
 use Rattle.mesh_model.specs.Run.Rules.{after_step, carried_out, first_refused_rule, setup_of, unless_refused}
 use Rattle.mesh_model.specs.Run.Shown.{after_print, shown}
-use Rattle.mesh_model.specs.Run.State.{Printed, LocalsShown, OriginatorsShown, NeighborsShown, GlobalsShown, ClaimsShown, Decoded, Happened, State, names_of, lan_place_of, node_named, place_of}
+use Rattle.mesh_model.specs.Run.State.{Printed, LocalsShown, OriginatorsShown, NeighborsShown, GlobalsShown, ClaimsShown, ServiceShown, Decoded, Happened, State, names_of, lan_place_of, node_named, place_of}
 use Rattle.mesh_model.specs.Run.Steps.{Step, at_node, at_place, gateways_at, gateways_step, lan_frame_step, places_named, choice_step, input_step, link_step, new_node, session_step, show_step, step_of, with_link, with_node}
 use Rattle.mesh_model.specs.Scenario.Commands.{command_of_line}
 use Rattle.mesh_model.specs.Scenario.Halt.{Halt}
@@ -54,6 +54,7 @@ events_in (OriginatorsShown table ∷ rest) = events_in rest
 events_in (NeighborsShown table ∷ rest) = events_in rest
 events_in (GlobalsShown table ∷ rest) = events_in rest
 events_in (ClaimsShown table ∷ rest) = events_in rest
+events_in (ServiceShown table ∷ rest) = events_in rest
 events_in (Decoded bytes ∷ rest) = events_in rest
 events_in (Happened names event ∷ rest) = event ∷ events_in rest
 
@@ -65,6 +66,7 @@ events_both (OriginatorsShown table ∷ xs) ys = events_both xs ys
 events_both (NeighborsShown table ∷ xs) ys = events_both xs ys
 events_both (GlobalsShown table ∷ xs) ys = events_both xs ys
 events_both (ClaimsShown table ∷ xs) ys = events_both xs ys
+events_both (ServiceShown table ∷ xs) ys = events_both xs ys
 events_both (Decoded bytes ∷ xs) ys = events_both xs ys
 events_both (Happened names event ∷ xs) ys = ap (λ es. event ∷ es) (events_both xs ys)
 
@@ -81,6 +83,7 @@ printed_has (OriginatorsShown table ∷ xs) event has = let p = printed_has xs e
 printed_has (NeighborsShown table ∷ xs) event has = let p = printed_has xs event has in (p.0, inr p.1)
 printed_has (GlobalsShown table ∷ xs) event has = let p = printed_has xs event has in (p.0, inr p.1)
 printed_has (ClaimsShown table ∷ xs) event has = let p = printed_has xs event has in (p.0, inr p.1)
+printed_has (ServiceShown table ∷ xs) event has = let p = printed_has xs event has in (p.0, inr p.1)
 printed_has (Decoded bytes ∷ xs) event has = let p = printed_has xs event has in (p.0, inr p.1)
 printed_has (Happened names e ∷ xs) event (inl same) = (names, inl (ap (Happened names) same))
 printed_has (Happened names e ∷ xs) event (inr has) = let p = printed_has xs event has in (p.0, inr p.1)
@@ -128,9 +131,8 @@ place_same state name line on_lan same all = go (lan_place_of state name)
     go None = line_same state name line same
     go (Some lan) = all lan
 
-frame_same : (state : State) (name bytes : List ℕ) (line : LineGiven) (group : Bool) → SameEvents state → SameOutcome (after_step state (cond group None (Some (at_place name (lan_frame_step (setup_of state.algorithm) bytes) (input_step (setup_of state.algorithm) line)))))
-frame_same state name bytes line true same = same
-frame_same state name bytes line false same = place_same state name line (lan_frame_step (setup_of state.algorithm) bytes) same (λ lan.
+frame_same : (state : State) (name bytes : List ℕ) (line : LineGiven) → SameEvents state → SameOutcome (at_place name (lan_frame_step (setup_of state.algorithm) bytes) (input_step (setup_of state.algorithm) line) state)
+frame_same state name bytes line same = place_same state name line (lan_frame_step (setup_of state.algorithm) bytes) same (λ lan.
     let put : LanPut = record { lan = lan; moment = state.clock; bytes = bytes; by = None } in
     attempt_same state (with_put (setup_of state.algorithm) put state.mesh) same (λ after is. put_gains (setup_of state.algorithm) put state.mesh after is))
 
@@ -197,8 +199,8 @@ shown_none Neighbors state node = refl
 shown_none Locals state node = refl
 shown_none Globals state node = refl
 shown_none Claims state node = refl
-shown_none Gateways state node = tt
-shown_none Groups state node = tt
+shown_none Gateways state node = refl
+shown_none Groups state node = refl
 shown_none Addresses state node = tt
 shown_none Facts state node = tt
 
@@ -219,18 +221,18 @@ command_same state (Link from to delay pattern throughput) same =
     at_same state (λ end. link_step (link start end)) (place_of state to) same (λ end.
     full_same (nat_le links_limit (length state.mesh.links)) (Ends state (Limit Links)) (with_link state (link start end)) same (with_link_same state (link start end) same)))
 command_same state (Lan name gateways) same = lan_same state name (places_named gateways 0 state.mesh.nodes) (nat_le lans_limit (length state.mesh.lans)) same
-command_same state (Frame place src dst vid text) same = frame_same state place (payload_spelling (record { dst = dst; src = src; vid = vid; text = text })) (FrameGiven src dst vid text) (is_group dst && not (is_broadcast dst)) same
+command_same state (Frame place src dst vid text) same = frame_same state place (payload_spelling (record { dst = dst; src = src; vid = vid; text = text })) (FrameGiven src dst vid text) same
 command_same state (Gone place key) same = gone_from state place (GoneGiven key) same
 command_same state (Join node key) same = line_same state node (JoinGiven key) same
 command_same state (Leave node key) same = line_same state node (LeaveGiven key) same
 command_same state (Arp node mac own asked vid) same = same
-command_same state (Dhcp node key text) same = same
+command_same state (Dhcp node key text) same = line_same state node (DhcpGiven key text) same
 command_same state (Wifi node on) same = line_same state node (Sets (WifiSet on)) same
-command_same state (GwOff node) same = same
-command_same state (GwServer node down up) same = same
-command_same state (GwClient node policy) same = same
-command_same state (Mcast node flags) same = same
-command_same state (Dat node on) same = same
+command_same state (GwOff node) same = line_same state node (Sets (GatewaySet NoPart)) same
+command_same state (GwServer node down up) same = line_same state node (Sets (GatewaySet (Serves (record { download = down; upload = up })))) same
+command_same state (GwClient node policy) same = line_same state node (Sets (GatewaySet (Chooses policy))) same
+command_same state (Mcast node flags) same = line_same state node (Sets (MulticastSet flags)) same
+command_same state (Dat node on) same = line_same state node (Sets (ArpTableSet on)) same
 command_same state (Alfred node mode) same = same
 command_same state (Put node type_no version text) same = same
 command_same state (Get node type_no) same = same

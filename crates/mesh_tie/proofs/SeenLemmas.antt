@@ -9,6 +9,7 @@ use Rattle.mesh_base.specs.declared.event.Event.TheVariants.{Alias}
 use Rattle.mesh_model.specs.declared.act.Act.{Act}
 use Rattle.mesh_model.specs.declared.act.Act.TheVariants.{Print}
 use Rattle.mesh_model.specs.Clients.Lans.{bridge}
+use Rattle.mesh_model.specs.Knowledge.Steps.{knowledge}
 use Rattle.mesh_model.specs.Net.Sending.{put_event}
 use Rattle.mesh_model.specs.Clients.Log.{Given, Tick, LinkFrame, Log, LogEntry, LanFrame, Line, LineGiven}
 use Rattle.mesh_model.specs.Clients.Mentions.{mentions}
@@ -238,8 +239,9 @@ step_told queries mesh after distinct (line_gives _ _ place now node line found 
     given_told queries orig mesh after place now 0 node (Line line) distinct found is (calm_gains queries node now (Line line) (line_calm line) (line_quiet (queries node.mac) node.mac node.log now line)) told
 step_told queries mesh after distinct (node_ticks _ _ place now node found may is) orig told =
     let index = suc (ticks_in node.log) in
+    let known = knowledge (queries node.mac) node.mac node.log in
     given_told queries orig mesh after place now index node (Tick index) distinct found is
-    (tick_gains (queries node.mac) node.mac (Rattle.mesh_model.specs.Knowledge.Steps.knowledge (queries node.mac) node.mac node.log).routes (mentions node.mac node.log) (history node.mac node.log) (bridge node.log) now index) told
+    (tick_gains (queries node.mac) node.mac known.services.settings known.routes (mentions node.mac node.log) (history node.mac node.log) (bridge node.log) now index) told
 step_told queries mesh after distinct (frame_comes _ _ place now number throughput from node frame found may sent whole is) orig told =
     let given = LinkFrame (suc number) from throughput frame.bytes in
     given_told queries orig mesh after place now frame.root node given distinct found is

@@ -1,22 +1,24 @@
 -- What is put of a table is read again: an announcement, an answer; a request and an advertisement
 -- are no answers.
-use Rattle.std.proofs.Common.{◌≡◌, ◌≤◌, ◌<◌, ◌+◌, ◌*◌, ◌/◌, ◌%◌, ℕ, suc, Bool, true, false, cond, List, [], ◌∷◌, ◌++◌, length, map, flat_map, refl, sym, ap, ap₂, ◌∙◌, arith, Option, Some, None, nat_lt, length-append}
-use Rattle.std.specs.List.{AllByRecursion, cons_option}
-use Rattle.std.proofs.lemmas.List.Elements.{All-from_recursion, All-cons, All-nil}
+use Rattle.std.proofs.Common.{◌≡◌, ◌≤◌, ◌<◌, ◌+◌, ◌*◌, ◌/◌, ◌%◌, ℕ, suc, Bool, true, false, cond, List, [], ◌∷◌, ◌++◌, ◌==◌, filter, filter_map, length, map, flat_map, refl, sym, ap, ap₂, ◌∙◌, append_assoc, arith, Option, Some, None, nat_lt, length-append}
+use Rattle.std.specs.List.{All, AllByRecursion, cons_option}
+use Rattle.std.proofs.lemmas.List.Elements.{All-append, All-from_recursion, All-cons, All-nil}
+use Rattle.std.proofs.lemmas.Grind.{flat_map-append}
 use Rattle.mesh_base.specs.declared.client.Entry.{Entry}
 use Rattle.mesh_base.specs.declared.client.Key.{Key}
 use Rattle.mesh_model.specs.declared.table_change.Change.{Change}
 use Rattle.mesh_model.specs.declared.table_outcome.Request.{Request}
 use Rattle.mesh_model.specs.declared.table_outcome.Request.TheVariants.{Full, Changes}
-use Rattle.mesh_model.specs.Acts.OwnContainers.{arp_table_container, own_containers}
+use Rattle.mesh_model.specs.Acts.OwnContainers.{arp_table_container, arp_table_part, gateway_container, gateway_part, multicast_container, multicast_part, own_containers}
 use Rattle.mesh_model.specs.Acts.Packing.{request_containers, request_flags, roaming_container, table_container, table_told, with_full}
+use Rattle.mesh_model.specs.Clients.Settings.{GatewayPart, NoPart, Serves, Chooses, Settings}
 use Rattle.mesh_model.specs.Commits.Announcements.{record_of_change}
 use Rattle.mesh_model.specs.Knowledge.Told.{Answers, Neither, carried_told, change_told, message_changes, message_in, stamp_told, table_message}
 use Rattle.mesh_model.specs.Packets.Bodies.{TtChange, TtData, VlanSum, change_of, entry_of_change, tt_data, vlans_size}
 use Rattle.mesh_model.specs.Packets.BodySpellings.{change_spelling, tt_spelling, vlan_spelling}
 use Rattle.mesh_model.specs.Packets.Containers.{Container, FitsLength, container_spelling, containers_of, containers_spelling}
-use Rattle.mesh_model.specs.Packets.Contents.{first_of, first_table}
-use Rattle.mesh_model.specs.Packets.Numbers.{ogm_diff_flag, response_flag}
+use Rattle.mesh_model.specs.Packets.Contents.{first_of, first_table, is_of, table_of_body}
+use Rattle.mesh_model.specs.Packets.Numbers.{ogm_diff_flag, response_flag, tt_tvlv, tvlv_version}
 use Rattle.mesh_model.specs.Tables.Judging.{Carried}
 use Rattle.mesh_model.specs.Tables.Sums.{sums_of}
 use Rattle.mesh_model.specs.Tables.Versions.{Stamp, Version}
@@ -98,9 +100,6 @@ body_small flags version records table changes few =
 one_long : (c : Container) → length (containers_spelling (c ∷ [])) ≡ 4 + length c.body
 one_long c = omega (arith, length-append (container_spelling c) [])
 
-two_long : (a c : Container) → length (containers_spelling (a ∷ c ∷ [])) ≡ 8 + length a.body + length c.body
-two_long a c = omega (arith, length-append (container_spelling a) (container_spelling c ++ []), length-append (container_spelling c) [])
-
 pub reply_again : (flags : ℕ) (version : Version) (records : List Change) → FitsAnswer version.table → AllByRecursion FitsChange records → length records ≤ 1024
     → IsToldAgain flags version records (containers_spelling (table_container (table_told flags (stamp_of_commit version) records) ∷ []))
 reply_again flags version records table changes few =
@@ -114,16 +113,68 @@ reply_again flags version records table changes few =
       changes = changes_same records changes;
     }
 
-pub own_again : (version : Version) (records : List Change) → FitsAnswer version.table → AllByRecursion FitsChange records → length records ≤ 1024
-    → IsToldAgain ogm_diff_flag version records (containers_spelling (own_containers (table_told ogm_diff_flag (stamp_of_commit version) records)))
-own_again version records table changes few =
+-- ---- beside other containers
+-- containers that are no tables, and how few bytes they are
+record IsNoTable (cs : List Container) : Type 0 where
+  others : AllByRecursion (λ (c : Container). is_of tt_tvlv tvlv_version c ≡ false) cs
+  fits : All FitsLength cs
+  small : length (containers_spelling cs) ≤ 12
+
+-- the first table is behind them
+table_behind : (front back : List Container) → AllByRecursion (λ (c : Container). is_of tt_tvlv tvlv_version c ≡ false) front → first_table (front ++ back) ≡ first_table back
+table_behind [] back others = refl
+table_behind (c ∷ front) back others =
+    ap (λ b. first_of (filter_map (λ (x : Container). table_of_body x.body) (cond b (c ∷ filter (is_of tt_tvlv tvlv_version) (front ++ back)) (filter (is_of tt_tvlv tvlv_version) (front ++ back))))) others.0
+    ∙ table_behind front back others.1
+
+no_container : IsNoTable []
+no_container = record { others = tt; fits = All-nil FitsLength; small = omega arith }
+
+one_no_table : (c : Container) → is_of tt_tvlv tvlv_version c ≡ false → length c.body ≤ 8 → IsNoTable (c ∷ [])
+one_no_table c other small = record { others = (other, tt); fits = All-cons FitsLength c [] (omega (arith, small)) (All-nil FitsLength); small = omega (arith, one_long c, small) }
+
+gateway_no_table : (part : GatewayPart) → IsNoTable (gateway_part part)
+gateway_no_table NoPart = no_container
+gateway_no_table (Serves offered) = one_no_table (gateway_container offered) refl (omega arith)
+gateway_no_table (Chooses policy) = no_container
+
+arp_no_table : (on : Bool) → IsNoTable (arp_table_part on)
+arp_no_table true = one_no_table arp_table_container refl (omega arith)
+arp_no_table false = no_container
+
+multicast_no_table : (flags : ℕ) → IsNoTable (multicast_part flags)
+multicast_no_table flags = go (flags == 0)
+  where
+    go : (b : Bool) → IsNoTable (cond b [] (multicast_container flags ∷ []))
+    go true = no_container
+    go false = one_no_table (multicast_container flags) refl (omega arith)
+
+spelled_long : (xs ys : List Container) → length (containers_spelling (xs ++ ys)) ≡ length (containers_spelling xs) + length (containers_spelling ys)
+spelled_long xs ys = ap length (flat_map-append container_spelling xs ys) ∙ length-append (containers_spelling xs) (containers_spelling ys)
+
+pub own_again : (settings : Settings) (version : Version) (records : List Change) → FitsAnswer version.table → AllByRecursion FitsChange records → length records ≤ 1024
+    → IsToldAgain ogm_diff_flag version records (containers_spelling (own_containers settings (table_told ogm_diff_flag (stamp_of_commit version) records)))
+own_again settings version records table changes few =
     let told = table_told ogm_diff_flag (stamp_of_commit version) records in
-    let small = body_small ogm_diff_flag version records table changes few in
+    let gateway = gateway_part settings.gateway in
+    let arp = arp_table_part settings.arp_table in
+    let flags = multicast_part settings.multicast in
+    let first = gateway_no_table settings.gateway in
+    let second = arp_no_table settings.arp_table in
+    let last = multicast_no_table settings.multicast in
+    let body = body_small ogm_diff_flag version records table changes few in
+    let all = own_containers settings told in
+    let fits : All FitsLength all =
+    All-append FitsLength (gateway ++ arp) (table_container told ∷ flags) (All-append FitsLength gateway arp first.fits second.fits) (All-cons FitsLength (table_container told) flags (omega (arith, body)) last.fits) in
+    let one = first.small in
+    let two = second.small in
+    let three = last.small in
     record {
-      small = omega (arith, two_long arp_table_container (table_container told), small);
-      found = ap first_table (read_back (arp_table_container ∷ table_container told ∷ [])
-          (All-cons FitsLength arp_table_container (table_container told ∷ []) (omega arith) (All-cons FitsLength (table_container told) [] (omega (arith, small)) (All-nil FitsLength)))).0
-          ∙ ap (λ (o : Option TtData). first_of (cons_option o [])) (table_back told (fits_table ogm_diff_flag version records table changes));
+      small = omega (arith, body, one, two, three, one_long (table_container told), spelled_long (gateway ++ arp) (table_container told ∷ flags), spelled_long gateway arp, spelled_long (table_container told ∷ []) flags);
+      found = ap first_table (read_back all fits).0
+          ∙ ap first_table (append_assoc gateway arp (table_container told ∷ flags))
+          ∙ table_behind gateway (arp ++ (table_container told ∷ flags)) first.others ∙ table_behind arp (table_container told ∷ flags) second.others
+          ∙ ap (λ (o : Option TtData). first_of (cons_option o (filter_map (λ (c : Container). table_of_body c.body) (filter (is_of tt_tvlv tvlv_version) flags)))) (table_back told (fits_table ogm_diff_flag version records table changes));
       stamp = ap (λ sums. record { byte = version.byte; sums = sums }) (sums_told_same version.table);
       changes = changes_same records changes;
     }

@@ -1,7 +1,6 @@
 -- What is printed of tables.
-use Rattle.std.proofs.Common.{◌≡◌, inl, inr, ◌+◌, ◌-◌, ◌&&◌, ℕ, Bool, true, false, cond, not, nat_le, nat_lt, List, [], ◌∷◌, ◌++◌, length, map, Option, Some, None, option_map, option_and_then, slice_get, append_assoc, is_some, Ok, Err, refl, sym, ap, subst, ◌∙◌, append-nil}
+use Rattle.std.proofs.Common.{◌≡◌, inl, inr, ◌+◌, ◌-◌, ℕ, Bool, true, false, cond, nat_le, nat_lt, List, [], ◌∷◌, ◌++◌, length, map, Option, Some, None, option_map, option_and_then, slice_get, append_assoc, is_some, Ok, Err, refl, sym, ap, subst, ◌∙◌, append-nil}
 use Rattle.std.specs.Option.{option_map_or}
-use Rattle.mesh_base.specs.Address.{is_broadcast, is_group}
 use Rattle.mesh_base.specs.declared.address.Mac.{Mac}
 use Rattle.mesh_base.specs.declared.event.Event.{Event}
 use Rattle.mesh_model.specs.declared.ending.LimitName.TheVariants.{Clock, Input, Lans, Line, Links, Nodes}
@@ -13,8 +12,9 @@ use Rattle.mesh_model.specs.declared.line_form.Command.TheVariants.{Nothing, Alg
 use Rattle.mesh_model.specs.declared.line_form.Table.{Table}
 use Rattle.mesh_model.specs.declared.line_form.Table.TheVariants.{Originators, Neighbors, Locals, Globals, Claims, Gateways, Groups, Addresses, Facts}
 use Rattle.mesh_model.specs.Clients.Log.{Line, LineGiven, Sets}
-use Rattle.mesh_model.specs.Clients.Settings.{Wifi as WifiSet}
-use Rattle.mesh_model.specs.Clients.Log.{Frame as FrameGiven, Gone as GoneGiven, Join as JoinGiven, Leave as LeaveGiven, Ping as PingGiven, Trace as TraceGiven}
+use Rattle.mesh_model.specs.Clients.Settings.{NoPart, Serves, Chooses}
+use Rattle.mesh_model.specs.Clients.Settings.{ArpTable as ArpTableSet, Gateway as GatewaySet, Multicast as MulticastSet, Wifi as WifiSet}
+use Rattle.mesh_model.specs.Clients.Log.{Frame as FrameGiven, Gone as GoneGiven, Join as JoinGiven, Leave as LeaveGiven, Dhcp as DhcpGiven, Ping as PingGiven, Trace as TraceGiven}
 use Rattle.mesh_model.specs.Net.Inputs.{all_given, given_to}
 use Rattle.mesh_model.specs.Net.Lans.{joins_lan}
 use Rattle.mesh_model.specs.Net.Limits.{clock_limit, lans_limit, links_limit, nodes_limit}
@@ -101,9 +101,8 @@ adds_place state name line on_lan all = go (lan_place_of state name)
     go None = adds_line state name line
     go (Some lan) = all lan
 
-adds_frame : (state : State) (name bytes : List ℕ) (line : LineGiven) (group : Bool) → AddsTo state (after_step state (cond group None (Some (at_place name (lan_frame_step (setup_of state.algorithm) bytes) (input_step (setup_of state.algorithm) line)))))
-adds_frame state name bytes line true = adds_none state state refl
-adds_frame state name bytes line false = adds_place state name line (lan_frame_step (setup_of state.algorithm) bytes) (λ lan.
+adds_frame : (state : State) (name bytes : List ℕ) (line : LineGiven) → AddsTo state (at_place name (lan_frame_step (setup_of state.algorithm) bytes) (input_step (setup_of state.algorithm) line) state)
+adds_frame state name bytes line = adds_place state name line (lan_frame_step (setup_of state.algorithm) bytes) (λ lan.
     adds_attempt state (with_put (setup_of state.algorithm) (record { lan = lan; moment = state.clock; bytes = bytes; by = None }) state.mesh))
 
 adds_gone : (state : State) (name : List ℕ) (line : LineGiven) → AddsTo state (at_place name (gateways_step (setup_of state.algorithm) line) (input_step (setup_of state.algorithm) line) state)
@@ -145,8 +144,8 @@ prints_own state Neighbors = λ node t is. cc
 prints_own state Locals = λ node t is. cc
 prints_own state Globals = λ node t is. cc
 prints_own state Claims = λ node t is. cc
-prints_own state Gateways = tt
-prints_own state Groups = tt
+prints_own state Gateways = λ node t is. cc
+prints_own state Groups = λ node t is. cc
 prints_own state Addresses = tt
 prints_own state Facts = tt
 
@@ -172,18 +171,18 @@ adds_command state (Link from to delay pattern throughput) =
     adds_at state (λ end. link_step (link start end)) (place_of state to) (λ end.
     adds_full (nat_le links_limit (length state.mesh.links)) state (Ends state (Limit Links)) (with_link state (link start end)) (adds_none state state refl) (adds_none state (with_link state (link start end)) refl)))
 adds_command state (Lan name gateways) = adds_lan state name (places_named gateways 0 state.mesh.nodes) (nat_le lans_limit (length state.mesh.lans))
-adds_command state (Frame place src dst vid text) = adds_frame state place (payload_spelling (record { dst = dst; src = src; vid = vid; text = text })) (FrameGiven src dst vid text) (is_group dst && not (is_broadcast dst))
+adds_command state (Frame place src dst vid text) = adds_frame state place (payload_spelling (record { dst = dst; src = src; vid = vid; text = text })) (FrameGiven src dst vid text)
 adds_command state (Gone place key) = adds_gone state place (GoneGiven key)
 adds_command state (Join node key) = adds_line state node (JoinGiven key)
 adds_command state (Leave node key) = adds_line state node (LeaveGiven key)
 adds_command state (Arp node mac own asked vid) = adds_none state state refl
-adds_command state (Dhcp node key text) = adds_none state state refl
+adds_command state (Dhcp node key text) = adds_line state node (DhcpGiven key text)
 adds_command state (Wifi node on) = adds_line state node (Sets (WifiSet on))
-adds_command state (GwOff node) = adds_none state state refl
-adds_command state (GwServer node down up) = adds_none state state refl
-adds_command state (GwClient node policy) = adds_none state state refl
-adds_command state (Mcast node flags) = adds_none state state refl
-adds_command state (Dat node on) = adds_none state state refl
+adds_command state (GwOff node) = adds_line state node (Sets (GatewaySet NoPart))
+adds_command state (GwServer node down up) = adds_line state node (Sets (GatewaySet (Serves (record { download = down; upload = up }))))
+adds_command state (GwClient node policy) = adds_line state node (Sets (GatewaySet (Chooses policy)))
+adds_command state (Mcast node flags) = adds_line state node (Sets (MulticastSet flags))
+adds_command state (Dat node on) = adds_line state node (Sets (ArpTableSet on))
 adds_command state (Alfred node mode) = adds_none state state refl
 adds_command state (Put node type_no version text) = adds_none state state refl
 adds_command state (Get node type_no) = adds_none state state refl

@@ -4,13 +4,14 @@
 -- holds of those that are begun: the client frames that lines give. That each is one of these, as
 -- it was spelled, is such a thing, and that each client frame in them is from a client that records
 -- can tell. The main words are `Carries`, `CarriesGivenFrames` and `CarriesClients`.
-use Rattle.std.specs.Prelude.{◌≡◌, ◌⊎◌, ℕ, List, slice_get, Some, None, ⊤}
+use Rattle.std.specs.Prelude.{◌≡◌, ◌⊎◌, ℕ, List, slice_get, Option, Some, None, ⊤}
 use Rattle.mesh_base.specs.declared.address.Mac.{Mac}
 use Rattle.mesh_base.specs.declared.client.Vid.{Vid}
 use Rattle.mesh_base.specs.declared.event.Event.TheVariants.{Bridged, Received}
 use Rattle.mesh_model.specs.declared.packet.Head.{Head}
 use Rattle.mesh_model.specs.declared.packet.Head.TheVariants.{IvOgm, Bcast, Elp, Ogm2, Unicast, Frag, Unicast4, Icmp, Utvlv}
-use Rattle.mesh_model.specs.Clients.Log.{Line, Frame, LogEntry}
+use Rattle.mesh_model.specs.Acts.Choosing.{call_frame}
+use Rattle.mesh_model.specs.Clients.Log.{Line, LineGiven, LogEntry, Attach, Frame, Gone, Join, Leave, Arp, Dhcp, Sets, Put, Get, Ping, Trace}
 use Rattle.mesh_model.specs.Clients.Mentions.{key_of}
 use Rattle.mesh_model.specs.Net.Mesh.{NodeLog, SentFrame, LanPut, Mesh}
 use Rattle.mesh_model.specs.Net.Next.{Has}
@@ -44,12 +45,29 @@ abbrev pub PutCarries : (List ℕ → Type 0) → List ℕ → Type 0
 PutCarries P bytes =
     (frame : ClientFrame) → client_frame_in (lan_message_of bytes) ≡ Some frame → P bytes
 
+-- the client frame that a line gives a node, where it gives one: a client's frame, or its call for
+-- a gateway
+abbrev pub frame_of_line : LineGiven → Option ClientFrame
+frame_of_line (Attach lan gateways) = None
+frame_of_line (Frame src dst vid text) =
+    Some (record { dst = dst; src = src; vid = vid; text = text })
+frame_of_line (Gone key) = None
+frame_of_line (Join key) = None
+frame_of_line (Leave key) = None
+frame_of_line (Arp mac own_ip asked_ip vid) = None
+frame_of_line (Dhcp key text) = Some (call_frame key text)
+frame_of_line (Sets setting) = None
+frame_of_line (Put type_no version text) = None
+frame_of_line (Get type_no) = None
+frame_of_line (Ping target) = None
+frame_of_line (Trace target) = None
+
 -- a line gave a node of a mesh a client frame, with a client that records can tell, or put it on a
 -- LAN
 pub data WasGiven (mesh : Mesh) (frame : ClientFrame) : Type 0 where
-  to_node : (place : ℕ) (node : NodeLog) (entry : LogEntry) →
+  to_node : (place : ℕ) (node : NodeLog) (entry : LogEntry) (line : LineGiven) →
       slice_get mesh.nodes place ≡ Some node → Has node.log entry →
-      entry.given ≡ Line (Frame frame.src frame.dst frame.vid frame.text) →
+      entry.given ≡ Line line → frame_of_line line ≡ Some frame →
       TellsClient (Frame frame.src frame.dst frame.vid frame.text) → WasGiven mesh frame
   on_lan : (place : ℕ) (put : LanPut) →
       slice_get mesh.puts place ≡ Some put → put.by ≡ None →

@@ -9,6 +9,7 @@ use Rattle.mesh_model.specs.Clients.Limits.{clients_limit}
 use Rattle.mesh_model.specs.Clients.Log.{Log}
 use Rattle.mesh_model.specs.Commits.History.{commits}
 use Rattle.mesh_model.specs.Knowledge.Known.{Knowledge}
+use Rattle.mesh_model.specs.Knowledge.Served.{Offered, Services}
 use Rattle.mesh_model.specs.Knowledge.Steps.{knowledge}
 use Rattle.mesh_model.specs.Marks.Calls.{Call, Marked, Released, Unmarked, Advised, Asked, Forgotten}
 use Rattle.mesh_model.specs.Net.Due.{ticks_in}
@@ -77,10 +78,16 @@ HasWholeTarget (Advised now key) = ⊤
 HasWholeTarget (Asked now orig) = ⊤
 HasWholeTarget (Forgotten orig) = ⊤
 
+-- the originators that offered something are whole, and so is the chosen gateway
+pub record ServesWhole (services : Services) : Type 0 where
+  pub offers : AllByRecursion (λ (one : Offered). IsWhole one.orig) services.offers
+  pub choice : (gateway : Mac) → services.choice ≡ Some gateway → IsWhole gateway
+
 -- all addresses that a node may send to are whole
 pub record KnowsWhole (known : Knowledge) : Type 0 where
   pub tables : AllByRecursion HasWholeSource known.tables
   pub marks : AllByRecursion HasWholeTarget known.marks
+  pub services : ServesWhole known.services
 
 -- addresses of nodes are whole and of one node each, and so are those that they may send to
 pub record IsOrderly (queries : Mac → Queries) (mesh : Mesh) : Type 0 where

@@ -1,10 +1,9 @@
 -- The few ways in which a command may end.
-use Rattle.std.proofs.Common.{option_map, ◌≡◌, ◌&&◌, not, ℕ, ◌+◌, ◌-◌, ◌<◌, ◌≤◌, Bool, true, false, cond, nat_lt, nat_le, List, [], length, Option, Some, None, Ok, Err, refl}
+use Rattle.std.proofs.Common.{option_map, ◌≡◌, ℕ, ◌+◌, ◌-◌, ◌<◌, ◌≤◌, Bool, true, false, cond, nat_lt, nat_le, List, [], length, Option, Some, None, Ok, Err, refl}
 use Rattle.std.specs.Option.{option_map_or}
 use Rattle.std.specs.List.{position}
 use Rattle.std.proofs.lemmas.Bool.{ltb-false, leb-false}
 use Rattle.std.proofs.lemmas.List.Quantifiers.{position-Some}
-use Rattle.mesh_base.specs.Address.{is_broadcast, is_group}
 use Rattle.mesh_model.specs.declared.ending.LimitName.TheVariants.{Nodes, Links, Lans, Clock}
 use Rattle.mesh_model.specs.declared.ending.Refusal.{Refusal}
 use Rattle.mesh_model.specs.declared.ending.Stop.{Stop}
@@ -14,8 +13,9 @@ use Rattle.mesh_model.specs.declared.line_form.Algorithm.{Algorithm}
 use Rattle.mesh_model.specs.declared.line_form.Command.{Command}
 use Rattle.mesh_model.specs.declared.line_form.Command.TheVariants.{Nothing, Algo, Node, Link, Lan, Frame, Gone, Join, Leave, Arp, Dhcp, Wifi, GwOff, GwServer, GwClient, Mcast, Dat, Alfred, Put, Get, Ping, Trace, Run, Deliver, Show, Decode}
 use Rattle.mesh_model.specs.Clients.Log.{Given, LineGiven, Line, Sets}
-use Rattle.mesh_model.specs.Clients.Log.{Frame as FrameGiven, Gone as GoneGiven, Join as JoinGiven, Leave as LeaveGiven, Ping as PingGiven, Trace as TraceGiven}
-use Rattle.mesh_model.specs.Clients.Settings.{Wifi as WifiSet}
+use Rattle.mesh_model.specs.Clients.Log.{Frame as FrameGiven, Gone as GoneGiven, Join as JoinGiven, Leave as LeaveGiven, Dhcp as DhcpGiven, Ping as PingGiven, Trace as TraceGiven}
+use Rattle.mesh_model.specs.Clients.Settings.{NoPart, Serves, Chooses}
+use Rattle.mesh_model.specs.Clients.Settings.{ArpTable as ArpTableSet, Gateway as GatewaySet, Multicast as MulticastSet, Wifi as WifiSet}
 use Rattle.mesh_model.specs.Net.Mesh.{NodeLog, NetLan, NetLink, LanPut, Mesh, Setup, address_at}
 use Rattle.mesh_model.specs.Net.Lans.{joins_lan}
 use Rattle.mesh_model.specs.Net.Sending.{Attempt, with_put}
@@ -140,11 +140,6 @@ place_led setup state command place line bytes =
     (λ lan found. put_led setup state command (put lan) refl (place_low place lan state.mesh.lans found) (with_put setup (put lan) state.mesh) refl)
     (line_led setup state command place line)
 
-frame_led : (setup : Setup) (state : State) (command : Command) (place : List ℕ) (line : LineGiven) (bytes : List ℕ) (other_group : Bool)
-    → Led setup state command (after_step state (cond other_group None (Some (at_place place (lan_frame_step setup bytes) (input_step setup line)))))
-frame_led setup state command place line bytes true = stayed refl
-frame_led setup state command place line bytes false = place_led setup state command place line bytes
-
 -- a client is gone from the gateways of the LAN of a name, or from the node of it
 gone_led : (setup : Setup) (state : State) (command : Command) (place : List ℕ) (line : LineGiven) → Led setup state command (at_place place (gateways_step setup line) (input_step setup line) state)
 gone_led setup state command place line =
@@ -165,18 +160,18 @@ command_led setup state (Lan name gateways) =
     let places = places_named gateways 0 state.mesh.nodes in
     full_led setup state (Lan name gateways) (after_attempt state (joins_lan setup name places state.clock state.mesh)) (nat_le lans_limit (length state.mesh.lans))
     (lan_led setup state (Lan name gateways) name places (joins_lan setup name places state.clock state.mesh) refl)
-command_led setup state (Frame place src dst vid text) = frame_led setup state (Frame place src dst vid text) place (FrameGiven src dst vid text) (payload_spelling (record { dst = dst; src = src; vid = vid; text = text })) (is_group dst && not (is_broadcast dst))
+command_led setup state (Frame place src dst vid text) = place_led setup state (Frame place src dst vid text) place (FrameGiven src dst vid text) (payload_spelling (record { dst = dst; src = src; vid = vid; text = text }))
 command_led setup state (Gone place key) = gone_led setup state (Gone place key) place (GoneGiven key)
 command_led setup state (Join node key) = line_led setup state (Join node key) node (JoinGiven key)
 command_led setup state (Leave node key) = line_led setup state (Leave node key) node (LeaveGiven key)
 command_led setup state (Arp node mac own asked vid) = stayed refl
-command_led setup state (Dhcp node key text) = stayed refl
+command_led setup state (Dhcp node key text) = line_led setup state (Dhcp node key text) node (DhcpGiven key text)
 command_led setup state (Wifi node on) = line_led setup state (Wifi node on) node (Sets (WifiSet on))
-command_led setup state (GwOff node) = stayed refl
-command_led setup state (GwServer node down up) = stayed refl
-command_led setup state (GwClient node policy) = stayed refl
-command_led setup state (Mcast node flags) = stayed refl
-command_led setup state (Dat node on) = stayed refl
+command_led setup state (GwOff node) = line_led setup state (GwOff node) node (Sets (GatewaySet NoPart))
+command_led setup state (GwServer node down up) = line_led setup state (GwServer node down up) node (Sets (GatewaySet (Serves (record { download = down; upload = up }))))
+command_led setup state (GwClient node policy) = line_led setup state (GwClient node policy) node (Sets (GatewaySet (Chooses policy)))
+command_led setup state (Mcast node flags) = line_led setup state (Mcast node flags) node (Sets (MulticastSet flags))
+command_led setup state (Dat node on) = line_led setup state (Dat node on) node (Sets (ArpTableSet on))
 command_led setup state (Alfred node mode) = stayed refl
 command_led setup state (Put node type_no version text) = stayed refl
 command_led setup state (Get node type_no) = stayed refl

@@ -1,0 +1,60 @@
+-- The lines of the tables of services: each ends at its only newline, and tells its kind.
+use Rattle.std.proofs.Common.{ℕ, ◌+◌, List, [], ◌∷◌, length, map, Option, refl}
+use Rattle.std.specs.Prelude.{codes}
+use Rattle.hex.specs.Hex.{encode_lower}
+use Rattle.mesh_base.specs.declared.address.Mac.{Mac}
+use Rattle.mesh_base.specs.declared.client.Key.{Key}
+use Rattle.mesh_model.specs.declared.service.GroupRow.{GroupRow}
+use Rattle.mesh_model.specs.declared.service.GwMode.{GwMode}
+use Rattle.mesh_model.specs.declared.service.GwMode.TheVariants.{Off, Server, Client}
+use Rattle.mesh_model.specs.declared.service.GwRow.{GwRow}
+use Rattle.mesh_model.specs.Text.PacketLines.{named_address, named_number}
+use Rattle.mesh_model.specs.Text.Services.{GatewaysOf, GroupsOf, ServiceTable, gateway_header, gateway_line, group_header, groups_line, joined_line, mode_word}
+use Rattle.mesh_model.specs.Text.Tables.{address_text, vid_text}
+use Rattle.mesh_laws.specs.Cuts.{IsUnbroken}
+use Rattle.mesh_lines.specs.ItemLines.{service_lines, service_name}
+use Rattle.mesh_lines.specs.LineWords.{IsWord, of_other}
+use Rattle.mesh_lines.proofs.LineParts.{Told, address, mac, number, said, told, unbroken_word, vid}
+use Rattle.mesh_lines.proofs.PacketParts.{AllOther, other_both, other_map}
+use Rattle.mesh_lines.proofs.Words.{hex_word}
+
+-- ---- gateways
+mode_plain : (mode : GwMode) → IsUnbroken (mode_word mode)
+mode_plain Off = said (codes "off") refl
+mode_plain Server = said (codes "server") refl
+mode_plain Client = said (codes "client") refl
+
+gateway_header_told : (name : List ℕ) (mode : GwMode) (chosen : Option Mac) → IsUnbroken name → Told of_other (gateway_header name mode chosen)
+unfolding gateway_header
+gateway_header_told name mode chosen plain = told of_other (codes "gw " ∷ name ∷ codes " mode=" ∷ mode_word mode ∷ codes " chosen=" ∷ address_text chosen ∷ [])
+    (said (codes "gw ") refl, (plain, (said (codes " mode=") refl, (mode_plain mode, (said (codes " chosen=") refl, (address chosen, tt)))))) refl
+
+gateway_told : (row : GwRow) → Told of_other (gateway_line row)
+unfolding gateway_line
+gateway_told row = told of_other (named_address (codes "g ") row.orig ∷ named_number (codes " down=") row.down ∷ named_number (codes " up=") row.up ∷ named_number (codes " metric=") row.metric ∷ [])
+    (mac (codes "g ") row.orig refl, (number (codes " down=") row.down refl, (number (codes " up=") row.up refl, (number (codes " metric=") row.metric refl, tt)))) refl
+
+-- ---- groups
+group_header_told : (name : List ℕ) (count : ℕ) → IsUnbroken name → Told of_other (group_header name count)
+unfolding group_header
+group_header_told name count plain = told of_other (codes "mc " ∷ name ∷ named_number (codes " count=") count ∷ [])
+    (said (codes "mc ") refl, (plain, (number (codes " count=") count refl, tt))) refl
+
+joined_told : (key : Key) → Told of_other (joined_line key)
+unfolding joined_line
+joined_told key = told of_other (named_address (codes "j ") key.mac ∷ codes " " ∷ vid_text key.vid ∷ [])
+    (mac (codes "j ") key.mac refl, (said (codes " ") refl, (vid key.vid, tt))) refl
+
+groups_told : (row : GroupRow) → Told of_other (groups_line row)
+unfolding groups_line
+groups_told row = told of_other (named_address (codes "m ") row.orig ∷ codes " flags=" ∷ encode_lower (row.flags ∷ []) ∷ [])
+    (mac (codes "m ") row.orig refl, (said (codes " flags=") refl, (unbroken_word (encode_lower (row.flags ∷ [])) (hex_word (row.flags ∷ [])), tt))) refl
+
+-- ---- tables
+-- none of their lines is of a kind that the laws speak of
+pub service_other : (table : ServiceTable) → IsWord (service_name table) → AllOther (service_lines table)
+service_other (GatewaysOf table) plain = (gateway_header_told table.name table.mode table.chosen (unbroken_word table.name plain), other_map gateway_line gateway_told table.rows)
+service_other (GroupsOf table) plain = (
+  group_header_told table.name (length table.joined + length table.rows) (unbroken_word table.name plain),
+  other_both (map joined_line table.joined) (map groups_line table.rows) (other_map joined_line joined_told table.joined) (other_map groups_line groups_told table.rows),
+)
