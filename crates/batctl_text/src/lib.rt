@@ -20,6 +20,7 @@ mod part;
 mod probe_line;
 mod question_line;
 mod route_table;
+mod service_table;
 mod whole_line;
 
 pub use claim_table::{claim_header, claim_line};
@@ -29,3 +30,4 @@ pub use event_line::line;
 pub use global_table::{entry_line, global_header, global_line, mark_line};
 pub use local_table::{local_header, local_line};
 pub use route_table::{iv_link_line, link_header, orig_header, orig_line, v_link_line};
+pub use service_table::{gateway_header, gateway_line, group_header, groups_line, joined_line};

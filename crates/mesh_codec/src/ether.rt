@@ -16,7 +16,7 @@ use mesh_base::{Mac, Vid};
 /// An Ethernet frame where it lies: where it goes, where it comes from, its VLAN, and what follows
 /// its type.
 #[derive(Clone, Copy, Debug, PartialEq, Eq)]
-pub(crate) struct EtherFrame<'a> {
+pub struct EtherFrame<'a> {
     pub dst: Mac,
     pub src: Mac,
     pub vid: Vid,
@@ -82,8 +82,8 @@ fn frame_by_type<'a>(ethertype: u16, bytes: &[u8], after: &'a [u8]) -> Option<Et
     frame_behind(ethertype, bytes, Vid::UNTAGGED, after)
 }
 
-/// The frame of a type that bytes are, where they are one.
-pub(crate) fn read_ether_frame(ethertype: u16, bytes: &[u8]) -> Option<EtherFrame<'_>>
+/// The frame of a type that bytes are, where they are one. Takes no memory.
+pub fn read_ether_frame(ethertype: u16, bytes: &[u8]) -> Option<EtherFrame<'_>>
     ensures { option_map seen_ether result ≡ ether_frame_of ethertype bytes.now }
 {
     if bytes.len() < ADDRESSES_SIZE {

@@ -18,6 +18,7 @@ mod put_header;
 mod writing;
 
 pub use decoding::decode;
+pub use ether::{EtherFrame, read_ether_frame};
 pub use failure::CodecErr;
 pub use first_packet::Packet;
 pub use lan::{

@@ -13,7 +13,7 @@ use Rattle.mesh_model.specs.Net.Runs.{delivered, frame_given, frame_over, tick_g
 use Rattle.mesh_model.specs.Routes.Queries.{Queries}
 use Rattle.mesh_model.specs.Routes.RouteLog.{RouteLog, MayTick}
 use Rattle.mesh_node.specs.declared.input.Input.{Input}
-use Rattle.mesh_node.specs.declared.input.Input.TheVariants.{Tick, Link, Lan, Attach, Frame, Gone, Join, Leave, Wifi, Ping, Trace}
+use Rattle.mesh_node.specs.declared.input.Input.TheVariants.{Tick, Link, Lan, Attach, Frame, Gone, Join, Leave, Dhcp, Wifi, GwOff, GwServer, GwClient, Mcast, Dat, Ping, Trace}
 use Rattle.mesh_node.specs.NodeStands.{MayTake, MayFollow, given_by}
 use Rattle.mesh_post.specs.declared.row.Arrival.{Arrival}
 use Rattle.mesh_post.specs.declared.row.Sending.{Sending}
@@ -37,7 +37,13 @@ line_counts ticks number (Frame src dst vid text) line = tt
 line_counts ticks number (Gone key) line = tt
 line_counts ticks number (Join key) line = tt
 line_counts ticks number (Leave key) line = tt
+line_counts ticks number (Dhcp key text) line = tt
 line_counts ticks number (Wifi on) line = tt
+line_counts ticks number GwOff line = tt
+line_counts ticks number (GwServer down up) line = tt
+line_counts ticks number (GwClient policy) line = tt
+line_counts ticks number (Mcast flags) line = tt
+line_counts ticks number (Dat on) line = tt
 line_counts ticks number (Ping target) line = tt
 line_counts ticks number (Trace target) line = tt
 
@@ -50,7 +56,13 @@ line_follows before number (Frame src dst vid text) line = tt
 line_follows before number (Gone key) line = tt
 line_follows before number (Join key) line = tt
 line_follows before number (Leave key) line = tt
+line_follows before number (Dhcp key text) line = tt
 line_follows before number (Wifi on) line = tt
+line_follows before number GwOff line = tt
+line_follows before number (GwServer down up) line = tt
+line_follows before number (GwClient policy) line = tt
+line_follows before number (Mcast flags) line = tt
+line_follows before number (Dat on) line = tt
 line_follows before number (Ping target) line = tt
 line_follows before number (Trace target) line = tt
 

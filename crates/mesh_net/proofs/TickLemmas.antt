@@ -1,7 +1,6 @@
 -- Ticks of the nodes of a mesh that is reached: each has its number, and what is to come isn't
 -- before the clock.
-use Rattle.std.proofs.Common.{◌≡◌, ℕ, zero, suc, ◌+◌, ◌<◌, ◌≤◌, ◌⊎◌, inl, inr, Bool, true, false, ◌&&◌, if◌then◌else◌, List, [], ◌∷◌, filter, slice_get, Option, Some, None, Ok, refl, sym, ap, ◌∙◌, subst, arith}
-use Rattle.mesh_base.specs.Address.{is_broadcast}
+use Rattle.std.proofs.Common.{◌≡◌, ℕ, zero, suc, ◌+◌, ◌<◌, ◌≤◌, ◌⊎◌, inl, inr, Bool, true, false, ◌&&◌, if◌then◌else◌, List, [], ◌∷◌, filter, slice_get, Option, Some, None, is_some, Ok, refl, sym, ap, ◌∙◌, subst, arith}
 use Rattle.mesh_base.specs.declared.address.Mac.{Mac}
 use Rattle.mesh_base.specs.declared.client.Key.{Key}
 use Rattle.mesh_model.specs.declared.act.Act.{Act}
@@ -13,8 +12,10 @@ use Rattle.mesh_model.specs.declared.packet.Head.TheVariants.{IvOgm, Bcast, Elp,
 use Rattle.mesh_model.specs.Clients.Log.{Given, Tick, LinkFrame, LanFrame, Line, LineGiven, Attach, Frame, Gone, Join, Leave, Arp, Dhcp, Sets, Put, Get, Ping, Trace, Log, LogEntry}
 use Rattle.mesh_model.specs.Clients.Lans.{bridge}
 use Rattle.mesh_model.specs.Clients.Mentions.{Mention, key_of, mentions, next_mentions, passed_from_lan}
+use Rattle.mesh_model.specs.Commits.History.{is_commit_tick}
 use Rattle.mesh_model.specs.Knowledge.Known.{Broadcast, Knowledge, agreed_byte, is_new_broadcast}
-use Rattle.mesh_model.specs.Knowledge.Steps.{Coming, stays_on_lan, knowledge, next_knowledge, after_announcement, after_answer, after_broadcast, after_containers, after_frame, after_head, after_message, after_reply, after_packet, after_packets, after_passed, after_roaming, after_sighting, after_taken, before_announcement, released_under, with_head, line_knowledge}
+use Rattle.mesh_model.specs.Knowledge.Offers.{after_choice, gateway_way}
+use Rattle.mesh_model.specs.Knowledge.Steps.{Coming, stays_on_lan, knowledge, next_knowledge, after_announcement, after_answer, after_broadcast, after_call, after_containers, after_frame, after_head, after_message, after_reply, after_packet, after_packets, after_passed, after_roaming, after_sent, after_sighting, after_taken, before_announcement, is_flooded, released_under, with_head, with_offered, line_knowledge}
 use Rattle.mesh_model.specs.Knowledge.Told.{Message, TableMessage, Asks, Answers, Neither, message_in, message_of}
 use Rattle.mesh_model.specs.Marks.Calls.{Forgotten}
 use Rattle.mesh_model.specs.Net.Due.{ticks_by, ticks_in}
@@ -35,7 +36,7 @@ use Rattle.mesh_model.specs.Packets.Payload.{ClientFrame}
 use Rattle.mesh_model.specs.Probes.OpenProbes.{is_answer}
 use Rattle.mesh_model.specs.Routes.Addresses.{same_mac}
 use Rattle.mesh_model.specs.Routes.Queries.{Queries}
-use Rattle.mesh_model.specs.Routes.RouteLog.{FollowsIndex, MayTick, last_index, own_ticks}
+use Rattle.mesh_model.specs.Routes.RouteLog.{FollowsIndex, MayTick, OwnTick, last_index, own_ticks}
 use Rattle.mesh_model.specs.Run.Steps.{new_node}
 use Rattle.mesh_model.specs.Tables.Known.{Answered, Dropped, known_by}
 use Rattle.mesh_laws.proofs.Schedule.Added.{added}
@@ -67,9 +68,15 @@ message_counted q came head message known =
     (either_counted (q.hear known.routes came.now came.from came.throughput head).began (record heard { tables = Dropped message.orig ∷ heard.tables; marks = Forgotten message.orig ∷ heard.marks }) heard known refl refl)
     refl
 
-taken_counted : (q : Queries) (came : Coming) (head : Head) (message : Option Message) (known : Knowledge) → counted (after_taken q came head message known) ≡ counted known
-taken_counted q came head None known = refl
-taken_counted q came head (Some message) known = message_counted q came head message known
+offered_counted : (accepted : Bool) (orig : Mac) (tail : List ℕ) (known : Knowledge) → counted (with_offered accepted orig tail known) ≡ counted known
+offered_counted true orig tail known = refl
+offered_counted false orig tail known = refl
+
+taken_counted : (q : Queries) (came : Coming) (head : Head) (message : Option Message) (tail : List ℕ) (known : Knowledge) → counted (after_taken q came head message tail known) ≡ counted known
+taken_counted q came head None tail known = refl
+taken_counted q came head (Some message) tail known =
+    offered_counted (q.hear known.routes came.now came.from came.throughput head).accepted message.orig tail (after_message q came head message known)
+    ∙ message_counted q came head message known
 
 answer_counted : (q : Queries) (now : ℕ) (src : Mac) (message : TableMessage) (known : Knowledge) → counted (after_answer q now src message known) ≡ counted known
 answer_counted q now src (Asks full stamp) known = refl
@@ -92,10 +99,10 @@ broadcast_counted : (me : Mac) (broadcast : Broadcast) (known : Knowledge) → c
 broadcast_counted me broadcast known = either_counted (is_new_broadcast me broadcast known.taken) (record known { taken = broadcast ∷ known.taken }) known known refl refl
 
 head_counted : (q : Queries) (me : Mac) (came : Coming) (message : Option Message) (tail : List ℕ) (head : Head) (known : Knowledge) → counted (after_head q me came message tail head known) ≡ counted known
-head_counted q me came message tail (IvOgm ttl flags seq orig prev tq) known = taken_counted q came (IvOgm ttl flags seq orig prev tq) message known
+head_counted q me came message tail (IvOgm ttl flags seq orig prev tq) known = taken_counted q came (IvOgm ttl flags seq orig prev tq) message tail known
 head_counted q me came message tail (Bcast ttl seq orig) known = broadcast_counted me (record { orig = orig; number = seq }) known
 head_counted q me came message tail (Elp orig seq interval) known = refl
-head_counted q me came message tail (Ogm2 ttl flags seq orig throughput) known = taken_counted q came (Ogm2 ttl flags seq orig throughput) message known
+head_counted q me came message tail (Ogm2 ttl flags seq orig throughput) known = taken_counted q came (Ogm2 ttl flags seq orig throughput) message tail known
 head_counted q me came message tail (Unicast ttl ttvn dst) known = refl
 head_counted q me came message tail (Frag ttl number priority dst orig seq total) known = refl
 head_counted q me came message tail (Unicast4 ttl ttvn dst src subtype) known = refl
@@ -108,15 +115,19 @@ packets_counted : (q : Queries) (me : Mac) (came : Coming) (known : Knowledge) (
 packets_counted q me came known [] = refl
 packets_counted q me came known (p ∷ ps) = packets_counted q me came (after_packet q me came known p) ps ∙ head_counted q me came (message_of p) p.tail p.head known
 
-frame_counted : (dst : Mac) (known : Knowledge) → counted (after_frame dst known) ≡ counted known
-frame_counted dst known = either_counted (is_broadcast dst) (record known { sent = suc known.sent }) known known refl refl
+-- nor does what is sent
+frame_counted : (q : Queries) (now : ℕ) (key : Key) (known : Knowledge) → counted (after_frame q now key known) ≡ counted known
+frame_counted q now key known = either_counted (is_flooded q known now key) (after_sent known) known known refl refl
+
+call_counted : (q : Queries) (now : ℕ) (known : Knowledge) → counted (after_call q now known) ≡ counted known
+call_counted q now known = either_counted (is_some (gateway_way q known now)) known (after_sent known) known refl refl
 
 -- nor does a frame from a LAN add a tick
 passed_counted : (q : Queries) (me : Mac) (older : Log) (known : Knowledge) (now : ℕ) (mentions : List Mention) (frame : Option ClientFrame) → counted (after_passed q me older known now mentions frame) ≡ counted known
 passed_counted q me older known now mentions None = refl
 passed_counted q me older known now mentions (Some frame) =
     let behind : Knowledge = after_sighting q me older now (key_of frame.src frame.vid) known in
-    either_counted (stays_on_lan q mentions (bridge older).lan now (key_of frame.dst frame.vid) behind) behind (after_frame frame.dst behind) known refl (frame_counted frame.dst behind)
+    either_counted (stays_on_lan q mentions (bridge older).lan now (key_of frame.dst frame.vid) behind) behind (after_frame q now (key_of frame.dst frame.vid) behind) known refl (frame_counted q now (key_of frame.dst frame.vid) behind)
 
 -- the index of the last tick after an input
 abbrev pub index_by : Given → Option ℕ → Option ℕ
@@ -136,21 +147,28 @@ no_more known = ap (λ n. (n, last_index known.routes)) (omega arith)
 -- a line adds no tick
 line_counted : (q : Queries) (me : Mac) (older : Log) (known : Knowledge) (now : ℕ) (line : LineGiven) → counted (line_knowledge q me older known now line) ≡ counted known
 line_counted q me older known now (Attach lan gateways) = refl
-line_counted q me older known now (Frame src dst vid text) = frame_counted dst (after_sighting q me older now (key_of src vid) known)
+line_counted q me older known now (Frame src dst vid text) = frame_counted q now (key_of dst vid) (after_sighting q me older now (key_of src vid) known)
 line_counted q me older known now (Gone key) = refl
 line_counted q me older known now (Join key) = refl
 line_counted q me older known now (Leave key) = refl
 line_counted q me older known now (Arp mac own_ip asked_ip vid) = refl
-line_counted q me older known now (Dhcp key text) = refl
+line_counted q me older known now (Dhcp key text) = call_counted q now (after_sighting q me older now key known)
 line_counted q me older known now (Sets setting) = refl
 line_counted q me older known now (Put type_no version text) = refl
 line_counted q me older known now (Get type_no) = refl
 line_counted q me older known now (Ping target) = refl
 line_counted q me older known now (Trace target) = refl
 
+-- nor does a choice
+choice_counted : (q : Queries) (now index : ℕ) (known : Knowledge) → counted (after_choice q now index known) ≡ counted known
+choice_counted q now index known = either_counted (is_commit_tick index) _ known known refl refl
+
 -- an input adds its tick, and no other
 next_counted : (q : Queries) (me : Mac) (older : Log) (known : Knowledge) (now : ℕ) (given : Given) → counted (next_knowledge q me older known now given) ≡ (ticks_by given + own_ticks known.routes, index_by given (last_index known.routes))
-next_counted q me older known now (Tick index) = ap (λ n. (n, Some index)) (omega arith)
+next_counted q me older known now (Tick index) =
+    let ticked : Knowledge = record known { routes = OwnTick now index ∷ known.routes } in
+    let n : own_ticks ticked.routes ≡ suc (own_ticks known.routes) = refl in
+    choice_counted q now index ticked ∙ ap (λ m. (m, Some index)) (omega (arith, n))
 next_counted q me older known now (LinkFrame number from throughput bytes) =
     packets_counted q me (record { now = now; from = from; throughput = throughput; number = number }) known (link_frame bytes).packets ∙ no_more known
 next_counted q me older known now (LanFrame bytes) =

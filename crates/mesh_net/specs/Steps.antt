@@ -24,7 +24,7 @@ use Rattle.mesh_model.specs.Routes.RouteLog.{RouteLog, MayTick}
 use Rattle.node_ground.specs.declared.failure.NodeErr.{NodeErr}
 use Rattle.node_ground.specs.declared.failure.NodeErr.TheVariants as node_errors
 use Rattle.mesh_node.specs.declared.input.Input.{Input}
-use Rattle.mesh_node.specs.declared.input.Input.TheVariants.{Tick, Link, Lan, Attach, Frame, Gone, Join, Leave, Wifi, Ping, Trace}
+use Rattle.mesh_node.specs.declared.input.Input.TheVariants.{Tick, Link, Lan, Attach, Frame, Gone, Join, Leave, Dhcp, Wifi, GwOff, GwServer, GwClient, Mcast, Dat, Ping, Trace}
 use Rattle.node_ground.specs.OwnStands.{newest_moment}
 use Rattle.mesh_node.specs.NodeStands.{MayFollow}
 use Rattle.mesh_net.specs.declared.failure.NetErr.{NetErr}
@@ -48,7 +48,13 @@ ticks_with ticks (Frame src dst vid text) = ticks
 ticks_with ticks (Gone key) = ticks
 ticks_with ticks (Join key) = ticks
 ticks_with ticks (Leave key) = ticks
+ticks_with ticks (Dhcp key text) = ticks
 ticks_with ticks (Wifi on) = ticks
+ticks_with ticks GwOff = ticks
+ticks_with ticks (GwServer down up) = ticks
+ticks_with ticks (GwClient policy) = ticks
+ticks_with ticks (Mcast flags) = ticks
+ticks_with ticks (Dat on) = ticks
 ticks_with ticks (Ping target) = ticks
 ticks_with ticks (Trace target) = ticks
 
@@ -62,7 +68,13 @@ Counts ticks (Frame src dst vid text) = ⊤
 Counts ticks (Gone key) = ⊤
 Counts ticks (Join key) = ⊤
 Counts ticks (Leave key) = ⊤
+Counts ticks (Dhcp key text) = ⊤
 Counts ticks (Wifi on) = ⊤
+Counts ticks GwOff = ⊤
+Counts ticks (GwServer down up) = ⊤
+Counts ticks (GwClient policy) = ⊤
+Counts ticks (Mcast flags) = ⊤
+Counts ticks (Dat on) = ⊤
 Counts ticks (Ping target) = ⊤
 Counts ticks (Trace target) = ⊤
 

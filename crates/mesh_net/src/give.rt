@@ -110,7 +110,13 @@ fn ticks_with(ticks: u64, input: &Input<'_>) -> u64
         | Input::Gone { .. }
         | Input::Join { .. }
         | Input::Leave { .. }
+        | Input::Dhcp { .. }
         | Input::Wifi(_)
+        | Input::GwOff
+        | Input::GwServer { .. }
+        | Input::GwClient(_)
+        | Input::Mcast(_)
+        | Input::Dat(_)
         | Input::Ping { .. }
         | Input::Trace { .. } => ticks,
     }

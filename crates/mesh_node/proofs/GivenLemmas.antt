@@ -5,14 +5,24 @@ use Rattle.mesh_base.specs.declared.address.Mac.{Mac}
 use Rattle.mesh_base.specs.declared.client.Key.{Key}
 use Rattle.mesh_model.specs.Clients.Limits.{clients_limit, limit_of_mention, limit_of_mentions}
 use Rattle.mesh_model.specs.Clients.Log.{Log, Tick, LinkFrame, Line, Attach, Gone, Join, Leave, Sets}
-use Rattle.mesh_model.specs.Clients.Settings.{Wifi}
-use Rattle.mesh_model.specs.Clients.Mentions.{Mention, Departed, Joined, Left, mentions, roamed, roamed_by}
+use Rattle.mesh_model.specs.Clients.Settings.{Setting}
+use Rattle.mesh_model.specs.Clients.Mentions.{Mention, is_wifi_on, Departed, Joined, Left, mentions, roamed, roamed_by}
 use Rattle.mesh_model.specs.Commits.History.{History, after_tick, with_message, committed, first_history, history, is_commit_tick, present_table}
 use Rattle.mesh_model.specs.Commits.Versions.{last_commit}
 use Rattle.mesh_model.specs.Packets.FirstPacket.{Packet}
 use Rattle.mesh_model.specs.Packets.LinkFrame.{link_frame}
+use Rattle.mesh_model.specs.Knowledge.Known.{Knowledge}
+use Rattle.mesh_model.specs.Knowledge.Served.{after_set}
+use Rattle.mesh_model.specs.Knowledge.Steps.{with_set}
 use Rattle.mesh_model.specs.Routes.Queries.{Queries}
-use Rattle.mesh_node.specs.NodeStands.{given_session}
+use Rattle.mesh_model.specs.Routes.RouteLog.{RouteLog}
+use Rattle.mesh_laws.proofs.SettingLemmas.{settings_known}
+use Rattle.mesh_node.specs.declared.node.Node.{Node}
+use Rattle.node_ground.specs.declared.knowledge.NodeKnowledge.{NodeKnowledge}
+use Rattle.node_ground.specs.declared.services.Services.{Services}
+use Rattle.node_ground.specs.KnowledgeStands.{KnowledgeStands}
+use Rattle.node_ground.specs.ServicesStand.{ServicesStand}
+use Rattle.mesh_node.specs.NodeStands.{NodeStands, given_session}
 use Rattle.node_ground.specs.OwnStands.{with_input}
 use Rattle.node_ground.specs.OwnStands.{AreFew, HasClients, newest_moment}
 use Rattle.node_clients.proofs.RoamingLemmas.{named}
@@ -125,9 +135,9 @@ has_left q old new me log now key has late stand = record {
 }
 
 -- after a setting
-pub has_set : (q : Queries) (locals : LocalsView) (me : Mac) (log : Log) (now : ℕ) (on : Bool) → HasClients locals me log → newest_moment log ≤ now
-    → HasClients locals me (with_input q me log now (Line (Sets (Wifi on))))
-has_set q locals me log now on has late = record {
+pub has_set : (q : Queries) (locals : LocalsView) (me : Mac) (log : Log) (now : ℕ) (setting : Setting) → HasClients locals me log → newest_moment log ≤ now
+    → HasClients locals me (with_input q me log now (Line (Sets setting)))
+has_set q locals me log now setting has late = record {
   since = has.since;
   stand = has.stand;
   settled = (let settled = has.settled in omega (arith, settled, late));
@@ -158,4 +168,24 @@ has_session q locals me log now target false has late = record {
   stand = has.stand;
   settled = (let settled = has.settled in omega (arith, settled, late));
   few = few_later (mentions me log) (history me log) (newest_moment log) now has.few late;
+}
+
+-- ---- settings
+
+-- sightings are marked as it was set
+pub wifi_is : {A : Type 0} (stands : A → Mac → RouteLog → Type 0) (queries : Mac → Queries) (node : Node A) (me : Mac) (log : Log) → NodeStands stands queries node me log
+    → node.kept.services.settings.wifi ≡ is_wifi_on log
+wifi_is stands queries node me log is = ap (λ s. s.wifi) (is.kept.services.settings ∙ settings_known (queries me) me log)
+
+-- what is kept after a setting
+pub set_stands : {A : Type 0} (stands : A → Mac → RouteLog → Type 0) (kept : NodeKnowledge A) (services : Services) (me : Mac) (setting : Setting) (known : Knowledge) → KnowledgeStands stands kept me known
+    → ServicesStand services (after_set setting known.services) → KnowledgeStands stands (record kept { services = services }) me (with_set setting known)
+set_stands stands kept services me setting known is set = record {
+  routes = is.routes;
+  tables = is.tables;
+  marks = is.marks;
+  probes = is.probes;
+  taken = is.taken;
+  sent = is.sent;
+  services = set;
 }

@@ -1,13 +1,14 @@
--- What a node stands for: the log of the node of an address. What it keeps of the others stands for
--- what it knows by that log, its local clients for the mentions and the commits there, its bridge for
--- the LAN and the claims there, and it has refused nothing. `stands` is the algorithm's own word. The main word is `NodeStands`.
+-- What a node stands for: the log of the node of an address. What it keeps of the others stands
+-- for what it knows by that log, its local clients for the mentions and the commits there, its
+-- bridge for the LAN and the claims there, and it has refused nothing. `stands` is the algorithm's
+-- own word. The main word is `NodeStands`.
 use Rattle.std.specs.Prelude.{◌≡◌, ◌≤◌, ℕ, Bool, true, false, ⊤}
 use Rattle.mesh_base.specs.declared.address.Mac.{Mac}
+use Rattle.mesh_model.specs.declared.service.GroupRow.{GroupRow}
 use Rattle.mesh_model.specs.Clients.Lans.{bridge}
 use Rattle.mesh_model.specs.Clients.Log.{Given, Log}
 use Rattle.mesh_model.specs.Clients.Log as log
 use Rattle.mesh_model.specs.Clients.Settings as settings
-use Rattle.mesh_model.specs.Clients.Mentions.{is_wifi_on}
 use Rattle.mesh_model.specs.Knowledge.Known.{Knowledge}
 use Rattle.mesh_model.specs.Knowledge.Steps.{knowledge}
 use Rattle.mesh_model.specs.Routes.Queries.{Queries}
@@ -16,7 +17,7 @@ use Rattle.node_ground.specs.KnowledgeStands.{KnowledgeStands}
 use Rattle.node_ground.specs.OwnStands.{HasClients, newest_moment}
 use Rattle.node_lans.specs.BridgeStands.{BridgeStands}
 use Rattle.mesh_node.specs.declared.input.Input.{Input}
-use Rattle.mesh_node.specs.declared.input.Input.TheVariants.{Tick, Link, Lan, Attach, Frame, Gone, Join, Leave, Wifi, Ping, Trace}
+use Rattle.mesh_node.specs.declared.input.Input.TheVariants.{Tick, Link, Lan, Attach, Frame, Gone, Join, Leave, Dhcp, Wifi, GwOff, GwServer, GwClient, Mcast, Dat, Ping, Trace}
 use Rattle.mesh_node.specs.declared.node.Node.{Node}
 
 -- the node stands for this log of the node of an address
@@ -26,7 +27,6 @@ pub record NodeStands {A : Type 0} (stands : A → Mac → RouteLog → Type 0)
   pub kept : KnowledgeStands stands node.kept me (knowledge (queries me) me log)
   pub clients : HasClients node.locals me log
   pub bridge : BridgeStands node.bridge me (bridge log)
-  pub wifi : node.wifi ≡ is_wifi_on log
   pub alive : node.dead ≡ false
 
 -- what an input gives a node, where a link frame has this number
@@ -39,7 +39,15 @@ given_by number (Frame src dst vid text) = log.Line (log.Frame src dst vid text.
 given_by number (Gone key) = log.Line (log.Gone key)
 given_by number (Join key) = log.Line (log.Join key)
 given_by number (Leave key) = log.Line (log.Leave key)
+given_by number (Dhcp key text) = log.Line (log.Dhcp key text.now)
 given_by number (Wifi on) = log.Line (log.Sets (settings.Wifi on))
+given_by number GwOff = log.Line (log.Sets (settings.Gateway settings.NoPart))
+given_by number (GwServer down up) = log.Line (log.Sets (settings.Gateway
+    (settings.Serves (record { download = down; upload = up }))))
+given_by number (GwClient policy) =
+    log.Line (log.Sets (settings.Gateway (settings.Chooses policy)))
+given_by number (Mcast flags) = log.Line (log.Sets (settings.Multicast flags))
+given_by number (Dat on) = log.Line (log.Sets (settings.ArpTable on))
 given_by number (Ping target) = log.Line (log.Ping target)
 given_by number (Trace target) = log.Line (log.Trace target)
 
@@ -47,6 +55,10 @@ given_by number (Trace target) = log.Line (log.Trace target)
 abbrev pub given_session : Mac → Bool → Given
 given_session target true = log.Line (log.Trace target)
 given_session target false = log.Line (log.Ping target)
+
+-- the multicast flags of an originator, with its address
+abbrev pub flags_of : GroupRow → Mac × ℕ
+flags_of row = (row.orig, row.flags)
 
 -- whether a node refused something before
 abbrev pub is_dead : {A : Type 0} → Node A → Bool
@@ -62,7 +74,13 @@ MayFollow known (Frame src dst vid text) = ⊤
 MayFollow known (Gone key) = ⊤
 MayFollow known (Join key) = ⊤
 MayFollow known (Leave key) = ⊤
+MayFollow known (Dhcp key text) = ⊤
 MayFollow known (Wifi on) = ⊤
+MayFollow known GwOff = ⊤
+MayFollow known (GwServer down up) = ⊤
+MayFollow known (GwClient policy) = ⊤
+MayFollow known (Mcast flags) = ⊤
+MayFollow known (Dat on) = ⊤
 MayFollow known (Ping target) = ⊤
 MayFollow known (Trace target) = ⊤
 

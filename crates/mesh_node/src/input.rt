@@ -1,7 +1,8 @@
 use mesh_base::{Key, Mac, Vid};
+use mesh_model::Policy;
 
-/// What a node is given: a tick, a link frame, a frame of its LAN, or what a line of a scenario gives
-/// it.
+/// What a node is given: a tick, a link frame, a frame of its LAN, or what a line of a scenario
+/// gives it.
 #[derive(Clone, Copy, Debug)]
 pub enum Input<'a> {
     /// A tick, by its index from 1.
@@ -42,8 +43,26 @@ pub enum Input<'a> {
     Leave {
         key: Key,
     },
+    /// A call of a client at this node for a gateway.
+    Dhcp {
+        key: Key,
+        text: &'a [u8],
+    },
     /// Whether the clients that are sighted from now on are on a wireless device.
     Wifi(bool),
+    /// This node is no gateway and chooses none.
+    GwOff,
+    /// This node is a gateway with these throughputs, in units of 100 kbit/s.
+    GwServer {
+        down: u32,
+        up: u32,
+    },
+    /// This node chooses its gateways by this policy.
+    GwClient(Policy),
+    /// The multicast flags of this node, 0 to 7.
+    Mcast(u8),
+    /// Whether this node takes part in the distributed ARP table.
+    Dat(bool),
     /// A ping of this node to another one begins.
     Ping {
         target: Mac,

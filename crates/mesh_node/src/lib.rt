@@ -5,6 +5,7 @@
 pub mod input;
 pub mod node;
 mod rows;
+mod serving;
 mod taking;
 
 pub use input::Input;

@@ -31,7 +31,6 @@ pub struct Node<A: Algo> {
     pub(crate) locals: Locals,
     pub(crate) kept: NodeKnowledge<A>,
     pub(crate) bridge: Bridge,
-    pub(crate) wifi: bool,
     pub(crate) dead: bool,
 }
 
@@ -46,7 +45,6 @@ impl<A: Algo> Node<A> {
             locals: Locals::new(alloc),
             kept: NodeKnowledge::new(alloc, algo),
             bridge: Bridge::new(alloc, me),
-            wifi: false,
             dead: false,
         }
     }
@@ -102,8 +100,8 @@ impl<A: Algo> Node<A> {
         }
     }
 
-    /// Takes what it is given at a moment, and puts its acts into the port. After a refusal it takes
-    /// nothing more.
+    /// Takes what it is given at a moment, and puts its acts into the port. After a refusal it
+    /// takes nothing more.
     pub fn take<P: Port>(
         &mut self,
         port: &mut P,

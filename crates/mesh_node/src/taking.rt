@@ -8,7 +8,6 @@ ghost use Rattle.mesh_model.specs.Acts.NodeLimits.{node_limit};
 ghost use Rattle.mesh_model.specs.Clients.Limits.{passed_limit};
 ghost use Rattle.mesh_model.specs.Clients.Log.{Given, Log};
 ghost use Rattle.mesh_model.specs.Clients.Log as given;
-ghost use Rattle.mesh_model.specs.Clients.Settings as settings;
 ghost use Rattle.mesh_model.specs.Knowledge.Steps.{knowledge};
 ghost use Rattle.mesh_model.specs.Packets.Numbers.{wifi_flag};
 ghost use Rattle.mesh_model.specs.Routes.RouteLog.{MayTick};
@@ -24,11 +23,12 @@ use crate::rows::link;
 use mesh_algo::Algo;
 use mesh_base::{Key, Mac, Millis};
 use mesh_codec::ClientFrame;
+use mesh_serv::Bandwidth;
 use mesh_tvlv::layout::WIFI;
 use node_clients::client_frames::frame;
 use node_clients::lan_frames::lan_frame;
 use node_clients::roaming::note_roamed;
-use node_ground::{Coming, NodeErr, Place, Port};
+use node_ground::{Coming, GatewayPart, NodeErr, Place, Port, Setting};
 use node_probes::probes::session;
 use node_tables::ticks::tick;
 
@@ -76,7 +76,21 @@ impl<A: Algo> Node<A> {
             Input::Gone { key } => self.lose_client(now, key),
             Input::Join { key } => self.join_group(now, key)?,
             Input::Leave { key } => self.leave_group(now, key),
-            Input::Wifi(on) => self.set_wifi(now, on),
+            Input::Dhcp { key, text } => self.take_call(port, now, key, text)?,
+            Input::Wifi(on) => self.set(now, Setting::Wifi(on)),
+            Input::GwOff => self.set(now, Setting::Gateway(GatewayPart::NoPart)),
+            Input::GwServer {
+                down: download,
+                up: upload,
+            } => {
+                let offered = Bandwidth { download, upload };
+                self.set(now, Setting::Gateway(GatewayPart::Serves(offered)));
+            }
+            Input::GwClient(policy) => {
+                self.set(now, Setting::Gateway(GatewayPart::Chooses(policy)));
+            }
+            Input::Mcast(flags) => self.set(now, Setting::Multicast(flags)),
+            Input::Dat(on) => self.set(now, Setting::ArpTable(on)),
             Input::Ping { target } => self.take_session(port, now, target, false)?,
             Input::Trace { target } => self.take_session(port, now, target, true)?,
         }
@@ -160,7 +174,7 @@ impl<A: Algo> Node<A> {
         ensures alive { is_dead self.new ≡ is_dead self.old }
     {
         let at = Place { me: self.me, now };
-        let flags = client_flags(self.wifi);
+        let flags = client_flags(self.kept.services.settings.wifi);
         lan_frame(
             &mut self.kept,
             port,
@@ -207,7 +221,7 @@ impl<A: Algo> Node<A> {
         ensures alive { is_dead self.new ≡ is_dead self.old }
     {
         let at = Place { me: self.me, now };
-        let flags = client_flags(self.wifi);
+        let flags = client_flags(self.kept.services.settings.wifi);
         frame(&mut self.kept, port, &mut self.locals, at, flags, sent)?;
         Ok(())
     }
@@ -269,21 +283,10 @@ impl<A: Algo> Node<A> {
     {
         self.locals.leave(key);
     }
-
-    // Sets whether the clients that are sighted are on a wireless device.
-    fn set_wifi(&mut self, now: Millis, on: bool)
-        ensures noted { (me : Mac) (log : Log) → NodeStands A.stands A.queries self.old me log →
-            newest_moment log ≤ now →
-            NodeStands A.stands A.queries self.new me
-            (with_input (A.queries me) me log now (given.Line (given.Sets (settings.Wifi on)))) }
-        ensures alive { is_dead self.new ≡ is_dead self.old }
-    {
-        self.wifi = on;
-    }
 }
 
 // The flags of a client that is sighted, with this setting for wireless clients.
-fn client_flags(wifi: bool) -> u8
+pub(crate) fn client_flags(wifi: bool) -> u8
     ensures { result ≡ (if wifi then wifi_flag else 0) }
 {
     if wifi { WIFI } else { 0 }

@@ -4,3 +4,5 @@
 
 #[cfg(test)]
 mod dead_nodes;
+#[cfg(test)]
+mod settings;

@@ -22,3 +22,5 @@ mod links;
 mod order;
 #[cfg(test)]
 mod rows;
+#[cfg(test)]
+mod services;

@@ -120,9 +120,9 @@ fn a_client_frame_goes_where_its_receiver_is(rt: HostRuntime) -> Result<(), Fail
         (
             &[],
             "frame A 02:00:00:00:01:01 01:00:5e:00:00:fb - x\n",
-            REFUSED,
+            FINISHED,
             "",
-            "batmesh: line 5: not built\n",
+            "",
         ),
     ];
     carry_out(&rt, rt.alloc(), &rows)

@@ -3,17 +3,17 @@ use Rattle.std.proofs.Common.{◌≡◌, ℕ, ◌-◌, ◌<◌, ◌≤◌, Bool,
 use Rattle.std.specs.Prelude.{flat_map, nat_lt, not, ◌==◌, if◌then◌else◌}
 use Rattle.std.specs.Option.{option_map_or, option_or}
 use Rattle.std.proofs.lemmas.Bool.Decides.{nat_tests}
-use Rattle.mesh_base.specs.Address.{is_broadcast, is_group}
 use Rattle.mesh_base.specs.declared.address.Mac.{Mac}
 use Rattle.mesh_base.specs.declared.client.Key.{Key}
 use Rattle.mesh_base.specs.declared.client.Vid.{Vid}
 use Rattle.mesh_model.specs.declared.ending.Refusal.{Refusal}
-use Rattle.mesh_model.specs.declared.ending.Refusal.TheVariants.{NoSuchFrame, NotBuilt}
+use Rattle.mesh_model.specs.declared.ending.Refusal.TheVariants.{NoSuchFrame}
 use Rattle.mesh_model.specs.declared.ending.Stop.TheVariants.{Refused}
 use Rattle.mesh_model.specs.declared.line_form.Command.TheVariants.{Node, Link, Frame, Gone, Join, Leave, Wifi, Deliver, Show}
 use Rattle.mesh_model.specs.Clients.Log.{Given, Line, Sets}
 use Rattle.mesh_model.specs.Clients.Log.{Frame as GivenFrame, Gone as GivenGone, Join as GivenJoin, Leave as GivenLeave}
-use Rattle.mesh_model.specs.Clients.Settings.{Wifi as WifiSet}
+use Rattle.mesh_model.specs.Clients.Settings.{Setting, NoPart, Serves, Chooses}
+use Rattle.mesh_model.specs.Clients.Settings.{ArpTable as SetsArpTable, Gateway as SetsGateway, Multicast as SetsMulticast, Wifi as SetsWifi}
 use Rattle.mesh_model.specs.Net.Mesh.{Mesh, Setup}
 use Rattle.mesh_model.specs.Net.Runs.{delivered}
 use Rattle.mesh_model.specs.Packets.Payload.{payload_spelling}
@@ -22,7 +22,7 @@ use Rattle.mesh_model.specs.Run.Outcome.{Ends, Goes, Outcome}
 use Rattle.mesh_model.specs.Run.Passing.{after_attempt}
 use Rattle.mesh_model.specs.Run.Rules.{carried_out, name_refusal, unless_refused}
 use Rattle.mesh_model.specs.Run.State.{State, place_of}
-use Rattle.mesh_model.specs.Run.Steps.{at_node, input_step, lan_frame_step}
+use Rattle.mesh_model.specs.Run.Steps.{at_node, input_step, lan_frame_step, setting_step}
 use Rattle.mesh_scene.specs.Inner.AtNodes.{given_at, given_step}
 use Rattle.mesh_scene.specs.Inner.AtPlaces.{all_step, placed_at}
 use Rattle.std.specs.Prelude.{IfSome, Option}
@@ -41,6 +41,10 @@ one_rule : (state : State) (rule : Option Refusal) (outcome : Outcome) → unles
 one_rule state (Some refusal) outcome = refl
 one_rule state None outcome = refl
 
+-- so it is where a setting is given
+set_so : (setup : Setup) (state : State) (node : List ℕ) (setting : Setting) → unless_refused state (option_or (option_or (name_refusal state (OfNode node)) None) None) (setting_step setup node setting state) ≡ given_at setup node (Line (Sets setting)) state
+set_so setup state node setting = one_rule state (name_refusal state (OfNode node)) (setting_step setup node setting state)
+
 -- a command that gives a node something is carried out by giving it
 pub given_so : (setup : Setup) (state : State) (command : Command) → IfSome (given_of command) (λ given. carried_out setup state command ≡ given_at setup given.0 given.1 state)
 given_so setup state Nothing = tt
@@ -54,12 +58,12 @@ given_so setup state (Join node key) = one_rule state (name_refusal state (OfNod
 given_so setup state (Leave node key) = one_rule state (name_refusal state (OfNode node)) (at_node node (input_step setup (GivenLeave key)) state)
 given_so setup state (Arp node mac own asked vid) = tt
 given_so setup state (Dhcp node key text) = tt
-given_so setup state (Wifi node on) = one_rule state (name_refusal state (OfNode node)) (at_node node (input_step setup (Sets (WifiSet on))) state)
-given_so setup state (GwOff node) = tt
-given_so setup state (GwServer node down up) = tt
-given_so setup state (GwClient node policy) = tt
-given_so setup state (Mcast node flags) = tt
-given_so setup state (Dat node on) = tt
+given_so setup state (Wifi node on) = set_so setup state node (SetsWifi on)
+given_so setup state (GwOff node) = set_so setup state node (SetsGateway NoPart)
+given_so setup state (GwServer node down up) = set_so setup state node (SetsGateway (Serves (record { download = down; upload = up })))
+given_so setup state (GwClient node policy) = set_so setup state node (SetsGateway (Chooses policy))
+given_so setup state (Mcast node flags) = set_so setup state node (SetsMulticast flags)
+given_so setup state (Dat node on) = set_so setup state node (SetsArpTable on)
 given_so setup state (Alfred node mode) = tt
 given_so setup state (Put node type_no version text) = tt
 given_so setup state (Get node type_no) = tt
@@ -72,16 +76,11 @@ given_so setup state (Decode bytes) = tt
 
 -- ---- a frame or a departure at a place
 
--- a frame to a group, other than to all stations, isn't built
-pub frame_refused : (setup : Setup) (state : State) (name : List ℕ) (src dst : Mac) (vid : Vid) (text : List ℕ) → (is_group dst && not (is_broadcast dst)) ≡ true
-    → carried_out setup state (Frame name src dst vid text) ≡ Ends state (Refused NotBuilt)
-frame_refused setup state name src dst vid text other = rw other refl
-
--- a frame that is built goes to the LAN or the node of a name
-pub frame_placed : (setup : Setup) (state : State) (name : List ℕ) (src dst : Mac) (vid : Vid) (text : List ℕ) → (is_group dst && not (is_broadcast dst)) ≡ false
+-- a frame goes to the LAN or the node of a name
+pub frame_placed : (setup : Setup) (state : State) (name : List ℕ) (src dst : Mac) (vid : Vid) (text : List ℕ)
     → carried_out setup state (Frame name src dst vid text)
     ≡ placed_at name (lan_frame_step setup (payload_spelling (record { dst = dst; src = src; vid = vid; text = text }))) (given_step setup (Line (GivenFrame src dst vid text))) state
-frame_placed setup state name src dst vid text built = rw built refl
+frame_placed setup state name src dst vid text = refl
 
 -- a client that is gone is gone from the gateways of the LAN, or from the node, of a name
 pub gone_placed : (setup : Setup) (state : State) (name : List ℕ) (key : Key)

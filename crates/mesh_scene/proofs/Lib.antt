@@ -7,6 +7,7 @@ pub mod TopologyLemmas
 pub mod GivenLemmas
 pub mod TableLemmas
 pub mod SessionLemmas
+pub mod CallLemmas
 pub mod PassLemmas
 pub mod CountLemmas
 pub mod LanLemmas

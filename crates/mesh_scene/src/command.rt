@@ -81,6 +81,11 @@ impl<A: Choosable + Drop> Scene<A> {
                 self.frame(place.as_slice(), &frame, text)?;
             }
             Command::Gone { place, key } => self.gone(place.as_slice(), key, text)?,
+            Command::Dhcp {
+                node,
+                key,
+                text: call,
+            } => self.dhcp(node.as_slice(), key, call.as_slice(), text)?,
             Command::Ping { node, target } => self.ping(node.as_slice(), target.as_slice(), text)?,
             Command::Trace { node, target } => {
                 self.trace(node.as_slice(), target.as_slice(), text)?;
@@ -89,16 +94,17 @@ impl<A: Choosable + Drop> Scene<A> {
             Command::Show { node, table } => self.show(node.as_slice(), table, text)?,
             Command::Decode { bytes } => decode_text(text, bytes.as_slice())?,
             // These give a node something.
-            Command::Join { .. } | Command::Leave { .. } | Command::Wifi { .. } => unreachable!(),
-            // These change more than the scene.
-            Command::Algo(_) | Command::Run { .. } => unreachable!(),
-            Command::Arp { .. }
-            | Command::Dhcp { .. }
+            Command::Join { .. }
+            | Command::Leave { .. }
+            | Command::Wifi { .. }
             | Command::GwOff { .. }
             | Command::GwServer { .. }
             | Command::GwClient { .. }
             | Command::Mcast { .. }
-            | Command::Dat { .. }
+            | Command::Dat { .. } => unreachable!(),
+            // These change more than the scene.
+            Command::Algo(_) | Command::Run { .. } => unreachable!(),
+            Command::Arp { .. }
             | Command::Alfred { .. }
             | Command::Put { .. }
             | Command::Get { .. } => return Err(refused(Refusal::NotBuilt)),

@@ -15,8 +15,8 @@ use mesh_model::{Command, Refusal};
 use mesh_node::Input;
 use mesh_show::{Choosable, put_events};
 
-/// The name of the node that a command gives something, and what it gives, where it names a node
-/// and no place.
+/// The name of the node that a command gives something, and what it gives, where it asks no more of
+/// the scene than a node of that name.
 pub fn given_of(command: &Command) -> Option<(&[u8], Input<'_>)>
     ensures some { IfSome result (λ given.
         given_of command.now ≡ Some (given.0.now, given_by 0 given.1)) }
@@ -27,6 +27,17 @@ pub fn given_of(command: &Command) -> Option<(&[u8], Input<'_>)>
         Command::Join { node, key } => Some((node.as_slice(), Input::Join { key: *key })),
         Command::Leave { node, key } => Some((node.as_slice(), Input::Leave { key: *key })),
         Command::Wifi { node, on } => Some((node.as_slice(), Input::Wifi(*on))),
+        Command::GwOff { node } => Some((node.as_slice(), Input::GwOff)),
+        Command::GwServer { node, down, up } => {
+            let input = Input::GwServer {
+                down: *down,
+                up: *up,
+            };
+            Some((node.as_slice(), input))
+        }
+        Command::GwClient { node, policy } => Some((node.as_slice(), Input::GwClient(*policy))),
+        Command::Mcast { node, flags } => Some((node.as_slice(), Input::Mcast(*flags))),
+        Command::Dat { node, on } => Some((node.as_slice(), Input::Dat(*on))),
         Command::Nothing
         | Command::Algo(_)
         | Command::Node { .. }
@@ -36,11 +47,6 @@ pub fn given_of(command: &Command) -> Option<(&[u8], Input<'_>)>
         | Command::Gone { .. }
         | Command::Arp { .. }
         | Command::Dhcp { .. }
-        | Command::GwOff { .. }
-        | Command::GwServer { .. }
-        | Command::GwClient { .. }
-        | Command::Mcast { .. }
-        | Command::Dat { .. }
         | Command::Alfred { .. }
         | Command::Put { .. }
         | Command::Get { .. }

@@ -2,6 +2,7 @@
 
 #![tactic(auto)]
 
+mod calls;
 mod command;
 mod counts;
 mod fault;

@@ -4,3 +4,5 @@
 
 #[cfg(test)]
 mod choices;
+#[cfg(test)]
+mod offers;

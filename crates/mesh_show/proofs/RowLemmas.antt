@@ -2,8 +2,11 @@
 use Rattle.std.proofs.Common.{◌≡◌, ℕ, zero, suc, ◌+◌, List, [], ◌∷◌, ◌++◌, length, take, slice_get, Option, Some, None, option_map, sym, ap, ◌∙◌, append_assoc, append-nil, length-append, arith}
 use Rattle.std.specs.Prelude.{flat_map}
 use Rattle.std.proofs.lemmas.List.Concat.{flat_map-append}
+use Rattle.mesh_base.specs.declared.address.Mac.{Mac}
 use Rattle.mesh_base.specs.declared.client.Vid.{Vid}
+use Rattle.mesh_model.specs.declared.service.GroupRow.{GroupRow}
 use Rattle.mesh_model.specs.Packets.Bodies.{VlanSum}
+use Rattle.mesh_node.specs.NodeStands.{flags_of}
 
 pub take-next : {X : Type 0} (xs : List X) (i : ℕ) (x : X) → slice_get xs i ≡ Some x → take (suc i) xs ≡ take i xs ++ x ∷ []
 take-next [] i x found = cc
@@ -35,4 +38,12 @@ sum_named pair None e = cc
 sum_named pair (Some n) e = ap (λ (p : Vid × ℕ). Some (record { vid = p.0; sum = p.1 })) (sym (both e))
   where
     both : Some pair ≡ Some (vlan_pair n) → pair ≡ vlan_pair n
+    both p = cc
+
+-- the flags of an originator are those of the row there
+pub flags_named : (pair : Mac × ℕ) (row : Option GroupRow) → Some pair ≡ option_map flags_of row → row ≡ Some (record { orig = pair.0; flags = pair.1 })
+flags_named pair None e = cc
+flags_named pair (Some r) e = ap (λ (p : Mac × ℕ). Some (record { orig = p.0; flags = p.1 })) (sym (both e))
+  where
+    both : Some pair ≡ Some (flags_of r) → pair ≡ flags_of r
     both p = cc

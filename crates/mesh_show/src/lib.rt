@@ -6,6 +6,8 @@ mod choosable;
 mod claims;
 mod clients;
 mod events;
+mod gateways;
+mod groups;
 mod known;
 mod routes;
 mod tables;

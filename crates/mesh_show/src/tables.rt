@@ -9,6 +9,8 @@ ghost use Rattle.mesh_show.specs.Shown.{AppendsTable, IsNodeAt, IsSeenAt};
 use crate::choosable::Choosable;
 use crate::claims::show_claims;
 use crate::clients::show_locals;
+use crate::gateways::show_gateways;
+use crate::groups::show_groups;
 use crate::known::show_globals;
 use crate::routes::{show_neighbors, show_originators};
 use mesh_base::{Millis, Names, NoMemory};
@@ -16,15 +18,19 @@ use mesh_model::Table;
 use mesh_node::Node;
 use std::alloc::Global;
 
-/// Whether a table is built: those of local clients, of what is known of the others', of
-/// originators, of neighbours and of the claims on a LAN are.
+/// Whether a table is built: those of addresses and of facts aren't.
 pub fn is_built(table: Table) -> bool
     ensures { result ≡ is_some (shown table) }
 {
     match table {
-        Table::Locals | Table::Globals | Table::Originators | Table::Neighbors | Table::Claims =>
-            true,
-        Table::Gateways | Table::Groups | Table::Addresses | Table::Facts => false,
+        Table::Locals
+        | Table::Globals
+        | Table::Originators
+        | Table::Neighbors
+        | Table::Claims
+        | Table::Gateways
+        | Table::Groups => true,
+        Table::Addresses | Table::Facts => false,
     }
 }
 
@@ -49,7 +55,9 @@ fn put_shown<A: Choosable>(
         Table::Originators => show_originators(alloc, node.algo(), name, now, out)?,
         Table::Neighbors => show_neighbors(alloc, node.algo(), name, now, out)?,
         Table::Claims => show_claims(alloc, node, names, name, now, out)?,
-        Table::Gateways | Table::Groups | Table::Addresses | Table::Facts => unreachable!(),
+        Table::Gateways => show_gateways(alloc, node, name, now, out)?,
+        Table::Groups => show_groups(alloc, node, name, now, out)?,
+        Table::Addresses | Table::Facts => unreachable!(),
     }
     Ok(())
 }

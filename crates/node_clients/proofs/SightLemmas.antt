@@ -15,12 +15,13 @@ use Rattle.node_ground.proofs.PutsLemmas.{stops_among}
 use Rattle.node_ground.proofs.LeavesLemmas.{client_cause, free_cause}
 use Rattle.mesh_base.specs.declared.address.Mac.{Mac}
 use Rattle.mesh_base.specs.declared.client.Vid.{Vid}
-use Rattle.mesh_model.specs.Clients.Log.{Log, LanFrame, Line, Frame}
+use Rattle.mesh_model.specs.Clients.Log.{Log, LanFrame, Line, Frame, Dhcp}
 use Rattle.mesh_model.specs.Commits.History.{History, history}
 use Rattle.mesh_model.specs.Routes.Queries.{Queries}
 use Rattle.node_ground.specs.OwnStands.{AreFew, HasClients, OwnStands, newest_moment, with_input}
 use Rattle.node_ground.proofs.OwnLemmas.{few_later, few_news}
 use Rattle.tt_local.specs.Locals.{LocalsView}
+use Rattle.mesh_model.specs.Acts.Choosing.{call_frame}
 use Rattle.mesh_model.specs.Acts.Rows.{own_by}
 use Rattle.mesh_model.specs.Packets.LanFrames.{lan_message_of}
 use Rattle.mesh_model.specs.Packets.Payload.{ClientFrame}
@@ -51,6 +52,16 @@ has_sighted q old new me src dst vid text log now has late mentioned = record {
   stand = mentioned.stand;
   settled = (let settled = mentioned.settled in omega (arith, settled, late));
   few = few_passed (mentions me log) (history me log) (newest_moment log) now (sighted_after log) (Some (record { dst = dst; src = src; vid = vid; text = text })) has.few late mentioned.within;
+}
+
+-- and after a call for a gateway
+pub has_called : (q : Queries) (old new : LocalsView) (me : Mac) (key : Key) (text : List ℕ) (log : Log) (now : ℕ) → HasClients old me log → newest_moment log ≤ now
+    → HasMentioned new me log (sighting_of log now key) → HasClients new me (with_input q me log now (Line (Dhcp key text)))
+has_called q old new me key text log now has late mentioned = record {
+  since = mentioned.since;
+  stand = mentioned.stand;
+  settled = (let settled = mentioned.settled in omega (arith, settled, late));
+  few = few_passed (mentions me log) (history me log) (newest_moment log) now (sighted_after log) (Some (call_frame key text)) has.few late mentioned.within;
 }
 
 -- and after a frame of a LAN

@@ -4,7 +4,7 @@ use Rattle.std.specs.Prelude.{◌≡◌, ℕ, ◌≤◌, ◌++◌, List, None}
 use Rattle.mesh_base.specs.declared.address.Mac.{Mac}
 use Rattle.mesh_base.specs.declared.client.Key.{Key}
 use Rattle.mesh_model.specs.Clients.Limits.{limit_of_mentions}
-use Rattle.mesh_model.specs.Clients.Log.{Given, Line, Frame, Log}
+use Rattle.mesh_model.specs.Clients.Log.{Given, Line, Frame, Dhcp, Log}
 use Rattle.mesh_model.specs.Clients.Mentions.{Mention, key_of, mention, mentions, sighted_after}
 use Rattle.mesh_model.specs.Commits.History.{history}
 use Rattle.mesh_model.specs.Knowledge.Steps.{knowledge}
@@ -27,6 +27,10 @@ key_to frame = key_of frame.dst frame.vid
 -- a client frame, as a line gives it
 abbrev pub given_frame : ClientFrame → Given
 given_frame frame = Line (Frame frame.src frame.dst frame.vid frame.text)
+
+-- a call for a gateway, as a line gives it
+abbrev pub given_call : Key → List ℕ → Given
+given_call key text = Line (Dhcp key text)
 
 -- the sighting of a client right after a log
 abbrev pub sighting_of : Log → ℕ → Key → List Mention

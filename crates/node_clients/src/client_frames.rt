@@ -1,10 +1,8 @@
 //! The row of client frames that lines give a node, behind their sighting.
 
-ghost use Rattle.mesh_model.specs.Packets.Numbers.{first_ttl};
-ghost use Rattle.std.specs.Prelude.{◌≡◌, ◌∷◌, [], suc, OnOk};
+ghost use Rattle.std.specs.Prelude.{◌≡◌, [], OnOk};
 ghost use Rattle.mesh_codec.specs.Payloads.{seen_frame};
 ghost use Rattle.mesh_model.specs.Acts.FrameRows.{frame_acts, on_way};
-ghost use Rattle.mesh_model.specs.Acts.Packing.{sent_to_all};
 ghost use Rattle.mesh_model.specs.Acts.Rows.{Own};
 ghost use Rattle.mesh_model.specs.Acts.Choosing.{acts_of, sighting_acts};
 ghost use Rattle.mesh_model.specs.Acts.NodeLimits.{node_limit};
@@ -14,8 +12,6 @@ ghost use Rattle.mesh_model.specs.Clients.Mentions.{Sighted, mentions, sighted_a
 ghost use Rattle.mesh_model.specs.Knowledge.Addressee.{addressee};
 ghost use Rattle.mesh_model.specs.Knowledge.Known.{Knowledge};
 ghost use Rattle.mesh_model.specs.Knowledge.Steps.{after_frame, after_sighting, knowledge, next_knowledge};
-ghost use Rattle.mesh_model.specs.Packets.Payload.{payload_spelling};
-ghost use Rattle.mesh_model.specs.declared.packet.Head.TheVariants.{Bcast};
 ghost use Rattle.node_ground.specs.KnowledgeStands.{KnowledgeStands, place};
 ghost use Rattle.node_ground.specs.OwnStands.{with_input};
 ghost use Rattle.node_ground.specs.OwnStands.{HasClients, OwnStands};
@@ -23,42 +19,15 @@ ghost use Rattle.node_clients.specs.FrameRows.{Before, HasMentioned, given_frame
 ghost use Rattle.node_ground.specs.Puts.{Leaves, Puts, behind};
 ghost use Rattle.node_clients.specs.FrameRows.{key_to};
 
+use crate::groups::group_frame;
+use crate::sending::{flood, send_on};
 use crate::sightings::sighting;
 use mesh_algo::Algo;
 use mesh_base::{Key, LossReason};
-use mesh_codec::{ClientFrame, Head};
-use node_ground::deliveries::{address, hand_out, is_present, lose, payload};
-use node_ground::messages::send;
-use node_ground::packing::FIRST_TTL;
+use mesh_codec::ClientFrame;
+use node_ground::deliveries::{hand_out, is_present, lose};
 use node_ground::{NodeErr, NodeKnowledge, Place, Port};
 use tt_local::Locals;
-
-// A client frame for all is sent on all links.
-fn send_broadcast<A: Algo, P: Port>(
-    kept: &mut NodeKnowledge<A>,
-    port: &mut P,
-    at: Place,
-    frame: &ClientFrame<'_>,
-) -> Result<(), NodeErr>
-    ensures puts { (known : Knowledge) → KnowledgeStands A.stands kept.old at.me known →
-        Puts P.takes P.same P.over port.old
-        (sent_to_all (Bcast first_ttl (suc known.sent) at.me)
-        (payload_spelling (seen_frame frame.now)) ∷ []) result port.new }
-    ensures noted { (known : Knowledge) → KnowledgeStands A.stands kept.old at.me known →
-        OnOk result (KnowledgeStands A.stands kept.new at.me
-        (record known { sent = suc known.sent })) }
-{
-    let payload = payload(kept.alloc, frame)?;
-    let number = kept.sent.wrapping_add(1);
-    let head = Head::Bcast {
-        ttl: FIRST_TTL,
-        seq: number,
-        orig: at.me,
-    };
-    send(kept.alloc, port, None, None, &head, payload.as_slice())?;
-    kept.sent = number;
-    Ok(())
-}
 
 // A client frame goes on its way, or is lost where there is none.
 fn send_frame<A: Algo, P: Port>(
@@ -81,8 +50,7 @@ fn send_frame<A: Algo, P: Port>(
         lose(port, at, LossReason::Unknown, frame)?;
         return Ok(());
     };
-    let payload = payload(kept.alloc, frame)?;
-    address(kept, port, at, FIRST_TTL, &way, payload.as_slice())?;
+    send_on(kept, port, at, &way, frame)?;
     Ok(())
 }
 
@@ -102,20 +70,24 @@ pub(crate) fn client_frame<A: Algo, P: Port>(
         (frame_acts (A.queries at.me) known own.mentions (place at) (seen_frame frame.now))
         result port.new }
     ensures noted { (known : Knowledge) → KnowledgeStands A.stands kept.old at.me known →
-        OnOk result (KnowledgeStands A.stands kept.new at.me (after_frame frame.now.dst known)) }
+        let key = key_to (seen_frame frame.now) in
+        OnOk result (KnowledgeStands A.stands kept.new at.me
+        (after_frame (A.queries at.me) at.now key known)) }
 {
     if frame.dst.is_broadcast() {
-        send_broadcast(kept, port, at, frame)?;
-        return Ok(());
-    }
-    if frame.dst.is_group() {
+        flood(kept, port, at, frame)?;
         return Ok(());
     }
     let key = Key {
         mac: frame.dst,
         vid: frame.vid,
     };
-    if is_present(locals, at.now, key) {
+    let present = is_present(locals, at.now, key);
+    if frame.dst.is_group() {
+        group_frame(kept, port, at, frame, present)?;
+        return Ok(());
+    }
+    if present {
         hand_out(kept.alloc, port, at, frame)?;
         return Ok(());
     }

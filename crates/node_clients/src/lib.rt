@@ -1,10 +1,13 @@
-//! The rows of a node for client frames: those of its own clients, with their sightings, those of its
-//! LAN, those that come in packets, and what advertisements say of clients that roamed away.
+//! The rows of a node for client frames: those of its own clients, with their sightings, those of
+//! its LAN, those that come in packets, and what advertisements say of clients that roamed away.
 
 #![tactic(auto)]
 
+pub mod calls;
 pub mod carried;
 pub mod client_frames;
+mod groups;
 pub mod lan_frames;
 pub mod roaming;
+mod sending;
 mod sightings;

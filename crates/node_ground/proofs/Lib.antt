@@ -3,5 +3,7 @@ pub mod PutsLemmas
 pub mod LeavesLemmas
 pub mod BroadcastLemmas
 pub mod ReadingLemmas
+pub mod OfferReading
+pub mod OffersLemmas
 pub mod HolderLemmas
 pub mod OwnLemmas

@@ -2,9 +2,12 @@
 pub mod Errors
 pub mod Puts
 pub mod BroadcastsStand
+pub mod SettingsSeen
+pub mod ServicesStand
 pub mod KnowledgeStands
 pub mod OwnStands
 pub mod Ways
 pub mod Sending
 pub mod Reading
 pub mod Tables
+pub mod ServiceRows

@@ -50,8 +50,8 @@ impl<A: Algo> NodeKnowledge<A> {
         self.way_to(now, self.table_reason(now, orig), orig)
     }
 
-    // The way to an originator for a reason, where a route leads to it.
-    fn way_to(&self, now: Millis, reason: Reason, orig: Mac) -> Option<Way>
+    /// The way to an originator for a reason, where a route leads to it.
+    pub fn way_to(&self, now: Millis, reason: Reason, orig: Mac) -> Option<Way>
         ensures { (me : Mac) (known : Knowledge) → KnowledgeStands A.stands self.now me known →
             option_map way result ≡ way_to (A.queries me) known now reason orig }
     {

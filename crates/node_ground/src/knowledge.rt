@@ -6,6 +6,7 @@ ghost use Rattle.mesh_model.specs.Knowledge.Known.{Knowledge, no_knowledge, told
 ghost use Rattle.node_ground.specs.KnowledgeStands.{KnowledgeStands};
 
 use crate::broadcasts::Broadcasts;
+use crate::services::Services;
 use mesh_algo::Algo;
 use mesh_base::{Mac, Millis};
 use mesh_icmp::Sessions;
@@ -24,6 +25,7 @@ pub struct NodeKnowledge<A: Algo> {
     pub broadcasts: Broadcasts,
     /// How many broadcasts were sent, modulo 2^32.
     pub sent: u32,
+    pub services: Services,
 }
 
 impl<A: Algo> NodeKnowledge<A> {
@@ -40,6 +42,7 @@ impl<A: Algo> NodeKnowledge<A> {
             sessions: Sessions::new(alloc),
             broadcasts: Broadcasts::new(alloc),
             sent: 0,
+            services: Services::new(alloc),
         }
     }
 

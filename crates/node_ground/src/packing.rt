@@ -2,20 +2,28 @@
 
 ghost use Rattle.std.specs.Prelude.{◌≡◌, ◌≤◌, ◌+◌, ◌*◌, ◌∷◌, ◌++◌, [], ℕ, length, flat_map, map, IfOk, OnOk, OnErr};
 ghost use Rattle.mesh_model.specs.Commits.Announcements.{record_of_change};
-ghost use Rattle.mesh_model.specs.Acts.OwnContainers.{own_containers};
+ghost use Rattle.mesh_model.specs.Acts.OwnContainers.{arp_table_part, gateway_part, multicast_part, own_containers};
 ghost use Rattle.mesh_model.specs.Acts.Packing.{reply_containers, request_containers, request_flags, table_container, table_told, with_full};
 ghost use Rattle.mesh_model.specs.Acts.TableRows.{is_within_limits};
-ghost use Rattle.mesh_model.specs.Packets.BodySpellings.{change_spelling, tt_spelling, vlan_spelling};
+ghost use Rattle.mesh_model.specs.Packets.BodySpellings.{change_spelling, gateway_spelling, tt_spelling, vlan_spelling};
 ghost use Rattle.mesh_model.specs.Packets.Containers.{containers_spelling};
 ghost use Rattle.mesh_model.specs.Packets.Numbers.{ogm_diff_flag, response_flag};
+ghost use Rattle.mesh_serv.specs.OffersStand.{bandwidth};
 ghost use Rattle.node_ground.specs.Sending.{FitsPacket};
+ghost use Rattle.node_ground.specs.SettingsSeen.{part_seen, settings_seen};
 ghost use Rattle.tt_global.specs.Kept.{stamp, stamp_in};
 ghost use Rattle.tt_sync.specs.Answers.{answer_in};
 ghost use Rattle.tt_table.specs.Sums.{named_sums};
 
+use crate::settings::{GatewayPart, Settings};
+use byteorder::{BigEndian, ByteOrder};
 use mesh_base::NoMemory;
 use mesh_model::Request;
-use mesh_tvlv::layout::{DAT, FULL_TABLE, OGM_DIFF, REQUEST, RESPONSE, TT, VERSION};
+use mesh_serv::Bandwidth;
+use mesh_tvlv::layout::{
+    DAT, FULL_TABLE, GATEWAY, MULTICAST, MULTICAST_VERSION, OGM_DIFF, REQUEST, RESPONSE, TT,
+    VERSION,
+};
 use mesh_tvlv::{write_change, write_container, write_tt_head, write_vlan};
 use std::alloc::Global;
 use tt_sync::Reply;
@@ -137,11 +145,63 @@ pub fn request_containers(
     Ok(containers)
 }
 
-/// The containers of the own originator message, with what it announces.
-pub fn own_containers(alloc: Global, announced: &Announcement) -> Result<Vec<u8>, NoMemory>
-    requires { 12 + 8 * length (named_sums announced.now.sums)
+// The body of a gateway's container.
+fn gateway_body(offered: Bandwidth) -> [u8; 8]
+    ensures { result ≡ gateway_spelling (bandwidth offered) }
+{
+    let mut body = [0; 8];
+    BigEndian::write_u32(&mut body, offered.download);
+    BigEndian::write_u32(&mut body[4..], offered.upload);
+    body
+}
+
+// Appends the container of a gateway, where the node is one.
+fn put_gateway(out: &mut Vec<u8>, part: GatewayPart) -> Result<(), NoMemory>
+    ensures ok { OnOk result (out.new.items
+        ≡ out.old.items ++ containers_spelling (gateway_part (part_seen part))) }
+    ensures longer { OnOk result (length out.new.items ≤ length out.old.items + 12) }
+{
+    let GatewayPart::Serves(offered) = part else {
+        return Ok(());
+    };
+    write_container(out, GATEWAY, VERSION, &gateway_body(offered))?;
+    Ok(())
+}
+
+// Appends the container of the distributed ARP table, where the node takes part in it.
+fn put_arp_table(out: &mut Vec<u8>, on: bool) -> Result<(), NoMemory>
+    ensures ok { OnOk result (out.new.items
+        ≡ out.old.items ++ containers_spelling (arp_table_part on)) }
+    ensures longer { OnOk result (length out.new.items ≤ length out.old.items + 4) }
+{
+    if on {
+        write_container(out, DAT, VERSION, &[])?;
+    }
+    Ok(())
+}
+
+// Appends the container of multicast flags, where any is set.
+fn put_multicast(out: &mut Vec<u8>, flags: u8) -> Result<(), NoMemory>
+    ensures ok { OnOk result (out.new.items
+        ≡ out.old.items ++ containers_spelling (multicast_part flags)) }
+    ensures longer { OnOk result (length out.new.items ≤ length out.old.items + 8) }
+{
+    if flags != 0 {
+        write_container(out, MULTICAST, MULTICAST_VERSION, &[flags, 0, 0, 0])?;
+    }
+    Ok(())
+}
+
+/// The containers of the own originator message, by the node's settings, with what it announces.
+pub fn own_containers(
+    alloc: Global,
+    settings: Settings,
+    announced: &Announcement,
+) -> Result<Vec<u8>, NoMemory>
+    requires { 32 + 8 * length (named_sums announced.now.sums)
         + 12 * length announced.now.changes ≤ 65535 }
-    ensures ok { IfOk result (λ bytes. bytes.items ≡ containers_spelling (own_containers
+    ensures ok { IfOk result (λ bytes. bytes.items ≡ containers_spelling
+        (own_containers (settings_seen settings)
         (table_told ogm_diff_flag (stamp_in announced.now) announced.now.changes))) }
     ensures fits { IfOk result (λ bytes. length bytes.items ≤ 65535) }
 {
@@ -151,8 +211,10 @@ pub fn own_containers(alloc: Global, announced: &Announcement) -> Result<Vec<u8>
         changes,
     } = announced;
     let mut containers = Vec::new(alloc);
-    write_container(&mut containers, DAT, VERSION, &[])?;
+    put_gateway(&mut containers, settings.gateway)?;
+    put_arp_table(&mut containers, settings.arp_table)?;
     put_table(alloc, &mut containers, OGM_DIFF, *byte, sums, changes)?;
+    put_multicast(&mut containers, settings.multicast)?;
     Ok(containers)
 }
 

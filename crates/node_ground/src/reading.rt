@@ -3,17 +3,21 @@
 ghost use Rattle.std.specs.Prelude.{◌≡◌, IfOk, option_map};
 ghost use Rattle.mesh_model.specs.Knowledge.Told.{message_changes, sums_told};
 ghost use Rattle.mesh_model.specs.Packets.Containers.{containers_of};
-ghost use Rattle.mesh_model.specs.Packets.Contents.{first_roaming, first_table};
+ghost use Rattle.mesh_model.specs.Packets.Contents.{first_roaming, first_table, is_of};
+ghost use Rattle.mesh_model.specs.Packets.Numbers.{dat_tvlv, tvlv_version};
+ghost use Rattle.mesh_model.specs.Knowledge.Served.{offer_in};
+ghost use Rattle.mesh_serv.specs.OffersStand.{bandwidth, offered};
 ghost use Rattle.mesh_model.specs.Routes.Ogm.{has_flag};
 ghost use Rattle.node_ground.specs.Reading.{Tells};
-ghost use Rattle.node_ground.specs.Tables.{client_in, table_in};
+ghost use Rattle.node_ground.specs.Tables.{client_in, gateway_in, multicast_in, table_in, with_container};
 ghost use Rattle.mesh_tvlv.specs.Walk.{seen};
 ghost use Rattle.tt_table.specs.Sums.{named_sums};
 
 use mesh_base::{Key, NoMemory};
 use mesh_model::Change;
-use mesh_tvlv::layout::{ROAMING, TT, VERSION};
-use mesh_tvlv::{Container, TtView, TvlvIter, read_roam, read_tt};
+use mesh_serv::{Bandwidth, Offer};
+use mesh_tvlv::layout::{DAT, GATEWAY, MULTICAST, MULTICAST_VERSION, ROAMING, TT, VERSION};
+use mesh_tvlv::{Container, TtView, TvlvIter, read_gw, read_mcast, read_roam, read_tt};
 use std::alloc::Global;
 use tt_table::{Announcement, Changes, Sums};
 
@@ -61,6 +65,62 @@ pub fn first_roaming(bytes: &[u8]) -> Option<Key>
         }
     }
     None
+}
+
+// The throughputs in a container, where it is a gateway's that can be read.
+fn gateway_in(container: &Container<'_>) -> Option<Bandwidth>
+    ensures { option_map bandwidth result ≡ gateway_in (seen container.now) }
+{
+    if container.kind != GATEWAY || container.version != VERSION {
+        return None;
+    }
+    let (download, upload) = read_gw(container.body).ok()?;
+    Some(Bandwidth { download, upload })
+}
+
+// Whether a container is of the distributed ARP table.
+fn is_of_arp_table(container: &Container<'_>) -> bool
+    ensures { result ≡ is_of dat_tvlv tvlv_version (seen container.now) }
+{
+    container.kind == DAT && container.version == VERSION
+}
+
+// The multicast flags in a container, where it has some that can be read.
+fn multicast_in(container: &Container<'_>) -> Option<u8>
+    ensures { result ≡ multicast_in (seen container.now) }
+{
+    if container.kind != MULTICAST || container.version != MULTICAST_VERSION {
+        return None;
+    }
+    read_mcast(container.body).ok()
+}
+
+// What is offered by containers that offer this and one more.
+fn with_container(before: Offer, container: &Container<'_>) -> Offer
+    ensures { offered result ≡ with_container (offered before) (seen container.now) }
+{
+    Offer {
+        gateway: before.gateway.or(gateway_in(container)),
+        arp_table: before.arp_table || is_of_arp_table(container),
+        multicast: before.multicast.or(multicast_in(container)),
+    }
+}
+
+/// What the containers of an originator message offer: the first gateway's that can be read, the
+/// first multicast flags that can be read, and whether one is of the distributed ARP table.
+pub fn offer_in(bytes: &[u8]) -> Offer
+    ensures { offered result ≡ offer_in (containers_of bytes.now) }
+{
+    let mut offer = Offer {
+        gateway: None,
+        arp_table: false,
+        multicast: None,
+    };
+    let mut walk = TvlvIter::new(bytes);
+    while let Some(Ok(container)) = walk.next() {
+        offer = with_container(offer, &container);
+    }
+    offer
 }
 
 /// Whether a flag is set.

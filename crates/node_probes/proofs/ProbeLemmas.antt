@@ -38,6 +38,7 @@ with_sessions stands kept sessions me calls known is noted = record {
   probes = noted;
   taken = is.taken;
   sent = is.sent;
+  services = is.services;
 }
 
 -- a probe goes to the neighbour on the way

@@ -5,11 +5,13 @@ use Rattle.mesh_base.specs.declared.address.Mac.{Mac}
 use Rattle.mesh_model.specs.declared.table_outcome.Request.{Request}
 use Rattle.mesh_model.specs.declared.table_change.Change.{Change}
 use Rattle.mesh_model.specs.Knowledge.Known.{Knowledge, agreed_byte}
-use Rattle.mesh_model.specs.Knowledge.Steps.{Coming, after_announcement, after_answer, asked_by_request, may_ask, released_under, request_out, with_head}
+use Rattle.mesh_model.specs.Knowledge.Steps.{Coming, after_announcement, after_answer, asked_by_request, may_ask, released_under, request_out, with_head, with_offered}
+use Rattle.mesh_model.specs.Knowledge.Served.{offer_in}
 use Rattle.mesh_model.specs.Knowledge.Told.{Answers, carried_told, message_changes, stamp_told}
 use Rattle.mesh_model.specs.Marks.Calls.{Calls}
 use Rattle.mesh_model.specs.Marks.Requests.{too_soon}
 use Rattle.mesh_model.specs.Packets.Bodies.{TtData}
+use Rattle.mesh_model.specs.Packets.Containers.{containers_of}
 use Rattle.mesh_model.specs.declared.packet.Head.{Head}
 use Rattle.mesh_model.specs.Routes.Queries.{Queries}
 use Rattle.mesh_model.specs.Routes.RouteLog.{RouteLog, HeadCame}
@@ -18,6 +20,8 @@ use Rattle.node_ground.specs.KnowledgeStands.{KnowledgeStands}
 use Rattle.mesh_model.specs.Tables.Judging.{announcement_row, wanted_request}
 use Rattle.mesh_model.specs.Tables.Known.{Announced, Answered, known_by}
 use Rattle.mesh_model.specs.Tables.Versions.{Stamp}
+use Rattle.mesh_serv.specs.OffersStand.{OffersStand}
+use Rattle.mesh_serv.specs.declared.offers.Offer.{Offer}
 use Rattle.node_ground.specs.Reading.{Tells, message}
 use Rattle.tt_global.specs.Kept.{stamp_in}
 use Rattle.tt_table.specs.declared.announcement.Announcement.{Announcement}
@@ -71,6 +75,21 @@ head_came stands kept algo me came head known is noted = record {
   probes = is.probes;
   taken = is.taken;
   sent = is.sent;
+  services = is.services;
+}
+
+-- once it was noted what a message offers
+pub offer_noted : {A : Type 0} (stands : A → Mac → RouteLog → Type 0) (kept : NodeKnowledge A) (offers : List (Mac × Offer)) (me orig : Mac) (tail : List ℕ) (known : Knowledge) → KnowledgeStands stands kept me known
+    → OffersStand offers (record { orig = orig; offer = offer_in (containers_of tail) } ∷ known.services.offers)
+    → KnowledgeStands stands (record kept { services = record kept.services { offers = offers } }) me (with_offered true orig tail known)
+offer_noted stands kept offers me orig tail known is noted = record {
+  routes = is.routes;
+  tables = is.tables;
+  marks = is.marks;
+  probes = is.probes;
+  taken = is.taken;
+  sent = is.sent;
+  services = record { settings = is.services.settings; offers = noted; choice = is.services.choice };
 }
 
 -- what is known once an answer came, with the byte, the sums and the changes that it tells

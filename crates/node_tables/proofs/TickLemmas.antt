@@ -1,6 +1,6 @@
 -- What a tick tells of its commit: an alias, if the commit is new and has one, and an announcement
 -- that fits a packet.
-use Rattle.std.proofs.Common.{◌≡◌, ◌≤◌, ◌+◌, ◌*◌, ◌%◌, ℕ, suc, Bool, true, false, List, [], ◌++◌, length, map, refl, sym, ap, subst, ◌∙◌, arith, append_assoc, Option, Some, None}
+use Rattle.std.proofs.Common.{◌≡◌, ◌≤◌, ◌+◌, ◌*◌, ◌%◌, ℕ, suc, Bool, true, false, List, [], ◌∷◌, ◌++◌, length, map, refl, sym, ap, subst, ◌∙◌, arith, append_assoc, Option, Some, None}
 use Rattle.std.specs.Prelude.{◌==◌, ◌&&◌, nat_lt, nat_le, if◌then◌else◌}
 use Rattle.std.proofs.lemmas.Bool.{and_parts, leb-true}
 use Rattle.std.proofs.lemmas.Bool.Decides.{nat_tests}
@@ -15,15 +15,21 @@ use Rattle.mesh_model.specs.Clients.Lans.{Bridge}
 use Rattle.mesh_model.specs.Acts.Rows.{alias_acts, alias_event, commit_acts, elp_acts, tick_acts}
 use Rattle.mesh_model.specs.Clients.Limits.{clients_limit}
 use Rattle.mesh_model.specs.Clients.Mentions.{Mention}
+use Rattle.mesh_model.specs.Clients.Settings.{Settings}
 use Rattle.mesh_model.specs.Clients.Present.{present_clients}
 use Rattle.mesh_model.specs.Commits.Aliases.{last_alias}
 use Rattle.mesh_model.specs.Commits.Announcements.{announced_changes, announcement, carried_changes, carrying_messages, record_of_change}
 use Rattle.mesh_model.specs.Commits.History.{History, after_tick, with_message, committed, is_commit_tick, present_table, with_commit}
 use Rattle.mesh_model.specs.Commits.Versions.{last_changes, last_commit, same_table}
+use Rattle.mesh_model.specs.Knowledge.Known.{Knowledge}
+use Rattle.mesh_model.specs.Knowledge.Offers.{choice_by}
+use Rattle.mesh_model.specs.Knowledge.Steps as steps
 use Rattle.mesh_model.specs.Packets.Numbers.{ogm_diff_flag}
 use Rattle.mesh_model.specs.Routes.Queries.{Queries}
-use Rattle.mesh_model.specs.Routes.RouteLog.{RouteLog}
+use Rattle.mesh_model.specs.Routes.RouteLog.{RouteLog, OwnTick}
 use Rattle.node_tables.proofs.WayLemmas.{entry_sums_few}
+use Rattle.node_ground.specs.declared.knowledge.NodeKnowledge.{NodeKnowledge}
+use Rattle.node_ground.specs.KnowledgeStands.{KnowledgeStands}
 use Rattle.tt_global.specs.Kept.{stamp_in}
 use Rattle.tt_local.specs.Announcing.{IsAnnouncement}
 use Rattle.tt_local.specs.Journal.{new_number}
@@ -82,7 +88,7 @@ few_carried history = by_tests (nat_lt history.sent carrying_messages && nat_le 
 
 -- what is announced of few clients fits a packet
 pub announced_fits : (history : History) (told : Announcement) → IsAnnouncement history told → length (last_commit history.commits).table ≤ clients_limit
-    → 12 + 8 * length (named_sums told.sums) + 12 * length told.changes ≤ 65535
+    → 32 + 8 * length (named_sums told.sums) + 12 * length told.changes ≤ 65535
 announced_fits history told is few =
     let sums : length (named_sums told.sums) ≤ length (last_commit history.commits).table = subst (λ sums. length sums ≤ length (last_commit history.commits).table) (sym is.sums) (entry_sums_few (last_commit history.commits).table) in
     let changes : length told.changes ≤ carried_changes = subst (λ changes. length changes ≤ carried_changes) (sym is.changes) (few_carried history) in
@@ -99,32 +105,32 @@ pub is_odd : (index : ℕ) → (index % 2 ≡ 0 → ⊥) → is_commit_tick inde
 is_odd index odd = grind (arith, nat_tests)
 
 -- what each node puts at a tick
-abbrev pub beat_acts : Queries → Mac → RouteLog → List Mention → History → ℕ → ℕ → List Act
-beat_acts q me routes mentions history now index =
-    elp_acts q routes index ++ (if is_commit_tick index then commit_acts q me routes index history (committed (present_table mentions now) history) else [])
+abbrev pub beat_acts : Queries → Mac → Settings → RouteLog → List Mention → History → ℕ → ℕ → List Act
+beat_acts q me settings routes mentions history now index =
+    elp_acts q routes index ++ (if is_commit_tick index then commit_acts q me settings routes index history (committed (present_table mentions now) history) else [])
 
 -- a tick puts what each node puts, and then what a gateway does
-pub tick_is : (q : Queries) (me : Mac) (routes : RouteLog) (mentions : List Mention) (history : History) (bridge : Bridge) (now index : ℕ)
-    → beat_acts q me routes mentions history now index ++ round_acts (record { me = me; now = now }) bridge index ≡ tick_acts q me routes mentions history bridge now index
+pub tick_is : (q : Queries) (me : Mac) (settings : Settings) (routes : RouteLog) (mentions : List Mention) (history : History) (bridge : Bridge) (now index : ℕ)
+    → beat_acts q me settings routes mentions history now index ++ round_acts (record { me = me; now = now }) bridge index ≡ tick_acts q me settings routes mentions history bridge now index
 unfolding tick_acts
-tick_is q me routes mentions history bridge now index =
-    append_assoc (elp_acts q routes index) (if is_commit_tick index then commit_acts q me routes index history (committed (present_table mentions now) history) else []) (round_acts (record { me = me; now = now }) bridge index)
+tick_is q me settings routes mentions history bridge now index =
+    append_assoc (elp_acts q routes index) (if is_commit_tick index then commit_acts q me settings routes index history (committed (present_table mentions now) history) else []) (round_acts (record { me = me; now = now }) bridge index)
 
 -- a tick whose index is that of an even one, or of an odd one
-tick_by : (q : Queries) (me : Mac) (routes : RouteLog) (mentions : List Mention) (history : History) (now index : ℕ) (even : Bool) → is_commit_tick index ≡ even
-    → elp_acts q routes index ++ (if even then commit_acts q me routes index history (committed (present_table mentions now) history) else []) ≡ beat_acts q me routes mentions history now index
-tick_by q me routes mentions history now index even is =
-    sym (ap (λ b. elp_acts q routes index ++ (if b then commit_acts q me routes index history (committed (present_table mentions now) history) else [])) is)
+tick_by : (q : Queries) (me : Mac) (settings : Settings) (routes : RouteLog) (mentions : List Mention) (history : History) (now index : ℕ) (even : Bool) → is_commit_tick index ≡ even
+    → elp_acts q routes index ++ (if even then commit_acts q me settings routes index history (committed (present_table mentions now) history) else []) ≡ beat_acts q me settings routes mentions history now index
+tick_by q me settings routes mentions history now index even is =
+    sym (ap (λ b. elp_acts q routes index ++ (if b then commit_acts q me settings routes index history (committed (present_table mentions now) history) else [])) is)
 
 -- an even tick tells of its commit's alias behind its ELP, and then announces
-pub even_acts : (q : Queries) (me : Mac) (routes : RouteLog) (mentions : List Mention) (history : History) (now index : ℕ) → index % 2 ≡ 0
-    → elp_acts q routes index ++ commit_acts q me routes index history (committed (present_table mentions now) history) ≡ beat_acts q me routes mentions history now index
-even_acts q me routes mentions history now index even = tick_by q me routes mentions history now index true (is_even index even)
+pub even_acts : (q : Queries) (me : Mac) (settings : Settings) (routes : RouteLog) (mentions : List Mention) (history : History) (now index : ℕ) → index % 2 ≡ 0
+    → elp_acts q routes index ++ commit_acts q me settings routes index history (committed (present_table mentions now) history) ≡ beat_acts q me settings routes mentions history now index
+even_acts q me settings routes mentions history now index even = tick_by q me settings routes mentions history now index true (is_even index even)
 
 -- an odd tick puts its ELP alone
-pub odd_acts : (q : Queries) (me : Mac) (routes : RouteLog) (mentions : List Mention) (history : History) (now index : ℕ) → (index % 2 ≡ 0 → ⊥)
-    → elp_acts q routes index ++ [] ≡ beat_acts q me routes mentions history now index
-odd_acts q me routes mentions history now index odd = tick_by q me routes mentions history now index false (is_odd index odd)
+pub odd_acts : (q : Queries) (me : Mac) (settings : Settings) (routes : RouteLog) (mentions : List Mention) (history : History) (now index : ℕ) → (index % 2 ≡ 0 → ⊥)
+    → elp_acts q routes index ++ [] ≡ beat_acts q me settings routes mentions history now index
+odd_acts q me settings routes mentions history now index odd = tick_by q me settings routes mentions history now index false (is_odd index odd)
 
 -- the table that is present at a moment is no longer than the clients that are present
 pub committed_few : (mentions : List Mention) (history : History) (now : ℕ) → length (present_clients mentions now) ≤ clients_limit → length (last_commit history.commits).table ≤ clients_limit
@@ -136,6 +142,37 @@ committed_few mentions history now few before = by_table (same_table (last_commi
     by_table false =
         let long : length (present_table mentions now) ≡ length (present_clients mentions now) = length-map (present_clients mentions now) (λ (row : LocalRow). row.entry) in
         omega (arith, few, long)
+
+-- ---- what is known after a tick
+
+-- once the algorithm was given a tick
+pub ticked : {A : Type 0} (stands : A → Mac → RouteLog → Type 0) (kept : NodeKnowledge A) (algo : A) (me : Mac) (now index : ℕ) (known : Knowledge) → KnowledgeStands stands kept me known
+    → stands algo me (OwnTick now index ∷ known.routes) → KnowledgeStands stands (record kept { algo = algo }) me (record known { routes = OwnTick now index ∷ known.routes })
+ticked stands kept algo me now index known is noted = record {
+  routes = noted;
+  tables = is.tables;
+  marks = is.marks;
+  probes = is.probes;
+  taken = is.taken;
+  sent = is.sent;
+  services = is.services;
+}
+
+-- what is known after a tick whose index is that of an even one, or of an odd one
+abbrev known_by : Queries → ℕ → ℕ → Knowledge → Bool → Knowledge
+known_by q now index known even =
+    let heard : Knowledge = record known { routes = OwnTick now index ∷ known.routes } in
+    if even then record heard { services = record heard.services { choice = choice_by heard.services.settings.gateway q heard now } } else heard
+
+-- an odd tick chooses no gateway
+pub odd_known : {A : Type 0} (stands : A → Mac → RouteLog → Type 0) (kept : NodeKnowledge A) (q : Queries) (me : Mac) (now index : ℕ) (known : Knowledge)
+    → KnowledgeStands stands kept me (record known { routes = OwnTick now index ∷ known.routes }) → (index % 2 ≡ 0 → ⊥) → KnowledgeStands stands kept me (steps.after_tick q now index known)
+odd_known stands kept q me now index known is odd = subst (λ even. KnowledgeStands stands kept me (known_by q now index known even)) (sym (is_odd index odd)) is
+
+-- an even one chooses by what is then known
+pub even_known : {A : Type 0} (stands : A → Mac → RouteLog → Type 0) (kept : NodeKnowledge A) (q : Queries) (me : Mac) (now index : ℕ) (known : Knowledge)
+    → KnowledgeStands stands kept me (known_by q now index known true) → index % 2 ≡ 0 → KnowledgeStands stands kept me (steps.after_tick q now index known)
+even_known stands kept q me now index known is even = subst (λ b. KnowledgeStands stands kept me (known_by q now index known b)) (sym (is_even index even)) is
 
 -- ---- clients at a later moment
 

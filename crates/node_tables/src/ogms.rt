@@ -4,7 +4,7 @@ ghost use Rattle.std.specs.Prelude.{◌≡◌, ◌≤◌, ◌+◌, ◌*◌, ℕ,
 ghost use Rattle.mesh_model.specs.Acts.Rows.{ogm_acts, taken_acts};
 ghost use Rattle.mesh_model.specs.Acts.TableRows.{request_acts};
 ghost use Rattle.mesh_model.specs.Knowledge.Known.{Knowledge};
-ghost use Rattle.mesh_model.specs.Knowledge.Steps.{after_announcement, after_message, after_taken, request_out, with_life};
+ghost use Rattle.mesh_model.specs.Knowledge.Steps.{after_announcement, after_message, after_taken, request_out, with_life, with_offered};
 ghost use Rattle.mesh_model.specs.Knowledge.Told.{message_with};
 ghost use Rattle.mesh_model.specs.Packets.Containers.{containers_of};
 ghost use Rattle.mesh_model.specs.Packets.Contents.{first_table};
@@ -20,7 +20,7 @@ use mesh_codec::{Head, Packet};
 use mesh_tvlv::TtView;
 use node_ground::messages::{send_message, send_over};
 use node_ground::packing::{FIRST_TTL, request_containers};
-use node_ground::reading::{announcement_in, first_table};
+use node_ground::reading::{announcement_in, first_table, offer_in};
 use node_ground::{Coming, NodeErr, NodeKnowledge, Port};
 
 /// Asks for what is wanted after an announcement that is accepted.
@@ -63,7 +63,8 @@ fn accept<A: Algo, P: Port>(
     Ok(())
 }
 
-/// An originator message that is taken.
+/// An originator message that is taken: it may be sent on; where it is accepted, what it offers is
+/// noted, and something may be asked for.
 #[tactic(auto, using(node_ground::proofs::PutsLemmas::stops_free))]
 fn heard<A: Algo, P: Port>(
     kept: &mut NodeKnowledge<A>,
@@ -84,14 +85,19 @@ fn heard<A: Algo, P: Port>(
         (message orig table.now) packet.now.tail.now known) result port.new }
     ensures noted { (known : Knowledge) (number : ℕ) →
         KnowledgeStands A.stands kept.old me known →
+        let head = packet.now.head in
+        let q = A.queries me in
         OnOk result (KnowledgeStands A.stands kept.new me
-        (after_message (A.queries me) (coming came number) packet.now.head
-        (message orig table.now) known)) }
+        (with_offered (q.hear known.routes came.now came.from came.tp head).accepted orig
+        packet.now.tail.now
+        (after_message q (coming came number) head (message orig table.now) known))) }
 {
     let hearing = kept.algo.hear(came.now, came.from, came.tp, &packet.head)?;
     send_message(kept.alloc, port, hearing.forward, packet.tail)?;
     if hearing.accepted {
         accept(kept, port, me, came, orig, hearing.began, table)?;
+        let offer = offer_in(packet.tail);
+        kept.services.offers.note(orig, offer)?;
     }
     Ok(())
 }
@@ -117,7 +123,8 @@ pub fn ogm<A: Algo, P: Port>(
         KnowledgeStands A.stands kept.old me known →
         OnOk result (KnowledgeStands A.stands kept.new me
         (after_taken (A.queries me) (coming came number) packet.now.head
-        (message_with orig (first_table (containers_of packet.now.tail.now))) known)) }
+        (message_with orig (first_table (containers_of packet.now.tail.now)))
+        packet.now.tail.now known)) }
 {
     let Some(table) = first_table(packet.tail) else {
         return Ok(());

@@ -10,12 +10,14 @@ ghost use Rattle.mesh_model.specs.Commits.Announcements.{announcement};
 ghost use Rattle.mesh_model.specs.Commits.History.{History, after_tick, with_message, committed, is_commit_tick, present_table};
 ghost use Rattle.mesh_model.specs.Commits.Versions.{last_commit};
 ghost use Rattle.mesh_model.specs.Knowledge.Known.{Knowledge};
+ghost use Rattle.mesh_model.specs.Knowledge.Steps as steps;
 ghost use Rattle.mesh_model.specs.Packets.Containers.{containers_spelling};
 ghost use Rattle.mesh_model.specs.Routes.Queries.{is_ogm};
 ghost use Rattle.mesh_model.specs.Routes.RouteLog.{MayTick, OwnTick};
 ghost use Rattle.node_ground.specs.KnowledgeStands.{KnowledgeStands};
 ghost use Rattle.node_ground.specs.OwnStands.{AreFew};
 ghost use Rattle.node_ground.specs.Puts.{Puts};
+ghost use Rattle.node_ground.specs.SettingsSeen.{settings_seen};
 ghost use Rattle.node_lans.specs.BridgeStands.{BridgeStands};
 ghost use Rattle.tt_local.specs.Journal.{new_number};
 ghost use Rattle.tt_local.specs.Locals.{LocalsStand};
@@ -26,7 +28,7 @@ use mesh_codec::Head;
 use mesh_model::Act;
 use node_ground::messages::{send_elp, send_message};
 use node_ground::packing::own_containers;
-use node_ground::{NodeErr, NodeKnowledge, Place, Port};
+use node_ground::{NodeErr, NodeKnowledge, Place, Port, Settings};
 use node_lans::Bridge;
 use node_lans::bridging::round;
 use std::alloc::Global;
@@ -82,21 +84,26 @@ fn commit<P: Port>(port: &mut P, locals: &mut Locals, at: Place) -> Result<(), N
     Ok(())
 }
 
-// The containers of the next originator message, which is counted.
-fn next_containers(alloc: Global, locals: &mut Locals) -> Result<Vec<u8>, NoMemory>
+// The containers of the next originator message by the node's settings, which is counted.
+fn next_containers(
+    alloc: Global,
+    locals: &mut Locals,
+    settings: Settings,
+) -> Result<Vec<u8>, NoMemory>
     requires { (mentions : List Mention) × (history : History) × (since : ℕ)
         × LocalsStand locals.old mentions history since
         × (length (last_commit history.commits).table ≤ clients_limit) }
     ensures told { IfOk result (λ bytes. (mentions : List Mention) (history : History)
         (since : ℕ) → LocalsStand locals.old mentions history since →
-        bytes.items ≡ containers_spelling (own_containers (announcement history))) }
+        bytes.items ≡ containers_spelling
+        (own_containers (settings_seen settings) (announcement history))) }
     ensures fits { IfOk result (λ bytes. length bytes.items ≤ 65535) }
     ensures counted { (mentions : List Mention) (history : History) (since : ℕ) →
         LocalsStand locals.old mentions history since →
         OnOk result (LocalsStand locals.new mentions (with_message history) since) }
 {
     let announcement = locals.announcement()?;
-    let containers = own_containers(alloc, &announcement)?;
+    let containers = own_containers(alloc, settings, &announcement)?;
     Ok(containers)
 }
 
@@ -105,6 +112,7 @@ fn announce<P: Port>(
     alloc: Global,
     port: &mut P,
     locals: &mut Locals,
+    settings: Settings,
     head: Option<Head>,
 ) -> Result<(), NodeErr>
     requires ogm { IfSome head (λ head. IsTrue (is_ogm head)) }
@@ -114,12 +122,13 @@ fn announce<P: Port>(
     ensures puts { (mentions : List Mention) (history : History) (since : ℕ) →
         LocalsStand locals.old mentions history since →
         Puts P.takes P.same P.over port.old (message_acts head
-        (containers_spelling (own_containers (announcement history)))) result port.new }
+        (containers_spelling (own_containers (settings_seen settings) (announcement history))))
+        result port.new }
     ensures counted { (mentions : List Mention) (history : History) (since : ℕ) →
         LocalsStand locals.old mentions history since →
         OnOk result (LocalsStand locals.new mentions (with_message history) since) }
 {
-    let containers = next_containers(alloc, locals)?;
+    let containers = next_containers(alloc, locals, settings)?;
     send_message(alloc, port, head, containers.as_slice())?;
     Ok(())
 }
@@ -129,6 +138,7 @@ fn own_message<P: Port>(
     alloc: Global,
     port: &mut P,
     locals: &mut Locals,
+    settings: Settings,
     at: Place,
     head: Option<Head>,
 ) -> Result<(), NodeErr>
@@ -140,7 +150,8 @@ fn own_message<P: Port>(
         LocalsStand locals.old mentions history since → since ≤ at.now →
         let after : History = committed (present_table mentions at.now) history in
         Puts P.takes P.same P.over port.old (alias_acts at.me history.commits after.commits
-        ++ message_acts head (containers_spelling (own_containers (announcement after))))
+        ++ message_acts head
+        (containers_spelling (own_containers (settings_seen settings) (announcement after))))
         result port.new }
     ensures committed { (mentions : List Mention) (history : History) (since : ℕ) →
         LocalsStand locals.old mentions history since → since ≤ at.now →
@@ -148,12 +159,13 @@ fn own_message<P: Port>(
         (with_message (committed (present_table mentions at.now) history)) at.now) }
 {
     commit(port, locals, at)?;
-    announce(alloc, port, locals, head)?;
+    announce(alloc, port, locals, settings, head)?;
     Ok(())
 }
 
 // What each node puts at a tick: a message of the echo location protocol, where the algorithm has
-// one, and at each second tick a commit, its event where it has an alias, and an originator message.
+// one, and at each second tick a commit, its event where it has an alias, an originator message,
+// and the choice of a gateway.
 fn beat<A: Algo, P: Port>(
     kept: &mut NodeKnowledge<A>,
     port: &mut P,
@@ -172,11 +184,11 @@ fn beat<A: Algo, P: Port>(
         let after : History = committed (present_table mentions at.now) history in
         Puts P.takes P.same P.over port.old
         (elp_acts (A.queries at.me) known.routes index ++ (if is_commit_tick index
-        then commit_acts (A.queries at.me) at.me known.routes index history after else []))
-        result port.new }
+        then commit_acts (A.queries at.me) at.me known.services.settings known.routes index
+        history after else [])) result port.new }
     ensures ticked { (known : Knowledge) → KnowledgeStands A.stands kept.old at.me known →
         OnOk result (KnowledgeStands A.stands kept.new at.me
-        (record known { routes = OwnTick at.now index ∷ known.routes })) }
+        (steps.after_tick (A.queries at.me) at.now index known)) }
     ensures committed { (mentions : List Mention) (history : History) (since : ℕ) →
         LocalsStand locals.old mentions history since → since ≤ at.now →
         OnOk result (LocalsStand locals.new mentions
@@ -187,7 +199,15 @@ fn beat<A: Algo, P: Port>(
     if index % 2 != 0 {
         return Ok(());
     }
-    own_message(kept.alloc, port, locals, at, beats.ogm)?;
+    own_message(
+        kept.alloc,
+        port,
+        locals,
+        kept.services.settings,
+        at,
+        beats.ogm,
+    )?;
+    kept.choose_gateway(at.now)?;
     Ok(())
 }
 
@@ -210,11 +230,11 @@ pub fn tick<A: Algo, P: Port>(
         LocalsStand locals.old mentions history since → since ≤ at.now →
         BridgeStands bridge.now at.me gateway →
         Puts P.takes P.same P.over port.old
-        (tick_acts (A.queries at.me) at.me known.routes mentions history gateway at.now index)
-        result port.new }
+        (tick_acts (A.queries at.me) at.me known.services.settings known.routes mentions history
+        gateway at.now index) result port.new }
     ensures ticked { (known : Knowledge) → KnowledgeStands A.stands kept.old at.me known →
         OnOk result (KnowledgeStands A.stands kept.new at.me
-        (record known { routes = OwnTick at.now index ∷ known.routes })) }
+        (steps.after_tick (A.queries at.me) at.now index known)) }
     ensures committed { (mentions : List Mention) (history : History) (since : ℕ) →
         LocalsStand locals.old mentions history since → since ≤ at.now →
         OnOk result (LocalsStand locals.new mentions

@@ -4,7 +4,8 @@ use Rattle.std.specs.Prelude.{◌≡◌, ℕ, List, slice_get, Option, Some, Non
 use Rattle.mesh_base.specs.declared.address.Mac.{Mac}
 use Rattle.mesh_model.specs.Clients.Log.{Given, LineGiven, Line, Sets}
 use Rattle.mesh_model.specs.Clients.Log.{Join as GivenJoin, Leave as GivenLeave}
-use Rattle.mesh_model.specs.Clients.Settings.{Wifi as WifiSet}
+use Rattle.mesh_model.specs.Clients.Settings.{Setting, NoPart, Serves, Chooses}
+use Rattle.mesh_model.specs.Clients.Settings.{ArpTable as SetsArpTable, Gateway as SetsGateway, Multicast as SetsMulticast, Wifi as SetsWifi}
 use Rattle.mesh_model.specs.declared.ending.Stop.TheVariants.{Refused, Limit}
 use Rattle.mesh_model.specs.declared.line_form.Command.{Command}
 use Rattle.mesh_model.specs.declared.line_form.Command.TheVariants.{Nothing, Algo, Node, Link, Lan, Frame, Gone, Join, Leave, Arp, Dhcp, Wifi, GwOff, GwServer, GwClient, Mcast, Dat, Alfred, Put, Get, Ping, Trace, Run, Deliver, Show, Decode}
@@ -33,8 +34,12 @@ abbrev pub given_at : Setup → List ℕ → Given → State → Outcome
 given_at setup name given state = unless_refused state (name_refusal state (OfNode name))
     (at_node name (given_step setup given) state)
 
--- the node of a name that a command gives something, and what it gives, where it names a node and
--- no place
+-- the node of a name is given a setting
+abbrev pub set_at : List ℕ → Setting → Option (List ℕ × Given)
+set_at node setting = Some (node, Line (Sets setting))
+
+-- the node of a name that a command gives something, and what it gives, where it asks no more of
+-- the state than a node of that name
 abbrev pub given_of : Command → Option (List ℕ × Given)
 given_of Nothing = None
 given_of (Algo algorithm) = None
@@ -47,12 +52,13 @@ given_of (Join node key) = Some (node, Line (GivenJoin key))
 given_of (Leave node key) = Some (node, Line (GivenLeave key))
 given_of (Arp node mac own asked vid) = None
 given_of (Dhcp node key text) = None
-given_of (Wifi node on) = Some (node, Line (Sets (WifiSet on)))
-given_of (GwOff node) = None
-given_of (GwServer node down up) = None
-given_of (GwClient node policy) = None
-given_of (Mcast node flags) = None
-given_of (Dat node on) = None
+given_of (Wifi node on) = set_at node (SetsWifi on)
+given_of (GwOff node) = set_at node (SetsGateway NoPart)
+given_of (GwServer node down up) =
+    set_at node (SetsGateway (Serves (record { download = down; upload = up })))
+given_of (GwClient node policy) = set_at node (SetsGateway (Chooses policy))
+given_of (Mcast node flags) = set_at node (SetsMulticast flags)
+given_of (Dat node on) = set_at node (SetsArpTable on)
 given_of (Alfred node mode) = None
 given_of (Put node type_no version text) = None
 given_of (Get node type_no) = None

@@ -111,7 +111,7 @@ returns-then-stays_on_lan-clause-noted g c = λ log before bridged flags.
     let own : Own = record (own_by me log) { mentions = seen ++ mentions me log } in
     let owns = owned_news c.args.locals.now c.sighted.new.locals me log now seen before.clients before.later mentioned in
     let stays : true ≡ stays_on_lan q (seen ++ mentions me log) (bridge log).lan now (key_to frame) known = sym c.if-stays_on_lan.true ∙ c.stays_on_lan.ensures me known own (c.in_ok-sighted.ensures.noted log before) owns bridged in
-    subst (λ (b : Bool). KnowledgeStands g.A.Algo.stands c.sighted.new.kept me (after_bridged b frame.dst known)) stays (c.in_ok-sighted.ensures.noted log before)
+    subst (λ (b : Bool). KnowledgeStands g.A.Algo.stands c.sighted.new.kept me (after_bridged q now b (key_to frame) known)) stays (c.in_ok-sighted.ensures.noted log before)
 
 pub returns-clause-noted : goal.returns-clause-noted
 returns-clause-noted g c = λ log before bridged flags.
@@ -126,5 +126,5 @@ returns-clause-noted g c = λ log before bridged flags.
     let own : Own = record (own_by me log) { mentions = seen ++ mentions me log } in
     let owns = owned_news c.args.locals.now c.sighted.new.locals me log now seen before.clients before.later mentioned in
     let goes : false ≡ stays_on_lan q (seen ++ mentions me log) (bridge log).lan now (key_to frame) known = sym c.if-stays_on_lan.false ∙ c.stays_on_lan.ensures me known own (c.in_ok-sighted.ensures.noted log before) owns bridged in
-    subst (λ (b : Bool). KnowledgeStands g.A.Algo.stands c.client_frame.new.kept me (after_bridged b frame.dst known)) goes
+    subst (λ (b : Bool). KnowledgeStands g.A.Algo.stands c.client_frame.new.kept me (after_bridged q now b (key_to frame) known)) goes
     (c.in_ok-client_frame.ensures.noted known (c.in_ok-sighted.ensures.noted log before))

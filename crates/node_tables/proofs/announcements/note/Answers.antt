@@ -8,4 +8,5 @@ returns-clause-noted g c = λ me known number stands. record {
   probes = stands.probes;
   taken = stands.taken;
   sent = stands.sent;
+  services = stands.services;
 }

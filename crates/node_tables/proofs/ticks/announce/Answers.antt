@@ -4,6 +4,7 @@ use Rattle.mesh_model.specs.Acts.OwnContainers.{own_containers}
 use Rattle.mesh_model.specs.Acts.Rows.{message_acts}
 use Rattle.mesh_model.specs.Commits.Announcements.{announcement}
 use Rattle.mesh_model.specs.Packets.Containers.{containers_spelling}
+use Rattle.node_ground.specs.SettingsSeen.{settings_seen}
 use Rattle.node_ground.specs.Puts.{Puts}
 use Rattle.node_ground.proofs.PutsLemmas.{stops_free}
 use Rattle.node_tables.proofs.ticks.announce.Goals as goal
@@ -12,7 +13,7 @@ pub returns-in_err-containers-clause-puts : goal.returns-in_err-containers-claus
 returns-in_err-containers-clause-puts g c = λ mentions history since stands.
     let p = err_from_is_err_and c.from_residual.result c.from_residual.ensures.1 in
     rw (p.1, p.2) (stops_free g.P.Port.takes g.P.Port.same g.P.Port.over c.args.port.now
-    (message_acts c.args.head (containers_spelling (own_containers (announcement history)))) (g.met.P.Port.same_refl c.args.port.now))
+    (message_acts c.args.head (containers_spelling (own_containers (settings_seen c.args.settings) (announcement history)))) (g.met.P.Port.same_refl c.args.port.now))
 
 pub returns-in_err-send_message-clause-puts : goal.returns-in_err-send_message-clause-puts
 returns-in_err-send_message-clause-puts g c = λ mentions history since stands.

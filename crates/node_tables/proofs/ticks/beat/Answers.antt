@@ -1,4 +1,4 @@
-use Rattle.std.proofs.Common.{Err, Ok, [], ◌++◌, refl, subst, sym}
+use Rattle.std.proofs.Common.{Err, Ok, [], ◌∷◌, ◌++◌, refl, subst, sym}
 use Rattle.std.specs.Prelude.{if◌then◌else◌}
 use Rattle.std.proofs.lemmas.Result.{err_from_is_err_and}
 use Rattle.mesh_model.specs.Acts.OwnContainers.{own_containers}
@@ -6,10 +6,12 @@ use Rattle.mesh_model.specs.Acts.Rows.{alias_acts, commit_acts, elp_acts, messag
 use Rattle.mesh_model.specs.Commits.Announcements.{announcement}
 use Rattle.mesh_model.specs.Commits.History.{History, with_message, committed, is_commit_tick, present_table}
 use Rattle.mesh_model.specs.Packets.Containers.{containers_spelling}
+use Rattle.mesh_model.specs.Routes.RouteLog.{OwnTick}
 use Rattle.mesh_model.specs.declared.route.Beats.{Beats}
+use Rattle.node_ground.specs.SettingsSeen.{settings_seen}
 use Rattle.node_ground.specs.Puts.{Puts, TakesAll}
-use Rattle.node_ground.proofs.PutsLemmas.{puts_behind, stops_among}
-use Rattle.node_tables.proofs.TickLemmas.{even_acts, is_even, odd_acts, odd_stands}
+use Rattle.node_ground.proofs.PutsLemmas.{puts_behind, stops_among, stops_last}
+use Rattle.node_tables.proofs.TickLemmas.{beat_acts, even_acts, even_known, is_even, odd_acts, odd_known, odd_stands, ticked}
 use Rattle.node_tables.proofs.ticks.beat.Goals as goal
 use Rattle.tt_local.specs.Locals.{LocalsStand}
 
@@ -21,7 +23,7 @@ returns-in_err-send_elp-clause-puts g c = λ known mentions history since is sta
     let put = subst (λ (beats : Beats). Puts g.P.Port.takes g.P.Port.same g.P.Port.over c.args.port.now (message_acts beats.elp []) (Err c.in_err-send_elp.field-0.0) c.send_elp.new.port)
     (c.tick-beats.ensures.beats c.args.at.me known.routes is.routes) c.in_err-send_elp.ensures in
     rw (p.1, p.2) (stops_among g.P.Port.takes g.P.Port.same g.P.Port.over c.in_err-send_elp.field-0.0 c.args.port.now c.send_elp.new.port (elp_acts q known.routes c.args.index)
-    (if is_commit_tick c.args.index then commit_acts q c.args.at.me known.routes c.args.index history after else []) put)
+    (if is_commit_tick c.args.index then commit_acts q c.args.at.me known.services.settings known.routes c.args.index history after else []) put)
 
 pub returns-then-index-ne0-clause-puts : goal.returns-then-index-ne0-clause-puts
 returns-then-index-ne0-clause-puts g c = λ known mentions history since is stands late.
@@ -29,7 +31,7 @@ returns-then-index-ne0-clause-puts g c = λ known mentions history since is stan
     let put = subst (λ (beats : Beats). TakesAll g.P.Port.takes g.P.Port.over c.args.port.now (message_acts beats.elp []) c.send_elp.new.port)
     (c.tick-beats.ensures.beats c.args.at.me known.routes is.routes) c.in_ok-send_elp.ensures in
     subst (λ acts. Puts g.P.Port.takes g.P.Port.same g.P.Port.over c.args.port.now acts (Ok tt) c.send_elp.new.port)
-    (odd_acts q c.args.at.me known.routes mentions history c.args.at.now c.args.index c.if-index-ne0.true)
+    (odd_acts q c.args.at.me known.services.settings known.routes mentions history c.args.at.now c.args.index c.if-index-ne0.true)
     (puts_behind g.P.Port.takes g.P.Port.same g.P.Port.over c.args.port.now c.send_elp.new.port c.send_elp.new.port (elp_acts q known.routes c.args.index) [] (Ok tt) put refl)
 
 pub returns-in_err-own_message-clause-puts : goal.returns-in_err-own_message-clause-puts
@@ -37,29 +39,50 @@ returns-in_err-own_message-clause-puts g c = λ known mentions history since is 
     let p = err_from_is_err_and c.from_residual-in_err-own_message.result c.from_residual-in_err-own_message.ensures.1 in
     let q = g.A.Algo.queries c.args.at.me in
     let after : History = committed (present_table mentions c.args.at.now) history in
-    let tail = containers_spelling (own_containers (announcement after)) in
+    let tail = containers_spelling (own_containers (settings_seen c.args.kept.now.services.settings) (announcement after)) in
     let beats_are = c.tick-beats.ensures.beats c.args.at.me known.routes is.routes in
     let elp = subst (λ (beats : Beats). TakesAll g.P.Port.takes g.P.Port.over c.args.port.now (message_acts beats.elp []) c.send_elp.new.port) beats_are c.in_ok-send_elp.ensures in
-    let own = subst (λ (beats : Beats). Puts g.P.Port.takes g.P.Port.same g.P.Port.over c.send_elp.new.port (alias_acts c.args.at.me history.commits after.commits ++ message_acts beats.ogm tail) (Err c.in_err-own_message.field-0.0) c.own_message.new.port)
-    beats_are (c.in_err-own_message.ensures.puts mentions history since stands late) in
+    let own = subst (λ settings. Puts g.P.Port.takes g.P.Port.same g.P.Port.over c.send_elp.new.port (commit_acts q c.args.at.me settings known.routes c.args.index history after) (Err c.in_err-own_message.field-0.0) c.own_message.new.port) is.services.settings
+    (subst (λ (beats : Beats). Puts g.P.Port.takes g.P.Port.same g.P.Port.over c.send_elp.new.port (alias_acts c.args.at.me history.commits after.commits ++ message_acts beats.ogm tail) (Err c.in_err-own_message.field-0.0) c.own_message.new.port)
+    beats_are (c.in_err-own_message.ensures.puts mentions history since stands late)) in
     rw (p.1, p.2) (subst (λ acts. Puts g.P.Port.takes g.P.Port.same g.P.Port.over c.args.port.now acts (Err c.in_err-own_message.field-0.0) c.own_message.new.port)
-    (even_acts q c.args.at.me known.routes mentions history c.args.at.now c.args.index c.if-index-ne0.false)
+    (even_acts q c.args.at.me known.services.settings known.routes mentions history c.args.at.now c.args.index c.if-index-ne0.false)
     (puts_behind g.P.Port.takes g.P.Port.same g.P.Port.over c.args.port.now c.send_elp.new.port c.own_message.new.port (elp_acts q known.routes c.args.index)
-    (commit_acts q c.args.at.me known.routes c.args.index history after) (Err c.in_err-own_message.field-0.0) elp own))
+    (commit_acts q c.args.at.me known.services.settings known.routes c.args.index history after) (Err c.in_err-own_message.field-0.0) elp own))
+
+pub returns-in_err-choose_gateway-clause-puts : goal.returns-in_err-choose_gateway-clause-puts
+returns-in_err-choose_gateway-clause-puts g c = λ known mentions history since is stands late.
+    let p = err_from_is_err_and c.from_residual-in_err-choose_gateway.result c.from_residual-in_err-choose_gateway.ensures.1 in
+    let q = g.A.Algo.queries c.args.at.me in
+    let after : History = committed (present_table mentions c.args.at.now) history in
+    let tail = containers_spelling (own_containers (settings_seen c.args.kept.now.services.settings) (announcement after)) in
+    let beats_are = c.tick-beats.ensures.beats c.args.at.me known.routes is.routes in
+    let elp = subst (λ (beats : Beats). TakesAll g.P.Port.takes g.P.Port.over c.args.port.now (message_acts beats.elp []) c.send_elp.new.port) beats_are c.in_ok-send_elp.ensures in
+    let own = subst (λ settings. Puts g.P.Port.takes g.P.Port.same g.P.Port.over c.send_elp.new.port (commit_acts q c.args.at.me settings known.routes c.args.index history after) (Ok tt) c.own_message.new.port) is.services.settings
+    (subst (λ (beats : Beats). Puts g.P.Port.takes g.P.Port.same g.P.Port.over c.send_elp.new.port (alias_acts c.args.at.me history.commits after.commits ++ message_acts beats.ogm tail) (Ok tt) c.own_message.new.port)
+    beats_are (c.in_ok-own_message.ensures.puts mentions history since stands late)) in
+    rw (p.1, p.2) (stops_last g.P.Port.takes g.P.Port.same g.P.Port.over c.args.port.now c.own_message.new.port
+    (beat_acts q c.args.at.me known.services.settings known.routes mentions history c.args.at.now c.args.index)
+    (subst (λ acts. Puts g.P.Port.takes g.P.Port.same g.P.Port.over c.args.port.now acts (Ok tt) c.own_message.new.port)
+    (even_acts q c.args.at.me known.services.settings known.routes mentions history c.args.at.now c.args.index c.if-index-ne0.false)
+    (puts_behind g.P.Port.takes g.P.Port.same g.P.Port.over c.args.port.now c.send_elp.new.port c.own_message.new.port (elp_acts q known.routes c.args.index)
+    (commit_acts q c.args.at.me known.services.settings known.routes c.args.index history after) (Ok tt) elp own))
+    (g.met.P.Port.same_refl c.own_message.new.port))
 
 pub returns-clause-puts : goal.returns-clause-puts
 returns-clause-puts g c = λ known mentions history since is stands late.
     let q = g.A.Algo.queries c.args.at.me in
     let after : History = committed (present_table mentions c.args.at.now) history in
-    let tail = containers_spelling (own_containers (announcement after)) in
+    let tail = containers_spelling (own_containers (settings_seen c.args.kept.now.services.settings) (announcement after)) in
     let beats_are = c.tick-beats.ensures.beats c.args.at.me known.routes is.routes in
     let elp = subst (λ (beats : Beats). TakesAll g.P.Port.takes g.P.Port.over c.args.port.now (message_acts beats.elp []) c.send_elp.new.port) beats_are c.in_ok-send_elp.ensures in
-    let own = subst (λ (beats : Beats). Puts g.P.Port.takes g.P.Port.same g.P.Port.over c.send_elp.new.port (alias_acts c.args.at.me history.commits after.commits ++ message_acts beats.ogm tail) (Ok tt) c.own_message.new.port)
-    beats_are (c.in_ok-own_message.ensures.puts mentions history since stands late) in
+    let own = subst (λ settings. Puts g.P.Port.takes g.P.Port.same g.P.Port.over c.send_elp.new.port (commit_acts q c.args.at.me settings known.routes c.args.index history after) (Ok tt) c.own_message.new.port) is.services.settings
+    (subst (λ (beats : Beats). Puts g.P.Port.takes g.P.Port.same g.P.Port.over c.send_elp.new.port (alias_acts c.args.at.me history.commits after.commits ++ message_acts beats.ogm tail) (Ok tt) c.own_message.new.port)
+    beats_are (c.in_ok-own_message.ensures.puts mentions history since stands late)) in
     subst (λ acts. Puts g.P.Port.takes g.P.Port.same g.P.Port.over c.args.port.now acts (Ok tt) c.own_message.new.port)
-    (even_acts q c.args.at.me known.routes mentions history c.args.at.now c.args.index c.if-index-ne0.false)
+    (even_acts q c.args.at.me known.services.settings known.routes mentions history c.args.at.now c.args.index c.if-index-ne0.false)
     (puts_behind g.P.Port.takes g.P.Port.same g.P.Port.over c.args.port.now c.send_elp.new.port c.own_message.new.port (elp_acts q known.routes c.args.index)
-    (commit_acts q c.args.at.me known.routes c.args.index history after) (Ok tt) elp own)
+    (commit_acts q c.args.at.me known.services.settings known.routes c.args.index history after) (Ok tt) elp own)
 
 pub returns-then-index-ne0-clause-committed : goal.returns-then-index-ne0-clause-committed
 returns-then-index-ne0-clause-committed g c = λ mentions history since stands late.
@@ -70,3 +93,14 @@ returns-clause-committed g c = λ mentions history since stands late.
     subst (λ even. LocalsStand c.own_message.new.locals mentions (if even then with_message (committed (present_table mentions c.args.at.now) history) else history) c.args.at.now)
     (sym (is_even c.args.index c.if-index-ne0.false))
     (c.in_ok-own_message.ensures.committed mentions history since stands late)
+
+pub returns-then-index-ne0-clause-ticked : goal.returns-then-index-ne0-clause-ticked
+returns-then-index-ne0-clause-ticked g c = λ known is.
+    odd_known g.A.Algo.stands _ (g.A.Algo.queries c.args.at.me) c.args.at.me c.args.at.now c.args.index known (ticked g.A.Algo.stands c.args.kept.now c.tick-beats.new.self c.args.at.me c.args.at.now c.args.index known is
+    (c.tick-beats.ensures.ticked c.args.at.me known.routes is.routes)) c.if-index-ne0.true
+
+pub returns-clause-ticked : goal.returns-clause-ticked
+returns-clause-ticked g c = λ known is.
+    even_known g.A.Algo.stands _ (g.A.Algo.queries c.args.at.me) c.args.at.me c.args.at.now c.args.index known
+    (c.in_ok-choose_gateway.ensures c.args.at.me (record known { routes = OwnTick c.args.at.now c.args.index ∷ known.routes })
+    (ticked g.A.Algo.stands c.args.kept.now c.tick-beats.new.self c.args.at.me c.args.at.now c.args.index known is (c.tick-beats.ensures.ticked c.args.at.me known.routes is.routes))) c.if-index-ne0.false

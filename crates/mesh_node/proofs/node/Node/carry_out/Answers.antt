@@ -99,6 +99,24 @@ pub returns-in_ok-take_frame-in-Frame-clause-noted : goal.returns-in_ok-take_fra
 returns-in_ok-take_frame-in-Frame-clause-noted g c = λ me log number is late.
     rw c.in-Frame.is (c.in_ok-take_frame-in-Frame.ensures.noted me log is late)
 
+pub take_call-requires : goal.take_call-requires
+take_call-requires g c =
+    let may = c.requires in
+    (may.me, may.log, may.stand, may.later)
+
+pub returns-in_err-take_call-in-Dhcp-clause-puts : goal.returns-in_err-take_call-in-Dhcp-clause-puts
+returns-in_err-take_call-in-Dhcp-clause-puts g c = λ me log number is late.
+    let p = err_from_is_err_and c.from_residual-in_err-take_call-in-Dhcp.result c.from_residual-in_err-take_call-in-Dhcp.ensures.1 in
+    rw (p.1, p.2, c.in-Dhcp.is) (c.in_err-take_call-in-Dhcp.ensures.puts me log is late)
+
+pub returns-in_ok-take_call-in-Dhcp-clause-puts : goal.returns-in_ok-take_call-in-Dhcp-clause-puts
+returns-in_ok-take_call-in-Dhcp-clause-puts g c = λ me log number is late.
+    rw c.in-Dhcp.is (c.in_ok-take_call-in-Dhcp.ensures.puts me log is late)
+
+pub returns-in_ok-take_call-in-Dhcp-clause-noted : goal.returns-in_ok-take_call-in-Dhcp-clause-noted
+returns-in_ok-take_call-in-Dhcp-clause-noted g c = λ me log number is late.
+    rw c.in-Dhcp.is (c.in_ok-take_call-in-Dhcp.ensures.noted me log is late)
+
 pub returns-in_err-join_group-in-Join-clause-puts : goal.returns-in_err-join_group-in-Join-clause-puts
 returns-in_err-join_group-in-Join-clause-puts g c = λ me log number is late.
     let p = err_from_is_err_and c.from_residual-in_err-join_group-in-Join.result c.from_residual-in_err-join_group-in-Join.ensures.1 in

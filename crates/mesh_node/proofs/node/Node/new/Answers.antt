@@ -8,6 +8,5 @@ returns g c = record {
   kept = c.new-2.ensures c.args.me c.requires;
   clients = has_none _ c.args.me c.new.ensures;
   bridge = c.new-3.ensures;
-  wifi = refl;
   alive = refl;
 }

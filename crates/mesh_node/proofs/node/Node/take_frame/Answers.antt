@@ -12,6 +12,7 @@ use Rattle.node_ground.specs.KnowledgeStands.{KnowledgeStands}
 use Rattle.node_ground.specs.OwnStands.{with_input}
 use Rattle.node_ground.specs.OwnStands.{HasClients}
 use Rattle.node_ground.specs.Puts.{Leaves}
+use Rattle.mesh_node.proofs.GivenLemmas.{wifi_is}
 use Rattle.mesh_node.proofs.node.Node.take_frame.Goals as goal
 
 pub frame-requires : goal.frame-requires
@@ -31,7 +32,7 @@ returns-in_err-frame-clause-puts g c = λ me log is late.
     (record { known = is.kept; clients = is.clients; later = late }) in
     rw (p.1, p.2) (subst (λ m. Leaves g.P.Port.takes g.P.Port.same g.P.Port.over (node_limit m log c.args.now given) c.args.port.now
     (acts_of (g.A.Algo.queries m) m log c.args.now given) (Err c.in_err-frame.field-0.0) c.frame.new.port) is.mac
-    (c.in_err-frame.ensures.puts log before (ap Sighted c.client_flags-flags.ensures ∙ ap (λ wifi. Sighted (if wifi then wifi_flag else 0)) is.wifi)))
+    (c.in_err-frame.ensures.puts log before (ap Sighted c.client_flags-flags.ensures ∙ ap (λ wifi. Sighted (if wifi then wifi_flag else 0)) (wifi_is g.A.Algo.stands g.A.Algo.queries c.args.self.now me log is))))
 
 pub returns-clause-puts : goal.returns-clause-puts
 returns-clause-puts g c = λ me log is late.
@@ -40,14 +41,14 @@ returns-clause-puts g c = λ me log is late.
     (record { known = is.kept; clients = is.clients; later = late }) in
     subst (λ m. Leaves g.P.Port.takes g.P.Port.same g.P.Port.over (node_limit m log c.args.now given) c.args.port.now
     (acts_of (g.A.Algo.queries m) m log c.args.now given) (Ok tt) c.frame.new.port) is.mac
-    (c.in_ok-frame.ensures.puts log before (ap Sighted c.client_flags-flags.ensures ∙ ap (λ wifi. Sighted (if wifi then wifi_flag else 0)) is.wifi))
+    (c.in_ok-frame.ensures.puts log before (ap Sighted c.client_flags-flags.ensures ∙ ap (λ wifi. Sighted (if wifi then wifi_flag else 0)) (wifi_is g.A.Algo.stands g.A.Algo.queries c.args.self.now me log is)))
 
 pub returns-clause-noted : goal.returns-clause-noted
 returns-clause-noted g c = λ me log is late.
     let given = given_frame (seen_frame c.args.sent.now) in
     let before = subst (λ m. Before g.A.Algo.stands g.A.Algo.queries c.args.self.now.kept c.args.self.now.locals m log c.args.now) (sym is.mac)
     (record { known = is.kept; clients = is.clients; later = late }) in
-    let flags = ap Sighted c.client_flags-flags.ensures ∙ ap (λ wifi. Sighted (if wifi then wifi_flag else 0)) is.wifi in
+    let flags = ap Sighted c.client_flags-flags.ensures ∙ ap (λ wifi. Sighted (if wifi then wifi_flag else 0)) (wifi_is g.A.Algo.stands g.A.Algo.queries c.args.self.now me log is) in
     record {
       mac = is.mac;
       kept = subst (λ m. KnowledgeStands g.A.Algo.stands c.frame.new.kept m (next_knowledge (g.A.Algo.queries m) m log (knowledge (g.A.Algo.queries m) m log) c.args.now given)) is.mac
@@ -55,6 +56,5 @@ returns-clause-noted g c = λ me log is late.
       clients = subst (λ m. HasClients c.frame.new.locals m (with_input (g.A.Algo.queries m) m log c.args.now given)) is.mac
           (c.in_ok-frame.ensures.sighted log before flags);
       bridge = is.bridge;
-      wifi = is.wifi;
       alive = is.alive;
     }

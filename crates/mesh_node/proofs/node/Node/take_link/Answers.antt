@@ -65,6 +65,5 @@ returns-clause-noted g c = λ me log number is late.
           (subst (λ m. LocalsStand c.note_roamed.new.locals (filter_map (roamed_by m came.now) packets ++ mentions me log) (history me log) is.clients.since) is.mac
           (c.note_roamed.ensures (mentions me log) (history me log) is.clients.since came.now is.clients.stand));
       bridge = is.bridge;
-      wifi = is.wifi;
       alive = is.alive;
     }

@@ -1,11 +1,10 @@
-use Rattle.std.proofs.Common.{◌∷◌, Err, Ok, arith, subst, sym}
+use Rattle.std.proofs.Common.{Err, Ok, arith, subst, sym}
 use Rattle.std.proofs.lemmas.Result.{err_from_is_err_and}
 use Rattle.mesh_model.specs.Acts.Rows.{tick_acts}
 use Rattle.mesh_model.specs.Clients.Lans.{bridge}
 use Rattle.mesh_model.specs.Clients.Mentions.{mentions}
 use Rattle.mesh_model.specs.Commits.History.{history}
-use Rattle.mesh_model.specs.Knowledge.Steps.{knowledge}
-use Rattle.mesh_model.specs.Routes.RouteLog.{OwnTick}
+use Rattle.mesh_model.specs.Knowledge.Steps.{after_tick, knowledge}
 use Rattle.node_ground.specs.KnowledgeStands.{KnowledgeStands}
 use Rattle.node_ground.specs.Puts.{Puts}
 use Rattle.node_lans.specs.BridgeStands.{BridgeStands}
@@ -40,7 +39,7 @@ returns-in_err-tick-clause-puts g c = λ me log is late.
     let known = knowledge (g.A.Algo.queries me) me log in
     let settled = is.clients.settled in
     rw (p.1, p.2) (subst (λ m. Puts g.P.Port.takes g.P.Port.same g.P.Port.over c.args.port.now
-    (tick_acts (g.A.Algo.queries m) m known.routes (mentions me log) (history me log) (bridge log) c.args.now c.args.index) (Err c.in_err-tick.field-0.0) c.tick.new.port) is.mac
+    (tick_acts (g.A.Algo.queries m) m known.services.settings known.routes (mentions me log) (history me log) (bridge log) c.args.now c.args.index) (Err c.in_err-tick.field-0.0) c.tick.new.port) is.mac
     (c.in_err-tick.ensures.puts known (mentions me log) (history me log) is.clients.since (bridge log)
     (subst (λ m. KnowledgeStands g.A.Algo.stands c.args.self.now.kept m known) (sym is.mac) is.kept) is.clients.stand (omega (arith, settled, late))
     (subst (λ m. BridgeStands c.args.self.now.bridge m (bridge log)) (sym is.mac) is.bridge)))
@@ -50,7 +49,7 @@ returns-clause-puts g c = λ me log is late.
     let known = knowledge (g.A.Algo.queries me) me log in
     let settled = is.clients.settled in
     subst (λ m. Puts g.P.Port.takes g.P.Port.same g.P.Port.over c.args.port.now
-    (tick_acts (g.A.Algo.queries m) m known.routes (mentions me log) (history me log) (bridge log) c.args.now c.args.index) (Ok tt) c.tick.new.port) is.mac
+    (tick_acts (g.A.Algo.queries m) m known.services.settings known.routes (mentions me log) (history me log) (bridge log) c.args.now c.args.index) (Ok tt) c.tick.new.port) is.mac
     (c.in_ok-tick.ensures.puts known (mentions me log) (history me log) is.clients.since (bridge log)
     (subst (λ m. KnowledgeStands g.A.Algo.stands c.args.self.now.kept m known) (sym is.mac) is.kept) is.clients.stand (omega (arith, settled, late))
     (subst (λ m. BridgeStands c.args.self.now.bridge m (bridge log)) (sym is.mac) is.bridge))
@@ -61,11 +60,10 @@ returns-clause-noted g c = λ me log is late.
     let settled = is.clients.settled in
     record {
       mac = is.mac;
-      kept = subst (λ m. KnowledgeStands g.A.Algo.stands c.tick.new.kept m (record known { routes = OwnTick c.args.now c.args.index ∷ known.routes })) is.mac
+      kept = subst (λ m. KnowledgeStands g.A.Algo.stands c.tick.new.kept m (after_tick (g.A.Algo.queries m) c.args.now c.args.index known)) is.mac
           (c.in_ok-tick.ensures.ticked known (subst (λ m. KnowledgeStands g.A.Algo.stands c.args.self.now.kept m known) (sym is.mac) is.kept));
       clients = has_ticked (g.A.Algo.queries me) c.args.self.now.locals c.tick.new.locals me log c.args.now c.args.index is.clients late
           (c.in_ok-tick.ensures.committed (mentions me log) (history me log) is.clients.since is.clients.stand (omega (arith, settled, late)));
       bridge = is.bridge;
-      wifi = is.wifi;
       alive = is.alive;
     }

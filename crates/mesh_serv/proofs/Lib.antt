@@ -1,0 +1,2 @@
+-- What the kept offers rest on.
+pub mod OfferLemmas

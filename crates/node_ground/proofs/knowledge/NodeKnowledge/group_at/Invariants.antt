@@ -1,0 +1,12 @@
+use Rattle.std.proofs.Common.{◌≡◌, filter_map, slice_get, Some}
+use Rattle.mesh_base.specs.declared.address.Mac.{Mac}
+use Rattle.mesh_model.specs.Knowledge.Known.{Knowledge}
+use Rattle.mesh_model.specs.Knowledge.Offers.{group_rows}
+use Rattle.mesh_serv.specs.OffersStand.{offered}
+use Rattle.node_ground.specs.KnowledgeStands.{KnowledgeStands}
+use Rattle.node_ground.specs.ServiceRows.{group_of}
+use Rattle.node_ground.proofs.knowledge.NodeKnowledge.group_at.Given as goal
+
+abbrev pub invariant-loop-orig : goal.invariant-loop-orig
+invariant-loop-orig g l = (me : Mac) (known : Knowledge) → KnowledgeStands g.A.Algo.stands l.self me known
+    → slice_get (group_rows (g.A.Algo.queries me) known l.now) l.i ≡ slice_get (filter_map (λ e. group_of (g.A.Algo.queries me) known l.now e.0 (Some (offered e.1))) l.orig-iterator) l.before
