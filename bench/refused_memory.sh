@@ -66,6 +66,10 @@ node B 02:00:00:00:00:0b
 link A B delay=2 pattern=..2 tp=50
 link B A
 set A wifi on
+set A mcast 2
+set B gw server 100 20
+set A gw client late 20
+set B dat off
 frame A 02:00:00:00:01:01 ff:ff:ff:ff:ff:ff - to all
 join A 01:00:5e:00:00:fb 7
 run 6500
@@ -73,6 +77,8 @@ deliver 1
 frame B 02:00:00:00:01:02 02:00:00:00:01:01 - to one
 ping A B
 traceroute B A
+dhcp A 02:00:00:00:01:04 - a call
+frame B 02:00:00:00:01:02 01:00:5e:00:00:fb 7 to a group
 run 100
 frame B 02:00:00:00:01:01 02:00:00:00:01:02 - roamed
 run 2000
@@ -89,6 +95,8 @@ show A o
 show A n
 show A tl
 show B tg
+show A gw
+show B mc
 leave A 01:00:5e:00:00:fb 7
 gone B 02:00:00:00:01:01 -
 run 1000

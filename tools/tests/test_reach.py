@@ -148,3 +148,59 @@ class Many(unittest.TestCase):
         printed = [f"ping A B seq={seq} reply ttl=50 rtt=2" for seq in range(1, 41)]
         printed += ["trace A B hop=1 B rtt=2 end"]
         self.assertEqual(run_lines(lines), finished(printed))
+
+
+class Gateways(unittest.TestCase):
+    """A gateway that falls silent."""
+
+    @needs_program
+    def test_another_is_chosen_in_the_place_of_a_silent_one(self):
+        """A hears B up to 3001, so B is no neighbour from 8001 on, and the second tick at 9000
+        chooses C. B is heard again behind 52 held frames, of which it sends five a second: by then
+        C is the old choice, and stays."""
+        lines = ["algo v", *DUO[:2], "node C 02:00:00:00:00:0c", "link A B tp=100"]
+        lines += [f"link B A tp=100 pattern={'.' * 12 + 'h' * 52}"]
+        lines += ["link A C tp=50 pattern=h", "link C A tp=50"]
+        lines += ["set B gw server 10 1", "set C gw server 20 2", "set A gw client stable"]
+        printed = []
+        shown = [(7500, "b", 100), (1000, "b", 0), (500, "c", 0), (6500, "c", 100)]
+        for length, chosen, metric in shown:
+            lines += [f"run {length}", "show A gw"]
+            printed += [
+                f"gw A mode=client chosen=02:00:00:00:00:0{chosen}",
+                f"g {B} down=10 up=1 metric={metric}",
+                "g 02:00:00:00:00:0c down=20 up=2 metric=50",
+            ]
+        self.assertEqual(run_lines(lines), finished(printed))
+
+
+class Groups(unittest.TestCase):
+    """The most receivers of a group's frame that get one each, and one more."""
+
+    GROUP = "01:00:5e:01:00:05"
+
+    def sent_to_receivers(self, count):
+        """The client frames that A sends when so many of its neighbours want a group, by their
+        kind and reason, and how many of the neighbours hand the frame out."""
+        nodes = [f"n{number}" for number in range(count)]
+        lines = ["algo v", DUO[0]]
+        lines += [f"node {node} {node_mac(32 + place)}" for place, node in enumerate(nodes)]
+        lines += [f"link A {node}" for node in nodes] + [f"link {node} A" for node in nodes]
+        lines += [f"set {node} mcast 2" for node in nodes]
+        lines += ["run 1001", frame("A", 1, dst=self.GROUP), "run 1"]
+        status, printed, told = run_lines(lines, "--frames", "client")
+        self.assertEqual((status, told), (0, ""))
+        words = [line.split() for line in printed.splitlines()]
+        sent = [line[3:-1] for line in words if line[0][0] == "f" and line[2].startswith("A>")]
+        handed_out = {line[2] for line in words if line[0] == "recv"}
+        self.assertEqual(handed_out, set(nodes))
+        return sent
+
+    @needs_program
+    def test_sixteen_receivers_get_one_each(self):
+        self.assertEqual(self.sent_to_receivers(16), [["unicast", "by=mc"]] * 16)
+
+    @needs_program
+    def test_seventeen_receivers_get_a_broadcast(self):
+        """It goes over each of A's links."""
+        self.assertEqual(self.sent_to_receivers(17), [["bcast"]] * 17)

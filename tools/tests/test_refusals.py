@@ -49,6 +49,8 @@ REFUSED = [
     ("attached", [*DUO[:2], "lan L A"], "lan M B A"),
     ("attached", [*DUO[:2], "lan L A"], frame("A", 1)),
     ("attached", [*DUO[:2], "lan L A"], "gone A 02:00:00:00:01:01 -"),
+    ("attached", [*DUO[:2], "lan L A"], "dhcp A 02:00:00:00:01:01 - x"),
+    ("wrong kind", [*DUO[:2], "lan L A"], "dhcp L 02:00:00:00:01:01 - x"),
     ("no such frame", [], "deliver 0"),
     ("no such frame", [], "deliver 1"),
     ("no such frame", [*DUO, frame("A", 1)], "deliver 2"),
