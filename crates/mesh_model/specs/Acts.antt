@@ -9,6 +9,7 @@ pub mod GroupRows
 pub mod TableRows
 pub mod FrameRows
 pub mod ProbeRows
+pub mod ArpRows
 pub mod Rows
 pub mod Choosing
 pub mod NodeLimits

@@ -8,4 +8,5 @@ pub mod Served
 pub mod Known
 pub mod Addressee
 pub mod Offers
+pub mod Pairs
 pub mod Steps

@@ -4,6 +4,7 @@
 
 #![tactic(auto)]
 
+pub mod address_rows;
 pub mod algorithm_rows;
 pub mod bridge_rows;
 pub mod client_rows;

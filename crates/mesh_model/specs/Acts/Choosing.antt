@@ -5,7 +5,9 @@
 use Rattle.std.specs.Prelude.{ℕ, Bool, true, false, List, [], ◌++◌, Option, Some, None, if◌then◌else◌}
 use Rattle.mesh_base.specs.declared.address.Mac.{Mac}
 use Rattle.mesh_base.specs.declared.client.Key.{Key}
+use Rattle.mesh_base.specs.declared.client.Vid.{Vid}
 use Rattle.mesh_model.specs.declared.act.Act.{Act}
+use Rattle.mesh_model.specs.Acts.ArpRows.{question_acts}
 use Rattle.mesh_model.specs.Acts.BridgeRows.{claim_acts}
 use Rattle.mesh_model.specs.Acts.FrameRows.{advert_acts, frame_acts}
 use Rattle.mesh_model.specs.Acts.GroupRows.{call_acts}
@@ -46,6 +48,12 @@ abbrev pub calling_acts : Queries → Mac → Log → ℕ → Key → List ℕ �
 calling_acts q me log now key text = call_acts q
     (after_sighting q me log now key (knowledge q me log)) (record { me = me; now = now })
     (call_frame key text)
+
+-- the question of a client, behind its sighting
+abbrev pub asking_acts : Queries → Mac → Log → ℕ → Mac → ℕ → ℕ → Vid → List Act
+asking_acts q me log now mac own_ip asked_ip vid = question_acts q
+    (after_sighting q me log now (key_of mac vid) (knowledge q me log))
+    (record { me = me; now = now }) mac own_ip asked_ip vid
 
 -- a ping or, for `trace`, a traceroute begins
 abbrev pub probing_acts : Queries → Mac → Log → ℕ → Mac → Bool → List Act
@@ -101,6 +109,7 @@ line_acts q me log now (Join key) = []
 line_acts q me log now (Leave key) = []
 line_acts q me log now (Arp mac own_ip asked_ip vid) =
     sighting_acts q me log now (key_of mac vid)
+    ++ asking_acts q me log now mac own_ip asked_ip vid
 line_acts q me log now (Dhcp key text) =
     sighting_acts q me log now key ++ calling_acts q me log now key text
 line_acts q me log now (Sets setting) = []

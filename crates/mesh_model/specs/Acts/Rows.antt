@@ -8,6 +8,7 @@ use Rattle.mesh_model.specs.declared.act.Act.TheVariants.{Print}
 use Rattle.mesh_model.specs.declared.packet.Head.{Head}
 use Rattle.mesh_model.specs.declared.packet.Head.TheVariants.{IvOgm, Bcast, Elp, Ogm2, Unicast, Frag, Unicast4, Icmp, Utvlv}
 use Rattle.mesh_model.specs.declared.table_change.Change.{Change}
+use Rattle.mesh_model.specs.Acts.ArpRows.{arp_here, passed_unicast4}
 use Rattle.mesh_model.specs.Acts.BridgeRows.{Place, round_acts, unclaim_acts}
 use Rattle.mesh_model.specs.Acts.FrameRows.{broadcast_acts, here_acts, passed_frame}
 use Rattle.mesh_model.specs.Acts.OwnContainers.{own_containers}
@@ -25,6 +26,7 @@ use Rattle.mesh_model.specs.Commits.Versions.{last_commit}
 use Rattle.mesh_model.specs.Knowledge.Known.{Knowledge}
 use Rattle.mesh_model.specs.Knowledge.Steps.{Coming, after_packet, before_announcement, request_out}
 use Rattle.mesh_model.specs.Knowledge.Told.{Message, message_in, message_of}
+use Rattle.mesh_model.specs.Packets.ArpMessages.{arp_came}
 use Rattle.mesh_model.specs.Packets.Containers.{containers_of, containers_spelling}
 use Rattle.mesh_model.specs.Packets.Contents.{first_roaming, first_table}
 use Rattle.mesh_model.specs.Packets.FirstPacket.{Packet}
@@ -136,7 +138,9 @@ head_acts q me own came known message tail (Unicast ttl ttvn dst) = if same_mac 
     then here_acts q known own.mentions own.bridge (place_at me came) ttl tail
     else passed_frame q known (place_at me came) ttl ttvn dst tail
 head_acts q me own came known message tail (Frag ttl number priority dst orig seq total) = []
-head_acts q me own came known message tail (Unicast4 ttl ttvn dst src subtype) = []
+head_acts q me own came known message tail (Unicast4 ttl ttvn dst src subtype) =
+    if same_mac dst me then arp_here q known (place_at me came) src (arp_came subtype tail)
+    else passed_unicast4 q known came.now ttl ttvn dst src subtype tail
 head_acts q me own came known message tail (Icmp ttl msg dst orig uid seq) =
     icmp_acts q known (place_at me came)
     (record { ttl = ttl; kind = msg; dst = dst; orig = orig; uid = uid; seq = seq })

@@ -1,14 +1,16 @@
--- What a node keeps for services: its settings, what each originator offered last, and the gateway
--- that it chose. An originator message that is accepted tells by its containers what its originator
--- offers: the throughputs of a gateway, a part in the ARP table, and multicast flags. A setting of
--- the part as a gateway gives up the choice. The main words are `Services` and `offer_of`.
-use Rattle.std.specs.Prelude.{ℕ, Bool, List, [], ◌∷◌, find, Option, None, option_map, if◌then◌else◌}
+-- What a node keeps for services: its settings, what each originator offered last, the gateway that
+-- it chose, and the pairs of the ARP table that it learned and asked for. An originator message
+-- that is accepted tells by its containers what its originator offers: the throughputs of a
+-- gateway, a part in the ARP table, and multicast flags. A setting of the part as a gateway gives up
+-- the choice. The main words are `Services` and `offer_of`.
+use Rattle.std.specs.Prelude.{ℕ, Bool, List, [], ◌∷◌, find, Option, Some, None, option_map, if◌then◌else◌}
 use Rattle.mesh_base.specs.declared.address.Mac.{Mac}
 use Rattle.mesh_model.specs.Clients.Settings.{Setting, Wifi, Gateway, Multicast, ArpTable, FactStore, Settings, first_settings, set_to}
 use Rattle.mesh_model.specs.Packets.Bodies.{Bandwidth}
 use Rattle.mesh_model.specs.Packets.Containers.{Container}
 use Rattle.mesh_model.specs.Packets.Contents.{first_gateway, first_multicast, has_dat}
 use Rattle.mesh_model.specs.Routes.Addresses.{same_mac}
+use Rattle.mesh_model.specs.Services.ArpTable.{Learned, PairCall}
 
 -- what an originator offers: the throughputs of a gateway, where it is one; whether it takes part
 -- in the ARP table; and its multicast flags, where it tells any
@@ -22,15 +24,24 @@ pub record Offered : Type 0 where
   pub orig : Mac
   pub offer : Offer
 
--- the settings; what was offered, newest first; and the gateway that was chosen, if any
+-- the settings; what was offered; the gateway that was chosen, if any; the pairs that were learned,
+-- and those that were asked for. Lists are newest first
 pub record Services : Type 0 where
   pub settings : Settings
   pub offers : List Offered
   pub choice : Option Mac
+  pub learned : List Learned
+  pub asks : List PairCall
 
 -- before anything was set or came
 abbrev pub no_services : Services
-no_services = record { settings = first_settings; offers = []; choice = None }
+no_services = record {
+  settings = first_settings;
+  offers = [];
+  choice = None;
+  learned = [];
+  asks = [];
+}
 
 -- what the containers of an originator message offer
 abbrev pub offer_in : List Container → Offer

@@ -9,7 +9,7 @@
 -- another gateway of the LAN. What an accepted message offers is noted; a gateway is chosen at each
 -- second tick, and given up where the node's part as one is set. A probe of a ping or a traceroute
 -- waits for its answer where it was sent. The main word is `knowledge`.
-use Rattle.std.specs.Prelude.{ℕ, suc, ◌&&◌, ◌||◌, Bool, true, false, List, [], ◌∷◌, fold, length, Option, Some, None, is_none, is_some, if◌then◌else◌}
+use Rattle.std.specs.Prelude.{ℕ, suc, ◌&&◌, ◌||◌, Bool, true, false, List, [], ◌∷◌, fold, length, Option, Some, None, is_none, is_some, option_and_then, if◌then◌else◌}
 use Rattle.std.specs.List.{list_any}
 use Rattle.mesh_base.specs.Address.{is_broadcast, is_group}
 use Rattle.mesh_base.specs.declared.address.Mac.{Mac}
@@ -28,11 +28,13 @@ use Rattle.mesh_model.specs.Clients.Settings.{Setting}
 use Rattle.mesh_model.specs.Knowledge.Addressee.{Way, addressee}
 use Rattle.mesh_model.specs.Knowledge.Known.{Broadcast, Knowledge, agreed_byte, is_new_broadcast, no_knowledge, told_at}
 use Rattle.mesh_model.specs.Knowledge.Offers.{after_choice, gateway_way, receivers}
+use Rattle.mesh_model.specs.Knowledge.Pairs.{after_arp, after_question}
 use Rattle.mesh_model.specs.Knowledge.Served.{after_set, with_offer}
 use Rattle.mesh_model.specs.Knowledge.Told.{Message, TableMessage, Asks, Answers, Neither, message_changes, message_in, message_of, stamp_told}
 use Rattle.mesh_model.specs.Marks.Advertisements.{too_many}
 use Rattle.mesh_model.specs.Marks.Calls.{Calls, Marked, Released, Unmarked, Advised, Asked, Forgotten}
 use Rattle.mesh_model.specs.Marks.Requests.{too_soon}
+use Rattle.mesh_model.specs.Packets.ArpMessages.{arp_came}
 use Rattle.mesh_model.specs.Packets.Containers.{containers_of}
 use Rattle.mesh_model.specs.Packets.Contents.{first_roaming, first_table}
 use Rattle.mesh_model.specs.Packets.FirstPacket.{Packet}
@@ -221,7 +223,8 @@ after_head q me came message tail (Ogm2 ttl flags seq orig throughput) known =
     after_taken q came (Ogm2 ttl flags seq orig throughput) message tail known
 after_head q me came message tail (Unicast ttl ttvn dst) known = known
 after_head q me came message tail (Frag ttl number priority dst orig seq total) known = known
-after_head q me came message tail (Unicast4 ttl ttvn dst src subtype) known = known
+after_head q me came message tail (Unicast4 ttl ttvn dst src subtype) known =
+    if same_mac dst me then after_arp came.now (arp_came subtype tail) known else known
 after_head q me came message tail (Icmp ttl msg dst orig uid seq) known =
     if same_mac dst me && is_answer msg then after_reply q came.now msg seq known else known
 after_head q me came message tail (Utvlv ttl dst src) known =
@@ -326,7 +329,8 @@ line_knowledge q me older known now (Gone key) = known
 line_knowledge q me older known now (Join key) = known
 line_knowledge q me older known now (Leave key) = known
 line_knowledge q me older known now (Arp mac own_ip asked_ip vid) =
-    after_sighting q me older now (key_of mac vid) known
+    after_question q me now mac own_ip asked_ip vid
+    (after_sighting q me older now (key_of mac vid) known)
 line_knowledge q me older known now (Dhcp key text) =
     after_call q now (after_sighting q me older now key known)
 line_knowledge q me older known now (Sets setting) = with_set setting known

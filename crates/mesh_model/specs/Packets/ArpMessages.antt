@@ -1,11 +1,12 @@
 -- The messages of the distributed ARP table: ARP over Ethernet and IPv4, in 28 bytes. A question is
--- operation 1, an answer operation 2. The main words are `arp_spelling` and `arp_message_of`.
+-- operation 1, an answer operation 2. A packet of the table tells by its subtype whether a pair is
+-- to be kept, is asked for, or is told. The main words are `arp_spelling` and `arp_came`.
 use Rattle.std.specs.Prelude.{ℕ, ◌==◌, ◌&&◌, Bool, List, [], ◌∷◌, ◌++◌, length, take, drop, bytes_eq, Option, Some, None, option_and_then, if◌then◌else◌}
 use Rattle.byteorder.specs.Endian.{big_bytes, big_number}
 use Rattle.mesh_base.specs.declared.address.Mac.{Mac}
 use Rattle.mesh_base.specs.declared.client.Vid.{Vid}
 use Rattle.mesh_model.specs.Packets.Ethernet.{EtherFrame, address_in, ether_frame_of, ether_spelling}
-use Rattle.mesh_model.specs.Packets.Numbers.{arp_ethertype}
+use Rattle.mesh_model.specs.Packets.Numbers.{arp_ethertype, cache_reply_subtype, dht_get_subtype, dht_put_subtype}
 
 -- an operation, and the address and the IP address of the one that asks or tells, and of the other
 pub record ArpMessage : Type 0 where
@@ -59,3 +60,21 @@ arp_in frame = if is_arp_body frame.rest then Some (record {
 -- the message that bytes are, where they are one
 abbrev pub arp_message_of : List ℕ → Option ArpMessage
 arp_message_of bytes = option_and_then arp_in (ether_frame_of arp_ethertype bytes)
+
+-- what a packet of the table brings: a pair to keep, a question for one, or an answer
+pub data ArpCame : Type 0 where
+  Puts : ArpMessage → ArpCame
+  Asks : ArpMessage → ArpCame
+  Tells : ArpMessage → ArpCame
+
+-- what a message under a subtype brings, where its operation fits
+abbrev pub came_under : ℕ → ArpMessage → Option ArpCame
+came_under subtype m =
+    if (subtype == dht_put_subtype) && (m.operation == arp_reply) then Some (Puts m)
+    else if (subtype == dht_get_subtype) && (m.operation == arp_request) then Some (Asks m)
+    else if (subtype == cache_reply_subtype) && (m.operation == arp_reply) then Some (Tells m)
+    else None
+
+-- what a packet with a subtype and these bytes brings, where it is one of the table
+abbrev pub arp_came : ℕ → List ℕ → Option ArpCame
+arp_came subtype bytes = option_and_then (came_under subtype) (arp_message_of bytes)

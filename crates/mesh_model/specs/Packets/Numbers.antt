@@ -35,6 +35,17 @@ frag_type = 65
 abbrev pub unicast4_type : ℕ
 unicast4_type = 66
 
+-- the subtypes of a frame for one node with its sender: a question for a pair of the ARP table, a
+-- pair that is to be kept, and an answer
+abbrev pub dht_get_subtype : ℕ
+dht_get_subtype = 2
+
+abbrev pub dht_put_subtype : ℕ
+dht_put_subtype = 3
+
+abbrev pub cache_reply_subtype : ℕ
+cache_reply_subtype = 4
+
 -- the type byte of a message of ping or traceroute
 abbrev pub icmp_type : ℕ
 icmp_type = 67

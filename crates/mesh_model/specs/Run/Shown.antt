@@ -24,10 +24,11 @@ use Rattle.mesh_model.specs.Net.Mesh.{NodeLog}
 use Rattle.mesh_model.specs.Routes.Algorithms.{queries_of}
 use Rattle.mesh_model.specs.Run.KnownTables.{parts_at}
 use Rattle.mesh_model.specs.Run.State.{Printed, ClaimsShown, GlobalsShown, LocalsShown, NeighborsShown, OriginatorsShown, ServiceShown, State, names_of}
+use Rattle.mesh_model.specs.Services.ArpTable.{pairs_at}
 use Rattle.mesh_model.specs.Tables.Sums.{sums_of}
 use Rattle.mesh_model.specs.Text.Claims.{ClaimTable}
 use Rattle.mesh_model.specs.Text.GlobalTables.{GlobalTable}
-use Rattle.mesh_model.specs.Text.Services.{GatewayTable, GatewaysOf, GroupTable, GroupsOf}
+use Rattle.mesh_model.specs.Text.Services.{AddressTable, AddressesOf, GatewayTable, GatewaysOf, GroupTable, GroupsOf}
 use Rattle.mesh_model.specs.Text.Tables.{LinkTable, LocalTable, OrigTable}
 
 -- the state after one more thing is printed
@@ -108,6 +109,13 @@ group_table algorithm now node = record {
   rows = group_rows (queries_of algorithm node.mac) (known_to algorithm node) now;
 }
 
+-- the pairs of the ARP table that a node knows at a moment
+abbrev pub address_table : Algorithm → ℕ → NodeLog → AddressTable
+address_table algorithm now node = record {
+  name = node.name;
+  rows = pairs_at (known_to algorithm node).services.learned now;
+}
+
 -- what is printed of a node in a state, for each table that is shown
 abbrev pub shown : Table → Option (State → NodeLog → Printed)
 shown Originators =
@@ -121,5 +129,6 @@ shown Gateways = Some (λ state node.
     ServiceShown (GatewaysOf (gateway_table state.algorithm state.clock node)))
 shown Groups =
     Some (λ state node. ServiceShown (GroupsOf (group_table state.algorithm state.clock node)))
-shown Addresses = None
+shown Addresses = Some (λ state node.
+    ServiceShown (AddressesOf (address_table state.algorithm state.clock node)))
 shown Facts = None

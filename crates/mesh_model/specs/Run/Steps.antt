@@ -17,7 +17,7 @@ use Rattle.mesh_model.specs.declared.line_form.Algorithm.{Algorithm}
 use Rattle.mesh_model.specs.declared.line_form.Command.{Command}
 use Rattle.mesh_model.specs.declared.line_form.Command.TheVariants.{Nothing, Algo, Node, Link, Lan, Frame, Gone, Join, Leave, Arp, Dhcp, Wifi, GwOff, GwServer, GwClient, Mcast, Dat, Alfred, Put, Get, Ping, Trace, Run, Deliver, Show, Decode}
 use Rattle.mesh_model.specs.Clients.Log.{LineGiven, Line, Sets}
-use Rattle.mesh_model.specs.Clients.Log.{Frame as GivenFrame, Gone as GivenGone, Join as GivenJoin, Leave as GivenLeave, Dhcp as GivenDhcp, Ping as GivenPing, Trace as GivenTrace}
+use Rattle.mesh_model.specs.Clients.Log.{Frame as GivenFrame, Gone as GivenGone, Join as GivenJoin, Leave as GivenLeave, Arp as GivenArp, Dhcp as GivenDhcp, Ping as GivenPing, Trace as GivenTrace}
 use Rattle.mesh_model.specs.Clients.Settings.{Setting, NoPart, Serves, Chooses}
 use Rattle.mesh_model.specs.Clients.Settings.{ArpTable as SetsArpTable, Gateway as SetsGateway, Multicast as SetsMulticast, Wifi as SetsWifi}
 use Rattle.mesh_model.specs.Net.Mesh.{NodeLog, NetLan, NetLink, Setup, address_at}
@@ -168,7 +168,8 @@ step_of setup (Gone place key) = Some
     (at_place place (gateways_step setup (GivenGone key)) (input_step setup (GivenGone key)))
 step_of setup (Join node key) = Some (at_node node (input_step setup (GivenJoin key)))
 step_of setup (Leave node key) = Some (at_node node (input_step setup (GivenLeave key)))
-step_of setup (Arp node mac own asked vid) = None
+step_of setup (Arp node mac own asked vid) =
+    Some (at_node node (input_step setup (GivenArp mac own asked vid)))
 step_of setup (Dhcp node key text) = Some (at_node node (input_step setup (GivenDhcp key text)))
 step_of setup (Wifi node on) = Some (setting_step setup node (SetsWifi on))
 step_of setup (GwOff node) = Some (setting_step setup node (SetsGateway NoPart))

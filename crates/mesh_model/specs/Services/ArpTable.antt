@@ -1,8 +1,8 @@
--- The distributed ARP table. A pair of an IP address and a VLAN is known at a node while it was last
--- learned less than 300,000 ms ago. The nodes that keep a pair, its candidates, are the three with
--- the least distance from the pair to the node on a ring of 65,536 places, in a tie those of the
--- smaller address. The main words are `known_pair` and `candidates_of`.
-use Rattle.std.specs.Prelude.{ℕ, ◌+◌, ◌-◌, ◌%◌, ◌==◌, ◌&&◌, nat_lt, nat_eq, ◌||◌, Bool, List, [], ◌∷◌, ◌++◌, find, take, map, filter_map, Option, Some, None, option_map, option_and_then, if◌then◌else◌}
+-- The distributed ARP table. A pair of an IP address and a VLAN is known at a node while it was
+-- last learned less than 300,000 ms ago. The nodes that keep a pair, its candidates, are the three
+-- with the least distance from the pair to the node on a ring of 65,536 places, in a tie those of
+-- the smaller address. The main words are `known_pair`, `is_awaited` and `candidates_of`.
+use Rattle.std.specs.Prelude.{ℕ, ◌+◌, ◌-◌, ◌%◌, ◌==◌, ◌&&◌, nat_lt, nat_eq, ◌||◌, Bool, false, not, List, [], ◌∷◌, ◌++◌, find, take, map, filter_map, Option, Some, None, option_map, option_and_then, if◌then◌else◌}
 use Rattle.std.specs.Ordering.{nat_cmp, ordering_then}
 use Rattle.std.specs.declared.cmp.Ordering.{Ordering}
 use Rattle.byteorder.specs.Endian.{big_bytes}
@@ -25,9 +25,13 @@ pub record Learned : Type 0 where
 abbrev pub pair_age : ℕ
 pair_age = 300000
 
+-- whether a pair is this one
+abbrev pub same_pair : ℕ → Vid → ℕ → Vid → Bool
+same_pair a_ip a_vid ip vid = (a_ip == ip) && (a_vid.0 == vid.0)
+
 -- whether what was learned is of a pair
 abbrev pub is_pair : ℕ → Vid → Learned → Bool
-is_pair ip vid learned = (learned.ip == ip) && (learned.vid.0 == vid.0)
+is_pair ip vid learned = same_pair learned.ip learned.vid ip vid
 
 -- what was learned, while it is known
 abbrev pub if_known : ℕ → Learned → Option Learned
@@ -41,6 +45,21 @@ known_pair learned now ip vid = option_and_then (if_known now) (find (is_pair ip
 abbrev pub pair_address : List Learned → ℕ → ℕ → Vid → Option Mac
 pair_address learned now ip vid =
     option_map (λ (pair : Learned). pair.mac) (known_pair learned now ip vid)
+
+-- ---- questions
+
+-- a pair that other nodes were asked for, or that one of them told
+pub data PairCall : Type 0 where
+  AskedFor : (ip : ℕ) → (vid : Vid) → PairCall
+  ToldOf : (ip : ℕ) → (vid : Vid) → PairCall
+
+-- whether an answer for a pair is awaited: none came since it was last asked for
+abbrev pub is_awaited : List PairCall → ℕ → Vid → Bool
+is_awaited [] ip vid = false
+is_awaited (AskedFor for_ip for_vid ∷ older) ip vid =
+    same_pair for_ip for_vid ip vid || is_awaited older ip vid
+is_awaited (ToldOf of_ip of_vid ∷ older) ip vid =
+    not (same_pair of_ip of_vid ip vid) && is_awaited older ip vid
 
 -- ---- rows
 

@@ -1,16 +1,19 @@
 -- The printed gateways (`show NODE gw`): a line `gw NODE mode=M chosen=MAC`, with `chosen=-` for
 -- none, and a line `g MAC down=D up=U metric=M` for each that is known. The printed groups (`show
 -- NODE mc`): a line `mc NODE count=C`, a line `j MAC VID` for each group that is joined at the
--- node, and a line `m MAC flags=FF` for each originator that tells multicast flags. The main word
--- is `service_table_text`.
+-- node, and a line `m MAC flags=FF` for each originator that tells multicast flags. The printed ARP
+-- table (`show NODE dat`): a line `dat NODE count=C`, and a line `d IP VID MAC age=AGE` for each
+-- pair. The main word is `service_table_text`.
 use Rattle.std.specs.Prelude.{ℕ, ◌+◌, List, [], ◌∷◌, ◌++◌, flat_map, length, Option, codes}
 use Rattle.hex.specs.Hex.{encode_lower}
 use Rattle.mesh_base.specs.declared.address.Mac.{Mac}
 use Rattle.mesh_base.specs.declared.client.Key.{Key}
+use Rattle.mesh_model.specs.declared.service.ArpRow.{ArpRow}
 use Rattle.mesh_model.specs.declared.service.GroupRow.{GroupRow}
 use Rattle.mesh_model.specs.declared.service.GwMode.{GwMode}
 use Rattle.mesh_model.specs.declared.service.GwMode.TheVariants.{Off, Server, Client}
 use Rattle.mesh_model.specs.declared.service.GwRow.{GwRow}
+use Rattle.mesh_model.specs.Text.Events.{ip_text}
 use Rattle.mesh_model.specs.Text.PacketLines.{line_of, named_address, named_number}
 use Rattle.mesh_model.specs.Text.Tables.{address_text, vid_text}
 
@@ -70,12 +73,35 @@ abbrev pub group_table_text : GroupTable → List ℕ
 group_table_text table = group_header table.name (length table.joined + length table.rows)
     ++ flat_map joined_line table.joined ++ flat_map groups_line table.rows
 
+-- a node's name, and the pairs that it knows
+pub record AddressTable : Type 0 where
+  pub name : List ℕ
+  pub rows : List ArpRow
+
+-- the first line of the ARP table
+unfoldable pub address_header : List ℕ → ℕ → List ℕ
+address_header name count =
+    line_of (codes "dat " ∷ name ∷ named_number (codes " count=") count ∷ [])
+
+-- the line of a pair
+unfoldable pub address_line : ArpRow → List ℕ
+address_line row = line_of
+    (codes "d " ∷ ip_text row.ip ∷ codes " " ∷ vid_text row.vid ∷ named_address (codes " ") row.mac
+    ∷ named_number (codes " age=") row.age ∷ [])
+
+-- the ARP table as it is printed
+abbrev pub address_table_text : AddressTable → List ℕ
+address_table_text table =
+    address_header table.name (length table.rows) ++ flat_map address_line table.rows
+
 -- a table of a service
 pub data ServiceTable : Type 0 where
   GatewaysOf : GatewayTable → ServiceTable
   GroupsOf : GroupTable → ServiceTable
+  AddressesOf : AddressTable → ServiceTable
 
 -- a table of a service as it is printed
 abbrev pub service_table_text : ServiceTable → List ℕ
 service_table_text (GatewaysOf table) = gateway_table_text table
 service_table_text (GroupsOf table) = group_table_text table
+service_table_text (AddressesOf table) = address_table_text table
