@@ -27,7 +27,12 @@ pub mod TableChanges
 pub mod PieceLemmas
 pub mod DifferenceLemmas
 pub mod KnownLemmas
+pub mod KeptLemmas
 pub mod SettingLemmas
+pub mod PairLemmas
+pub mod QuestionLemmas
+pub mod AskLemmas
+pub mod CandidateLemmas
 pub mod LanLemmas
 pub mod Gateways
 pub mod CommitLemmas

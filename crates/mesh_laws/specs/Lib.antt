@@ -17,3 +17,4 @@ pub mod Machine
 pub mod HeldLaws
 pub mod MarkLaws
 pub mod ServiceLaws
+pub mod AddressLaws

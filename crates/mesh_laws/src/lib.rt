@@ -4,6 +4,7 @@
 
 #![tactic(auto)]
 
+pub mod address_laws;
 pub mod happening_laws;
 pub mod held_laws;
 pub mod known_laws;

@@ -138,7 +138,7 @@ trace names all (traces.Ended hop from rtt) = unbroken_both (hop_text names hop 
     (unbroken_both (hop_text names hop from) (named_number (codes " rtt=") rtt) (hop_plain names all hop from) (number (codes " rtt=") rtt refl)) (said (codes " end") refl)
 trace names all (traces.Unreachable hop from) = unbroken_both (hop_text names hop from) (codes " unreachable") (hop_plain names all hop from) (said (codes " unreachable") refl)
 
-ip : (n : ℕ) → IsUnbroken (ip_text n)
+pub ip : (n : ℕ) → IsUnbroken (ip_text n)
 unfolding ip_text
 ip n =
     let first = decimal (n / 16777216) in

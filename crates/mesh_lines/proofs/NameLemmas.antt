@@ -9,7 +9,7 @@ use Rattle.mesh_model.specs.declared.line_form.Command.TheVariants.{Nothing, Alg
 use Rattle.mesh_model.specs.Clients.Log.{Line, Sets}
 use Rattle.mesh_model.specs.Clients.Settings.{NoPart, Serves, Chooses}
 use Rattle.mesh_model.specs.Clients.Settings.{ArpTable as ArpTableSet, Gateway as GatewaySet, Multicast as MulticastSet, Wifi as WifiSet}
-use Rattle.mesh_model.specs.Clients.Log.{Gone as GoneGiven, Join as JoinGiven, Leave as LeaveGiven, Dhcp as DhcpGiven, Ping as PingGiven, Trace as TraceGiven}
+use Rattle.mesh_model.specs.Clients.Log.{Gone as GoneGiven, Join as JoinGiven, Leave as LeaveGiven, Arp as ArpGiven, Dhcp as DhcpGiven, Ping as PingGiven, Trace as TraceGiven}
 use Rattle.mesh_model.specs.Net.Limits.{clock_limit, lans_limit, links_limit, nodes_limit}
 use Rattle.mesh_model.specs.Net.Mesh.{NetLink}
 use Rattle.mesh_model.specs.Net.Runs.{delivered}
@@ -51,7 +51,7 @@ command_named state (Frame place src dst vid text) p tell r n = frame_named stat
 command_named state (Gone place key) p tell r n = gone_from state place (GoneGiven key) r.low tt n
 command_named state (Join node key) p tell r n = line_named state node (JoinGiven key) r.low tt n
 command_named state (Leave node key) p tell r n = line_named state node (LeaveGiven key) r.low tt n
-command_named state (Arp node mac own asked vid) p tell r n = λ of. n
+command_named state (Arp node mac own asked vid) p tell r n = line_named state node (ArpGiven mac own asked vid) r.low tt n
 command_named state (Dhcp node key text) p tell r n = line_named state node (DhcpGiven key text) r.low p n
 command_named state (Wifi node on) p tell r n = line_named state node (Sets (WifiSet on)) r.low tt n
 command_named state (GwOff node) p tell r n = line_named state node (Sets (GatewaySet NoPart)) r.low tt n

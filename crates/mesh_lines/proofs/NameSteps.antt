@@ -237,7 +237,7 @@ shows_name Globals = λ state node all word. word
 shows_name Claims = λ state node all word. (word, lan_or_dash (names_of state.mesh) all (bridge node.log).lan)
 shows_name Gateways = λ state node all word. word
 shows_name Groups = λ state node all word. word
-shows_name Addresses = tt
+shows_name Addresses = λ state node all word. word
 shows_name Facts = tt
 
 got_named : (nodes : List NodeLog) (place : ℕ) (node : NodeLog) → ((one : NodeName) → Has (node_names nodes) one → IsWord one.name) → slice_get nodes place ≡ Some node → IsWord node.name

@@ -4,16 +4,19 @@ use Rattle.std.specs.Prelude.{codes}
 use Rattle.hex.specs.Hex.{encode_lower}
 use Rattle.mesh_base.specs.declared.address.Mac.{Mac}
 use Rattle.mesh_base.specs.declared.client.Key.{Key}
+use Rattle.mesh_model.specs.declared.service.ArpRow.{ArpRow}
 use Rattle.mesh_model.specs.declared.service.GroupRow.{GroupRow}
 use Rattle.mesh_model.specs.declared.service.GwMode.{GwMode}
 use Rattle.mesh_model.specs.declared.service.GwMode.TheVariants.{Off, Server, Client}
 use Rattle.mesh_model.specs.declared.service.GwRow.{GwRow}
+use Rattle.mesh_model.specs.Text.Events.{ip_text}
 use Rattle.mesh_model.specs.Text.PacketLines.{named_address, named_number}
-use Rattle.mesh_model.specs.Text.Services.{GatewaysOf, GroupsOf, ServiceTable, gateway_header, gateway_line, group_header, groups_line, joined_line, mode_word}
+use Rattle.mesh_model.specs.Text.Services.{AddressesOf, GatewaysOf, GroupsOf, ServiceTable, address_header, address_line, gateway_header, gateway_line, group_header, groups_line, joined_line, mode_word}
 use Rattle.mesh_model.specs.Text.Tables.{address_text, vid_text}
 use Rattle.mesh_laws.specs.Cuts.{IsUnbroken}
 use Rattle.mesh_lines.specs.ItemLines.{service_lines, service_name}
 use Rattle.mesh_lines.specs.LineWords.{IsWord, of_other}
+use Rattle.mesh_lines.proofs.EventParts.{ip}
 use Rattle.mesh_lines.proofs.LineParts.{Told, address, mac, number, said, told, unbroken_word, vid}
 use Rattle.mesh_lines.proofs.PacketParts.{AllOther, other_both, other_map}
 use Rattle.mesh_lines.proofs.Words.{hex_word}
@@ -50,6 +53,17 @@ unfolding groups_line
 groups_told row = told of_other (named_address (codes "m ") row.orig ∷ codes " flags=" ∷ encode_lower (row.flags ∷ []) ∷ [])
     (mac (codes "m ") row.orig refl, (said (codes " flags=") refl, (unbroken_word (encode_lower (row.flags ∷ [])) (hex_word (row.flags ∷ [])), tt))) refl
 
+-- ---- the ARP table
+address_header_told : (name : List ℕ) (count : ℕ) → IsUnbroken name → Told of_other (address_header name count)
+unfolding address_header
+address_header_told name count plain = told of_other (codes "dat " ∷ name ∷ named_number (codes " count=") count ∷ [])
+    (said (codes "dat ") refl, (plain, (number (codes " count=") count refl, tt))) refl
+
+address_told : (row : ArpRow) → Told of_other (address_line row)
+unfolding address_line
+address_told row = told of_other (codes "d " ∷ ip_text row.ip ∷ codes " " ∷ vid_text row.vid ∷ named_address (codes " ") row.mac ∷ named_number (codes " age=") row.age ∷ [])
+    (said (codes "d ") refl, (ip row.ip, (said (codes " ") refl, (vid row.vid, (mac (codes " ") row.mac refl, (number (codes " age=") row.age refl, tt)))))) refl
+
 -- ---- tables
 -- none of their lines is of a kind that the laws speak of
 pub service_other : (table : ServiceTable) → IsWord (service_name table) → AllOther (service_lines table)
@@ -58,3 +72,4 @@ service_other (GroupsOf table) plain = (
   group_header_told table.name (length table.joined + length table.rows) (unbroken_word table.name plain),
   other_both (map joined_line table.joined) (map groups_line table.rows) (other_map joined_line joined_told table.joined) (other_map groups_line groups_told table.rows),
 )
+service_other (AddressesOf table) plain = (address_header_told table.name (length table.rows) (unbroken_word table.name plain), other_map address_line address_told table.rows)

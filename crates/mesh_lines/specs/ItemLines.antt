@@ -9,7 +9,7 @@ use Rattle.mesh_model.specs.Text.Claims.{ClaimTable, claim_header, claim_line, n
 use Rattle.mesh_model.specs.Text.Decode.{decode_lines}
 use Rattle.mesh_model.specs.Text.Events.{event_line, is_shown}
 use Rattle.mesh_model.specs.Text.GlobalTables.{GlobalPart, GlobalTable, entry_line, global_header, global_line, mark_line}
-use Rattle.mesh_model.specs.Text.Services.{GatewayTable, GatewaysOf, GroupTable, GroupsOf, ServiceTable, gateway_header, gateway_line, group_header, groups_line, joined_line}
+use Rattle.mesh_model.specs.Text.Services.{AddressTable, AddressesOf, GatewayTable, GatewaysOf, GroupTable, GroupsOf, ServiceTable, address_header, address_line, gateway_header, gateway_line, group_header, groups_line, joined_line}
 use Rattle.mesh_model.specs.Text.Tables.{LinkTable, LocalTable, OrigTable, local_header, local_line, neighbor_line, orig_line, route_header, vlan_line}
 use Rattle.mesh_lines.specs.LineWords.{AreNamed, HasPlainText, IsWord}
 
@@ -56,15 +56,22 @@ abbrev pub group_lines : GroupTable → List (List ℕ)
 group_lines table = group_header table.name (length table.joined + length table.rows)
     ∷ map joined_line table.joined ++ map groups_line table.rows
 
+-- the lines of the ARP table of a node
+abbrev pub address_lines : AddressTable → List (List ℕ)
+address_lines table = address_header table.name (length table.rows)
+    ∷ map address_line table.rows
+
 -- the lines of a table of a service
 abbrev pub service_lines : ServiceTable → List (List ℕ)
 service_lines (GatewaysOf table) = gateway_lines table
 service_lines (GroupsOf table) = group_lines table
+service_lines (AddressesOf table) = address_lines table
 
 -- the name of the node of a table of a service
 abbrev pub service_name : ServiceTable → List ℕ
 service_name (GatewaysOf table) = table.name
 service_name (GroupsOf table) = table.name
+service_name (AddressesOf table) = table.name
 
 -- the lines of what is printed at once
 abbrev pub item_lines : FrameChoice → Printed → List (List ℕ)

@@ -8,7 +8,7 @@ use Rattle.mesh_model.specs.declared.act.Act.{Act}
 use Rattle.mesh_model.specs.declared.act.Act.TheVariants.{Link, Lan, Print}
 use Rattle.mesh_model.specs.declared.packet.Head.{Head}
 use Rattle.mesh_model.specs.declared.packet.Head.TheVariants.{IvOgm, Bcast, Elp, Ogm2, Unicast, Frag, Unicast4, Icmp, Utvlv}
-use Rattle.mesh_model.specs.Acts.Choosing.{acts_of, call_frame, calling_acts, claimed_first, client_acts, from_lan_acts, on_from_lan, probing_acts, sighting_acts}
+use Rattle.mesh_model.specs.Acts.Choosing.{acts_of, asking_acts, call_frame, calling_acts, claimed_first, client_acts, from_lan_acts, on_from_lan, probing_acts, sighting_acts}
 use Rattle.mesh_model.specs.Acts.BridgeRows.{Place, round_acts, unclaim_acts}
 use Rattle.mesh_model.specs.Acts.FrameRows.{broadcast_acts, here_acts, passed_frame}
 use Rattle.mesh_model.specs.Acts.OwnContainers.{own_containers}
@@ -37,12 +37,13 @@ use Rattle.mesh_model.specs.Routes.Queries.{Queries}
 use Rattle.mesh_model.specs.Routes.RouteLog.{RouteLog}
 use Rattle.mesh_model.specs.Tables.Versions.{Version}
 use Rattle.mesh_laws.proofs.Schedule.Members.{has_either, has_left, has_right}
+use Rattle.mesh_tie.proofs.ArpActs.{unicast4_acts}
 use Rattle.mesh_tie.proofs.BridgeActs.{claimed_puts}
 use Rattle.mesh_tie.proofs.LanSteps.{lan_on}
 use Rattle.mesh_tie.proofs.CalmRows.{calm_call, calm_frame, calm_here, calm_session}
 use Rattle.mesh_tie.proofs.CommitLemmas.{Committed, as_before, committed_is, one_more}
 use Rattle.mesh_tie.proofs.EntryLemmas.{each_appended}
-use Rattle.mesh_tie.proofs.NamesRows.{IsPlain, plain_bridges, plain_round, plain_unclaim, plain_advert, plain_broadcast, plain_icmp, plain_message, plain_ogm, plain_other, plain_own, plain_passed}
+use Rattle.mesh_tie.proofs.NamesRows.{IsPlain, plain_bridges, plain_round, plain_unclaim, plain_advert, plain_broadcast, plain_icmp, plain_message, plain_ogm, plain_other, plain_own, plain_passed, plain_question, plain_unicast4}
 use Rattle.mesh_tie.proofs.Sayable.{IsCalm, IsNoAlias}
 
 -- ---- acts that tell of none
@@ -96,7 +97,7 @@ packet_quiet q me own came known packet = go packet.head packet.tail
         let passed = passed_frame q known (place_at me came) ttl ttvn dst tail in
         quiet_if (same_mac dst me) here passed (calm_quiet here (calm_here q known own.mentions own.bridge (place_at me came) ttl tail)) (plain_quiet passed (plain_passed q known (place_at me came) ttl ttvn dst tail))
     go (Frag ttl number priority dst o seq total) tail = tt
-    go (Unicast4 ttl ttvn dst src subtype) tail = tt
+    go (Unicast4 ttl ttvn dst src subtype) tail = plain_quiet (unicast4_acts q me came known ttl ttvn dst src subtype tail) (plain_unicast4 q me came known ttl ttvn dst src subtype tail)
     go (Icmp ttl msg dst o uid seq) tail =
         let m : IcmpMessage = record { ttl = ttl; kind = msg; dst = dst; orig = o; uid = uid; seq = seq } in
         plain_quiet (icmp_acts q known (place_at me came) m) (plain_icmp q known (place_at me came) m)
@@ -131,7 +132,13 @@ line_quiet q me mine now (Frame src dst vid text) =
 line_quiet q me mine now (Gone key) = tt
 line_quiet q me mine now (Join key) = tt
 line_quiet q me mine now (Leave key) = tt
-line_quiet q me mine now (Arp mac own_ip asked_ip vid) = plain_quiet (sighting_acts q me mine now (key_of mac vid)) (plain_advert me (key_of mac vid) (advertised q me mine (knowledge q me mine) now (key_of mac vid)))
+line_quiet q me mine now (Arp mac own_ip asked_ip vid) =
+    let key = key_of mac vid in
+    let known = after_sighting q me mine now key (knowledge q me mine) in
+    let asking = asking_acts q me mine now mac own_ip asked_ip vid in
+    plain_quiet (sighting_acts q me mine now key ++ asking)
+    (each_appended IsPlain (sighting_acts q me mine now key) asking (plain_advert me key (advertised q me mine (knowledge q me mine) now key))
+    (plain_question q known (record { me = me; now = now }) mac own_ip asked_ip vid))
 line_quiet q me mine now (Dhcp key text) =
     let known = after_sighting q me mine now key (knowledge q me mine) in
     each_appended IsQuiet (sighting_acts q me mine now key) (calling_acts q me mine now key text)

@@ -5,6 +5,7 @@ use Rattle.std.specs.Option.{unwrap_or}
 use Rattle.mesh_base.specs.Address.{is_broadcast, is_group}
 use Rattle.mesh_base.specs.declared.address.Mac.{Mac}
 use Rattle.mesh_base.specs.declared.client.Key.{Key}
+use Rattle.mesh_base.specs.declared.client.Vid.{Vid}
 use Rattle.mesh_base.specs.declared.event.Reason.{Reason}
 use Rattle.mesh_base.specs.declared.event.Reason.TheVariants.{Fwd}
 use Rattle.mesh_base.specs.declared.event.LossReason.TheVariants.{Ttl, NoRoute}
@@ -12,6 +13,7 @@ use Rattle.mesh_base.specs.declared.event.LossReason.{LossReason}
 use Rattle.mesh_model.specs.declared.act.Act.{Act}
 use Rattle.mesh_model.specs.declared.packet.Head.{Head}
 use Rattle.mesh_model.specs.declared.packet.Head.TheVariants.{IvOgm, Bcast, Elp, Ogm2, Unicast, Frag, Unicast4, Icmp, Utvlv}
+use Rattle.mesh_model.specs.Acts.ArpRows.{question_acts}
 use Rattle.mesh_model.specs.Acts.BridgeRows.{Place, handed_out, out_acts, round_acts, spread_of_broadcast, spread_of_packet, unclaim_acts}
 use Rattle.mesh_model.specs.Acts.GroupRows.{addressed, call_acts, flooded, group_acts}
 use Rattle.mesh_model.specs.Acts.FrameRows.{arrived, broadcast_acts, broadcast_on, frame_acts, handed_out_if, here_acts, is_present, lost, lost_if, on_route, on_way, passed_frame, readdressed}
@@ -22,14 +24,16 @@ use Rattle.mesh_model.specs.Clients.Lans.{Bridge}
 use Rattle.mesh_model.specs.Clients.Mentions.{Mention, key_of}
 use Rattle.mesh_model.specs.Knowledge.Addressee.{Way, addressee}
 use Rattle.mesh_model.specs.Knowledge.Known.{Broadcast, Knowledge, is_new_broadcast, told_at}
+use Rattle.mesh_model.specs.Knowledge.Steps.{Coming}
 use Rattle.mesh_model.specs.Packets.Layout.{spelling}
 use Rattle.mesh_model.specs.Packets.Payload.{ClientFrame, client_frame_of, payload_spelling}
 use Rattle.mesh_model.specs.Routes.Queries.{Queries, is_elp}
 use Rattle.mesh_model.specs.Routes.RouteLog.{RouteLog}
 use Rattle.mesh_tie.specs.Sources.{KeepsOriginators}
+use Rattle.mesh_tie.proofs.ArpActs.{IsAsking, each_asking, puts_packet, puts_told, question_puts, unicast4_acts, unicast4_puts}
 use Rattle.mesh_tie.proofs.BridgeActs.{AreBridging, IsBridging, hands_out, out_puts, puts_on_lan, round_puts, unclaim_puts}
 use Rattle.mesh_tie.proofs.EntryLemmas.{each_appended}
-use Rattle.mesh_tie.proofs.KindLemmas.{bcast_frame, elp_frame, icmp_frame, unicast_frame}
+use Rattle.mesh_tie.proofs.KindLemmas.{bcast_frame, elp_frame, icmp_frame, unicast4_frame, unicast_frame}
 use Rattle.mesh_tie.proofs.ProbeActs.{AreProbing, IsProbing, icmp_puts, puts_message, puts_pinged, puts_traced, session_puts}
 use Rattle.mesh_tie.proofs.Sayable.{IsCalm}
 use Rattle.mesh_tie.proofs.ServingActs.{IsServing, call_serves, each_serving, group_serves, serves_all, serves_here, serves_one}
@@ -165,3 +169,15 @@ calm_session q known at target trace = calm_probes (session_acts q known at targ
 
 pub calm_icmp : (q : Queries) (known : Knowledge) (at : Place) (m : IcmpMessage) → AllByRecursion IsCalm (icmp_acts q known at m)
 calm_icmp q known at m = calm_probes (icmp_acts q known at m) (icmp_puts q known at m)
+
+-- ---- the ARP table
+calm_asking : (act : Act) → IsAsking act → IsCalm act
+calm_asking _ (puts_packet next ttl ttvn dst src subtype payload) = unicast4_frame (drop 1 (spelling (Unicast4 ttl ttvn dst src subtype) payload))
+calm_asking _ (puts_told node ip result) = λ me n e is. cc
+
+pub calm_question : (q : Queries) (known : Knowledge) (at : Place) (mac : Mac) (own_ip asked_ip : ℕ) (vid : Vid) → AllByRecursion IsCalm (question_acts q known at mac own_ip asked_ip vid)
+calm_question q known at mac own_ip asked_ip vid = each_asking IsCalm calm_asking (question_acts q known at mac own_ip asked_ip vid) (question_puts q known at mac own_ip asked_ip vid)
+
+pub calm_unicast4 : (q : Queries) (me : Mac) (came : Coming) (known : Knowledge) (ttl ttvn : ℕ) (dst src : Mac) (subtype : ℕ) (tail : List ℕ) → AllByRecursion IsCalm (unicast4_acts q me came known ttl ttvn dst src subtype tail)
+calm_unicast4 q me came known ttl ttvn dst src subtype tail =
+    each_asking IsCalm calm_asking (unicast4_acts q me came known ttl ttvn dst src subtype tail) (unicast4_puts q me came known ttl ttvn dst src subtype tail)

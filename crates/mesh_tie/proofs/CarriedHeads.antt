@@ -18,7 +18,7 @@ use Rattle.mesh_model.specs.Packets.FirstPacket.{Packet}
 use Rattle.mesh_model.specs.Packets.Layout.{spelling}
 use Rattle.mesh_model.specs.Packets.LinkFrame.{link_frame}
 use Rattle.mesh_model.specs.Packets.Payload.{ClientFrame, client_frame_of, payload_spelling}
-use Rattle.mesh_model.specs.Packets.Shapes.{Shape, elp, icmp, iv_ogm, ogm2, utvlv}
+use Rattle.mesh_model.specs.Packets.Shapes.{Shape, elp, icmp, iv_ogm, ogm2, unicast4, utvlv}
 use Rattle.mesh_tie.specs.Carried.{IsReadOf, PutCarries}
 use Rattle.mesh_tie.specs.Sources.{IsWhole}
 use Rattle.mesh_tie.proofs.HeadLemmas.{bcast_read, four_read, one_read, unicast_read}
@@ -109,3 +109,6 @@ icmp_none P fields = none_of P icmp (record { by_type = refl; heads = λ f. refl
 
 pub utvlv_none : (P : Kept) (fields : List ℕ) → FrameHas P (68 ∷ fields)
 utvlv_none P fields = none_of P utvlv (record { by_type = refl; heads = λ f. refl; each = λ f tail. tt }) fields
+
+pub unicast4_none : (P : Kept) (fields : List ℕ) → FrameHas P (66 ∷ fields)
+unicast4_none P fields = none_of P unicast4 (record { by_type = refl; heads = λ f. refl; each = λ f tail. tt }) fields

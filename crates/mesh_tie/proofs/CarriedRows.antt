@@ -4,6 +4,7 @@ use Rattle.std.specs.Option.{unwrap_or}
 use Rattle.mesh_base.specs.Address.{is_broadcast, is_group}
 use Rattle.mesh_base.specs.declared.address.Mac.{Mac}
 use Rattle.mesh_base.specs.declared.client.Key.{Key}
+use Rattle.mesh_base.specs.declared.client.Vid.{Vid}
 use Rattle.mesh_base.specs.declared.event.LossReason.{LossReason}
 use Rattle.mesh_base.specs.declared.event.LossReason.TheVariants.{Unknown, Ttl, NoRoute}
 use Rattle.mesh_base.specs.declared.event.Reason.TheVariants.{Fwd}
@@ -11,6 +12,7 @@ use Rattle.mesh_model.specs.declared.act.Act.{Act}
 use Rattle.mesh_model.specs.declared.packet.Head.{Head}
 use Rattle.mesh_model.specs.declared.packet.Head.TheVariants.{IvOgm, Bcast, Elp, Ogm2, Unicast, Frag, Unicast4, Icmp, Utvlv}
 use Rattle.mesh_model.specs.declared.table_outcome.Request.{Request}
+use Rattle.mesh_model.specs.Acts.ArpRows.{question_acts}
 use Rattle.mesh_model.specs.Acts.BridgeRows.{Place, handed_out, out_acts, round_acts, spread_of_broadcast, spread_of_packet, unclaim_acts}
 use Rattle.mesh_model.specs.Acts.GroupRows.{addressed, call_acts, flooded, group_acts}
 use Rattle.mesh_model.specs.Acts.FrameRows.{advert_acts, arrived, broadcast_acts, broadcast_on, frame_acts, handed_out_if, here_acts, is_present, lost, lost_if, on_route, on_way, passed_frame, readdressed}
@@ -40,13 +42,14 @@ use Rattle.mesh_model.specs.Routes.RouteLog.{RouteLog}
 use Rattle.mesh_model.specs.Tables.Answers.{Reply, own_reply}
 use Rattle.mesh_tie.specs.Sources.{HasWholeAddresses, IsMessageOf, IsWhole, KeepsOriginators, MessageOf, word_of}
 use Rattle.mesh_tie.specs.Tie.{KnowsWhole}
+use Rattle.mesh_tie.proofs.ArpActs.{IsAsking, each_asking, puts_packet, puts_told, question_puts, unicast4_acts, unicast4_puts}
 use Rattle.mesh_tie.proofs.CarriedLans.{out_has, round_has, unclaim_has}
 use Rattle.mesh_tie.proofs.EntryLemmas.{each_appended}
 use Rattle.mesh_tie.proofs.KnowsLemmas.{IfWay, addressee_whole}
 use Rattle.mesh_tie.proofs.ServesLemmas.{receiver_whole}
 use Rattle.mesh_tie.proofs.ServingActs.{IsServing, call_serves, each_serving, group_serves, serves_all, serves_here, serves_one}
 use Rattle.mesh_tie.proofs.ProbeActs.{AreProbing, IsProbing, icmp_puts, puts_message, puts_pinged, puts_traced, session_puts}
-use Rattle.mesh_tie.proofs.CarriedHeads.{IsCarried, Kept, handed_has, ActHas, ActsHave, HeadHas, PacketHas, bcast_has, elp_none, icmp_none, iv_none, ogm2_none, unicast_has, utvlv_none}
+use Rattle.mesh_tie.proofs.CarriedHeads.{IsCarried, Kept, handed_has, ActHas, ActsHave, HeadHas, PacketHas, bcast_has, elp_none, icmp_none, iv_none, ogm2_none, unicast4_none, unicast_has, utvlv_none}
 
 -- ---- rows that carry none
 over_none : (P : Kept) (next : Option Mac) (ttl : ℕ) (dst src : Mac) (tail : List ℕ) → ActsHave P (sent_over next (Utvlv ttl dst src) tail)
@@ -93,6 +96,13 @@ probe_none P (act ∷ acts) all = (one act all.0, probe_none P acts all.1)
     one _ (puts_message next m) = icmp_none P (drop 1 (spelling (icmp_head m) []))
     one _ (puts_pinged node target seq result) = record { handed_out = λ moment n vid src dst text is. cc; bridged = λ moment lan vid src dst text is. cc; no_facts = λ me type_no asked is. cc }
     one _ (puts_traced node target result) = record { handed_out = λ moment n vid src dst text is. cc; bridged = λ moment lan vid src dst text is. cc; no_facts = λ me type_no asked is. cc }
+
+asking_none : (P : Kept) (act : Act) → IsAsking act → ActHas P act
+asking_none P _ (puts_packet next ttl ttvn dst src subtype payload) = unicast4_none P (drop 1 (spelling (Unicast4 ttl ttvn dst src subtype) payload))
+asking_none P _ (puts_told node ip result) = record { handed_out = λ moment n vid src dst text is. cc; bridged = λ moment lan vid src dst text is. cc; no_facts = λ me type_no asked is. cc }
+
+pub question_none : (P : Kept) (q : Queries) (known : Knowledge) (at : Place) (mac : Mac) (own_ip asked_ip : ℕ) (vid : Vid) → ActsHave P (question_acts q known at mac own_ip asked_ip vid)
+question_none P q known at mac own_ip asked_ip vid = each_asking (ActHas P) (asking_none P) (question_acts q known at mac own_ip asked_ip vid) (question_puts q known at mac own_ip asked_ip vid)
 
 pub have_if : (P : Kept) (b : Bool) (xs ys : List Act) → ActsHave P xs → ActsHave P ys → ActsHave P (cond b xs ys)
 have_if P true xs ys a b = a
@@ -229,7 +239,8 @@ packet_has P q me own came packet known keeps mine from k whole has = go packet.
     go (Unicast ttl ttvn dst) tail w h = have_if P (same_mac dst me) (here_acts q known own.mentions own.bridge (place_at me came) ttl tail) (passed_frame q known (place_at me came) ttl ttvn dst tail)
         (here_has P q known own.mentions own.bridge (place_at me came) ttl tail mine k h.1) (passed_has P q known (place_at me came) ttl ttvn dst tail h.0 h.1)
     go (Frag ttl number priority dst o seq total) tail w h = tt
-    go (Unicast4 ttl ttvn dst src subtype) tail w h = tt
+    go (Unicast4 ttl ttvn dst src subtype) tail w h =
+        each_asking (ActHas P) (asking_none P) (unicast4_acts q me came known ttl ttvn dst src subtype tail) (unicast4_puts q me came known ttl ttvn dst src subtype tail)
     go (Icmp ttl msg dst o uid seq) tail w h =
         let m : IcmpMessage = record { ttl = ttl; kind = msg; dst = dst; orig = o; uid = uid; seq = seq } in
         probe_none P (icmp_acts q known (place_at me came) m) (icmp_puts q known (place_at me came) m)

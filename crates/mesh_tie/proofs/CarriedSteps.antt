@@ -5,7 +5,7 @@ use Rattle.mesh_base.specs.declared.event.Event.{Event}
 use Rattle.mesh_model.specs.declared.act.Act.{Act}
 use Rattle.mesh_model.specs.declared.act.Act.TheVariants.{Lan, Link, Print}
 use Rattle.mesh_model.specs.Acts.BridgeRows.{Place}
-use Rattle.mesh_model.specs.Acts.Choosing.{acts_of, call_frame, calling_acts, claimed_first, client_acts, from_lan_acts, on_from_lan, sighting_acts}
+use Rattle.mesh_model.specs.Acts.Choosing.{acts_of, asking_acts, call_frame, calling_acts, claimed_first, client_acts, from_lan_acts, on_from_lan, sighting_acts}
 use Rattle.mesh_model.specs.Acts.FrameRows.{frame_acts}
 use Rattle.mesh_model.specs.Acts.Rows.{Own, own_by, packet_acts, packets_acts}
 use Rattle.mesh_model.specs.Clients.Lans.{bridge}
@@ -34,7 +34,7 @@ use Rattle.mesh_tie.specs.Tie.{IsOrderly, KnowsWhole, known_at_node}
 use Rattle.mesh_tie.specs.TieLaws.{AllKeep}
 use Rattle.mesh_tie.proofs.CarriedHeads.{Kept, Tells, ActHas, ActsHave, FrameHas, PacketHas}
 use Rattle.mesh_tie.proofs.CarriedLans.{claimed_has}
-use Rattle.mesh_tie.proofs.CarriedRows.{advert_has, call_has, frame_has, have_if, packet_has, session_has, tick_has}
+use Rattle.mesh_tie.proofs.CarriedRows.{advert_has, call_has, frame_has, have_if, packet_has, question_none, session_has, tick_has}
 use Rattle.mesh_tie.proofs.EntryLemmas.{each_appended}
 use Rattle.mesh_tie.proofs.KnowsLemmas.{packet_knows, sighting_knows}
 use Rattle.mesh_tie.proofs.AddressLemmas.{heads_whole}
@@ -71,7 +71,11 @@ line_has P q me mine now (Frame src dst vid text) begin whole k =
 line_has P q me mine now (Gone key) begin whole k = tt
 line_has P q me mine now (Join key) begin whole k = tt
 line_has P q me mine now (Leave key) begin whole k = tt
-line_has P q me mine now (Arp mac own_ip asked_ip vid) begin whole k = advert_has P me (key_of mac vid) (advertised q me mine (knowledge q me mine) now (key_of mac vid))
+line_has P q me mine now (Arp mac own_ip asked_ip vid) begin whole k =
+    let key = key_of mac vid in
+    let known = after_sighting q me mine now key (knowledge q me mine) in
+    each_appended (ActHas P) (sighting_acts q me mine now key) (asking_acts q me mine now mac own_ip asked_ip vid) (advert_has P me key (advertised q me mine (knowledge q me mine) now key))
+    (question_none P q known (record { me = me; now = now }) mac own_ip asked_ip vid)
 line_has P q me mine now (Dhcp key text) begin whole k =
     let known = knowledge q me mine in
     let frame = call_frame key text in

@@ -19,6 +19,7 @@ use Rattle.mesh_model.specs.Knowledge.Steps.{Coming, advertised, after_announcem
 use Rattle.mesh_model.specs.Knowledge.Told.{Message, TableMessage, Asks, Answers, Neither, message_in, message_of, message_with}
 use Rattle.mesh_model.specs.Marks.Calls.{Call, Calls, Marked, Released, Unmarked, Advised, Asked, Forgotten}
 use Rattle.mesh_model.specs.Marks.RoamingMarks.{is_ended, is_young, mark_by, mark_of, mark_to, next_mark, target_by}
+use Rattle.mesh_model.specs.Packets.ArpMessages.{arp_came}
 use Rattle.mesh_model.specs.Packets.Bodies.{TtData}
 use Rattle.mesh_model.specs.Packets.Containers.{containers_of}
 use Rattle.mesh_model.specs.Packets.Contents.{first_roaming, first_table}
@@ -30,6 +31,7 @@ use Rattle.mesh_model.specs.Routes.Queries.{Queries}
 use Rattle.mesh_model.specs.Tables.Known.{Announced, Answered, Dropped, TableCalls, holders_by, known_by, names, originators_by}
 use Rattle.mesh_tie.specs.Sources.{HasWholeAddresses, IsWhole}
 use Rattle.mesh_tie.specs.Tie.{HasWholeSource, HasWholeTarget, KnowsWhole}
+use Rattle.mesh_tie.proofs.PairLemmas.{arp_leaves}
 use Rattle.mesh_tie.proofs.ServesLemmas.{offer_whole}
 
 -- ---- packets
@@ -100,7 +102,7 @@ packet_knows q me came packet known whole k = go packet.head packet.tail whole
     go (Ogm2 ttl flags seq o throughput) tail whole = taken_knows q came (Ogm2 ttl flags seq o throughput) o (first_table (containers_of tail)) tail known whole k
     go (Unicast ttl ttvn dst) tail whole = k
     go (Frag ttl number priority dst o seq total) tail whole = k
-    go (Unicast4 ttl ttvn dst src subtype) tail whole = k
+    go (Unicast4 ttl ttvn dst src subtype) tail whole = (arp_leaves (same_mac dst me) came.now (arp_came subtype tail) known).knows k
     go (Icmp ttl msg dst o uid seq) tail whole = knows_if (same_mac dst me && is_answer msg) (after_reply q came.now msg seq known) known (record { tables = k.tables; marks = k.marks; services = k.services }) k
     go (Utvlv ttl dst src) tail whole =
         let answer : Knowledge = after_answer q came.now src (message_in (first_table (containers_of tail))) known in

@@ -11,6 +11,8 @@ pub mod Sayable
 pub mod ProbeActs
 pub mod BridgeActs
 pub mod ServingActs
+pub mod ArpActs
+pub mod PairLemmas
 pub mod CalmRows
 pub mod TableRows
 pub mod PacketSteps

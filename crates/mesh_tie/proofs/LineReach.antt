@@ -16,7 +16,7 @@ use Rattle.mesh_model.specs.declared.line_form.Command.TheVariants.{Nothing, Alg
 use Rattle.mesh_model.specs.Clients.Log.{Line, LineGiven, Attach, Sets}
 use Rattle.mesh_model.specs.Clients.Settings.{NoPart, Serves, Chooses}
 use Rattle.mesh_model.specs.Clients.Settings.{ArpTable as ArpTableSet, Gateway as GatewaySet, Multicast as MulticastSet, Wifi as WifiSet}
-use Rattle.mesh_model.specs.Clients.Log.{Frame as FrameGiven, Gone as GoneGiven, Join as JoinGiven, Leave as LeaveGiven, Dhcp as DhcpGiven, Ping as PingGiven, Trace as TraceGiven}
+use Rattle.mesh_model.specs.Clients.Log.{Frame as FrameGiven, Gone as GoneGiven, Join as JoinGiven, Leave as LeaveGiven, Arp as ArpGiven, Dhcp as DhcpGiven, Ping as PingGiven, Trace as TraceGiven}
 use Rattle.mesh_model.specs.Net.Inputs.{all_given, given_to}
 use Rattle.mesh_model.specs.Net.Lans.{joins_lan, with_lan}
 use Rattle.mesh_model.specs.Net.Limits.{clock_limit, lans_limit, links_limit, nodes_limit}
@@ -227,7 +227,7 @@ step_leads state (Frame place src dst vid text) b tell none = frame_leads state 
 step_leads state (Gone place key) b tell none = gone_leads state place (GoneGiven key) b tell
 step_leads state (Join node key) b tell none = line_leads state node (JoinGiven key) b tell
 step_leads state (Leave node key) b tell none = line_leads state node (LeaveGiven key) b tell
-step_leads state (Arp node mac own asked vid) b tell none = stays_leads state b
+step_leads state (Arp node mac own asked vid) b tell none = line_leads state node (ArpGiven mac own asked vid) b tell
 step_leads state (Dhcp node key text) b tell none = line_leads state node (DhcpGiven key text) b tell
 step_leads state (Wifi node on) b tell none = line_leads state node (Sets (WifiSet on)) b tt
 step_leads state (GwOff node) b tell none = line_leads state node (Sets (GatewaySet NoPart)) b tt

@@ -5,7 +5,7 @@ use Rattle.mesh_base.specs.declared.address.Mac.{Mac}
 use Rattle.mesh_base.specs.declared.event.Reason.TheVariants.{Table}
 use Rattle.mesh_model.specs.declared.act.Act.{Act}
 use Rattle.mesh_model.specs.declared.act.Act.TheVariants.{Link, Lan, Print}
-use Rattle.mesh_model.specs.Acts.Choosing.{acts_of, call_frame, calling_acts, claimed_first, client_acts, from_lan_acts, on_from_lan, probing_acts, sighting_acts}
+use Rattle.mesh_model.specs.Acts.Choosing.{acts_of, asking_acts, call_frame, calling_acts, claimed_first, client_acts, from_lan_acts, on_from_lan, probing_acts, sighting_acts}
 use Rattle.mesh_model.specs.Acts.FrameRows.{frame_acts}
 use Rattle.mesh_model.specs.Acts.Rows.{Own, own_by, packet_acts, packets_acts}
 use Rattle.mesh_model.specs.Clients.Lans.{bridge}
@@ -48,7 +48,7 @@ use Rattle.mesh_tie.proofs.LanSteps.{lan_read, passed_came}
 use Rattle.mesh_tie.proofs.MeshSteps.{LogAfter, Reached, came_in, fits_among, frame_ready, grows_after, log_after, log_joined, midway_of}
 use Rattle.mesh_tie.proofs.NodeLists.{Renewed, another, got_front, itself, renewed}
 use Rattle.mesh_tie.proofs.ReachLemmas.{reached}
-use Rattle.mesh_tie.proofs.NamesRows.{ActNames, CanName, IsClear, found_told, frame_names, names_if, names_tick, packet_names, plain_advert, plain_call, plain_bridges, plain_names, plain_session}
+use Rattle.mesh_tie.proofs.NamesRows.{ActNames, CanName, IsClear, found_told, frame_names, names_if, names_tick, packet_names, plain_advert, plain_call, plain_bridges, plain_names, plain_question, plain_session}
 use Rattle.mesh_tie.proofs.NodeSteps.{Ready, packet_goes, ready_later}
 use Rattle.mesh_tie.proofs.PacketSteps.{CameIn}
 use Rattle.mesh_tie.proofs.Sayable.{one_or_two, packet_more}
@@ -127,7 +127,12 @@ line_names orig log frames v m q me mine now (Gone key) of k clear tied = tt
 line_names orig log frames v m q me mine now (Join key) of k clear tied = tt
 line_names orig log frames v m q me mine now (Leave key) of k clear tied = tt
 line_names orig log frames v m q me mine now (Arp mac own_ip asked_ip vid) of k clear tied =
-    plain_names (Before q me mine) orig log frames (sighting_acts q me mine now (key_of mac vid)) (plain_advert me (key_of mac vid) (advertised q me mine (knowledge q me mine) now (key_of mac vid)))
+    let key = key_of mac vid in
+    let known = after_sighting q me mine now key (knowledge q me mine) in
+    let asking = asking_acts q me mine now mac own_ip asked_ip vid in
+    each_appended (ActNames (Before q me mine) orig log frames) (sighting_acts q me mine now key) asking
+    (plain_names (Before q me mine) orig log frames (sighting_acts q me mine now key) (plain_advert me key (advertised q me mine (knowledge q me mine) now key)))
+    (plain_names (Before q me mine) orig log frames asking (plain_question q known (record { me = me; now = now }) mac own_ip asked_ip vid))
 line_names orig log frames v m q me mine now (Dhcp key text) of k clear tied =
     let known = after_sighting q me mine now key (knowledge q me mine) in
     each_appended (ActNames (Before q me mine) orig log frames) (sighting_acts q me mine now key) (calling_acts q me mine now key text)

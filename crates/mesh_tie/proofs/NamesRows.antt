@@ -5,6 +5,7 @@ use Rattle.std.specs.Option.{option_or, unwrap_or}
 use Rattle.mesh_base.specs.Address.{is_broadcast, is_group}
 use Rattle.mesh_base.specs.declared.address.Mac.{Mac}
 use Rattle.mesh_base.specs.declared.client.Key.{Key}
+use Rattle.mesh_base.specs.declared.client.Vid.{Vid}
 use Rattle.mesh_base.specs.declared.event.Event.{Event}
 use Rattle.mesh_base.specs.declared.event.Event.TheVariants.{FrameSent}
 use Rattle.mesh_base.specs.declared.event.Reason.{Reason}
@@ -15,6 +16,7 @@ use Rattle.mesh_model.specs.declared.act.Act.TheVariants.{Link, Lan, Print}
 use Rattle.mesh_model.specs.declared.packet.Head.{Head}
 use Rattle.mesh_model.specs.declared.packet.Head.TheVariants.{IvOgm, Bcast, Elp, Ogm2, Unicast, Frag, Unicast4, Icmp, Utvlv}
 use Rattle.mesh_model.specs.declared.table_outcome.Request.{Request}
+use Rattle.mesh_model.specs.Acts.ArpRows.{question_acts}
 use Rattle.mesh_model.specs.Acts.BridgeRows.{Place, handed_out, out_acts, round_acts, spread_of_broadcast, spread_of_packet, unclaim_acts}
 use Rattle.mesh_model.specs.Acts.GroupRows.{addressed, call_acts, flooded, group_acts}
 use Rattle.mesh_model.specs.Acts.FrameRows.{advert_acts, arrived, broadcast_acts, broadcast_on, frame_acts, handed_out_if, here_acts, is_present, lost, lost_if, on_route, on_way, passed_frame, readdressed}
@@ -60,6 +62,7 @@ use Rattle.mesh_tie.specs.ByTable.{IsSentByTable, IsSpelled}
 use Rattle.mesh_tie.specs.Originators.{number_at_root}
 use Rattle.mesh_tie.specs.Sources.{IsWhole}
 use Rattle.mesh_tie.specs.Tie.{IsToldBy, KnowsWhole, NodeIsTied}
+use Rattle.mesh_tie.proofs.ArpActs.{IsAsking, each_asking, puts_packet, puts_told, question_puts, unicast4_acts, unicast4_puts}
 use Rattle.mesh_tie.proofs.BridgeActs.{AreBridging, IsBridging, hands_out, out_puts, puts_on_lan, round_puts, unclaim_puts}
 use Rattle.mesh_tie.proofs.CommitLemmas.{at_root}
 use Rattle.mesh_tie.proofs.EntryLemmas.{each_appended}
@@ -184,6 +187,17 @@ plain_group q known at frame joined =
 
 pub plain_call : (q : Queries) (known : Knowledge) (at : Place) (frame : ClientFrame) → AllByRecursion IsPlain (call_acts q known at frame)
 plain_call q known at frame = each_serving (λ mac. Unit {0}) q known at frame IsPlain (plain_serving q known at frame) (call_acts q known at frame) (call_serves (λ mac. Unit {0}) q known at frame (λ orig is. tt))
+
+plain_asking : (act : Act) → IsAsking act → IsPlain act
+plain_asking _ (puts_packet next ttl ttvn dst src subtype payload) = λ is. cc
+plain_asking _ (puts_told node ip result) = ((λ number moment from to reason bytes is. cc), (λ me n e is. cc))
+
+pub plain_question : (q : Queries) (known : Knowledge) (at : Place) (mac : Mac) (own_ip asked_ip : ℕ) (vid : Vid) → AllByRecursion IsPlain (question_acts q known at mac own_ip asked_ip vid)
+plain_question q known at mac own_ip asked_ip vid = each_asking IsPlain plain_asking (question_acts q known at mac own_ip asked_ip vid) (question_puts q known at mac own_ip asked_ip vid)
+
+pub plain_unicast4 : (q : Queries) (me : Mac) (came : Coming) (known : Knowledge) (ttl ttvn : ℕ) (dst src : Mac) (subtype : ℕ) (tail : List ℕ) → AllByRecursion IsPlain (unicast4_acts q me came known ttl ttvn dst src subtype tail)
+plain_unicast4 q me came known ttl ttvn dst src subtype tail =
+    each_asking IsPlain plain_asking (unicast4_acts q me came known ttl ttvn dst src subtype tail) (unicast4_puts q me came known ttl ttvn dst src subtype tail)
 
 -- ---- why something is sent by table
 some_one : {X : Type 0} (x y : X) → Some x ≡ Some y → x ≡ y
@@ -422,7 +436,7 @@ packet_names looks orig log frames q me own came packet known can = go packet.he
     go (Unicast ttl ttvn dst) tail = names_if looks orig log frames (same_mac dst me) (here_acts q known own.mentions own.bridge (place_at me came) ttl tail) (passed_frame q known (place_at me came) ttl ttvn dst tail)
         (here_names looks orig log frames q known own.mentions own.bridge (place_at me came) ttl tail can) (plain (passed_frame q known (place_at me came) ttl ttvn dst tail) (plain_passed q known (place_at me came) ttl ttvn dst tail))
     go (Frag ttl number priority dst o seq total) tail = tt
-    go (Unicast4 ttl ttvn dst src subtype) tail = tt
+    go (Unicast4 ttl ttvn dst src subtype) tail = plain (unicast4_acts q me came known ttl ttvn dst src subtype tail) (plain_unicast4 q me came known ttl ttvn dst src subtype tail)
     go (Icmp ttl msg dst o uid seq) tail =
         let m : IcmpMessage = record { ttl = ttl; kind = msg; dst = dst; orig = o; uid = uid; seq = seq } in
         plain (icmp_acts q known (place_at me came) m) (plain_icmp q known (place_at me came) m)

@@ -8,7 +8,7 @@ use Rattle.mesh_model.specs.declared.packet.Head.{Head}
 use Rattle.mesh_model.specs.declared.packet.Head.TheVariants.{Utvlv}
 use Rattle.mesh_model.specs.declared.table_change.Change.{Change}
 use Rattle.mesh_model.specs.Acts.BridgeRows.{round_acts}
-use Rattle.mesh_model.specs.Acts.Choosing.{acts_of, call_frame, calling_acts, client_acts, probing_acts, sighting_acts}
+use Rattle.mesh_model.specs.Acts.Choosing.{acts_of, asking_acts, call_frame, calling_acts, client_acts, probing_acts, sighting_acts}
 use Rattle.mesh_model.specs.Acts.FrameRows.{advert_acts}
 use Rattle.mesh_model.specs.Acts.OwnContainers.{own_containers}
 use Rattle.mesh_model.specs.Acts.Packing.{roaming_container, sent_to_all}
@@ -46,11 +46,12 @@ use Rattle.mesh_tie.specs.Sayings.{FrameSays, IsAnnounced, PacketSays}
 use Rattle.mesh_tie.specs.Sources.{IsWhole, KeepsOriginators}
 use Rattle.mesh_tie.specs.Steps.{TellsClient}
 use Rattle.mesh_tie.specs.Tie.{FitsAnswer, FitsEntry, KnowsWhole, NodeIsTied}
-use Rattle.mesh_tie.proofs.CalmRows.{calm_call, calm_elps, calm_frame, calm_round, calm_session}
+use Rattle.mesh_tie.proofs.CalmRows.{calm_call, calm_elps, calm_frame, calm_question, calm_round, calm_session}
 use Rattle.mesh_tie.proofs.CommitLemmas.{Chain, announced_are, last_and_older}
 use Rattle.mesh_tie.proofs.EntryLemmas.{OfCommits, each_appended, reached_entries}
 use Rattle.mesh_tie.proofs.KnowsLemmas.{advertised_whole, packet_knows, sighting_knows}
 use Rattle.mesh_tie.proofs.NodeMoves.{Comes, at_same}
+use Rattle.mesh_tie.proofs.PairLemmas.{question_leaves}
 use Rattle.mesh_tie.proofs.PacketSteps.{CameIn, packet_comes, packet_row}
 use Rattle.mesh_tie.proofs.Sayable.{ActSays, IsLater, Sayable, Speaks, Within, act_more, all_said, calm_row, containers_say, frame_sayable, itself, message_says, no_answer, one_or_two, packet_more, says_one, silent, then_path}
 use Rattle.mesh_tie.proofs.ServesLemmas.{choice_whole, set_whole}
@@ -278,7 +279,12 @@ line_row orig log root w q me mine now (Frame src dst vid text) of whole k =
 line_row orig log root w q me mine now (Gone key) of whole k = tt
 line_row orig log root w q me mine now (Join key) of whole k = tt
 line_row orig log root w q me mine now (Leave key) of whole k = tt
-line_row orig log root w q me mine now (Arp mac own_ip asked_ip vid) of whole k = sighting_row orig log root w q me mine now (key_of mac vid) whole k of.fits
+line_row orig log root w q me mine now (Arp mac own_ip asked_ip vid) of whole k =
+    let key = key_of mac vid in
+    let known = after_sighting q me mine now key (knowledge q me mine) in
+    let asking = asking_acts q me mine now mac own_ip asked_ip vid in
+    each_appended (Sayable orig log root w) (sighting_acts q me mine now key) asking (sighting_row orig log root w q me mine now key whole k of.fits)
+    (calm_row orig log root w asking (calm_question q known (record { me = me; now = now }) mac own_ip asked_ip vid))
 line_row orig log root w q me mine now (Dhcp key text) of whole k =
     let known = after_sighting q me mine now key (knowledge q me mine) in
     each_appended (Sayable orig log root w) (sighting_acts q me mine now key) (calling_acts q me mine now key text) (sighting_row orig log root w q me mine now key whole k of.fits)
@@ -346,7 +352,7 @@ line_same q me mine known now (Frame src dst vid text) = frame_same q now (key_o
 line_same q me mine known now (Gone key) = refl
 line_same q me mine known now (Join key) = refl
 line_same q me mine known now (Leave key) = refl
-line_same q me mine known now (Arp mac own_ip asked_ip vid) = refl
+line_same q me mine known now (Arp mac own_ip asked_ip vid) = (question_leaves q me now mac own_ip asked_ip vid (after_sighting q me mine now (key_of mac vid) known)).tables
 line_same q me mine known now (Dhcp key text) = call_same q now (after_sighting q me mine now key known)
 line_same q me mine known now (Sets setting) = refl
 line_same q me mine known now (Put type_no version text) = refl
@@ -360,7 +366,9 @@ line_knows q me mine known now (Frame src dst vid text) k = frame_knows q now (k
 line_knows q me mine known now (Gone key) k = k
 line_knows q me mine known now (Join key) k = k
 line_knows q me mine known now (Leave key) k = k
-line_knows q me mine known now (Arp mac own_ip asked_ip vid) k = sighting_knows q me mine now (key_of mac vid) known k
+line_knows q me mine known now (Arp mac own_ip asked_ip vid) k =
+    let key = key_of mac vid in
+    (question_leaves q me now mac own_ip asked_ip vid (after_sighting q me mine now key known)).knows (sighting_knows q me mine now key known k)
 line_knows q me mine known now (Dhcp key text) k = call_knows q now (after_sighting q me mine now key known) (sighting_knows q me mine now key known k)
 line_knows q me mine known now (Sets setting) k = record { tables = k.tables; marks = k.marks; services = set_whole setting known.services k.services }
 line_knows q me mine known now (Put type_no version text) k = k

@@ -16,6 +16,7 @@ use Rattle.mesh_model.specs.Knowledge.Known.{Broadcast, Knowledge, is_new_broadc
 use Rattle.mesh_model.specs.Knowledge.Steps.{Coming, after_announcement, after_answer, after_broadcast, after_containers, after_head, after_message, after_packet, after_reply, after_roaming, after_taken, announced_table, before_announcement, request_out, with_announcement, with_head, with_life}
 use Rattle.mesh_model.specs.Knowledge.Told.{Message, TableMessage, Asks, Answers, Neither, message_changes, message_in, message_of, message_with, stamp_told}
 use Rattle.mesh_model.specs.Net.Mesh.{SentFrame}
+use Rattle.mesh_model.specs.Packets.ArpMessages.{arp_came}
 use Rattle.mesh_model.specs.Packets.Bodies.{TtData}
 use Rattle.mesh_model.specs.Packets.Containers.{containers_of}
 use Rattle.mesh_model.specs.Packets.Contents.{first_roaming, first_table}
@@ -30,7 +31,9 @@ use Rattle.mesh_laws.specs.Machine.World.{Saying, World, WasSaid}
 use Rattle.mesh_laws.proofs.MacLemmas.{same_exact}
 use Rattle.mesh_tie.specs.Sayings.{IsAnnounced, IsAnswered, PacketSays, saying_of}
 use Rattle.mesh_tie.specs.Sources.{IsMessageOf, IsWhole, KeepsOriginators}
-use Rattle.mesh_tie.proofs.CalmRows.{calm_broadcast, calm_here, calm_icmp, calm_passed, calm_unclaim}
+use Rattle.mesh_tie.proofs.ArpActs.{unicast4_acts}
+use Rattle.mesh_tie.proofs.PairLemmas.{arp_leaves}
+use Rattle.mesh_tie.proofs.CalmRows.{calm_unicast4, calm_broadcast, calm_here, calm_icmp, calm_passed, calm_unclaim}
 use Rattle.mesh_tie.proofs.EntryLemmas.{each_appended}
 use Rattle.mesh_tie.proofs.NodeMoves.{Comes, IsBrought, answers_come, forgets, tells}
 use Rattle.mesh_tie.proofs.Sayable.{Sayable, calm_row}
@@ -178,7 +181,7 @@ packet_comes orig log frames w m q me root came packet known f p c = go packet.h
         (λ one is. message_taken orig log w.said root (Ogm2 ttl flags seq o throughput) o tail one (record { word = refl; addresses = p.addresses }) p.says.0 p.says.1 is) c
     go (Unicast ttl ttvn dst) tail p = c
     go (Frag ttl number priority dst o seq total) tail p = c
-    go (Unicast4 ttl ttvn dst src subtype) tail p = c
+    go (Unicast4 ttl ttvn dst src subtype) tail p = subst (Tied orig log frames w m) (sym (arp_leaves (same_mac dst me) came.now (arp_came subtype tail) known).tables) c
     go (Icmp ttl msg dst o uid seq) tail p = subst (Tied orig log frames w m) (sym (reply_same q came.now msg seq (same_mac dst me && is_answer msg) known)) c
     go (Utvlv ttl dst src) tail p = containers_come orig log frames w m q me came.now dst src tail known p.says c
 
@@ -209,7 +212,7 @@ packet_row orig log w m q me own root came packet known keeps from s h p = go pa
         (calm_row orig log root w (Rattle.mesh_model.specs.Acts.FrameRows.here_acts q known own.mentions own.bridge (place_at me came) ttl tail) (calm_here q known own.mentions own.bridge (place_at me came) ttl tail))
         (calm_row orig log root w (Rattle.mesh_model.specs.Acts.FrameRows.passed_frame q known (place_at me came) ttl ttvn dst tail) (calm_passed q known (place_at me came) ttl ttvn dst tail))
     go (Frag ttl number priority dst o seq total) tail p = tt
-    go (Unicast4 ttl ttvn dst src subtype) tail p = tt
+    go (Unicast4 ttl ttvn dst src subtype) tail p = calm_row orig log root w (unicast4_acts q me came known ttl ttvn dst src subtype tail) (calm_unicast4 q me came known ttl ttvn dst src subtype tail)
     go (Icmp ttl msg dst o uid seq) tail p =
         let m : IcmpMessage = record { ttl = ttl; kind = msg; dst = dst; orig = o; uid = uid; seq = seq } in
         calm_row orig log root w (icmp_acts q known (place_at me came) m) (calm_icmp q known (place_at me came) m)

@@ -18,7 +18,7 @@ use Rattle.mesh_model.specs.declared.line_form.Table.TheVariants.{Originators, N
 use Rattle.mesh_model.specs.Clients.Log.{Line, LineGiven, Sets}
 use Rattle.mesh_model.specs.Clients.Settings.{NoPart, Serves, Chooses}
 use Rattle.mesh_model.specs.Clients.Settings.{ArpTable as ArpTableSet, Gateway as GatewaySet, Multicast as MulticastSet, Wifi as WifiSet}
-use Rattle.mesh_model.specs.Clients.Log.{Frame as FrameGiven, Gone as GoneGiven, Join as JoinGiven, Leave as LeaveGiven, Dhcp as DhcpGiven, Ping as PingGiven, Trace as TraceGiven}
+use Rattle.mesh_model.specs.Clients.Log.{Frame as FrameGiven, Gone as GoneGiven, Join as JoinGiven, Leave as LeaveGiven, Arp as ArpGiven, Dhcp as DhcpGiven, Ping as PingGiven, Trace as TraceGiven}
 use Rattle.mesh_model.specs.Net.Inputs.{all_given, given_to}
 use Rattle.mesh_model.specs.Net.Lans.{joins_lan}
 use Rattle.mesh_model.specs.Net.Limits.{clock_limit, lans_limit, links_limit, nodes_limit}
@@ -201,7 +201,7 @@ shown_none Globals state node = refl
 shown_none Claims state node = refl
 shown_none Gateways state node = refl
 shown_none Groups state node = refl
-shown_none Addresses state node = tt
+shown_none Addresses state node = refl
 shown_none Facts state node = tt
 
 tables_same : (table : Table) (state : State) (print : State → NodeLog → Printed) → shown table ≡ Some print → (node : NodeLog) → IsNoEvent (print state node)
@@ -225,7 +225,7 @@ command_same state (Frame place src dst vid text) same = frame_same state place 
 command_same state (Gone place key) same = gone_from state place (GoneGiven key) same
 command_same state (Join node key) same = line_same state node (JoinGiven key) same
 command_same state (Leave node key) same = line_same state node (LeaveGiven key) same
-command_same state (Arp node mac own asked vid) same = same
+command_same state (Arp node mac own asked vid) same = line_same state node (ArpGiven mac own asked vid) same
 command_same state (Dhcp node key text) same = line_same state node (DhcpGiven key text) same
 command_same state (Wifi node on) same = line_same state node (Sets (WifiSet on)) same
 command_same state (GwOff node) same = line_same state node (Sets (GatewaySet NoPart)) same

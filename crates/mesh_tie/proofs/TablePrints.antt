@@ -14,7 +14,7 @@ use Rattle.mesh_model.specs.declared.line_form.Table.TheVariants.{Originators, N
 use Rattle.mesh_model.specs.Clients.Log.{Line, LineGiven, Sets}
 use Rattle.mesh_model.specs.Clients.Settings.{NoPart, Serves, Chooses}
 use Rattle.mesh_model.specs.Clients.Settings.{ArpTable as ArpTableSet, Gateway as GatewaySet, Multicast as MulticastSet, Wifi as WifiSet}
-use Rattle.mesh_model.specs.Clients.Log.{Frame as FrameGiven, Gone as GoneGiven, Join as JoinGiven, Leave as LeaveGiven, Dhcp as DhcpGiven, Ping as PingGiven, Trace as TraceGiven}
+use Rattle.mesh_model.specs.Clients.Log.{Frame as FrameGiven, Gone as GoneGiven, Join as JoinGiven, Leave as LeaveGiven, Arp as ArpGiven, Dhcp as DhcpGiven, Ping as PingGiven, Trace as TraceGiven}
 use Rattle.mesh_model.specs.Net.Inputs.{all_given, given_to}
 use Rattle.mesh_model.specs.Net.Lans.{joins_lan}
 use Rattle.mesh_model.specs.Net.Limits.{clock_limit, lans_limit, links_limit, nodes_limit}
@@ -146,7 +146,7 @@ prints_own state Globals = λ node t is. cc
 prints_own state Claims = λ node t is. cc
 prints_own state Gateways = λ node t is. cc
 prints_own state Groups = λ node t is. cc
-prints_own state Addresses = tt
+prints_own state Addresses = λ node t is. cc
 prints_own state Facts = tt
 
 node_at : (state : State) (o : Option ℕ) (node : NodeLog) → option_and_then (slice_get state.mesh.nodes) o ≡ Some node → (place : ℕ) × (slice_get state.mesh.nodes place ≡ Some node)
@@ -175,7 +175,7 @@ adds_command state (Frame place src dst vid text) = adds_frame state place (payl
 adds_command state (Gone place key) = adds_gone state place (GoneGiven key)
 adds_command state (Join node key) = adds_line state node (JoinGiven key)
 adds_command state (Leave node key) = adds_line state node (LeaveGiven key)
-adds_command state (Arp node mac own asked vid) = adds_none state state refl
+adds_command state (Arp node mac own asked vid) = adds_line state node (ArpGiven mac own asked vid)
 adds_command state (Dhcp node key text) = adds_line state node (DhcpGiven key text)
 adds_command state (Wifi node on) = adds_line state node (Sets (WifiSet on))
 adds_command state (GwOff node) = adds_line state node (Sets (GatewaySet NoPart))

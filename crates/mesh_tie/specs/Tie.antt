@@ -83,7 +83,7 @@ pub record ServesWhole (services : Services) : Type 0 where
   pub offers : AllByRecursion (λ (one : Offered). IsWhole one.orig) services.offers
   pub choice : (gateway : Mac) → services.choice ≡ Some gateway → IsWhole gateway
 
--- all addresses that a node may send to are whole
+-- the addresses that a node may send payloads and containers to are whole
 pub record KnowsWhole (known : Knowledge) : Type 0 where
   pub tables : AllByRecursion HasWholeSource known.tables
   pub marks : AllByRecursion HasWholeTarget known.marks

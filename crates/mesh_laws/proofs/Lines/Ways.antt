@@ -13,7 +13,7 @@ use Rattle.mesh_model.specs.declared.line_form.Algorithm.{Algorithm}
 use Rattle.mesh_model.specs.declared.line_form.Command.{Command}
 use Rattle.mesh_model.specs.declared.line_form.Command.TheVariants.{Nothing, Algo, Node, Link, Lan, Frame, Gone, Join, Leave, Arp, Dhcp, Wifi, GwOff, GwServer, GwClient, Mcast, Dat, Alfred, Put, Get, Ping, Trace, Run, Deliver, Show, Decode}
 use Rattle.mesh_model.specs.Clients.Log.{Given, LineGiven, Line, Sets}
-use Rattle.mesh_model.specs.Clients.Log.{Frame as FrameGiven, Gone as GoneGiven, Join as JoinGiven, Leave as LeaveGiven, Dhcp as DhcpGiven, Ping as PingGiven, Trace as TraceGiven}
+use Rattle.mesh_model.specs.Clients.Log.{Frame as FrameGiven, Gone as GoneGiven, Join as JoinGiven, Leave as LeaveGiven, Arp as ArpGiven, Dhcp as DhcpGiven, Ping as PingGiven, Trace as TraceGiven}
 use Rattle.mesh_model.specs.Clients.Settings.{NoPart, Serves, Chooses}
 use Rattle.mesh_model.specs.Clients.Settings.{ArpTable as ArpTableSet, Gateway as GatewaySet, Multicast as MulticastSet, Wifi as WifiSet}
 use Rattle.mesh_model.specs.Net.Mesh.{NodeLog, NetLan, NetLink, LanPut, Mesh, Setup, address_at}
@@ -164,7 +164,7 @@ command_led setup state (Frame place src dst vid text) = place_led setup state (
 command_led setup state (Gone place key) = gone_led setup state (Gone place key) place (GoneGiven key)
 command_led setup state (Join node key) = line_led setup state (Join node key) node (JoinGiven key)
 command_led setup state (Leave node key) = line_led setup state (Leave node key) node (LeaveGiven key)
-command_led setup state (Arp node mac own asked vid) = stayed refl
+command_led setup state (Arp node mac own asked vid) = line_led setup state (Arp node mac own asked vid) node (ArpGiven mac own asked vid)
 command_led setup state (Dhcp node key text) = line_led setup state (Dhcp node key text) node (DhcpGiven key text)
 command_led setup state (Wifi node on) = line_led setup state (Wifi node on) node (Sets (WifiSet on))
 command_led setup state (GwOff node) = line_led setup state (GwOff node) node (Sets (GatewaySet NoPart))
