@@ -6,6 +6,7 @@
 
 #![tactic(auto)]
 
+mod address_table;
 mod claim_table;
 mod container;
 mod container_line;
@@ -23,6 +24,7 @@ mod route_table;
 mod service_table;
 mod whole_line;
 
+pub use address_table::{address_header, address_line};
 pub use claim_table::{claim_header, claim_line};
 pub use container_line::vlan_line;
 pub use decoding::decode_text;

@@ -13,7 +13,7 @@ use Rattle.mesh_model.specs.Net.Runs.{delivered, frame_given, frame_over, tick_g
 use Rattle.mesh_model.specs.Routes.Queries.{Queries}
 use Rattle.mesh_model.specs.Routes.RouteLog.{RouteLog, MayTick}
 use Rattle.mesh_node.specs.declared.input.Input.{Input}
-use Rattle.mesh_node.specs.declared.input.Input.TheVariants.{Tick, Link, Lan, Attach, Frame, Gone, Join, Leave, Dhcp, Wifi, GwOff, GwServer, GwClient, Mcast, Dat, Ping, Trace}
+use Rattle.mesh_node.specs.declared.input.Input.TheVariants.{Tick, Link, Lan, Attach, Frame, Gone, Join, Leave, Arp, Dhcp, Wifi, GwOff, GwServer, GwClient, Mcast, Dat, Ping, Trace}
 use Rattle.mesh_node.specs.NodeStands.{MayTake, MayFollow, given_by}
 use Rattle.mesh_post.specs.declared.row.Arrival.{Arrival}
 use Rattle.mesh_post.specs.declared.row.Sending.{Sending}
@@ -37,6 +37,7 @@ line_counts ticks number (Frame src dst vid text) line = tt
 line_counts ticks number (Gone key) line = tt
 line_counts ticks number (Join key) line = tt
 line_counts ticks number (Leave key) line = tt
+line_counts ticks number (Arp mac own_ip asked_ip vid) line = tt
 line_counts ticks number (Dhcp key text) line = tt
 line_counts ticks number (Wifi on) line = tt
 line_counts ticks number GwOff line = tt
@@ -56,6 +57,7 @@ line_follows before number (Frame src dst vid text) line = tt
 line_follows before number (Gone key) line = tt
 line_follows before number (Join key) line = tt
 line_follows before number (Leave key) line = tt
+line_follows before number (Arp mac own_ip asked_ip vid) line = tt
 line_follows before number (Dhcp key text) line = tt
 line_follows before number (Wifi on) line = tt
 line_follows before number GwOff line = tt

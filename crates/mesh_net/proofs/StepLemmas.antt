@@ -15,7 +15,7 @@ use Rattle.mesh_model.specs.Routes.Queries.{Queries}
 use Rattle.mesh_model.specs.Routes.RouteLog.{RouteLog}
 use Rattle.node_ground.specs.declared.failure.NodeErr.{NodeErr}
 use Rattle.mesh_node.specs.declared.input.Input.{Input}
-use Rattle.mesh_node.specs.declared.input.Input.TheVariants.{Tick, Link, Lan, Attach, Frame, Gone, Join, Leave, Dhcp, Wifi, GwOff, GwServer, GwClient, Mcast, Dat, Ping, Trace}
+use Rattle.mesh_node.specs.declared.input.Input.TheVariants.{Tick, Link, Lan, Attach, Frame, Gone, Join, Leave, Arp, Dhcp, Wifi, GwOff, GwServer, GwClient, Mcast, Dat, Ping, Trace}
 use Rattle.mesh_node.specs.NodeStands.{given_by}
 use Rattle.mesh_post.specs.declared.post.Post.{Post}
 use Rattle.mesh_net.specs.declared.give.Occasion.{Occasion}
@@ -43,6 +43,7 @@ ticks_are ticks number (Frame src dst vid text) counts = omega arith
 ticks_are ticks number (Gone key) counts = omega arith
 ticks_are ticks number (Join key) counts = omega arith
 ticks_are ticks number (Leave key) counts = omega arith
+ticks_are ticks number (Arp mac own_ip asked_ip vid) counts = omega arith
 ticks_are ticks number (Dhcp key text) counts = omega arith
 ticks_are ticks number (Wifi on) counts = omega arith
 ticks_are ticks number GwOff counts = omega arith

@@ -3,6 +3,7 @@
 use Rattle.std.proofs.Common.{◌≡◌, ℕ, zero, suc, ◌+◌, ◌<◌, ◌≤◌, ◌⊎◌, inl, inr, Bool, true, false, ◌&&◌, if◌then◌else◌, List, [], ◌∷◌, filter, slice_get, Option, Some, None, is_some, Ok, refl, sym, ap, ◌∙◌, subst, arith}
 use Rattle.mesh_base.specs.declared.address.Mac.{Mac}
 use Rattle.mesh_base.specs.declared.client.Key.{Key}
+use Rattle.mesh_base.specs.declared.client.Vid.{Vid}
 use Rattle.mesh_model.specs.declared.act.Act.{Act}
 use Rattle.mesh_model.specs.declared.happening.Class.{Class}
 use Rattle.mesh_model.specs.declared.happening.Class.TheVariants.{LinkDelivery, LanDelivery, NodeTick}
@@ -15,6 +16,7 @@ use Rattle.mesh_model.specs.Clients.Mentions.{Mention, key_of, mentions, next_me
 use Rattle.mesh_model.specs.Commits.History.{is_commit_tick}
 use Rattle.mesh_model.specs.Knowledge.Known.{Broadcast, Knowledge, agreed_byte, is_new_broadcast}
 use Rattle.mesh_model.specs.Knowledge.Offers.{after_choice, gateway_way}
+use Rattle.mesh_model.specs.Knowledge.Pairs.{after_arp, after_asking, after_came, after_question, is_asked, with_ask, with_learned}
 use Rattle.mesh_model.specs.Knowledge.Steps.{Coming, stays_on_lan, knowledge, next_knowledge, after_announcement, after_answer, after_broadcast, after_call, after_containers, after_frame, after_head, after_message, after_reply, after_packet, after_packets, after_passed, after_roaming, after_sent, after_sighting, after_taken, before_announcement, is_flooded, released_under, with_head, with_offered, line_knowledge}
 use Rattle.mesh_model.specs.Knowledge.Told.{Message, TableMessage, Asks, Answers, Neither, message_in, message_of}
 use Rattle.mesh_model.specs.Marks.Calls.{Forgotten}
@@ -27,6 +29,7 @@ use Rattle.mesh_model.specs.Net.Mesh.{NodeLog, NetLan, NetLink, LanPut, SentFram
 use Rattle.mesh_model.specs.Net.Next.{Happens}
 use Rattle.mesh_model.specs.Net.Runs.{after_happening, effect, frame_given, frame_over, throughput_between, tick_given, with_last}
 use Rattle.mesh_model.specs.Net.Sending.{Actor, after_acts}
+use Rattle.mesh_model.specs.Packets.ArpMessages.{ArpCame, Puts, Asks as AsksPair, Tells, arp_came}
 use Rattle.mesh_model.specs.Packets.Containers.{containers_of}
 use Rattle.mesh_model.specs.Packets.Contents.{first_roaming, first_table}
 use Rattle.mesh_model.specs.Packets.FirstPacket.{Packet}
@@ -38,6 +41,7 @@ use Rattle.mesh_model.specs.Routes.Addresses.{same_mac}
 use Rattle.mesh_model.specs.Routes.Queries.{Queries}
 use Rattle.mesh_model.specs.Routes.RouteLog.{FollowsIndex, MayTick, OwnTick, last_index, own_ticks}
 use Rattle.mesh_model.specs.Run.Steps.{new_node}
+use Rattle.mesh_model.specs.Services.ArpTable.{AskedFor}
 use Rattle.mesh_model.specs.Tables.Known.{Answered, Dropped, known_by}
 use Rattle.mesh_laws.proofs.Schedule.Added.{added}
 use Rattle.mesh_laws.proofs.Schedule.Members.{get_last}
@@ -98,6 +102,16 @@ containers_counted q now src tail known =
 broadcast_counted : (me : Mac) (broadcast : Broadcast) (known : Knowledge) → counted (after_broadcast me broadcast known) ≡ counted known
 broadcast_counted me broadcast known = either_counted (is_new_broadcast me broadcast known.taken) (record known { taken = broadcast ∷ known.taken }) known known refl refl
 
+-- nor does a packet of the ARP table
+came_counted : (now : ℕ) (came : Option ArpCame) (known : Knowledge) → counted (after_came now came known) ≡ counted known
+came_counted now None known = refl
+came_counted now (Some (Puts m)) known = refl
+came_counted now (Some (AsksPair m)) known = refl
+came_counted now (Some (Tells m)) known = refl
+
+arp_counted : (now : ℕ) (came : Option ArpCame) (known : Knowledge) → counted (after_arp now came known) ≡ counted known
+arp_counted now came known = either_counted known.services.settings.arp_table (after_came now came known) known known (came_counted now came known) refl
+
 head_counted : (q : Queries) (me : Mac) (came : Coming) (message : Option Message) (tail : List ℕ) (head : Head) (known : Knowledge) → counted (after_head q me came message tail head known) ≡ counted known
 head_counted q me came message tail (IvOgm ttl flags seq orig prev tq) known = taken_counted q came (IvOgm ttl flags seq orig prev tq) message tail known
 head_counted q me came message tail (Bcast ttl seq orig) known = broadcast_counted me (record { orig = orig; number = seq }) known
@@ -105,7 +119,8 @@ head_counted q me came message tail (Elp orig seq interval) known = refl
 head_counted q me came message tail (Ogm2 ttl flags seq orig throughput) known = taken_counted q came (Ogm2 ttl flags seq orig throughput) message tail known
 head_counted q me came message tail (Unicast ttl ttvn dst) known = refl
 head_counted q me came message tail (Frag ttl number priority dst orig seq total) known = refl
-head_counted q me came message tail (Unicast4 ttl ttvn dst src subtype) known = refl
+head_counted q me came message tail (Unicast4 ttl ttvn dst src subtype) known =
+    either_counted (same_mac dst me) (after_arp came.now (arp_came subtype tail) known) known known (arp_counted came.now (arp_came subtype tail) known) refl
 head_counted q me came message tail (Icmp ttl msg dst orig uid seq) known =
     either_counted (same_mac dst me && is_answer msg) (after_reply q came.now msg seq known) known known refl refl
 head_counted q me came message tail (Utvlv ttl dst src) known =
@@ -121,6 +136,13 @@ frame_counted q now key known = either_counted (is_flooded q known now key) (aft
 
 call_counted : (q : Queries) (now : ℕ) (known : Knowledge) → counted (after_call q now known) ≡ counted known
 call_counted q now known = either_counted (is_some (gateway_way q known now)) known (after_sent known) known refl refl
+
+question_counted : (q : Queries) (me : Mac) (now : ℕ) (mac : Mac) (own_ip asked_ip : ℕ) (vid : Vid) (known : Knowledge)
+    → counted (after_question q me now mac own_ip asked_ip vid known) ≡ counted known
+question_counted q me now mac own_ip asked_ip vid known =
+    let learned : Knowledge = with_learned now own_ip vid mac known in
+    either_counted known.services.settings.arp_table (after_asking q me now asked_ip vid learned) known known
+    (either_counted (is_asked q me learned now asked_ip vid) (with_ask (AskedFor asked_ip vid) learned) learned known refl refl) refl
 
 -- nor does a frame from a LAN add a tick
 passed_counted : (q : Queries) (me : Mac) (older : Log) (known : Knowledge) (now : ℕ) (mentions : List Mention) (frame : Option ClientFrame) → counted (after_passed q me older known now mentions frame) ≡ counted known
@@ -151,7 +173,8 @@ line_counted q me older known now (Frame src dst vid text) = frame_counted q now
 line_counted q me older known now (Gone key) = refl
 line_counted q me older known now (Join key) = refl
 line_counted q me older known now (Leave key) = refl
-line_counted q me older known now (Arp mac own_ip asked_ip vid) = refl
+line_counted q me older known now (Arp mac own_ip asked_ip vid) =
+    question_counted q me now mac own_ip asked_ip vid (after_sighting q me older now (key_of mac vid) known)
 line_counted q me older known now (Dhcp key text) = call_counted q now (after_sighting q me older now key known)
 line_counted q me older known now (Sets setting) = refl
 line_counted q me older known now (Put type_no version text) = refl

@@ -24,7 +24,7 @@ use Rattle.mesh_model.specs.Routes.RouteLog.{RouteLog, MayTick}
 use Rattle.node_ground.specs.declared.failure.NodeErr.{NodeErr}
 use Rattle.node_ground.specs.declared.failure.NodeErr.TheVariants as node_errors
 use Rattle.mesh_node.specs.declared.input.Input.{Input}
-use Rattle.mesh_node.specs.declared.input.Input.TheVariants.{Tick, Link, Lan, Attach, Frame, Gone, Join, Leave, Dhcp, Wifi, GwOff, GwServer, GwClient, Mcast, Dat, Ping, Trace}
+use Rattle.mesh_node.specs.declared.input.Input.TheVariants.{Tick, Link, Lan, Attach, Frame, Gone, Join, Leave, Arp, Dhcp, Wifi, GwOff, GwServer, GwClient, Mcast, Dat, Ping, Trace}
 use Rattle.node_ground.specs.OwnStands.{newest_moment}
 use Rattle.mesh_node.specs.NodeStands.{MayFollow}
 use Rattle.mesh_net.specs.declared.failure.NetErr.{NetErr}
@@ -48,6 +48,7 @@ ticks_with ticks (Frame src dst vid text) = ticks
 ticks_with ticks (Gone key) = ticks
 ticks_with ticks (Join key) = ticks
 ticks_with ticks (Leave key) = ticks
+ticks_with ticks (Arp mac own_ip asked_ip vid) = ticks
 ticks_with ticks (Dhcp key text) = ticks
 ticks_with ticks (Wifi on) = ticks
 ticks_with ticks GwOff = ticks
@@ -68,6 +69,7 @@ Counts ticks (Frame src dst vid text) = ⊤
 Counts ticks (Gone key) = ⊤
 Counts ticks (Join key) = ⊤
 Counts ticks (Leave key) = ⊤
+Counts ticks (Arp mac own_ip asked_ip vid) = ⊤
 Counts ticks (Dhcp key text) = ⊤
 Counts ticks (Wifi on) = ⊤
 Counts ticks GwOff = ⊤

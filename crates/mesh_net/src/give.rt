@@ -110,6 +110,7 @@ fn ticks_with(ticks: u64, input: &Input<'_>) -> u64
         | Input::Gone { .. }
         | Input::Join { .. }
         | Input::Leave { .. }
+        | Input::Arp { .. }
         | Input::Dhcp { .. }
         | Input::Wifi(_)
         | Input::GwOff

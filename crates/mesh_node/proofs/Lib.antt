@@ -3,3 +3,4 @@ pub mod Underway
 pub mod OgmRow
 pub mod GivenLemmas
 pub mod SessionLemmas
+pub mod AskLemmas

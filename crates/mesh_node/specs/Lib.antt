@@ -1,2 +1,3 @@
 -- The words of the contracts.
 pub mod NodeStands
+pub mod Questions

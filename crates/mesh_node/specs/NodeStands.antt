@@ -17,7 +17,7 @@ use Rattle.node_ground.specs.KnowledgeStands.{KnowledgeStands}
 use Rattle.node_ground.specs.OwnStands.{HasClients, newest_moment}
 use Rattle.node_lans.specs.BridgeStands.{BridgeStands}
 use Rattle.mesh_node.specs.declared.input.Input.{Input}
-use Rattle.mesh_node.specs.declared.input.Input.TheVariants.{Tick, Link, Lan, Attach, Frame, Gone, Join, Leave, Dhcp, Wifi, GwOff, GwServer, GwClient, Mcast, Dat, Ping, Trace}
+use Rattle.mesh_node.specs.declared.input.Input.TheVariants.{Tick, Link, Lan, Attach, Frame, Gone, Join, Leave, Arp, Dhcp, Wifi, GwOff, GwServer, GwClient, Mcast, Dat, Ping, Trace}
 use Rattle.mesh_node.specs.declared.node.Node.{Node}
 
 -- the node stands for this log of the node of an address
@@ -39,6 +39,7 @@ given_by number (Frame src dst vid text) = log.Line (log.Frame src dst vid text.
 given_by number (Gone key) = log.Line (log.Gone key)
 given_by number (Join key) = log.Line (log.Join key)
 given_by number (Leave key) = log.Line (log.Leave key)
+given_by number (Arp mac own_ip asked_ip vid) = log.Line (log.Arp mac own_ip asked_ip vid)
 given_by number (Dhcp key text) = log.Line (log.Dhcp key text.now)
 given_by number (Wifi on) = log.Line (log.Sets (settings.Wifi on))
 given_by number GwOff = log.Line (log.Sets (settings.Gateway settings.NoPart))
@@ -74,6 +75,7 @@ MayFollow known (Frame src dst vid text) = ⊤
 MayFollow known (Gone key) = ⊤
 MayFollow known (Join key) = ⊤
 MayFollow known (Leave key) = ⊤
+MayFollow known (Arp mac own_ip asked_ip vid) = ⊤
 MayFollow known (Dhcp key text) = ⊤
 MayFollow known (Wifi on) = ⊤
 MayFollow known GwOff = ⊤

@@ -43,6 +43,14 @@ pub enum Input<'a> {
     Leave {
         key: Key,
     },
+    /// A client at this node, which has an IP address, asks for another one, both as numbers, in a
+    /// VLAN.
+    Arp {
+        mac: Mac,
+        own_ip: u32,
+        asked_ip: u32,
+        vid: Vid,
+    },
     /// A call of a client at this node for a gateway.
     Dhcp {
         key: Key,

@@ -2,6 +2,7 @@
 
 #![tactic(auto)]
 
+mod asking;
 pub mod input;
 pub mod node;
 mod rows;

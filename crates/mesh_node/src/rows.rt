@@ -15,6 +15,8 @@ ghost use Rattle.node_lans.specs.BridgeStands.{BridgeStands};
 use mesh_algo::Algo;
 use mesh_base::Mac;
 use mesh_codec::{Head, LinkFrame, Packet};
+use node_arp::Unicast4;
+use node_arp::passing::packet_with_sender;
 use node_clients::carried::{broadcast, here, passed};
 use node_ground::{Coming, NodeErr, NodeKnowledge, Place, Port};
 use node_lans::Bridge;
@@ -85,7 +87,23 @@ fn packet<A: Algo, P: Port>(
         }
         Head::Utvlv { ttl, dst, src } => containers_past(kept, port, at, ttl, dst, src, tail)?,
         Head::Elp { .. } => elp(kept, came, &packet.head)?,
-        Head::Frag { .. } | Head::Unicast4 { .. } => {}
+        Head::Unicast4 {
+            ttl,
+            ttvn,
+            dst,
+            src,
+            subtype,
+        } => {
+            let head = Unicast4 {
+                ttl,
+                ttvn,
+                dst,
+                src,
+                subtype,
+            };
+            packet_with_sender(kept, port, at, head, tail)?;
+        }
+        Head::Frag { .. } => {}
     }
     Ok(())
 }

@@ -25,6 +25,7 @@ use mesh_base::{Key, Mac, Millis};
 use mesh_codec::ClientFrame;
 use mesh_serv::Bandwidth;
 use mesh_tvlv::layout::WIFI;
+use node_arp::Question;
 use node_clients::client_frames::frame;
 use node_clients::lan_frames::lan_frame;
 use node_clients::roaming::note_roamed;
@@ -76,6 +77,20 @@ impl<A: Algo> Node<A> {
             Input::Gone { key } => self.lose_client(now, key),
             Input::Join { key } => self.join_group(now, key)?,
             Input::Leave { key } => self.leave_group(now, key),
+            Input::Arp {
+                mac,
+                own_ip,
+                asked_ip,
+                vid,
+            } => {
+                let asked = Question {
+                    mac,
+                    own_ip,
+                    asked_ip,
+                    vid,
+                };
+                self.take_question(port, now, asked)?;
+            }
             Input::Dhcp { key, text } => self.take_call(port, now, key, text)?,
             Input::Wifi(on) => self.set(now, Setting::Wifi(on)),
             Input::GwOff => self.set(now, Setting::Gateway(GatewayPart::NoPart)),

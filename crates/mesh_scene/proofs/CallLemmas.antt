@@ -33,7 +33,8 @@ at_gateway state name place is = ap (λ (o : Option ℕ). is_some (option_and_th
 abbrev rules : Option Refusal → Bool → Option Refusal
 rules name attached = option_or (option_or name None) (refusal_if attached Attached)
 
-rules_answer : (state : State) (name : List ℕ) (place : ℕ) (attached : Bool) → IsNodePlace state name place → is_some (lan_of place state.mesh.lans) ≡ attached
+-- by whether the node is a gateway
+pub rules_answer : (state : State) (name : List ℕ) (place : ℕ) (attached : Bool) → IsNodePlace state name place → is_some (lan_of place state.mesh.lans) ≡ attached
     → option_or (option_or (name_refusal state (OfNode name)) None) (first_unmet state (NoGateway name)) ≡ refusal_if attached Attached
 rules_answer state name place attached there is = ap₂ rules there.allowed (at_gateway state name place there.at ∙ is)
 

@@ -8,6 +8,7 @@ pub mod GivenLemmas
 pub mod TableLemmas
 pub mod SessionLemmas
 pub mod CallLemmas
+pub mod QuestionLemmas
 pub mod PassLemmas
 pub mod CountLemmas
 pub mod LanLemmas

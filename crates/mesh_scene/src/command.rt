@@ -81,6 +81,13 @@ impl<A: Choosable + Drop> Scene<A> {
                 self.frame(place.as_slice(), &frame, text)?;
             }
             Command::Gone { place, key } => self.gone(place.as_slice(), key, text)?,
+            Command::Arp {
+                node,
+                mac,
+                own_ip,
+                asked_ip,
+                vid,
+            } => self.arp(node.as_slice(), mac, own_ip, asked_ip, vid, text)?,
             Command::Dhcp {
                 node,
                 key,
@@ -104,10 +111,9 @@ impl<A: Choosable + Drop> Scene<A> {
             | Command::Dat { .. } => unreachable!(),
             // These change more than the scene.
             Command::Algo(_) | Command::Run { .. } => unreachable!(),
-            Command::Arp { .. }
-            | Command::Alfred { .. }
-            | Command::Put { .. }
-            | Command::Get { .. } => return Err(refused(Refusal::NotBuilt)),
+            Command::Alfred { .. } | Command::Put { .. } | Command::Get { .. } => return Err(
+                refused(Refusal::NotBuilt),
+            ),
         }
         Ok(())
     }

@@ -10,6 +10,7 @@ mod given;
 mod lans;
 mod link_ends;
 mod places;
+mod questions;
 mod scene;
 mod sessions;
 mod slice;

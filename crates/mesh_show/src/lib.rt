@@ -2,6 +2,7 @@
 
 #![tactic(auto)]
 
+mod addresses;
 mod choosable;
 mod claims;
 mod clients;

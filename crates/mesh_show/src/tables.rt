@@ -6,6 +6,7 @@ ghost use Rattle.mesh_model.specs.Run.Shown.{shown};
 ghost use Rattle.mesh_model.specs.Run.State.{State};
 ghost use Rattle.mesh_show.specs.Shown.{AppendsTable, IsNodeAt, IsSeenAt};
 
+use crate::addresses::show_addresses;
 use crate::choosable::Choosable;
 use crate::claims::show_claims;
 use crate::clients::show_locals;
@@ -18,7 +19,7 @@ use mesh_model::Table;
 use mesh_node::Node;
 use std::alloc::Global;
 
-/// Whether a table is built: those of addresses and of facts aren't.
+/// Whether a table is built: that of facts isn't.
 pub fn is_built(table: Table) -> bool
     ensures { result ≡ is_some (shown table) }
 {
@@ -29,8 +30,9 @@ pub fn is_built(table: Table) -> bool
         | Table::Neighbors
         | Table::Claims
         | Table::Gateways
-        | Table::Groups => true,
-        Table::Addresses | Table::Facts => false,
+        | Table::Groups
+        | Table::Addresses => true,
+        Table::Facts => false,
     }
 }
 
@@ -57,7 +59,8 @@ fn put_shown<A: Choosable>(
         Table::Claims => show_claims(alloc, node, names, name, now, out)?,
         Table::Gateways => show_gateways(alloc, node, name, now, out)?,
         Table::Groups => show_groups(alloc, node, name, now, out)?,
-        Table::Addresses | Table::Facts => unreachable!(),
+        Table::Addresses => show_addresses(alloc, node, name, now, out)?,
+        Table::Facts => unreachable!(),
     }
     Ok(())
 }

@@ -20,8 +20,8 @@ ghost use Rattle.node_ground.specs.Puts.{Leaves, Puts, behind};
 ghost use Rattle.node_clients.specs.FrameRows.{key_to};
 
 use crate::groups::group_frame;
+use crate::seeing::sight_client;
 use crate::sending::{flood, send_on};
-use crate::sightings::sighting;
 use mesh_algo::Algo;
 use mesh_base::{Key, LossReason};
 use mesh_codec::ClientFrame;
@@ -127,8 +127,7 @@ pub(crate) fn sighted<A: Algo, P: Port>(
         mac: frame.src,
         vid: frame.vid,
     };
-    let newly = locals.see(at.now, key, flags)?;
-    sighting(kept, port, at, key, newly)?;
+    sight_client(kept, port, locals, at, flags, key)?;
     Ok(())
 }
 

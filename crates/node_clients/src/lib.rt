@@ -9,5 +9,6 @@ pub mod client_frames;
 mod groups;
 pub mod lan_frames;
 pub mod roaming;
+pub mod seeing;
 mod sending;
 mod sightings;

@@ -5,5 +5,7 @@ pub mod BroadcastLemmas
 pub mod ReadingLemmas
 pub mod OfferReading
 pub mod OffersLemmas
+pub mod AsksLemmas
+pub mod PairLemmas
 pub mod HolderLemmas
 pub mod OwnLemmas

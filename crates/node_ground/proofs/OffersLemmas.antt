@@ -45,7 +45,7 @@ module _ {V X : Type 0} (h : Mac → Option V → Option X) where
       (found_each es rise.1 ∙ sym (found_behind e.0 e.1 es (keys_of es) rise.0))
 
 -- what is made of each that is kept is made of each that offered something
-walked : {X : Type 0} (h : Mac → Option Offer → Option X) (kept : List (Mac × kept_offer.Offer)) (offers : List Offered) → OffersStand kept offers
+pub walked : {X : Type 0} (h : Mac → Option Offer → Option X) (kept : List (Mac × kept_offer.Offer)) (offers : List Offered) → OffersStand kept offers
     → filter_map (λ (e : Mac × kept_offer.Offer). h e.0 (Some (offered e.1))) kept ≡ filter_map (λ orig. h orig (offer_of offers orig)) (offering offers)
 walked h kept offers stands =
     let rise : IsStrictlySortedBy mac_order (keys_of kept) = subst (IsStrictlySortedBy mac_order) (sym stands.addresses) (sorted_in_order mac_total mac_exact (map (λ (one : Offered). one.orig) offers)) in
@@ -56,7 +56,7 @@ walked h kept offers stands =
 -- ---- of those that pass
 
 -- what is made of those that pass a test
-of_those : {X : Type 0} (p : Mac → Bool) (f : Mac → Option X) (ks : List Mac) → filter_map (λ k. if p k then f k else None) ks ≡ filter_map f (filter p ks)
+pub of_those : {X : Type 0} (p : Mac → Bool) (f : Mac → Option X) (ks : List Mac) → filter_map (λ k. if p k then f k else None) ks ≡ filter_map f (filter p ks)
 of_those p f [] = refl
 of_those p f (k ∷ ks) =
     elim (p k) as (λ b. cons_option (if b then f k else None) (filter_map (λ k. if p k then f k else None) ks) ≡ filter_map f (cond b (k ∷ filter p ks) (filter p ks))) [
@@ -65,7 +65,7 @@ of_those p f (k ∷ ks) =
     ]
 
 -- those that pass are those of which they themselves are made
-themselves : (p : Mac → Bool) (ks : List Mac) → filter_map (λ k. if p k then Some k else None) ks ≡ filter p ks
+pub themselves : (p : Mac → Bool) (ks : List Mac) → filter_map (λ k. if p k then Some k else None) ks ≡ filter p ks
 themselves p [] = refl
 themselves p (k ∷ ks) =
     elim (p k) as (λ b. cons_option (if b then Some k else None) (filter_map (λ k. if p k then Some k else None) ks) ≡ cond b (k ∷ filter p ks) (filter p ks)) [

@@ -2,6 +2,7 @@
 pub mod Errors
 pub mod Puts
 pub mod BroadcastsStand
+pub mod AsksStand
 pub mod SettingsSeen
 pub mod ServicesStand
 pub mod KnowledgeStands
@@ -11,3 +12,4 @@ pub mod Sending
 pub mod Reading
 pub mod Tables
 pub mod ServiceRows
+pub mod PairRows

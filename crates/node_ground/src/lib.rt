@@ -5,6 +5,7 @@
 #![tactic(auto)]
 
 pub mod addressee;
+pub mod asks;
 pub mod broadcasts;
 pub mod coming;
 pub mod deliveries;
@@ -14,6 +15,7 @@ pub mod groups;
 pub mod knowledge;
 pub mod messages;
 pub mod packing;
+pub mod pairs;
 pub mod place;
 pub mod port;
 pub mod reading;

@@ -3,22 +3,26 @@ ghost use Rattle.mesh_model.specs.Knowledge.Served.{after_set, no_services};
 ghost use Rattle.node_ground.specs.ServicesStand.{ServicesStand};
 ghost use Rattle.node_ground.specs.SettingsSeen.{setting_seen};
 
+use crate::asks::Asks;
 use crate::settings::{Setting, Settings};
 use mesh_base::Mac;
+use mesh_dat::Cache;
 use mesh_serv::Offers;
 use std::alloc::Global;
 
-/// What a node keeps for services: its settings, what originators offered last, and the gateway
-/// that it chose, if any.
+/// What a node keeps for services: its settings, what originators offered last, the gateway that it
+/// chose, if any, and of the ARP table the pairs that it learned and those that it asked for.
 #[derive(Debug, Drop)]
 pub struct Services {
     pub settings: Settings,
     pub offers: Offers,
     pub choice: Option<Mac>,
+    pub cache: Cache,
+    pub asks: Asks,
 }
 
 impl Services {
-    /// Before anything was set, offered or chosen.
+    /// Before anything was set, offered, chosen or learned.
     pub fn new(alloc: Global) -> Services
         ensures { ServicesStand result no_services }
     {
@@ -26,6 +30,8 @@ impl Services {
             settings: Settings::new(),
             offers: Offers::new(alloc),
             choice: None,
+            cache: Cache::new(alloc),
+            asks: Asks::new(alloc),
         }
     }
 

@@ -89,7 +89,13 @@ offer_noted stands kept offers me orig tail known is noted = record {
   probes = is.probes;
   taken = is.taken;
   sent = is.sent;
-  services = record { settings = is.services.settings; offers = noted; choice = is.services.choice };
+  services = record {
+    settings = is.services.settings;
+    offers = noted;
+    choice = is.services.choice;
+    cache = is.services.cache;
+    asks = is.services.asks;
+  };
 }
 
 -- what is known once an answer came, with the byte, the sums and the changes that it tells

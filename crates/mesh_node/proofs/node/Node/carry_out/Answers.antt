@@ -99,6 +99,19 @@ pub returns-in_ok-take_frame-in-Frame-clause-noted : goal.returns-in_ok-take_fra
 returns-in_ok-take_frame-in-Frame-clause-noted g c = λ me log number is late.
     rw c.in-Frame.is (c.in_ok-take_frame-in-Frame.ensures.noted me log is late)
 
+pub returns-in_err-take_question-in-Arp-clause-puts : goal.returns-in_err-take_question-in-Arp-clause-puts
+returns-in_err-take_question-in-Arp-clause-puts g c = λ me log number is late.
+    let p = err_from_is_err_and c.from_residual-in_err-take_question-in-Arp.result c.from_residual-in_err-take_question-in-Arp.ensures.1 in
+    rw (p.1, p.2, c.in-Arp.is) (c.in_err-take_question-in-Arp.ensures.puts me log is late)
+
+pub returns-in_ok-take_question-in-Arp-clause-puts : goal.returns-in_ok-take_question-in-Arp-clause-puts
+returns-in_ok-take_question-in-Arp-clause-puts g c = λ me log number is late.
+    rw c.in-Arp.is (c.in_ok-take_question-in-Arp.ensures.puts me log is late)
+
+pub returns-in_ok-take_question-in-Arp-clause-noted : goal.returns-in_ok-take_question-in-Arp-clause-noted
+returns-in_ok-take_question-in-Arp-clause-noted g c = λ me log number is late.
+    rw c.in-Arp.is (c.in_ok-take_question-in-Arp.ensures.noted me log is late)
+
 pub take_call-requires : goal.take_call-requires
 take_call-requires g c =
     let may = c.requires in

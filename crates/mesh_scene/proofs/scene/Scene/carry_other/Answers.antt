@@ -2,7 +2,7 @@ use Rattle.std.proofs.Common.{ℕ, List, subst, sym}
 use Rattle.std.proofs.lemmas.Result.{err_from_is_err_and}
 use Rattle.mesh_model.specs.Net.Limits.{scenario_setup}
 use Rattle.mesh_model.specs.declared.line_form.Command.{Command}
-use Rattle.mesh_model.specs.declared.line_form.Command.TheVariants.{Node, Link, Lan, Frame, Gone, Dhcp, Ping, Trace, Show}
+use Rattle.mesh_model.specs.declared.line_form.Command.TheVariants.{Node, Link, Lan, Frame, Gone, Arp, Dhcp, Ping, Trace, Show}
 use Rattle.mesh_model.specs.Run.Rules.{carried_out}
 use Rattle.mesh_scene.specs.SceneStands.{SceneStands}
 use Rattle.mesh_scene.specs.CarriesOut.{Carries, HasLineCause}
@@ -123,6 +123,16 @@ returns-in_err-gone-in-Gone-clause-refused g c = λ state stands.
     let C : Command → Type 0 = λ command. HasLineCause state (carried_out (scenario_setup g.A.Algo.queries) state command) fault in
     rw (p.1, p.2)
     (subst C (sym gone.is) (subst F c.as_slice-in-Gone.ensures.value (c.in_err-gone-in-Gone.ensures.refused state stands)))
+
+pub returns-in_err-arp-in-Arp-clause-refused : goal.returns-in_err-arp-in-Arp-clause-refused
+returns-in_err-arp-in-Arp-clause-refused g c = λ state stands.
+    let p = err_from_is_err_and c.from_residual-in_err-arp-in-Arp.result c.from_residual-in_err-arp-in-Arp.ensures.1 in
+    let line = c.in-Arp in
+    let fault = c.in_err-arp-in-Arp.field-0.0 in
+    let F : List ℕ → Type 0 = λ node. HasLineCause state (carried_out (scenario_setup g.A.Algo.queries) state (Arp node line.mac line.own_ip line.asked_ip line.vid)) fault in
+    let C : Command → Type 0 = λ command. HasLineCause state (carried_out (scenario_setup g.A.Algo.queries) state command) fault in
+    rw (p.1, p.2)
+    (subst C (sym line.is) (subst F c.as_slice-in-Arp.ensures.value (c.in_err-arp-in-Arp.ensures.refused state stands)))
 
 pub returns-in_err-dhcp-in-Dhcp-clause-refused : goal.returns-in_err-dhcp-in-Dhcp-clause-refused
 returns-in_err-dhcp-in-Dhcp-clause-refused g c = λ state stands.

@@ -1,15 +1,13 @@
 use Rattle.std.proofs.Common.{◌≡◌, ◌∷◌, Err, None, Ok, subst}
 use Rattle.std.proofs.lemmas.Result.{err_from_is_err_and}
-use Rattle.mesh_codec.specs.Payloads.{seen_frame}
 use Rattle.mesh_model.specs.Acts.Choosing.{sighting_acts}
 use Rattle.mesh_model.specs.Clients.Limits.{limit_of_mentions}
 use Rattle.mesh_model.specs.Clients.Mentions.{mention, mentions, sighted_after}
 use Rattle.mesh_model.specs.Commits.History.{history}
 use Rattle.mesh_model.specs.Knowledge.Steps.{knowledge}
-use Rattle.node_clients.specs.FrameRows.{key_from}
 use Rattle.node_ground.proofs.OwnLemmas.{before_now}
 use Rattle.node_clients.proofs.SightLemmas.{frame_refused, frame_taken, within_mention}
-use Rattle.node_clients.proofs.client_frames.sighted.Goals as goal
+use Rattle.node_clients.proofs.seeing.sight_client.Goals as goal
 use Rattle.tt_local.specs.Locals.{LocalsStand}
 
 pub returns-in_err-newly-clause-puts : goal.returns-in_err-newly-clause-puts
@@ -17,7 +15,7 @@ returns-in_err-newly-clause-puts g c = λ log before flags.
     let p = err_from_is_err_and c.from_residual.result c.from_residual.ensures.1 in
     let me = c.args.at.me in
     let has = before.clients in
-    let key = key_from (seen_frame c.args.frame.now) in
+    let key = c.args.key in
     rw (p.1, p.2) (frame_refused g.P.Port.takes g.P.Port.same g.P.Port.over (mentions me log) c.args.at.now key c.args.flags (sighted_after log) flags
     c.in_err-newly.field-0.0 (c.in_err-newly.ensures.limit (mentions me log) (history me log) has.since has.stand (before_now c.args.locals.now me log c.args.at.now has before.later))
     c.args.port.now (sighting_acts (g.A.Algo.queries me) me log c.args.at.now key) (g.met.P.Port.same_refl c.args.port.now))
@@ -27,7 +25,7 @@ returns-in_err-sighting-clause-puts g c = λ log before flags.
     let p = err_from_is_err_and c.from_residual-in_err-sighting.result c.from_residual-in_err-sighting.ensures.1 in
     let me = c.args.at.me in
     let has = before.clients in
-    let key = key_from (seen_frame c.args.frame.now) in
+    let key = c.args.key in
     let settled = before_now c.args.locals.now me log c.args.at.now has before.later in
     rw (p.1, p.2) (frame_taken g.P.Port.takes g.P.Port.same g.P.Port.over (mentions me log) c.args.at.now key c.args.flags (sighted_after log) flags
     (c.in_ok-newly.ensures.within (mentions me log) (history me log) has.since has.stand settled) c.args.port.now c.sighting.new.port
@@ -39,7 +37,7 @@ pub returns-clause-puts : goal.returns-clause-puts
 returns-clause-puts g c = λ log before flags.
     let me = c.args.at.me in
     let has = before.clients in
-    let key = key_from (seen_frame c.args.frame.now) in
+    let key = c.args.key in
     let settled = before_now c.args.locals.now me log c.args.at.now has before.later in
     frame_taken g.P.Port.takes g.P.Port.same g.P.Port.over (mentions me log) c.args.at.now key c.args.flags (sighted_after log) flags
     (c.in_ok-newly.ensures.within (mentions me log) (history me log) has.since has.stand settled) c.args.port.now c.sighting.new.port
@@ -60,7 +58,7 @@ returns-clause-sighted g c = λ log before flags.
     let me = c.args.at.me in
     let has = before.clients in
     let now = c.args.at.now in
-    let key = key_from (seen_frame c.args.frame.now) in
+    let key = c.args.key in
     let settled = before_now c.args.locals.now me log now has before.later in
     record {
       since = has.since;

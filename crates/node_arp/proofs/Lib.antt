@@ -1,0 +1,2 @@
+-- What the rows of the distributed ARP table rest on.
+pub mod QuestionLemmas
