@@ -78,6 +78,8 @@ frame B 02:00:00:00:01:02 02:00:00:00:01:01 - to one
 ping A B
 traceroute B A
 dhcp A 02:00:00:00:01:04 - a call
+arp A 02:00:00:00:01:05 10.0.0.5 10.0.0.6 -
+arp A 02:00:00:00:01:06 10.0.0.6 10.0.0.5 -
 frame B 02:00:00:00:01:02 01:00:5e:00:00:fb 7 to a group
 run 100
 frame B 02:00:00:00:01:01 02:00:00:00:01:02 - roamed
@@ -97,6 +99,7 @@ show A tl
 show B tg
 show A gw
 show B mc
+show A dat
 leave A 01:00:5e:00:00:fb 7
 gone B 02:00:00:00:01:01 -
 run 1000
