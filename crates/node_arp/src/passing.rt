@@ -1,5 +1,5 @@
-//! The row of packets with their sender: those of the distributed ARP table for this node, and those
-//! on their way to another one.
+//! The row of packets with their sender: those of the distributed ARP table for this node, and
+//! those on their way to another one.
 
 ghost use Rattle.std.specs.Prelude.{if◌then◌else◌, OnOk};
 ghost use Rattle.mesh_model.specs.Acts.ArpRows.{arp_here, passed_unicast4};

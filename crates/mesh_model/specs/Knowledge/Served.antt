@@ -1,8 +1,8 @@
 -- What a node keeps for services: its settings, what each originator offered last, the gateway that
 -- it chose, and the pairs of the ARP table that it learned and asked for. An originator message
 -- that is accepted tells by its containers what its originator offers: the throughputs of a
--- gateway, a part in the ARP table, and multicast flags. A setting of the part as a gateway gives up
--- the choice. The main words are `Services` and `offer_of`.
+-- gateway, a part in the ARP table, and multicast flags. A setting of the part as a gateway gives
+-- up the choice. The main words are `Services` and `offer_of`.
 use Rattle.std.specs.Prelude.{ℕ, Bool, List, [], ◌∷◌, find, Option, Some, None, option_map, if◌then◌else◌}
 use Rattle.mesh_base.specs.declared.address.Mac.{Mac}
 use Rattle.mesh_model.specs.Clients.Settings.{Setting, Wifi, Gateway, Multicast, ArpTable, FactStore, Settings, first_settings, set_to}
