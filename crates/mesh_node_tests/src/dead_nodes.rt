@@ -5,7 +5,6 @@ ghost use Rattle.mesh_node.specs.NodeStands.{is_dead};
 
 use mesh_base::{Key, Mac, Vid};
 use mesh_iv::Iv;
-use mesh_model::Policy;
 use mesh_node::{Act, Input, Node, NodeErr, Port, PortErr};
 use std::alloc::Global;
 
@@ -87,13 +86,7 @@ fn no_input_is_taken_after_a_refusal(rt: HostRuntime) {
         Input::Gone { key },
         Input::Join { key },
         Input::Leave { key },
-        Input::Dhcp { key, text: b"hi" },
         Input::Wifi(true),
-        Input::GwOff,
-        Input::GwServer { down: 100, up: 20 },
-        Input::GwClient(Policy::Best),
-        Input::Mcast(1),
-        Input::Dat(false),
         Input::Ping { target: CLIENT },
         Input::Trace { target: CLIENT },
     ];

@@ -1,11 +1,6 @@
-//! Tests of mesh_node: a node whose port refused an act, what a node shows, and what it learns of
-//! packets of the distributed ARP table.
+//! Tests of mesh_node: a node whose port refused an act.
 
 #![tactic(auto)]
 
 #[cfg(test)]
 mod dead_nodes;
-#[cfg(test)]
-mod learning;
-#[cfg(test)]
-mod settings;
