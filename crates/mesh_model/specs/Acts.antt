@@ -10,6 +10,7 @@ pub mod TableRows
 pub mod FrameRows
 pub mod ProbeRows
 pub mod ArpRows
+pub mod FactRows
 pub mod Rows
 pub mod Choosing
 pub mod NodeLimits

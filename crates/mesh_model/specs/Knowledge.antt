@@ -9,4 +9,5 @@ pub mod Known
 pub mod Addressee
 pub mod Offers
 pub mod Pairs
+pub mod FactStore
 pub mod Steps

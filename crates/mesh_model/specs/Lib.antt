@@ -2,6 +2,7 @@
 pub mod Packets
 pub mod Scenario
 pub mod Routes
+pub mod Fragments
 pub mod Bridges
 pub mod Clients
 pub mod Tables
@@ -13,4 +14,5 @@ pub mod Knowledge
 pub mod Text
 pub mod Acts
 pub mod Net
+pub mod Loops
 pub mod Run

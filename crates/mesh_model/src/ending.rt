@@ -19,8 +19,6 @@ pub enum Refusal {
     OutOfRange,
     /// `extra word`: a word stands behind the last one of a form.
     ExtraWord,
-    /// `not built`: a line that this version doesn't carry out.
-    NotBuilt,
     /// `unknown name`: a name that no earlier line gave.
     UnknownName,
     /// `wrong kind`: a LAN is named where a node is needed, or the other way round.

@@ -126,6 +126,10 @@ pub enum Command {
         node: Bytes,
         target: Bytes,
     },
+    /// `reboot NODE`: the node loses all that it learned.
+    Reboot {
+        node: Bytes,
+    },
     /// `run MS`: 1 to 2^40 milliseconds pass.
     Run {
         time: Millis,

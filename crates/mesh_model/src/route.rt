@@ -22,10 +22,10 @@ pub struct Hearing {
 }
 
 /// How a number meets the life of its originator in which it comes: it is late, or a restart, or
-/// neither.
+/// neither. It is one of the two where it is far from the newest number of that life.
 #[derive(Clone, Copy, Debug, PartialEq, Eq)]
 pub struct Meeting {
-    /// Whether it is far below the newest number.
+    /// Whether it counts for the life alone: the life is too young for another to begin.
     pub late: bool,
     /// Whether a life begins with it.
     pub restart: bool,

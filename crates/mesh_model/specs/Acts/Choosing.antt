@@ -1,7 +1,7 @@
 -- What a node puts when it is given something: the row of the input, by what the node knows. A
 -- sighting comes first, with its advertisement; before the sighting of a client on a LAN comes its
--- claim. A LAN that is joined, a setting, a joining, a leaving and a departure put nothing, nor do,
--- in this version, facts. The main word is `acts_of`.
+-- claim. A LAN that is joined, a setting, a joining, a leaving, a departure and a fact that is put
+-- put nothing. The main word is `acts_of`.
 use Rattle.std.specs.Prelude.{ℕ, Bool, true, false, List, [], ◌++◌, Option, Some, None, if◌then◌else◌}
 use Rattle.mesh_base.specs.declared.address.Mac.{Mac}
 use Rattle.mesh_base.specs.declared.client.Key.{Key}
@@ -9,17 +9,18 @@ use Rattle.mesh_base.specs.declared.client.Vid.{Vid}
 use Rattle.mesh_model.specs.declared.act.Act.{Act}
 use Rattle.mesh_model.specs.Acts.ArpRows.{question_acts}
 use Rattle.mesh_model.specs.Acts.BridgeRows.{claim_acts}
+use Rattle.mesh_model.specs.Acts.FactRows.{fact_round_acts, get_acts}
 use Rattle.mesh_model.specs.Acts.FrameRows.{advert_acts, frame_acts}
 use Rattle.mesh_model.specs.Acts.GroupRows.{call_acts}
 use Rattle.mesh_model.specs.Acts.ProbeRows.{session_acts}
-use Rattle.mesh_model.specs.Acts.Rows.{own_by, packets_acts, tick_acts}
+use Rattle.mesh_model.specs.Acts.Rows.{own_by, packets_acts, reboot_acts, tick_acts}
 use Rattle.mesh_model.specs.Bridges.Verdicts.{verdict_from_lan}
 use Rattle.mesh_model.specs.Clients.Lans.{LanOf, bridge}
-use Rattle.mesh_model.specs.Clients.Log.{Given, Tick, LinkFrame, LanFrame, Line, LineGiven, Attach, Frame, Gone, Join, Leave, Arp, Dhcp, Sets, Put, Get, Ping, Trace, Log}
+use Rattle.mesh_model.specs.Clients.Log.{Given, Tick, LinkFrame, LanFrame, Line, LineGiven, Attach, Frame, Gone, Join, Leave, Arp, Dhcp, Sets, Put, Get, Ping, Trace, Reboot, Log}
 use Rattle.mesh_model.specs.Clients.Mentions.{Mention, key_of, mentions, next_mentions, passed_from_lan}
 use Rattle.mesh_model.specs.Commits.History.{history}
 use Rattle.mesh_model.specs.Knowledge.Known.{Knowledge}
-use Rattle.mesh_model.specs.Knowledge.Steps.{advertised, after_sighting, knowledge, stays_on_lan}
+use Rattle.mesh_model.specs.Knowledge.Steps.{advertised, after_sighting, before_round, knowledge, stays_on_lan}
 use Rattle.mesh_model.specs.Packets.Ethernet.{all_stations}
 use Rattle.mesh_model.specs.Packets.LanFrames.{client_frame_in, lan_message_of}
 use Rattle.mesh_model.specs.Packets.LinkFrame.{link_frame}
@@ -114,15 +115,19 @@ line_acts q me log now (Dhcp key text) =
     sighting_acts q me log now key ++ calling_acts q me log now key text
 line_acts q me log now (Sets setting) = []
 line_acts q me log now (Put type_no version text) = []
-line_acts q me log now (Get type_no) = []
+line_acts q me log now (Get type_no) =
+    get_acts q (knowledge q me log) (record { me = me; now = now }) type_no
 line_acts q me log now (Ping target) = probing_acts q me log now target false
 line_acts q me log now (Trace target) = probing_acts q me log now target true
+line_acts q me log now Reboot = reboot_acts me (history me log)
 
 -- the acts, in order, of a node with this algorithm, address and log that is given something at a
 -- moment
 abbrev pub acts_of : Queries → Mac → Log → ℕ → Given → List Act
 acts_of q me log now (Tick index) = tick_acts q me (knowledge q me log).services.settings
     (knowledge q me log).routes (mentions me log) (history me log) (bridge log) now index
+    ++ fact_round_acts q (before_round q now index (knowledge q me log))
+    (record { me = me; now = now }) index
 acts_of q me log now (LinkFrame number from throughput bytes) =
     packets_acts q me (own_by me log)
     (record { now = now; from = from; throughput = throughput; number = number })

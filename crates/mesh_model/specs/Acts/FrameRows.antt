@@ -85,7 +85,7 @@ broadcast_on ttl broadcast tail = if nat_le ttl 1 then []
 -- a broadcast: it is handed out and then sent on, once
 unfoldable pub broadcast_acts : Knowledge → Bridge → Place → ℕ → Broadcast → List ℕ → List Act
 broadcast_acts known bridge at ttl broadcast tail =
-    if is_new_broadcast at.me broadcast known.taken
+    if is_new_broadcast at.me at.now broadcast known.taken
     then handed_out_if bridge at broadcast.orig (client_frame_of tail)
     ++ broadcast_on ttl broadcast tail
     else []

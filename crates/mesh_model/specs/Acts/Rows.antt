@@ -1,5 +1,6 @@
--- The rows of the acts: what a node puts at a moment for a tick, and for each kind of packet. A
--- kind whose row isn't built yet puts nothing. The main words are `tick_acts` and `packet_acts`.
+-- The rows of the acts: what a node puts at a moment for a tick, at a reboot, and for each kind of
+-- packet. In this version a fragment puts nothing. The main words are `tick_acts`, `reboot_acts` and
+-- `packet_acts`.
 use Rattle.std.specs.Prelude.{ℕ, ◌==◌, List, [], ◌∷◌, ◌++◌, length, Option, Some, None, if◌then◌else◌}
 use Rattle.mesh_base.specs.declared.address.Mac.{Mac}
 use Rattle.mesh_base.specs.declared.event.Event.TheVariants.{Alias}
@@ -10,6 +11,7 @@ use Rattle.mesh_model.specs.declared.packet.Head.TheVariants.{IvOgm, Bcast, Elp,
 use Rattle.mesh_model.specs.declared.table_change.Change.{Change}
 use Rattle.mesh_model.specs.Acts.ArpRows.{arp_here, passed_unicast4}
 use Rattle.mesh_model.specs.Acts.BridgeRows.{Place, round_acts, unclaim_acts}
+use Rattle.mesh_model.specs.Acts.FactRows.{fact_acts}
 use Rattle.mesh_model.specs.Acts.FrameRows.{broadcast_acts, here_acts, passed_frame}
 use Rattle.mesh_model.specs.Acts.OwnContainers.{own_containers}
 use Rattle.mesh_model.specs.Acts.Packing.{sent_to_all}
@@ -21,7 +23,7 @@ use Rattle.mesh_model.specs.Clients.Mentions.{Mention, mentions}
 use Rattle.mesh_model.specs.Clients.Settings.{Settings}
 use Rattle.mesh_model.specs.Commits.Aliases.{last_alias}
 use Rattle.mesh_model.specs.Commits.Announcements.{announcement, told_changes}
-use Rattle.mesh_model.specs.Commits.History.{History, committed, history, is_commit_tick, present_table}
+use Rattle.mesh_model.specs.Commits.History.{History, committed, history, is_commit_tick, present_table, restarted}
 use Rattle.mesh_model.specs.Commits.Versions.{last_commit}
 use Rattle.mesh_model.specs.Knowledge.Known.{Knowledge}
 use Rattle.mesh_model.specs.Knowledge.Steps.{Coming, after_packet, before_announcement, request_out}
@@ -29,6 +31,7 @@ use Rattle.mesh_model.specs.Knowledge.Told.{Message, message_in, message_of}
 use Rattle.mesh_model.specs.Packets.ArpMessages.{arp_came}
 use Rattle.mesh_model.specs.Packets.Containers.{containers_of, containers_spelling}
 use Rattle.mesh_model.specs.Packets.Contents.{first_roaming, first_table}
+use Rattle.mesh_model.specs.Packets.FactMessages.{fact_message_of}
 use Rattle.mesh_model.specs.Packets.FirstPacket.{Packet}
 use Rattle.mesh_model.specs.Routes.Addresses.{same_mac}
 use Rattle.mesh_model.specs.Routes.Queries.{Queries}
@@ -74,6 +77,10 @@ tick_acts q me settings routes mentions before bridge now index = elp_acts q rou
     else [])
     ++ round_acts (record { me = me; now = now }) bridge index)
 
+-- a reboot: the node tells of an alias of its new first commit
+abbrev pub reboot_acts : Mac → History → List Act
+reboot_acts me before = alias_acts me before.commits (restarted before).commits
+
 -- ---- packets
 
 -- the clients of a node: the mentions of them, its last commit, and the changes that are told of
@@ -89,7 +96,7 @@ abbrev pub own_by : Mac → Log → Own
 own_by me log = record {
   mentions = mentions me log;
   last = last_commit (history me log).commits;
-  told = told_changes (history me log).commits;
+  told = told_changes (history me log);
   bridge = bridge log;
 }
 
@@ -136,6 +143,7 @@ head_acts q me own came known message tail (Ogm2 ttl flags seq orig throughput) 
     taken_acts q me came (Ogm2 ttl flags seq orig throughput) message tail known
 head_acts q me own came known message tail (Unicast ttl ttvn dst) = if same_mac dst me
     then here_acts q known own.mentions own.bridge (place_at me came) ttl tail
+    ++ fact_acts q known (place_at me came) (fact_message_of tail)
     else passed_frame q known (place_at me came) ttl ttvn dst tail
 head_acts q me own came known message tail (Frag ttl number priority dst orig seq total) = []
 head_acts q me own came known message tail (Unicast4 ttl ttvn dst src subtype) =

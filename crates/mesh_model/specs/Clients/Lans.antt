@@ -1,10 +1,10 @@
 -- A node as a gateway of a LAN, by its log: the LAN, since the line that made it, and the claim and
--- unclaim frames that came on it. A node is a gateway of at most one LAN. The main word is
--- `bridge`.
+-- unclaim frames that came on it. A node is a gateway of at most one LAN; while it is one, it isn't
+-- rebooted. The main word is `bridge`.
 use Rattle.std.specs.Prelude.{ℕ, List, [], ◌∷◌, Option, Some, None}
 use Rattle.mesh_base.specs.declared.address.Mac.{Mac}
 use Rattle.mesh_model.specs.Bridges.Claims.{ClaimCalls}
-use Rattle.mesh_model.specs.Clients.Log.{Given, Tick, LinkFrame, LanFrame, Line, LineGiven, Attach, Frame, Gone, Join, Leave, Arp, Dhcp, Sets, Put, Get, Ping, Trace, Log}
+use Rattle.mesh_model.specs.Clients.Log.{Given, Tick, LinkFrame, LanFrame, Line, LineGiven, Attach, Frame, Gone, Join, Leave, Arp, Dhcp, Sets, Put, Get, Ping, Trace, Reboot, Log}
 use Rattle.mesh_model.specs.Packets.LanFrames.{LanMessage, Claims, Carries, Nothing, lan_message_of}
 
 -- the LAN of a gateway: its number, from 1, and the addresses of its gateways
@@ -43,6 +43,7 @@ after_line (Put type_no version text) before = before
 after_line (Get type_no) before = before
 after_line (Ping target) before = before
 after_line (Trace target) before = before
+after_line Reboot before = before
 
 -- the same after an input
 abbrev pub next_bridge : Bridge → ℕ → Given → Bridge

@@ -1,7 +1,8 @@
 -- A node's log: all that it was given, each with its moment and with the acts that it then put,
 -- newest first. It is all that a node of the plain run keeps. What is asked of a log is asked of
--- the inputs; the acts stand there for laws. The main word is `Log`.
-use Rattle.std.specs.Prelude.{ℕ, List, [], ◌∷◌, Option, Some, None}
+-- the inputs; the acts stand there for laws. At a reboot a node forgets all but its settings, and
+-- the log goes on. The main word is `Log`.
+use Rattle.std.specs.Prelude.{ℕ, Bool, true, false, List, [], ◌∷◌, Option, Some, None}
 use Rattle.mesh_base.specs.declared.address.Mac.{Mac}
 use Rattle.mesh_base.specs.declared.client.Key.{Key}
 use Rattle.mesh_base.specs.declared.client.Vid.{Vid}
@@ -10,7 +11,7 @@ use Rattle.mesh_model.specs.Clients.Settings.{Setting, Settings, first_settings,
 
 -- what a line of the scenario gives a node: a LAN of which it is a gateway, with the addresses of
 -- all its gateways; a client's frame; clients that come and go; a client's questions; a setting;
--- facts that are put and asked for; or a probe
+-- facts that are put and asked for; a probe; or a reboot
 pub data LineGiven : Type 0 where
   Attach : (lan : ℕ) → (gateways : List Mac) → LineGiven
   Frame : (src dst : Mac) → (vid : Vid) → (text : List ℕ) → LineGiven
@@ -24,6 +25,7 @@ pub data LineGiven : Type 0 where
   Get : (type_no : ℕ) → LineGiven
   Ping : (target : Mac) → LineGiven
   Trace : (target : Mac) → LineGiven
+  Reboot : LineGiven
 
 -- what a node is given: a tick with its index, from 1; a link frame with its number, the sender,
 -- the throughput of the node's link to the sender, or 0 where there is none, and its bytes; the
@@ -68,6 +70,30 @@ setting_of (Line (Put type_no version text)) = None
 setting_of (Line (Get type_no)) = None
 setting_of (Line (Ping target)) = None
 setting_of (Line (Trace target)) = None
+setting_of (Line Reboot) = None
+
+-- whether a line reboots its node
+abbrev pub line_reboots : LineGiven → Bool
+line_reboots (Attach lan gateways) = false
+line_reboots (Frame src dst vid text) = false
+line_reboots (Gone key) = false
+line_reboots (Join key) = false
+line_reboots (Leave key) = false
+line_reboots (Arp mac own_ip asked_ip vid) = false
+line_reboots (Dhcp key text) = false
+line_reboots (Sets setting) = false
+line_reboots (Put type_no version text) = false
+line_reboots (Get type_no) = false
+line_reboots (Ping target) = false
+line_reboots (Trace target) = false
+line_reboots Reboot = true
+
+-- whether an input is a reboot
+abbrev pub is_reboot : Given → Bool
+is_reboot (Tick index) = false
+is_reboot (LinkFrame number from throughput bytes) = false
+is_reboot (LanFrame bytes) = false
+is_reboot (Line line) = line_reboots line
 
 -- settings after one is set, or none
 abbrev pub after_setting : Option Setting → Settings → Settings

@@ -2,7 +2,8 @@
 -- roaming advertisements taken, and the joining and leaving of groups. A client frame, an ARP
 -- question and a call for a gateway are sightings of their source, and so is a client frame from a
 -- LAN that its gateway passes; one that is held back is none. A sighting's flags are WIFI where the
--- node's clients were set to be wireless before it, else 0. The main word is `mentions`.
+-- node's clients were set to be wireless before it, else 0. At a reboot all mentions before it are
+-- forgotten. The main word is `mentions`.
 use Rattle.std.specs.Prelude.{ℕ, Bool, List, [], ◌∷◌, ◌++◌, filter_map, Option, Some, None, option_map, if◌then◌else◌}
 use Rattle.mesh_base.specs.declared.address.Mac.{Mac}
 use Rattle.mesh_base.specs.declared.client.Key.{Key}
@@ -19,7 +20,7 @@ use Rattle.mesh_model.specs.Packets.Payload.{ClientFrame}
 use Rattle.mesh_model.specs.Routes.Addresses.{same_mac}
 use Rattle.mesh_model.specs.Bridges.Verdicts.{verdict_from_lan}
 use Rattle.mesh_model.specs.Clients.Lans.{bridge}
-use Rattle.mesh_model.specs.Clients.Log.{Given, Tick, LinkFrame, LanFrame, Line, LineGiven, Attach, Frame, Gone, Join, Leave, Arp, Dhcp, Sets, Put, Get, Ping, Trace, Log, settings}
+use Rattle.mesh_model.specs.Clients.Log.{Given, Tick, LinkFrame, LanFrame, Line, LineGiven, Attach, Frame, Gone, Join, Leave, Arp, Dhcp, Sets, Put, Get, Ping, Trace, Reboot, Log, is_reboot, settings}
 
 -- what a mention says of its key
 pub data News : Type 0 where
@@ -61,6 +62,7 @@ client_of (Put type_no version text) = None
 client_of (Get type_no) = None
 client_of (Ping target) = None
 client_of (Trace target) = None
+client_of Reboot = None
 
 -- the mention that containers for a node make of a client that roamed from it
 abbrev pub roamed : ℕ → Key → Mention
@@ -102,6 +104,7 @@ line_mentions sighted moment (Put type_no version text) = []
 line_mentions sighted moment (Get type_no) = []
 line_mentions sighted moment (Ping target) = []
 line_mentions sighted moment (Trace target) = []
+line_mentions sighted moment Reboot = []
 
 -- the client frame that the gateway of an address passes of one on its LAN, right after a log
 abbrev pub passed_from_lan : Mac → Log → ℕ → Option ClientFrame → Option ClientFrame
@@ -127,7 +130,8 @@ mentions_by me older moment (Line line) = line_mentions (sighted_after older) mo
 
 -- the mentions after an input, from the log and the mentions before it
 abbrev pub next_mentions : Mac → Log → List Mention → ℕ → Given → List Mention
-next_mentions me older before moment given = mentions_by me older moment given ++ before
+next_mentions me older before moment given =
+    if is_reboot given then [] else mentions_by me older moment given ++ before
 
 -- the mentions in the log of the node of an address, newest first
 abbrev pub mentions : Mac → Log → List Mention

@@ -10,8 +10,8 @@ use Rattle.mesh_model.specs.Packets.Bodies.{TtData, TtChange, change_of}
 use Rattle.mesh_model.specs.Clients.Log.{Given, Log, tick_of}
 use Rattle.mesh_model.specs.Tables.Sums.{sums_of}
 use Rattle.mesh_model.specs.Tables.Versions.{Version}
-use Rattle.mesh_model.specs.Commits.Versions.{last_commit, last_changes}
-use Rattle.mesh_model.specs.Commits.History.{History, commits}
+use Rattle.mesh_model.specs.Commits.Versions.{last_commit}
+use Rattle.mesh_model.specs.Commits.History.{History, commits, is_first, last_changes}
 use Rattle.mesh_model.specs.declared.table_change.Change.{Change}
 
 -- how many messages carry a commit's changes
@@ -30,17 +30,15 @@ are_few changes = nat_le (length changes) carried_changes
 abbrev pub if_few : List Change → Option (List Change)
 if_few changes = if are_few changes then Some changes else None
 
--- the changes of the last commit, where it isn't the first and they are few enough for a message
-abbrev pub told_changes : List Version → Option (List Change)
-told_changes [] = None
-told_changes (first ∷ []) = None
-told_changes (last ∷ before ∷ older) = if_few (last_changes (last ∷ before ∷ older))
+-- the changes of the last commit, where it isn't a first one and they are few enough for a message
+abbrev pub told_changes : History → Option (List Change)
+told_changes history = if is_first history then None else if_few (last_changes history)
 
 -- the changes that the next message carries
 abbrev pub announced_changes : History → List Change
 announced_changes history =
-    if nat_lt history.sent carrying_messages && are_few (last_changes history.commits)
-    then last_changes history.commits else []
+    if nat_lt history.sent carrying_messages && are_few (last_changes history)
+    then last_changes history else []
 
 -- the record of a change
 abbrev pub record_of_change : Change → TtChange

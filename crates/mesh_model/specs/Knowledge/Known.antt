@@ -1,14 +1,16 @@
 -- What a node knows at a moment: of an originator's table, which counts only while the originator
--- is live, and of broadcasts that it took. A broadcast is taken once: its originator isn't the node
--- itself, its number wasn't taken before, and it isn't 64 or more below the greatest that was. The
--- main words are `Knowledge`, `known_at` and `is_new_broadcast`.
-use Rattle.std.specs.Prelude.{ℕ, ◌+◌, ◌&&◌, nat_le, Bool, not, List, [], filter, map, Option, None, option_map, if◌then◌else◌}
+-- is live, and of broadcasts that it took, each of another node. The broadcasts that are taken from
+-- an originator come in rounds: the first of all begins one, and a number that isn't far from the
+-- greatest of its round is taken once in it. One that is far is wild: it begins a new round and is
+-- taken, where no wild one did so within 30,000 ms before; else it isn't taken. The main words are
+-- `Knowledge`, `known_at`, `round` and `is_new_broadcast`.
+use Rattle.std.specs.Prelude.{ℕ, nat_lt, ◌&&◌, Bool, not, List, [], ◌∷◌, find, length, map, Option, None, option_map, if◌then◌else◌}
 use Rattle.mesh_base.specs.declared.address.Mac.{Mac}
 use Rattle.mesh_model.specs.Knowledge.Served.{Services, no_services}
 use Rattle.mesh_model.specs.Marks.Calls.{Calls}
 use Rattle.mesh_model.specs.Probes.OpenProbes.{ProbeCall}
 use Rattle.mesh_model.specs.Routes.Addresses.{same_mac}
-use Rattle.mesh_model.specs.Routes.Numbers.{greatest, has, window_length}
+use Rattle.mesh_model.specs.Routes.Numbers.{greatest, has, is_far, may_begin}
 use Rattle.mesh_model.specs.Routes.Queries.{Queries}
 use Rattle.mesh_model.specs.Routes.RouteLog.{RouteLog}
 use Rattle.mesh_model.specs.Tables.Known.{Known, TableCalls, is_agreed, known_by, nothing, stamp_of}
@@ -18,6 +20,12 @@ pub record Broadcast : Type 0 where
   pub orig : Mac
   pub number : ℕ
 
+-- a broadcast that was taken: when, and whether it is wild, so that a round began with it
+pub record TakenBroadcast : Type 0 where
+  pub moment : ℕ
+  pub broadcast : Broadcast
+  pub wild : Bool
+
 -- all that came, each list newest first: for the routing algorithm, for the tables of originators,
 -- on marks, for the node's probes, and the broadcasts that were taken; how many broadcasts were
 -- sent; and what is kept for services
@@ -26,7 +34,7 @@ pub record Knowledge : Type 0 where
   pub tables : TableCalls
   pub marks : Calls
   pub probes : List ProbeCall
-  pub taken : List Broadcast
+  pub taken : List TakenBroadcast
   pub sent : ℕ
   pub services : Services
 
@@ -56,17 +64,42 @@ abbrev pub agreed_byte : Known → Option ℕ
 agreed_byte known =
     if is_agreed known then option_map (λ held. held.byte) known.held else None
 
--- the numbers of an originator's broadcasts
-abbrev pub broadcast_numbers : Mac → List Broadcast → List ℕ
-broadcast_numbers orig taken =
-    map (λ other. other.number) (filter (λ other. same_mac other.orig orig) taken)
+-- ---- broadcasts
 
--- whether a number is new beside others: it isn't one of them, nor 64 or more below the greatest
-abbrev pub is_new_number : ℕ → List ℕ → Bool
-is_new_number number others =
-    not (has number others) && not (nat_le (number + window_length) (greatest others))
+-- the last round of an originator: its broadcasts that were taken, down to the last wild one
+abbrev pub round : Mac → List TakenBroadcast → List TakenBroadcast
+round orig [] = []
+round orig (one ∷ older) = if same_mac one.broadcast.orig orig
+    then one ∷ (if one.wild then [] else round orig older) else round orig older
 
--- whether a node takes a broadcast after these
-abbrev pub is_new_broadcast : Mac → Broadcast → List Broadcast → Bool
-is_new_broadcast me broadcast taken = not (same_mac broadcast.orig me)
-    && is_new_number broadcast.number (broadcast_numbers broadcast.orig taken)
+-- the numbers that were taken in a round
+abbrev pub round_numbers : List TakenBroadcast → List ℕ
+round_numbers taken = map (λ (one : TakenBroadcast). one.broadcast.number) taken
+
+-- when a round began with a wild broadcast, if it did
+abbrev pub wild_at : List TakenBroadcast → Option ℕ
+wild_at taken = option_map (λ (one : TakenBroadcast). one.moment)
+    (find (λ (one : TakenBroadcast). one.wild) taken)
+
+-- whether a number is wild beside a round: there is one, and the number is far from its greatest
+abbrev pub is_wild_number : ℕ → List TakenBroadcast → Bool
+is_wild_number number taken =
+    nat_lt 0 (length taken) && is_far number (greatest (round_numbers taken))
+
+-- whether a number is taken at a moment beside a round
+abbrev pub is_new_number : ℕ → ℕ → List TakenBroadcast → Bool
+is_new_number now number taken = if is_wild_number number taken then may_begin now (wild_at taken)
+    else not (has number (round_numbers taken))
+
+-- whether the node of an address takes a broadcast at a moment, after those that it took
+abbrev pub is_new_broadcast : Mac → ℕ → Broadcast → List TakenBroadcast → Bool
+is_new_broadcast me now broadcast taken = not (same_mac broadcast.orig me)
+    && is_new_number now broadcast.number (round broadcast.orig taken)
+
+-- a broadcast as it is taken at a moment, after those that were
+abbrev pub taken_at : ℕ → Broadcast → List TakenBroadcast → TakenBroadcast
+taken_at now broadcast taken = record {
+  moment = now;
+  broadcast = broadcast;
+  wild = is_wild_number broadcast.number (round broadcast.orig taken);
+}

@@ -3,7 +3,7 @@
 -- question is learned from, and sent to the others that keep the pair where the node doesn't know
 -- it; a pair that is put or told is learned. The main words are `pair_keepers`, `after_question`
 -- and `after_arp`.
-use Rattle.std.specs.Prelude.{ℕ, ◌&&◌, nat_lt, Bool, false, not, List, [], ◌∷◌, filter, length, Option, Some, None, is_none, if◌then◌else◌}
+use Rattle.std.specs.Prelude.{ℕ, ◌&&◌, nat_lt, Bool, false, not, List, ◌∷◌, filter, length, Option, Some, None, is_none, if◌then◌else◌}
 use Rattle.std.specs.Option.{option_map_or}
 use Rattle.mesh_base.specs.declared.address.Mac.{Mac}
 use Rattle.mesh_base.specs.declared.client.Vid.{Vid}

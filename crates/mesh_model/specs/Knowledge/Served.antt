@@ -1,9 +1,9 @@
 -- What a node keeps for services: its settings, what each originator offered last, the gateway that
--- it chose, and the pairs of the ARP table that it learned and asked for. An originator message
--- that is accepted tells by its containers what its originator offers: the throughputs of a
--- gateway, a part in the ARP table, and multicast flags. A setting of the part as a gateway gives
--- up the choice. The main words are `Services` and `offer_of`.
-use Rattle.std.specs.Prelude.{ℕ, Bool, List, [], ◌∷◌, find, Option, Some, None, option_map, if◌then◌else◌}
+-- it chose, the pairs of the ARP table that it learned and asked for, and what it keeps of the fact
+-- store. An originator message that is accepted tells by its containers what its originator offers:
+-- the throughputs of a gateway, a part in the ARP table, and multicast flags. A setting of the part
+-- as a gateway gives up the choice. The main words are `Services` and `offer_of`.
+use Rattle.std.specs.Prelude.{ℕ, Bool, List, [], ◌∷◌, find, Option, None, option_map, if◌then◌else◌}
 use Rattle.mesh_base.specs.declared.address.Mac.{Mac}
 use Rattle.mesh_model.specs.Clients.Settings.{Setting, Wifi, Gateway, Multicast, ArpTable, FactStore, Settings, first_settings, set_to}
 use Rattle.mesh_model.specs.Packets.Bodies.{Bandwidth}
@@ -11,6 +11,8 @@ use Rattle.mesh_model.specs.Packets.Containers.{Container}
 use Rattle.mesh_model.specs.Packets.Contents.{first_gateway, first_multicast, has_dat}
 use Rattle.mesh_model.specs.Routes.Addresses.{same_mac}
 use Rattle.mesh_model.specs.Services.ArpTable.{Learned, PairCall}
+use Rattle.mesh_model.specs.Services.Facts.{FactCall}
+use Rattle.mesh_model.specs.Services.Transactions.{TxnCall}
 
 -- what an originator offers: the throughputs of a gateway, where it is one; whether it takes part
 -- in the ARP table; and its multicast flags, where it tells any
@@ -24,14 +26,33 @@ pub record Offered : Type 0 where
   pub orig : Mac
   pub offer : Offer
 
+-- a primary announced itself at a moment
+pub record PrimaryCall : Type 0 where
+  pub moment : ℕ
+  pub primary : Mac
+
+-- an open request for the facts of a type, under an id, to a primary
+pub record FactRequest : Type 0 where
+  pub id : ℕ
+  pub primary : Mac
+  pub type_no : ℕ
+
 -- the settings; what was offered; the gateway that was chosen, if any; the pairs that were learned,
--- and those that were asked for. Lists are newest first
+-- and those that were asked for; the primaries that announced themselves; the facts that were put or
+-- came; the messages of pushes and of answers; the requests that are open; and how many ids were
+-- taken. Lists are newest first
 pub record Services : Type 0 where
   pub settings : Settings
   pub offers : List Offered
   pub choice : Option Mac
   pub learned : List Learned
   pub asks : List PairCall
+  pub primaries : List PrimaryCall
+  pub facts : List FactCall
+  pub pushes : List TxnCall
+  pub answers : List TxnCall
+  pub requests : List FactRequest
+  pub ids : ℕ
 
 -- before anything was set or came
 abbrev pub no_services : Services
@@ -41,6 +62,12 @@ no_services = record {
   choice = None;
   learned = [];
   asks = [];
+  primaries = [];
+  facts = [];
+  pushes = [];
+  answers = [];
+  requests = [];
+  ids = 0;
 }
 
 -- what the containers of an originator message offer

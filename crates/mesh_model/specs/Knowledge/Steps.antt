@@ -8,7 +8,8 @@
 -- gateway passes is a sighting, and it goes on unless its client is at the gateway or behind
 -- another gateway of the LAN. What an accepted message offers is noted; a gateway is chosen at each
 -- second tick, and given up where the node's part as one is set. A probe of a ping or a traceroute
--- waits for its answer where it was sent. The main word is `knowledge`.
+-- waits for its answer where it was sent. At a reboot all is forgotten but the settings. The main
+-- word is `knowledge`.
 use Rattle.std.specs.Prelude.{ℕ, suc, ◌&&◌, ◌||◌, Bool, true, false, List, [], ◌∷◌, fold, length, Option, Some, None, is_none, is_some, option_and_then, if◌then◌else◌}
 use Rattle.std.specs.List.{list_any}
 use Rattle.mesh_base.specs.Address.{is_broadcast, is_group}
@@ -20,16 +21,17 @@ use Rattle.mesh_model.specs.declared.probe.Probe.{Probe}
 use Rattle.mesh_model.specs.declared.probe.Told.{Told}
 use Rattle.mesh_model.specs.declared.probe.Told.TheVariants.{Unknown, Done, Next}
 use Rattle.mesh_model.specs.declared.table_outcome.Request.{Request}
-use Rattle.mesh_model.specs.Clients.Log.{Given, Tick, LinkFrame, LanFrame, Line, LineGiven, Attach, Frame, Gone, Join, Leave, Arp, Dhcp, Sets, Put, Get, Ping, Trace, Log}
+use Rattle.mesh_model.specs.Clients.Log.{Given, Tick, LinkFrame, LanFrame, Line, LineGiven, Attach, Frame, Gone, Join, Leave, Arp, Dhcp, Sets, Put, Get, Ping, Trace, Reboot, Log}
 use Rattle.mesh_model.specs.Clients.Lans.{LanOf, bridge}
 use Rattle.mesh_model.specs.Clients.Mentions.{Mention, key_of, mentions, next_mentions, passed_from_lan}
 use Rattle.mesh_model.specs.Clients.Present.{present_row}
 use Rattle.mesh_model.specs.Clients.Settings.{Setting}
 use Rattle.mesh_model.specs.Knowledge.Addressee.{Way, addressee}
-use Rattle.mesh_model.specs.Knowledge.Known.{Broadcast, Knowledge, agreed_byte, is_new_broadcast, no_knowledge, told_at}
+use Rattle.mesh_model.specs.Knowledge.FactStore.{after_fact_message, after_get, after_put, after_round, if_announces}
+use Rattle.mesh_model.specs.Knowledge.Known.{Broadcast, Knowledge, agreed_byte, is_new_broadcast, no_knowledge, taken_at, told_at}
 use Rattle.mesh_model.specs.Knowledge.Offers.{after_choice, gateway_way, receivers}
 use Rattle.mesh_model.specs.Knowledge.Pairs.{after_arp, after_question}
-use Rattle.mesh_model.specs.Knowledge.Served.{after_set, with_offer}
+use Rattle.mesh_model.specs.Knowledge.Served.{after_set, no_services, with_offer}
 use Rattle.mesh_model.specs.Knowledge.Told.{Message, TableMessage, Asks, Answers, Neither, message_changes, message_in, message_of, stamp_told}
 use Rattle.mesh_model.specs.Marks.Advertisements.{too_many}
 use Rattle.mesh_model.specs.Marks.Calls.{Calls, Marked, Released, Unmarked, Advised, Asked, Forgotten}
@@ -37,6 +39,7 @@ use Rattle.mesh_model.specs.Marks.Requests.{too_soon}
 use Rattle.mesh_model.specs.Packets.ArpMessages.{arp_came}
 use Rattle.mesh_model.specs.Packets.Containers.{containers_of}
 use Rattle.mesh_model.specs.Packets.Contents.{first_roaming, first_table}
+use Rattle.mesh_model.specs.Packets.FactMessages.{CameFact, fact_message_of}
 use Rattle.mesh_model.specs.Packets.FirstPacket.{Packet}
 use Rattle.mesh_model.specs.Packets.LanFrames.{client_frame_in, lan_message_of}
 use Rattle.mesh_model.specs.Packets.LinkFrame.{link_frame}
@@ -44,7 +47,7 @@ use Rattle.mesh_model.specs.Packets.Payload.{ClientFrame}
 use Rattle.mesh_model.specs.Probes.OpenProbes.{ProbeCall, Started, Answered, Closed, first_probe, is_answer, probes_by, told}
 use Rattle.mesh_model.specs.Routes.Addresses.{same_mac}
 use Rattle.mesh_model.specs.Routes.Queries.{Queries}
-use Rattle.mesh_model.specs.Routes.RouteLog.{RouteLog, OwnTick, HeadCame}
+use Rattle.mesh_model.specs.Routes.RouteLog.{RouteLog, OwnTick, HeadCame, is_round}
 use Rattle.mesh_model.specs.Services.Groups.{fan_of, is_flood}
 use Rattle.mesh_model.specs.Tables.Judging.{announcement_row, wanted_request}
 use Rattle.mesh_model.specs.Tables.Known.{TableCall, Announced, Dropped, known_by}
@@ -190,11 +193,11 @@ after_start q now target trace known = record known {
 
 -- ---- packets
 
--- what is known after a broadcast, which is taken once
-abbrev pub after_broadcast : Mac → Broadcast → Knowledge → Knowledge
-after_broadcast me broadcast known =
-    if is_new_broadcast me broadcast known.taken
-    then record known { taken = broadcast ∷ known.taken } else known
+-- what is known after a broadcast at a moment, which may be taken
+abbrev pub after_broadcast : Mac → ℕ → Broadcast → Knowledge → Knowledge
+after_broadcast me now broadcast known =
+    if is_new_broadcast me now broadcast known.taken
+    then record known { taken = taken_at now broadcast known.taken ∷ known.taken } else known
 
 -- what is known once an originator offered what these containers tell, where its message is
 -- accepted
@@ -202,6 +205,11 @@ abbrev pub with_offered : Bool → Mac → List ℕ → Knowledge → Knowledge
 with_offered accepted orig tail known = record known {
   services = with_offer accepted orig (containers_of tail) known.services;
 }
+
+-- what a broadcast that is taken announces of a primary, where it does
+abbrev pub announced_by : Mac → ℕ → Broadcast → List ℕ → Knowledge → Option CameFact
+announced_by me now broadcast tail known = if is_new_broadcast me now broadcast known.taken
+    then option_and_then if_announces (fact_message_of tail) else None
 
 -- what is known after an originator message with these containers, where one is taken
 abbrev pub after_taken : Queries → Coming → Head → Option Message → List ℕ → Knowledge → Knowledge
@@ -216,12 +224,15 @@ abbrev pub after_head :
 after_head q me came message tail (IvOgm ttl flags seq orig prev tq) known =
     after_taken q came (IvOgm ttl flags seq orig prev tq) message tail known
 after_head q me came message tail (Bcast ttl seq orig) known =
-    after_broadcast me (record { orig = orig; number = seq }) known
+    after_fact_message came.now
+    (announced_by me came.now (record { orig = orig; number = seq }) tail known)
+    (after_broadcast me came.now (record { orig = orig; number = seq }) known)
 after_head q me came message tail (Elp orig seq interval) known =
     with_head came (Elp orig seq interval) known
 after_head q me came message tail (Ogm2 ttl flags seq orig throughput) known =
     after_taken q came (Ogm2 ttl flags seq orig throughput) message tail known
-after_head q me came message tail (Unicast ttl ttvn dst) known = known
+after_head q me came message tail (Unicast ttl ttvn dst) known =
+    if same_mac dst me then after_fact_message came.now (fact_message_of tail) known else known
 after_head q me came message tail (Frag ttl number priority dst orig seq total) known = known
 after_head q me came message tail (Unicast4 ttl ttvn dst src subtype) known =
     if same_mac dst me then after_arp came.now (arp_came subtype tail) known else known
@@ -311,14 +322,29 @@ after_passed q me older known now mentions (Some frame) =
 
 -- ---- the log
 
+-- what is known after a round of the fact store, where a tick begins one
+abbrev pub after_round_at : Queries → ℕ → ℕ → Knowledge → Knowledge
+after_round_at q now index known = if is_round index
+    then after_round q now known.services.settings.fact_store known else known
+
+-- what is known at a tick of an index, before a round that it may begin
+abbrev pub before_round : Queries → ℕ → ℕ → Knowledge → Knowledge
+before_round q now index known =
+    after_choice q now index (record known { routes = OwnTick now index ∷ known.routes })
+
 -- what is known after a tick of an index
 abbrev pub after_tick : Queries → ℕ → ℕ → Knowledge → Knowledge
-after_tick q now index known =
-    after_choice q now index (record known { routes = OwnTick now index ∷ known.routes })
+after_tick q now index known = after_round_at q now index (before_round q now index known)
 
 -- what is known after a setting
 abbrev pub with_set : Setting → Knowledge → Knowledge
 with_set setting known = record known { services = after_set setting known.services }
+
+-- what is known after a reboot: the settings
+abbrev pub after_reboot : Knowledge → Knowledge
+after_reboot known = record no_knowledge {
+  services = record no_services { settings = known.services.settings };
+}
 
 -- what is known after what a line gives right after a log, from what was known before it
 abbrev pub line_knowledge : Queries → Mac → Log → Knowledge → ℕ → LineGiven → Knowledge
@@ -334,10 +360,13 @@ line_knowledge q me older known now (Arp mac own_ip asked_ip vid) =
 line_knowledge q me older known now (Dhcp key text) =
     after_call q now (after_sighting q me older now key known)
 line_knowledge q me older known now (Sets setting) = with_set setting known
-line_knowledge q me older known now (Put type_no version text) = known
-line_knowledge q me older known now (Get type_no) = known
+line_knowledge q me older known now (Put type_no version text) =
+    after_put me now type_no version text known
+line_knowledge q me older known now (Get type_no) =
+    after_get q now type_no known.services.settings.fact_store known
 line_knowledge q me older known now (Ping target) = after_start q now target false known
 line_knowledge q me older known now (Trace target) = after_start q now target true known
+line_knowledge q me older known now Reboot = after_reboot known
 
 -- what is known after an input right after a log, from what was known before it
 abbrev pub next_knowledge : Queries → Mac → Log → Knowledge → ℕ → Given → Knowledge

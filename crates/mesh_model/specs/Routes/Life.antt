@@ -1,14 +1,15 @@
 -- What a node knows of an originator, by the OGMs of it that it heard. A life is the longest run of
 -- hearings in which each follows the one before by less than 200,000 ms, and none but the first is
 -- a restart; an originator is live while its last hearing is younger than that. How a number meets
--- the life that it comes in is said by `meeting` alone: it is late where it is 64 or more below the
--- newest, and no number is a restart. A late hearing counts for the life and for nothing else. Each
--- list of hearings is newest first. The main word is `life`.
-use Rattle.std.specs.Prelude.{ℕ, ◌+◌, ◌-◌, ◌&&◌, nat_eq, nat_le, nat_lt, max, Bool, true, false, not, List, [], ◌∷◌, filter, if◌then◌else◌}
+-- the life that it comes in is said by `meeting` alone: it is wild where it is far from the newest
+-- of that life. A wild number is a restart, or late where the life itself began with a restart less
+-- than 30,000 ms before; any other number is neither. A late hearing counts for the life and for
+-- nothing else. Each list of hearings is newest first. The main words are `life` and `meeting`.
+use Rattle.std.specs.Prelude.{ℕ, ◌-◌, ◌&&◌, nat_eq, nat_lt, max, Bool, true, false, not, List, [], ◌∷◌, filter, find, Option, option_map, if◌then◌else◌}
 use Rattle.mesh_base.specs.declared.address.Mac.{Mac}
 use Rattle.mesh_model.specs.declared.route.Meeting.{Meeting}
 use Rattle.mesh_model.specs.Routes.Addresses.{same_mac, insert_mac}
-use Rattle.mesh_model.specs.Routes.Numbers.{has, window_length}
+use Rattle.mesh_model.specs.Routes.Numbers.{has, is_far, may_begin}
 
 -- the hearing of an OGM, with what was decided when it came
 pub record HeardOgm : Type 0 where
@@ -62,11 +63,23 @@ abbrev pub newest : List HeardOgm → ℕ
 newest [] = 0
 newest (h ∷ older) = if h.late then newest older else max h.seq (newest older)
 
+-- whether a number is wild in a life: there is one, and the number is far from its newest
+abbrev pub is_wild : ℕ → List HeardOgm → Bool
+is_wild number alive = is_live alive && is_far number (newest alive)
+
+-- the moment of the restart with which a life began, if it began with one
+abbrev pub began_wild : List HeardOgm → Option ℕ
+began_wild alive = option_map (λ (h : HeardOgm). h.moment) (find (λ (h : HeardOgm). h.restart) alive)
+
+-- whether a wild number that comes at a moment in a life is a restart
+abbrev pub may_restart : ℕ → List HeardOgm → Bool
+may_restart moment alive = may_begin moment (began_wild alive)
+
 -- how a number that comes at a moment meets the life at that moment
 unfoldable pub meeting : (moment number : ℕ) → (alive : List HeardOgm) → Meeting
 meeting moment number alive = record {
-  late = nat_le (number + window_length) (newest alive);
-  restart = false;
+  late = is_wild number alive && not (may_restart moment alive);
+  restart = is_wild number alive && may_restart moment alive;
 }
 
 -- the numbers heard from a neighbour, late hearings apart

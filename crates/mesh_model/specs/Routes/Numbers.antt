@@ -1,7 +1,10 @@
 -- Sequence numbers that were seen. A window of them is those that are less than 64 below the
--- greatest, in rising order and each once. The main word is `window`.
-use Rattle.std.specs.Prelude.{ℕ, zero, suc, ◌-◌, ◌&&◌, nat_eq, nat_le, max, Bool, List, [], ◌∷◌, if◌then◌else◌}
+-- greatest, in rising order and each once. A number is far from the greatest where it is 64 or more
+-- below it, or 65,536 or more above; with it that may begin anew to which the numbers belong, but
+-- not within 30,000 ms after such a beginning. The main words are `window` and `is_far`.
+use Rattle.std.specs.Prelude.{ℕ, zero, suc, ◌+◌, ◌-◌, ◌&&◌, ◌||◌, nat_eq, nat_le, max, Bool, true, List, [], ◌∷◌, Option, if◌then◌else◌}
 use Rattle.std.specs.List.{list_any}
+use Rattle.std.specs.Option.{option_map_or}
 
 -- whether a number was seen
 abbrev pub has : ℕ → List ℕ → Bool
@@ -30,3 +33,20 @@ window_length = 64
 -- the numbers seen that are less than 64 below the greatest
 unfoldable pub window : List ℕ → List ℕ
 window seen = seen_among (greatest seen) window_length seen
+
+-- how much above the greatest a number is far from it
+abbrev pub far_above : ℕ
+far_above = 65536
+
+-- whether a number is far from the greatest
+abbrev pub is_far : (number greatest : ℕ) → Bool
+is_far number greatest =
+    nat_le (number + window_length) greatest || nat_le (greatest + far_above) number
+
+-- how long after a beginning with a far number there is no other, in milliseconds
+abbrev pub restart_pause : ℕ
+restart_pause = 30000
+
+-- whether there may be a beginning with a far number at a moment, by when there last was one
+abbrev pub may_begin : ℕ → Option ℕ → Bool
+may_begin moment last = option_map_or (λ began. nat_le restart_pause (moment - began)) last true

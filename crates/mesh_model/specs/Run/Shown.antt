@@ -1,6 +1,6 @@
 -- What a line prints at once: the table of a node that is shown, at a moment, asked of the node's
 -- log under the algorithm of the nodes. The main word is `shown`.
-use Rattle.std.specs.Prelude.{ℕ, List, [], ◌∷◌, ◌++◌, filter, is_none, map, Option, Some, None, option_and_then}
+use Rattle.std.specs.Prelude.{ℕ, List, [], ◌∷◌, ◌++◌, filter, is_none, map, option_and_then}
 use Rattle.mesh_base.specs.Names.{NamesGiven, lan_name}
 use Rattle.mesh_model.specs.Bridges.Claims.{claims_at}
 use Rattle.mesh_model.specs.Clients.Lans.{LanOf, bridge}
@@ -25,10 +25,11 @@ use Rattle.mesh_model.specs.Routes.Algorithms.{queries_of}
 use Rattle.mesh_model.specs.Run.KnownTables.{parts_at}
 use Rattle.mesh_model.specs.Run.State.{Printed, ClaimsShown, GlobalsShown, LocalsShown, NeighborsShown, OriginatorsShown, ServiceShown, State, names_of}
 use Rattle.mesh_model.specs.Services.ArpTable.{pairs_at}
+use Rattle.mesh_model.specs.Services.Facts.{facts_at}
 use Rattle.mesh_model.specs.Tables.Sums.{sums_of}
 use Rattle.mesh_model.specs.Text.Claims.{ClaimTable}
 use Rattle.mesh_model.specs.Text.GlobalTables.{GlobalTable}
-use Rattle.mesh_model.specs.Text.Services.{AddressTable, AddressesOf, GatewayTable, GatewaysOf, GroupTable, GroupsOf}
+use Rattle.mesh_model.specs.Text.Services.{AddressTable, AddressesOf, FactTable, FactsOf, GatewayTable, GatewaysOf, GroupTable, GroupsOf}
 use Rattle.mesh_model.specs.Text.Tables.{LinkTable, LocalTable, OrigTable}
 
 -- the state after one more thing is printed
@@ -116,19 +117,27 @@ address_table algorithm now node = record {
   rows = pairs_at (known_to algorithm node).services.learned now;
 }
 
+-- the facts that a node keeps at a moment
+abbrev pub fact_table : Algorithm → ℕ → NodeLog → FactTable
+fact_table algorithm now node = record {
+  name = node.name;
+  mode = (known_to algorithm node).services.settings.fact_store;
+  now = now;
+  rows = facts_at (known_to algorithm node).services.facts now;
+}
+
 -- what is printed of a node in a state, for each table that is shown
-abbrev pub shown : Table → Option (State → NodeLog → Printed)
-shown Originators =
-    Some (λ state node. OriginatorsShown (orig_table state.algorithm state.clock node))
-shown Neighbors = Some (λ state node. NeighborsShown (link_table state.algorithm state.clock node))
-shown Locals = Some (λ state node. LocalsShown (local_table state.clock node))
-shown Globals = Some (λ state node. GlobalsShown (global_table state.algorithm state.clock node))
-shown Claims =
-    Some (λ state node. ClaimsShown (claim_table (names_of state.mesh) state.clock node))
-shown Gateways = Some (λ state node.
-    ServiceShown (GatewaysOf (gateway_table state.algorithm state.clock node)))
-shown Groups =
-    Some (λ state node. ServiceShown (GroupsOf (group_table state.algorithm state.clock node)))
-shown Addresses = Some (λ state node.
-    ServiceShown (AddressesOf (address_table state.algorithm state.clock node)))
-shown Facts = None
+abbrev pub shown : Table → State → NodeLog → Printed
+shown Originators state node =
+    OriginatorsShown (orig_table state.algorithm state.clock node)
+shown Neighbors state node = NeighborsShown (link_table state.algorithm state.clock node)
+shown Locals state node = LocalsShown (local_table state.clock node)
+shown Globals state node = GlobalsShown (global_table state.algorithm state.clock node)
+shown Claims state node = ClaimsShown (claim_table (names_of state.mesh) state.clock node)
+shown Gateways state node =
+    ServiceShown (GatewaysOf (gateway_table state.algorithm state.clock node))
+shown Groups state node =
+    ServiceShown (GroupsOf (group_table state.algorithm state.clock node))
+shown Addresses state node =
+    ServiceShown (AddressesOf (address_table state.algorithm state.clock node))
+shown Facts state node = ServiceShown (FactsOf (fact_table state.algorithm state.clock node))

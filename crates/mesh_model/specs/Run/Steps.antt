@@ -1,12 +1,11 @@
 -- The step of each command, from a state to an outcome: an algorithm is chosen for all nodes that
 -- follow; a new node has an empty log and ticks from now on; a link carries frames from now on; a
--- LAN joins with its gateways; a client frame is given to its node, and so is a ping or a
--- traceroute, or it comes on its LAN; a client that is gone from a LAN is gone from each gateway;
+-- LAN joins with its gateways; a client frame is given to its node, and so is a ping, a traceroute
+-- or a reboot, or it comes on its LAN; a client that is gone from a LAN is gone from each gateway;
 -- time passes; a frame is delivered again, now; what is shown or decoded is printed. The limits are
 -- looked at here: `nodes`, `links` and `lans` are passed by one more than 64, 512 and 16, `clock`
--- by the end of a run, before its first happening. A command that has no step isn't built: this
--- version doesn't carry it out. The main word is `step_of`.
-use Rattle.std.specs.Prelude.{ℕ, ◌+◌, ◌-◌, nat_lt, nat_le, suc, bytes_eq, List, [], ◌∷◌, ◌++◌, length, slice_get, Option, Some, None, option_map, if◌then◌else◌}
+-- by the end of a run, before its first happening. The main word is `step_of`.
+use Rattle.std.specs.Prelude.{ℕ, ◌+◌, ◌-◌, nat_lt, nat_le, suc, bytes_eq, List, [], ◌∷◌, ◌++◌, length, slice_get, None, if◌then◌else◌}
 use Rattle.std.specs.List.{list_any}
 use Rattle.std.specs.Option.{option_map_or}
 use Rattle.mesh_base.specs.declared.address.Mac.{Mac}
@@ -15,11 +14,11 @@ use Rattle.mesh_model.specs.declared.ending.LimitName.TheVariants.{Nodes, Links,
 use Rattle.mesh_model.specs.declared.ending.Stop.TheVariants.{Limit}
 use Rattle.mesh_model.specs.declared.line_form.Algorithm.{Algorithm}
 use Rattle.mesh_model.specs.declared.line_form.Command.{Command}
-use Rattle.mesh_model.specs.declared.line_form.Command.TheVariants.{Nothing, Algo, Node, Link, Lan, Frame, Gone, Join, Leave, Arp, Dhcp, Wifi, GwOff, GwServer, GwClient, Mcast, Dat, Alfred, Put, Get, Ping, Trace, Run, Deliver, Show, Decode}
+use Rattle.mesh_model.specs.declared.line_form.Command.TheVariants.{Nothing, Algo, Node, Link, Lan, Frame, Gone, Join, Leave, Arp, Dhcp, Wifi, GwOff, GwServer, GwClient, Mcast, Dat, Alfred, Put, Get, Ping, Trace, Reboot, Run, Deliver, Show, Decode}
 use Rattle.mesh_model.specs.Clients.Log.{LineGiven, Line, Sets}
-use Rattle.mesh_model.specs.Clients.Log.{Frame as GivenFrame, Gone as GivenGone, Join as GivenJoin, Leave as GivenLeave, Arp as GivenArp, Dhcp as GivenDhcp, Ping as GivenPing, Trace as GivenTrace}
+use Rattle.mesh_model.specs.Clients.Log.{Frame as GivenFrame, Gone as GivenGone, Join as GivenJoin, Leave as GivenLeave, Arp as GivenArp, Dhcp as GivenDhcp, Put as GivenPut, Get as GivenGet, Ping as GivenPing, Trace as GivenTrace, Reboot as GivenReboot}
 use Rattle.mesh_model.specs.Clients.Settings.{Setting, NoPart, Serves, Chooses}
-use Rattle.mesh_model.specs.Clients.Settings.{ArpTable as SetsArpTable, Gateway as SetsGateway, Multicast as SetsMulticast, Wifi as SetsWifi}
+use Rattle.mesh_model.specs.Clients.Settings.{ArpTable as SetsArpTable, FactStore as SetsFactStore, Gateway as SetsGateway, Multicast as SetsMulticast, Wifi as SetsWifi}
 use Rattle.mesh_model.specs.Net.Mesh.{NodeLog, NetLan, NetLink, Setup, address_at}
 use Rattle.mesh_model.specs.Net.Inputs.{all_given, given_to}
 use Rattle.mesh_model.specs.Net.Lans.{joins_lan}
@@ -152,39 +151,41 @@ show_step name print state = option_map_or (λ node. Goes (after_print state (pr
 -- ---- the steps
 
 -- the step of a command
-abbrev pub step_of : Setup → Command → Option Step
-step_of setup Nothing = Some Goes
-step_of setup (Algo algorithm) = Some (choice_step algorithm)
-step_of setup (Node name mac) = Some (node_step name mac)
-step_of setup (Link from to delay pattern throughput) = Some (link_between from to (λ start end.
-    record { from = start; to = end; delay = delay; pattern = pattern; throughput = throughput }))
-step_of setup (Lan name gateways) = Some (lan_step setup name gateways)
+abbrev pub step_of : Setup → Command → Step
+step_of setup Nothing = Goes
+step_of setup (Algo algorithm) = choice_step algorithm
+step_of setup (Node name mac) = node_step name mac
+step_of setup (Link from to delay pattern throughput) = link_between from to (λ start end.
+    record { from = start; to = end; delay = delay; pattern = pattern; throughput = throughput })
+step_of setup (Lan name gateways) = lan_step setup name gateways
 step_of setup (Frame place src dst vid text) =
-    Some (at_place place
+    at_place place
     (lan_frame_step setup
     (payload_spelling (record { dst = dst; src = src; vid = vid; text = text })))
-    (input_step setup (GivenFrame src dst vid text)))
-step_of setup (Gone place key) = Some
-    (at_place place (gateways_step setup (GivenGone key)) (input_step setup (GivenGone key)))
-step_of setup (Join node key) = Some (at_node node (input_step setup (GivenJoin key)))
-step_of setup (Leave node key) = Some (at_node node (input_step setup (GivenLeave key)))
+    (input_step setup (GivenFrame src dst vid text))
+step_of setup (Gone place key) =
+    at_place place (gateways_step setup (GivenGone key)) (input_step setup (GivenGone key))
+step_of setup (Join node key) = at_node node (input_step setup (GivenJoin key))
+step_of setup (Leave node key) = at_node node (input_step setup (GivenLeave key))
 step_of setup (Arp node mac own asked vid) =
-    Some (at_node node (input_step setup (GivenArp mac own asked vid)))
-step_of setup (Dhcp node key text) = Some (at_node node (input_step setup (GivenDhcp key text)))
-step_of setup (Wifi node on) = Some (setting_step setup node (SetsWifi on))
-step_of setup (GwOff node) = Some (setting_step setup node (SetsGateway NoPart))
-step_of setup (GwServer node down up) = Some
-    (setting_step setup node (SetsGateway (Serves (record { download = down; upload = up }))))
+    at_node node (input_step setup (GivenArp mac own asked vid))
+step_of setup (Dhcp node key text) = at_node node (input_step setup (GivenDhcp key text))
+step_of setup (Wifi node on) = setting_step setup node (SetsWifi on)
+step_of setup (GwOff node) = setting_step setup node (SetsGateway NoPart)
+step_of setup (GwServer node down up) =
+    setting_step setup node (SetsGateway (Serves (record { download = down; upload = up })))
 step_of setup (GwClient node policy) =
-    Some (setting_step setup node (SetsGateway (Chooses policy)))
-step_of setup (Mcast node flags) = Some (setting_step setup node (SetsMulticast flags))
-step_of setup (Dat node on) = Some (setting_step setup node (SetsArpTable on))
-step_of setup (Alfred node mode) = None
-step_of setup (Put node type_no version text) = None
-step_of setup (Get node type_no) = None
-step_of setup (Ping node target) = Some (session_step setup GivenPing node target)
-step_of setup (Trace node target) = Some (session_step setup GivenTrace node target)
-step_of setup (Run time) = Some (time_step setup time)
-step_of setup (Deliver number) = Some (again_step setup number)
-step_of setup (Show node table) = option_map (show_step node) (shown table)
-step_of setup (Decode bytes) = Some (λ state. Goes (after_print state (Decoded bytes)))
+    setting_step setup node (SetsGateway (Chooses policy))
+step_of setup (Mcast node flags) = setting_step setup node (SetsMulticast flags)
+step_of setup (Dat node on) = setting_step setup node (SetsArpTable on)
+step_of setup (Alfred node mode) = setting_step setup node (SetsFactStore mode)
+step_of setup (Put node type_no version text) =
+    at_node node (input_step setup (GivenPut type_no version text))
+step_of setup (Get node type_no) = at_node node (input_step setup (GivenGet type_no))
+step_of setup (Ping node target) = session_step setup GivenPing node target
+step_of setup (Trace node target) = session_step setup GivenTrace node target
+step_of setup (Reboot node) = at_node node (input_step setup GivenReboot)
+step_of setup (Run time) = time_step setup time
+step_of setup (Deliver number) = again_step setup number
+step_of setup (Show node table) = show_step node (shown table)
+step_of setup (Decode bytes) = λ state. Goes (after_print state (Decoded bytes))

@@ -1,11 +1,11 @@
 -- The forms of lines that make the net, let time pass, and print: `algo`, `node`, `link`, `lan`,
--- `ping`, `traceroute`, `run`, `deliver`, `show` and `decode`, each by the words behind its
--- command word. The main word is `net_forms`.
+-- `ping`, `traceroute`, `reboot`, `run`, `deliver`, `show` and `decode`, each by the words behind
+-- its command word. The main word is `net_forms`.
 use Rattle.std.specs.Prelude.{ℕ, nat_lt, not, List, [], ◌∷◌, length, map, take, codes, Ok, if◌then◌else◌}
 use Rattle.std.specs.List.{list_all}
 use Rattle.mesh_model.specs.declared.ending.Refusal.TheVariants.{MissingWord, BadName, ExtraWord}
 use Rattle.mesh_model.specs.declared.line_form.Command.{Command}
-use Rattle.mesh_model.specs.declared.line_form.Command.TheVariants.{Algo, Node, Lan, Ping, Trace, Run, Deliver, Show, Decode}
+use Rattle.mesh_model.specs.declared.line_form.Command.TheVariants.{Algo, Node, Lan, Ping, Trace, Reboot, Run, Deliver, Show, Decode}
 use Rattle.mesh_model.specs.Scenario.Fields.{name_field, unicast_field, number_field, frame_number_field, hex_field, algorithm_field, table_field}
 use Rattle.mesh_model.specs.Scenario.LinkOptions.{the_options, link_with}
 use Rattle.mesh_model.specs.Scenario.Readings.{Reading, refused, a_field, the_end}
@@ -50,6 +50,10 @@ abbrev pub read_traceroute : List Word → Reading
 read_traceroute =
     a_field name_field (λ node. a_field name_field (λ target. the_end (Trace node target)))
 
+-- reboot NODE
+abbrev pub read_reboot : List Word → Reading
+read_reboot = a_field name_field (λ node. the_end (Reboot node))
+
 -- the fewest milliseconds that a line lets pass
 abbrev pub least_time : ℕ
 least_time = 1
@@ -79,5 +83,5 @@ abbrev pub net_forms : List (List ℕ × (List Word → Reading))
 net_forms =
     (codes "algo", read_algo) ∷ (codes "node", read_node) ∷ (codes "link", read_link)
     ∷ (codes "lan", read_lan) ∷ (codes "ping", read_ping) ∷ (codes "traceroute", read_traceroute)
-    ∷ (codes "run", read_run) ∷ (codes "deliver", read_deliver) ∷ (codes "show", read_show)
-    ∷ (codes "decode", read_decode) ∷ []
+    ∷ (codes "reboot", read_reboot) ∷ (codes "run", read_run) ∷ (codes "deliver", read_deliver)
+    ∷ (codes "show", read_show) ∷ (codes "decode", read_decode) ∷ []

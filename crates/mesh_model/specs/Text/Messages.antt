@@ -6,7 +6,7 @@ use Rattle.std.specs.Prelude.{ℕ, List, [], ◌∷◌, ◌++◌, codes, decimal
 use Rattle.mesh_model.specs.declared.ending.LimitName.{LimitName}
 use Rattle.mesh_model.specs.declared.ending.LimitName.TheVariants.{Line, Input, Nodes, Links, Lans, Clients, Vlans, Frames, FrameBytes, Clock}
 use Rattle.mesh_model.specs.declared.ending.Refusal.{Refusal}
-use Rattle.mesh_model.specs.declared.ending.Refusal.TheVariants.{BadUtf8, UnknownCommand, MissingWord, BadName, BadMac, BadNumber, OutOfRange, ExtraWord, NotBuilt, UnknownName, WrongKind, NameTaken, AddressTaken, SameNode, LinkTaken, AlgoAfterNode, NoSuchFrame, Attached}
+use Rattle.mesh_model.specs.declared.ending.Refusal.TheVariants.{BadUtf8, UnknownCommand, MissingWord, BadName, BadMac, BadNumber, OutOfRange, ExtraWord, UnknownName, WrongKind, NameTaken, AddressTaken, SameNode, LinkTaken, AlgoAfterNode, NoSuchFrame, Attached}
 use Rattle.mesh_model.specs.declared.ending.Stop.{Stop}
 use Rattle.mesh_model.specs.declared.ending.Stop.TheVariants.{Refused, Limit}
 use Rattle.mesh_model.specs.Scenario.Lines.{newline}
@@ -22,7 +22,6 @@ refusal_words BadMac = codes "bad mac"
 refusal_words BadNumber = codes "bad number"
 refusal_words OutOfRange = codes "out of range"
 refusal_words ExtraWord = codes "extra word"
-refusal_words NotBuilt = codes "not built"
 refusal_words UnknownName = codes "unknown name"
 refusal_words WrongKind = codes "wrong kind"
 refusal_words NameTaken = codes "name taken"

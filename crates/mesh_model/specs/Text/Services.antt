@@ -3,16 +3,22 @@
 -- NODE mc`): a line `mc NODE count=C`, a line `j MAC VID` for each group that is joined at the
 -- node, and a line `m MAC flags=FF` for each originator that tells multicast flags. The printed ARP
 -- table (`show NODE dat`): a line `dat NODE count=C`, and a line `d IP VID MAC age=AGE` for each
--- pair. The main word is `service_table_text`.
-use Rattle.std.specs.Prelude.{ℕ, ◌+◌, List, [], ◌∷◌, ◌++◌, flat_map, length, Option, codes}
+-- pair. The printed facts (`show NODE alf`): a line `alfred NODE mode=M facts=C`, and a line `a MAC
+-- TYPE VERSION MARK age=AGE TEXT` for each. The main word is `service_table_text`.
+use Rattle.std.specs.Prelude.{ℕ, ◌+◌, ◌-◌, List, [], ◌∷◌, ◌++◌, flat_map, length, Option, codes}
 use Rattle.hex.specs.Hex.{encode_lower}
 use Rattle.mesh_base.specs.declared.address.Mac.{Mac}
 use Rattle.mesh_base.specs.declared.client.Key.{Key}
+use Rattle.mesh_model.specs.declared.line_form.AlfredMode.{AlfredMode}
+use Rattle.mesh_model.specs.declared.line_form.AlfredMode.TheVariants as storing
 use Rattle.mesh_model.specs.declared.service.ArpRow.{ArpRow}
 use Rattle.mesh_model.specs.declared.service.GroupRow.{GroupRow}
 use Rattle.mesh_model.specs.declared.service.GwMode.{GwMode}
 use Rattle.mesh_model.specs.declared.service.GwMode.TheVariants.{Off, Server, Client}
 use Rattle.mesh_model.specs.declared.service.GwRow.{GwRow}
+use Rattle.mesh_model.specs.declared.service.KeptFact.{KeptFact}
+use Rattle.mesh_model.specs.declared.service.Mark.{Mark}
+use Rattle.mesh_model.specs.declared.service.Mark.TheVariants.{Local, First, Synced}
 use Rattle.mesh_model.specs.Text.Events.{ip_text}
 use Rattle.mesh_model.specs.Text.PacketLines.{line_of, named_address, named_number}
 use Rattle.mesh_model.specs.Text.Tables.{address_text, vid_text}
@@ -94,14 +100,53 @@ abbrev pub address_table_text : AddressTable → List ℕ
 address_table_text table =
     address_header table.name (length table.rows) ++ flat_map address_line table.rows
 
+-- a node's name, its part in the fact store, the moment, and the facts that it keeps
+pub record FactTable : Type 0 where
+  pub name : List ℕ
+  pub mode : AlfredMode
+  pub now : ℕ
+  pub rows : List KeptFact
+
+-- the word of a part in the fact store
+abbrev pub store_word : AlfredMode → List ℕ
+store_word storing.Off = codes "off"
+store_word storing.Primary = codes "primary"
+store_word storing.Secondary = codes "secondary"
+
+-- the word of a mark
+abbrev pub mark_word : Mark → List ℕ
+mark_word Local = codes "local"
+mark_word First = codes "first"
+mark_word Synced = codes "synced"
+
+-- the first line of facts
+unfoldable pub fact_header : List ℕ → AlfredMode → ℕ → List ℕ
+fact_header name mode count = line_of
+    (codes "alfred " ∷ name ∷ codes " mode=" ∷ store_word mode ∷ named_number (codes " facts=") count
+    ∷ [])
+
+-- the line of a fact at a moment
+unfoldable pub fact_line : ℕ → KeptFact → List ℕ
+fact_line now kept = line_of
+    (named_address (codes "a ") kept.fact.source ∷ named_number (codes " ") kept.fact.type_no
+    ∷ named_number (codes " ") kept.fact.version ∷ codes " " ∷ mark_word kept.mark
+    ∷ named_number (codes " age=") (now - kept.moment) ∷ codes " " ∷ kept.fact.bytes ∷ [])
+
+-- the facts as they are printed
+abbrev pub fact_table_text : FactTable → List ℕ
+fact_table_text table = fact_header table.name table.mode (length table.rows)
+    ++ flat_map (fact_line table.now) table.rows
+
 -- a table of a service
 pub data ServiceTable : Type 0 where
   GatewaysOf : GatewayTable → ServiceTable
   GroupsOf : GroupTable → ServiceTable
   AddressesOf : AddressTable → ServiceTable
+  FactsOf : FactTable → ServiceTable
 
 -- a table of a service as it is printed
 abbrev pub service_table_text : ServiceTable → List ℕ
 service_table_text (GatewaysOf table) = gateway_table_text table
 service_table_text (GroupsOf table) = group_table_text table
 service_table_text (AddressesOf table) = address_table_text table
+service_table_text (FactsOf table) = fact_table_text table
