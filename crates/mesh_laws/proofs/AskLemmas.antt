@@ -3,9 +3,10 @@ use Rattle.std.proofs.Common.{◌≡◌, ◌⊎◌, inl, inr, ℕ, Bool, true, f
 use Rattle.mesh_base.specs.declared.address.Mac.{Mac}
 use Rattle.mesh_base.specs.declared.client.Vid.{Vid}
 use Rattle.mesh_model.specs.declared.packet.Head.{Head}
-use Rattle.mesh_model.specs.Clients.Log.{Given, Tick, LinkFrame, LanFrame, Line, LineGiven, Attach, Frame, Gone, Join, Leave, Arp, Dhcp, Sets, Put, Get, Ping, Trace, Log}
+use Rattle.mesh_model.specs.Clients.Log.{Given, Tick, LinkFrame, LanFrame, Line, LineGiven, Attach, Frame, Gone, Join, Leave, Arp, Dhcp, Sets, Put, Get, Ping, Trace, Reboot, Log}
 use Rattle.mesh_model.specs.Clients.Mentions.{key_of, mentions, next_mentions, passed_from_lan}
 use Rattle.mesh_model.specs.Clients.Settings.{Setting, Wifi, Gateway, Multicast, ArpTable, FactStore}
+use Rattle.mesh_model.specs.Knowledge.FactStore.{after_get}
 use Rattle.mesh_model.specs.Knowledge.Known.{Knowledge}
 use Rattle.mesh_model.specs.Knowledge.Pairs.{after_asking, after_came, after_question, is_asked, with_ask, with_learned}
 use Rattle.mesh_model.specs.Knowledge.Steps.{Coming, after_call, after_frame, after_packet, after_packets, after_passed, after_sighting, after_tick, knowledge, line_knowledge, next_knowledge, with_set}
@@ -18,7 +19,8 @@ use Rattle.mesh_model.specs.Packets.LinkFrame.{link_frame}
 use Rattle.mesh_model.specs.Routes.Queries.{Queries}
 use Rattle.mesh_model.specs.Services.ArpTable.{PairCall, AskedFor}
 use Rattle.mesh_laws.specs.AddressLaws.{AwaitedByLines, WasAskedByLine}
-use Rattle.mesh_laws.proofs.KeptLemmas.{HasCome, Kept, brings, call_kept, frame_kept, head_comes, kept_of, leaves, passed_kept, tick_kept}
+use Rattle.mesh_laws.proofs.KeptLemmas.{HasCome, Kept, brings, call_kept, frame_kept, get_kept, head_comes, kept_of, leaves, passed_kept, stores, tick_kept}
+use Rattle.mesh_laws.proofs.StoreLemmas.{Rest, message_rest}
 use Rattle.mesh_laws.proofs.Schedule.Members.{has_right}
 
 -- a pair was asked for
@@ -40,6 +42,8 @@ came_asks ip vid now (Some (Tells m)) known (inr asked) = asked
 
 step_asks : (ip : ℕ) (vid : Vid) (now : ℕ) (head : Head) (tail : List ℕ) (known after : Knowledge) → HasCome now head tail known after → Asked after ip vid → Asked known ip vid
 step_asks ip vid now head tail known _ (leaves after same) asked = kept_asks ip vid known after same asked
+step_asks ip vid now head tail known _ (stores told before payload of same) asked =
+    kept_asks ip vid known before same (subst (λ (r : Rest). Has r.asks (AskedFor ip vid)) (message_rest now told before) asked)
 step_asks ip vid now head tail known _ (brings came) asked = go known.services.settings.arp_table asked
   where
     go : (b : Bool) → Asked (cond b (after_came now came known) known) ip vid → Asked known ip vid
@@ -103,9 +107,10 @@ line_asks ip vid q me older known now (Dhcp key text) asked =
     inr (kept_asks ip vid seen (after_call q now seen) (call_kept q now seen) asked)
 line_asks ip vid q me older known now (Sets setting) asked = inr (set_asks ip vid setting known asked)
 line_asks ip vid q me older known now (Put type_no version text) asked = inr asked
-line_asks ip vid q me older known now (Get type_no) asked = inr asked
+line_asks ip vid q me older known now (Get type_no) asked = inr (kept_asks ip vid known (after_get q now type_no known.services.settings.fact_store known) (get_kept q now type_no known.services.settings.fact_store known) asked)
 line_asks ip vid q me older known now (Ping target) asked = inr asked
 line_asks ip vid q me older known now (Trace target) asked = inr asked
+line_asks ip vid q me older known now Reboot asked = absurd asked
 
 -- ---- the log
 

@@ -1,38 +1,56 @@
--- What a node is given leaves its settings and what it asked for, but for what sets one, and for what
--- comes of the ARP table or is asked of it.
-use Rattle.std.proofs.Common.{◌≡◌, ◌&&◌, ℕ, Bool, true, false, cond, List, ◌∷◌, Option, Some, None, is_some, refl, ◌∙◌}
+-- What a node is given leaves its settings, what it asked for and what it keeps of the fact store, but
+-- for what sets one, and for what comes of the ARP table or of the store, or is asked of them.
+use Rattle.std.proofs.Common.{◌≡◌, ◌&&◌, ℕ, Bool, true, false, cond, List, ◌∷◌, Option, Some, None, is_some, option_and_then, refl, ◌∙◌}
 use Rattle.mesh_base.specs.declared.address.Mac.{Mac}
 use Rattle.mesh_base.specs.declared.client.Key.{Key}
+use Rattle.mesh_model.specs.declared.line_form.AlfredMode.{AlfredMode}
+use Rattle.mesh_model.specs.declared.line_form.AlfredMode.TheVariants.{Off, Primary as IsPrimary, Secondary}
 use Rattle.mesh_model.specs.declared.packet.Head.{Head}
 use Rattle.mesh_model.specs.declared.packet.Head.TheVariants.{IvOgm, Bcast, Elp, Ogm2, Unicast, Frag, Unicast4, Icmp, Utvlv}
 use Rattle.mesh_model.specs.Clients.Lans.{bridge}
 use Rattle.mesh_model.specs.Clients.Log.{Log}
 use Rattle.mesh_model.specs.Clients.Mentions.{Mention, key_of, mentions}
 use Rattle.mesh_model.specs.Clients.Settings.{Settings}
+use Rattle.mesh_model.specs.Knowledge.FactStore.{after_asking_for, after_fact_message, after_get, after_round, announcing, chosen_primary, if_announces}
 use Rattle.mesh_model.specs.Knowledge.Known.{Broadcast, Knowledge, is_new_broadcast}
 use Rattle.mesh_model.specs.Knowledge.Offers.{gateway_way}
 use Rattle.mesh_model.specs.Knowledge.Pairs.{after_arp}
-use Rattle.mesh_model.specs.Knowledge.Steps.{Coming, after_announcement, after_answer, after_bridged, after_broadcast, after_reply, after_call, after_containers, after_frame, after_head, after_message, after_passed, after_roaming, after_sighting, after_sent, after_taken, after_tick, before_announcement, is_flooded, stays_on_lan, with_head, with_life, with_offered}
+use Rattle.mesh_model.specs.Knowledge.Served.{PrimaryCall}
+use Rattle.mesh_model.specs.Knowledge.Steps.{Coming, after_announcement, after_answer, after_bridged, after_broadcast, after_reply, after_call, after_containers, after_frame, after_head, after_message, after_passed, after_roaming, after_sighting, after_sent, after_taken, after_tick, announced_by, before_announcement, before_round, is_flooded, stays_on_lan, with_head, with_life, with_offered}
 use Rattle.mesh_model.specs.Knowledge.Told.{Message, TableMessage, Asks, Answers, Neither, message_in}
 use Rattle.mesh_model.specs.Commits.History.{is_commit_tick}
 use Rattle.mesh_model.specs.Packets.ArpMessages.{ArpCame, arp_came}
 use Rattle.mesh_model.specs.Packets.Containers.{containers_of}
 use Rattle.mesh_model.specs.Packets.Contents.{first_roaming, first_table}
+use Rattle.mesh_model.specs.Packets.FactMessages.{CameFact, FactMessage, HasPart, Primary, Requests, HasEnd, fact_message_of}
 use Rattle.mesh_model.specs.Packets.Payload.{ClientFrame}
 use Rattle.mesh_model.specs.Probes.OpenProbes.{is_answer}
 use Rattle.mesh_model.specs.Routes.Addresses.{same_mac}
 use Rattle.mesh_model.specs.Routes.Queries.{Queries}
-use Rattle.mesh_model.specs.Routes.RouteLog.{OwnTick}
+use Rattle.mesh_model.specs.Routes.RouteLog.{OwnTick, is_round}
 use Rattle.mesh_model.specs.Services.ArpTable.{PairCall}
+use Rattle.mesh_model.specs.Services.Facts.{FactCall}
+use Rattle.mesh_model.specs.Services.Transactions.{TxnCall}
 
--- the settings of a node, and what it asked for
+-- the settings of a node, what it asked for, and what it keeps of the fact store
 pub record Kept : Type 0 where
   pub settings : Settings
   pub asks : List PairCall
+  pub primaries : List PrimaryCall
+  pub facts : List FactCall
+  pub pushes : List TxnCall
+  pub answers : List TxnCall
 
 -- those that are known
 abbrev pub kept_of : Knowledge → Kept
-kept_of known = record { settings = known.services.settings; asks = known.services.asks }
+kept_of known = record {
+  settings = known.services.settings;
+  asks = known.services.asks;
+  primaries = known.services.primaries;
+  facts = known.services.facts;
+  pushes = known.services.pushes;
+  answers = known.services.answers;
+}
 
 -- of two, each with these, one has them
 either : (b : Bool) (x y : Knowledge) (k : Kept) → kept_of x ≡ k → kept_of y ≡ k → kept_of (cond b x y) ≡ k
@@ -81,10 +99,40 @@ containers_kept q now src tail known =
     let message = message_in (first_table (containers_of tail)) in
     roaming_kept q now src (first_roaming (containers_of tail)) (after_answer q now src message known) ∙ answer_kept q now src message known
 
--- what a packet with a head and a tail makes of what is known: these stay, or it is one of the ARP table
+-- whether a packet carries a payload
+abbrev pub has_payload : Head → Bool
+has_payload (IvOgm ttl flags seq orig prev tq) = false
+has_payload (Bcast ttl seq orig) = true
+has_payload (Elp orig seq interval) = false
+has_payload (Ogm2 ttl flags seq orig throughput) = false
+has_payload (Unicast ttl ttvn dst) = true
+has_payload (Frag ttl number priority dst orig seq total) = false
+has_payload (Unicast4 ttl ttvn dst src subtype) = false
+has_payload (Icmp ttl msg dst orig uid seq) = false
+has_payload (Utvlv ttl dst src) = false
+
+-- what a packet with a head and a tail makes of what is known: these stay, or it is one of the ARP table or of
+-- the fact store
 pub data HasCome (now : ℕ) (head : Head) (tail : List ℕ) (known : Knowledge) : Knowledge → Type 0 where
   leaves : (after : Knowledge) → kept_of after ≡ kept_of known → HasCome now head tail known after
   brings : (came : Option ArpCame) → HasCome now head tail known (after_arp now came known)
+  stores : (told : Option CameFact) (before : Knowledge) → has_payload head ≡ true → ((came : CameFact) → told ≡ Some came → fact_message_of tail ≡ Some came)
+      → kept_of before ≡ kept_of known → HasCome now head tail known (after_fact_message now told before)
+
+-- what announces a primary is a message
+announces : (o : Option CameFact) (came : CameFact) → option_and_then if_announces o ≡ Some came → o ≡ Some came
+announces None came is = cc
+announces (Some one) came is = go one.message is
+  where
+    go : (message : FactMessage) → announcing one message ≡ Some came → Some one ≡ Some came
+    go (HasPart push id number facts) is = cc
+    go Primary is = is
+    go (Requests id type_no) is = cc
+    go (HasEnd push id count) is = cc
+
+announces_if : (b : Bool) (o : Option CameFact) (came : CameFact) → cond b (option_and_then if_announces o) None ≡ Some came → o ≡ Some came
+announces_if true o came is = announces o came is
+announces_if false o came is = cc
 
 pub head_comes : (q : Queries) (me : Mac) (came : Coming) (message : Option Message) (tail : List ℕ) (head : Head) (known : Knowledge)
     → HasCome came.now head tail known (after_head q me came message tail head known)
@@ -92,11 +140,17 @@ head_comes q me came message tail (IvOgm ttl flags seq orig prev tq) known =
     leaves (after_taken q came (IvOgm ttl flags seq orig prev tq) message tail known) (taken_kept q came (IvOgm ttl flags seq orig prev tq) message tail known)
 head_comes q me came message tail (Bcast ttl seq orig) known =
     let broadcast : Broadcast = record { orig = orig; number = seq } in
-    leaves (after_broadcast me broadcast known) (either (is_new_broadcast me broadcast known.taken) _ known (kept_of known) refl refl)
+    stores (announced_by me came.now broadcast tail known) (after_broadcast me came.now broadcast known) refl
+    (announces_if (is_new_broadcast me came.now broadcast known.taken) (fact_message_of tail))
+    (either (is_new_broadcast me came.now broadcast known.taken) _ known (kept_of known) refl refl)
 head_comes q me came message tail (Elp orig seq interval) known = leaves (with_head came (Elp orig seq interval) known) refl
 head_comes q me came message tail (Ogm2 ttl flags seq orig throughput) known =
     leaves (after_taken q came (Ogm2 ttl flags seq orig throughput) message tail known) (taken_kept q came (Ogm2 ttl flags seq orig throughput) message tail known)
-head_comes q me came message tail (Unicast ttl ttvn dst) known = leaves known refl
+head_comes q me came message tail (Unicast ttl ttvn dst) known = go (same_mac dst me)
+  where
+    go : (b : Bool) → HasCome came.now (Unicast ttl ttvn dst) tail known (cond b (after_fact_message came.now (fact_message_of tail) known) known)
+    go true = stores (fact_message_of tail) known refl (λ one is. is) refl
+    go false = leaves known refl
 head_comes q me came message tail (Frag ttl number priority dst orig seq total) known = leaves known refl
 head_comes q me came message tail (Unicast4 ttl ttvn dst src subtype) known = go (same_mac dst me)
   where
@@ -130,5 +184,28 @@ passed_kept q me older known now mentions (Some frame) =
     bridged_kept q now (stays_on_lan q mentions (bridge older).lan now (key_of frame.dst frame.vid) seen) (key_of frame.dst frame.vid) seen
 
 pub tick_kept : (q : Queries) (now index : ℕ) (known : Knowledge) → kept_of (after_tick q now index known) ≡ kept_of known
-tick_kept q now index known =
-    either (is_commit_tick index) _ (record known { routes = OwnTick now index ∷ known.routes }) (kept_of known) refl refl
+tick_kept q now index known = round_kept (is_round index) ∙ either (is_commit_tick index) _ with_tick (kept_of known) refl refl
+  where
+    with_tick : Knowledge
+    with_tick = record known { routes = OwnTick now index ∷ known.routes }
+
+    before : Knowledge
+    before = before_round q now index known
+
+    by_part : (mode : AlfredMode) → kept_of (after_round q now mode before) ≡ kept_of before
+    by_part Off = refl
+    by_part IsPrimary = refl
+    by_part Secondary = refl
+
+    round_kept : (b : Bool) → kept_of (cond b (after_round q now before.services.settings.fact_store before) before) ≡ kept_of before
+    round_kept true = by_part before.services.settings.fact_store
+    round_kept false = refl
+
+pub get_kept : (q : Queries) (now type_no : ℕ) (mode : AlfredMode) (known : Knowledge) → kept_of (after_get q now type_no mode known) ≡ kept_of known
+get_kept q now type_no Off known = refl
+get_kept q now type_no IsPrimary known = refl
+get_kept q now type_no Secondary known = go (chosen_primary q known now)
+  where
+    go : (o : Option Mac) → kept_of (after_asking_for type_no o known) ≡ kept_of known
+    go None = refl
+    go (Some primary) = refl

@@ -27,8 +27,14 @@ pub mod TableChanges
 pub mod PieceLemmas
 pub mod DifferenceLemmas
 pub mod KnownLemmas
+pub mod StoreLemmas
 pub mod KeptLemmas
+pub mod FactLemmas
 pub mod SettingLemmas
+pub mod RestartLemmas
+pub mod LastLogLemmas
+pub mod OffLans
+pub mod OffLines
 pub mod PairLemmas
 pub mod QuestionLemmas
 pub mod AskLemmas

@@ -3,7 +3,7 @@ use Rattle.std.proofs.Common.{◌≡◌, ℕ, Bool, true, false, cond, List, [],
 use Rattle.mesh_base.specs.declared.address.Mac.{Mac}
 use Rattle.mesh_base.specs.declared.client.Vid.{Vid}
 use Rattle.mesh_model.specs.declared.packet.Head.{Head}
-use Rattle.mesh_model.specs.Clients.Log.{Given, Tick, LinkFrame, LanFrame, Line, LineGiven, Attach, Frame, Gone, Join, Leave, Arp, Dhcp, Sets, Put, Get, Ping, Trace, Log, after_setting, setting_of, settings}
+use Rattle.mesh_model.specs.Clients.Log.{Given, Tick, LinkFrame, LanFrame, Line, LineGiven, Attach, Frame, Gone, Join, Leave, Arp, Dhcp, Sets, Put, Get, Ping, Trace, Reboot, Log, after_setting, setting_of, settings}
 use Rattle.mesh_model.specs.Clients.Mentions.{key_of, mentions, next_mentions, passed_from_lan}
 use Rattle.mesh_model.specs.Clients.Settings.{Setting, Wifi, Gateway, Multicast, ArpTable, FactStore, Settings, set_to}
 use Rattle.mesh_model.specs.Knowledge.Known.{Knowledge}
@@ -16,7 +16,8 @@ use Rattle.mesh_model.specs.Packets.LanFrames.{client_frame_in, lan_message_of}
 use Rattle.mesh_model.specs.Packets.LinkFrame.{link_frame}
 use Rattle.mesh_model.specs.Routes.Queries.{Queries}
 use Rattle.mesh_model.specs.Services.ArpTable.{AskedFor}
-use Rattle.mesh_laws.proofs.KeptLemmas.{HasCome, Kept, brings, call_kept, frame_kept, head_comes, leaves, passed_kept, tick_kept}
+use Rattle.mesh_laws.proofs.KeptLemmas.{HasCome, Kept, brings, call_kept, frame_kept, get_kept, head_comes, leaves, passed_kept, stores, tick_kept}
+use Rattle.mesh_laws.proofs.StoreLemmas.{Rest, message_rest}
 
 -- the settings that are known
 abbrev set_of : Knowledge → Settings
@@ -41,6 +42,7 @@ came_set now (Some (Tells m)) known = refl
 
 step_set : (now : ℕ) (head : Head) (tail : List ℕ) (known after : Knowledge) → HasCome now head tail known after → set_of after ≡ set_of known
 step_set now head tail known _ (leaves after same) = ap settings_in same
+step_set now head tail known _ (stores told before payload of same) = ap (λ (r : Rest). r.settings) (message_rest now told before) ∙ ap settings_in same
 step_set now head tail known _ (brings came) =
     either known.services.settings.arp_table (after_came now came known) known (set_of known) (came_set now came known) refl
 
@@ -80,9 +82,10 @@ line_set q me older known now (Arp mac own_ip asked_ip vid) =
 line_set q me older known now (Dhcp key text) = ap settings_in (call_kept q now (after_sighting q me older now key known))
 line_set q me older known now (Sets setting) = setting_set setting known
 line_set q me older known now (Put type_no version text) = refl
-line_set q me older known now (Get type_no) = refl
+line_set q me older known now (Get type_no) = ap settings_in (get_kept q now type_no known.services.settings.fact_store known)
 line_set q me older known now (Ping target) = refl
 line_set q me older known now (Trace target) = refl
+line_set q me older known now Reboot = refl
 
 -- ---- the log
 

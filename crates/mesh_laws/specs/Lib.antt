@@ -13,8 +13,11 @@ pub mod LineLaws
 pub mod TableLaws
 pub mod KnownLaws
 pub mod SettingLaws
+pub mod RestartLaws
+pub mod LastLogLaws
 pub mod Machine
 pub mod HeldLaws
 pub mod MarkLaws
 pub mod ServiceLaws
 pub mod AddressLaws
+pub mod FactLaws

@@ -5,6 +5,7 @@
 #![tactic(auto)]
 
 pub mod address_laws;
+pub mod fact_laws;
 pub mod happening_laws;
 pub mod held_laws;
 pub mod known_laws;
@@ -14,6 +15,7 @@ pub mod machine_laws;
 pub mod mark_laws;
 pub mod packet_laws;
 pub mod present_laws;
+pub mod reboot_laws;
 pub mod run_laws;
 pub mod service_laws;
 pub mod setting_laws;

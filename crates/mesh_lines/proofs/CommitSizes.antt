@@ -5,9 +5,9 @@ use Rattle.std.specs.List.{AllByRecursion}
 use Rattle.mesh_base.specs.declared.address.Mac.{Mac}
 use Rattle.mesh_base.specs.declared.client.Entry.{Entry}
 use Rattle.mesh_model.specs.declared.line_form.Algorithm.{Algorithm}
-use Rattle.mesh_model.specs.Clients.Log.{Log, tick_of}
+use Rattle.mesh_model.specs.Clients.Log.{Given, Log, is_reboot, tick_of}
 use Rattle.mesh_model.specs.Clients.Mentions.{Mention, mentions}
-use Rattle.mesh_model.specs.Commits.History.{History, after_tick, after_ticking, commits, committed, history, is_commit_tick, present_table, with_commit, with_message}
+use Rattle.mesh_model.specs.Commits.History.{History, after_tick, after_ticking, commits, committed, history, is_commit_tick, next_history, present_table, restarted, with_commit, with_message}
 use Rattle.mesh_model.specs.Commits.Versions.{commit_numbered, first_commit, last_commit, same_table}
 use Rattle.mesh_model.specs.Net.Mesh.{Mesh}
 use Rattle.mesh_model.specs.Routes.Algorithms.{queries_of}
@@ -43,9 +43,16 @@ ticking_small : (older : List Mention) (h : History) (moment : ℕ) (o : Option 
 ticking_small older h moment None small = small
 ticking_small older h moment (Some index) small = tick_small index (present_table older moment) h small
 
+next_small : (older : List Mention) (h : History) (moment : ℕ) (given : Given) → AreSmall h.commits → AreSmall (next_history older h moment given).commits
+next_small older h moment given small = go (is_reboot given)
+  where
+    go : (b : Bool) → AreSmall (cond b (restarted h) (after_ticking older h moment (tick_of given))).commits
+    go true = (omega arith, small)
+    go false = ticking_small older h moment (tick_of given) small
+
 commits_small : (me : Mac) (log : Log) → AreSmall (commits me log)
 commits_small me [] = (omega arith, tt)
-commits_small me (entry ∷ older) = ticking_small (mentions me older) (history me older) entry.moment (tick_of entry.given) (commits_small me older)
+commits_small me (entry ∷ older) = next_small (mentions me older) (history me older) entry.moment entry.given (commits_small me older)
 
 small_one : (all : List Version) (number : ℕ) (version : Version) → AreSmall all → commit_numbered number all ≡ Some version → version.byte < 2 ^ 8
 small_one [] number version small is = cc

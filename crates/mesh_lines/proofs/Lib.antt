@@ -21,5 +21,6 @@ pub mod CommitSizes
 pub mod TableTextLemmas
 pub mod FrameFields
 pub mod FrameTextLemmas
+pub mod AliasTextLemmas
 pub mod TextLawLemmas
 pub mod FieldLemmas

@@ -5,7 +5,7 @@ use Rattle.mesh_base.specs.declared.address.Mac.{Mac}
 use Rattle.mesh_model.specs.declared.happening.Class.{Class}
 use Rattle.mesh_model.specs.declared.happening.Class.TheVariants.{LinkDelivery, LanDelivery, NodeTick}
 use Rattle.mesh_model.specs.declared.happening.Happening.{Happening}
-use Rattle.mesh_model.specs.Clients.Log.{Given, Tick, LinkFrame, LanFrame, Line, LineGiven, Attach, Frame, Gone, Join, Leave, Arp, Dhcp, Sets, Put, Get, Ping, Trace, Log, LogEntry}
+use Rattle.mesh_model.specs.Clients.Log.{Given, Tick, LinkFrame, LanFrame, Line, LineGiven, Attach, Frame, Gone, Join, Leave, Arp, Dhcp, Sets, Put, Get, Ping, Trace, Reboot, Log, LogEntry}
 use Rattle.mesh_model.specs.Net.Due.{ticks_in}
 use Rattle.mesh_model.specs.Net.Inputs.{all_given, entry_of, given_node, given_to, noted_at}
 use Rattle.mesh_model.specs.Net.Lans.{gets, put_given, put_over, reach_events, with_events}
@@ -43,6 +43,7 @@ LinePlain (Put type_no version text) = IsUnbroken text
 LinePlain (Get type_no) = Unit {0}
 LinePlain (Ping target) = Unit {0}
 LinePlain (Trace target) = Unit {0}
+LinePlain Reboot = Unit {0}
 
 abbrev pub GivenPlain : Given → Type 0
 GivenPlain (Tick index) = Unit {0}

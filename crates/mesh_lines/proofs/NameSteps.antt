@@ -1,5 +1,5 @@
 -- What happens keeps the names of a state words, and each event printed by names that nodes have.
-use Rattle.std.proofs.Common.{◌≤◌, arith, ◌≡◌, inl, inr, ◌⊎◌, ◌+◌, ℕ, zero, suc, Bool, true, false, cond, nat_lt, List, [], ◌∷◌, ◌++◌, map, Option, Some, None, option_map, Ok, Err, refl, sym, ap, subst, ◌∙◌, append-nil}
+use Rattle.std.proofs.Common.{◌≤◌, arith, ◌≡◌, inl, inr, ◌⊎◌, ◌+◌, ℕ, zero, suc, Bool, true, false, cond, nat_lt, List, [], ◌∷◌, ◌++◌, map, Option, Some, None, Ok, Err, refl, sym, ap, subst, ◌∙◌, append-nil}
 use Rattle.std.specs.Option.{option_map_or}
 use Rattle.std.specs.Prelude.{◌-◌, ◌==◌, codes, slice_get, option_and_then}
 use Rattle.mesh_base.specs.Names.{NamesGiven, lan_name}
@@ -22,8 +22,8 @@ use Rattle.mesh_model.specs.Net.Runs.{Course, PassedLimit, begin, run_to}
 use Rattle.mesh_model.specs.Net.Sending.{Attempt, with_put}
 use Rattle.mesh_model.specs.Run.Outcome.{Outcome, Ends, Goes, reached}
 use Rattle.mesh_model.specs.Run.Passing.{after_attempt, course_outcome, events_since, gone_on, run_until}
-use Rattle.mesh_model.specs.Run.Rules.{after_step, setup_of}
-use Rattle.mesh_model.specs.Run.Shown.{after_print, shown}
+use Rattle.mesh_model.specs.Run.Rules.{setup_of}
+use Rattle.mesh_model.specs.Run.Shown.{after_print, fact_table, shown}
 use Rattle.mesh_model.specs.Run.State.{Printed, Happened, State, lan_place_of, names_of, node_named, node_names, place_of}
 use Rattle.mesh_model.specs.Run.Steps.{Step, at_node, at_place, gateways_at, gateways_step, input_step, lan_frame_step, session_step, show_step, with_node}
 use Rattle.std.proofs.lemmas.Bool.{ltb-false}
@@ -39,11 +39,14 @@ use Rattle.mesh_laws.proofs.Lines.Courses.{going_follows}
 use Rattle.mesh_laws.proofs.Schedule.Members.{has_either, has_right, map_has}
 use Rattle.mesh_laws.proofs.Schedule.Steps.{Effect, all_effect, lan_joins, no_ticks, tickless}
 use Rattle.mesh_laws.specs.Cuts.{IsUnbroken}
+use Rattle.mesh_lines.specs.ItemLines.{ArePlainFacts}
 use Rattle.mesh_lines.specs.LineWords.{AreNamed, IsWord}
+use Rattle.mesh_tie.specs.PlainRuns.{HasReachableMesh}
 use Rattle.mesh_tie.specs.Sources.{IsWhole}
 use Rattle.mesh_tie.proofs.GainLemmas.{gained_is, put_gains, put_is}
 use Rattle.mesh_lines.proofs.LogFits.{LinePlain, LogFits, PutFits, all_fits, given_fits, nodes_joined, put_fits, run_fits, spelled_fits}
 use Rattle.mesh_lines.proofs.NodeNames.{AreOfNodes, IsOfName, of_name}
+use Rattle.mesh_lines.proofs.PlainTexts.{kept_plain}
 use Rattle.mesh_lines.proofs.Words.{word_if}
 use Rattle.mesh_lines.proofs.NamesGoOn.{GoOn, HasNames, IsNamed, Passes, effect_passes, follows_passes, names_grow, one_more, same_names}
 
@@ -211,10 +214,9 @@ pub print_named : (state : State) (item : Printed) → HasNames (names_of state.
 print_named state item own n = record { named = n.named; printed = one_more (HasNames (names_of state.mesh) state.mesh.events) state.printed item n.printed own; fits = n.fits }
 
 -- ---- what is shown
--- what is shown of a node has its name, and that of its LAN
-abbrev pub ShowsName : Option (State → NodeLog → Printed) → Type 0
-ShowsName None = Unit {0}
-ShowsName (Some print) = (state : State) (node : NodeLog) → AreNamed (names_of state.mesh) → IsWord node.name → HasNames (names_of state.mesh) state.mesh.events (print state node)
+-- what is shown of a node has its name, and that of its LAN, and its facts have no newline
+abbrev ShowsName : State → NodeLog → Printed → Type 0
+ShowsName state node item = AreNamed (names_of state.mesh) → IsWord node.name → ArePlainFacts (fact_table state.algorithm state.clock node).rows → HasNames (names_of state.mesh) state.mesh.events item
 
 lan_or_dash : (names : NamesGiven) → AreNamed names → (o : Option LanOf) → IsWord (name_or_dash (option_and_then (λ (lan : LanOf). lan_name names.lans lan.number) o))
 lan_or_dash names all None = word_if (codes "-") refl
@@ -229,30 +231,30 @@ lan_or_dash names all (Some lan) = numbered (lan.number == 0)
     numbered true = word_if (codes "-") refl
     numbered false = at names.lans (lan.number - 1) all.lans
 
-pub shows_name : (table : Table) → ShowsName (shown table)
-shows_name Originators = λ state node all word. word
-shows_name Neighbors = λ state node all word. word
-shows_name Locals = λ state node all word. word
-shows_name Globals = λ state node all word. word
-shows_name Claims = λ state node all word. (word, lan_or_dash (names_of state.mesh) all (bridge node.log).lan)
-shows_name Gateways = λ state node all word. word
-shows_name Groups = λ state node all word. word
-shows_name Addresses = λ state node all word. word
-shows_name Facts = tt
+shows_name : (table : Table) (state : State) (node : NodeLog) → ShowsName state node (shown table state node)
+shows_name Originators state node all word facts = word
+shows_name Neighbors state node all word facts = word
+shows_name Locals state node all word facts = word
+shows_name Globals state node all word facts = word
+shows_name Claims state node all word facts = (word, lan_or_dash (names_of state.mesh) all (bridge node.log).lan)
+shows_name Gateways state node all word facts = word
+shows_name Groups state node all word facts = word
+shows_name Addresses state node all word facts = word
+shows_name Facts state node all word facts = (word, facts)
 
 got_named : (nodes : List NodeLog) (place : ℕ) (node : NodeLog) → ((one : NodeName) → Has (node_names nodes) one → IsWord one.name) → slice_get nodes place ≡ Some node → IsWord node.name
 got_named [] place node all got = cc
 got_named (first ∷ rest) zero node all got = subst (λ (x : NodeLog). IsWord x.name) (one_some first node got) (all (record { mac = first.mac; name = first.name }) (inl refl))
 got_named (first ∷ rest) (suc place) node all got = got_named rest place node (λ one has. all one (inr has)) got
 
-node_at : (state : State) (o : Option ℕ) (node : NodeLog) → IsNamed state → option_and_then (slice_get state.mesh.nodes) o ≡ Some node → IsWord node.name
-node_at state None node n is = cc
-node_at state (Some place) node n is = got_named state.mesh.nodes place node n.named.nodes is
+at_place_named : (state : State) (table : Table) (o : Option ℕ) (node : NodeLog) → HasReachableMesh state → IsNamed state → option_and_then (slice_get state.mesh.nodes) o ≡ Some node → HasNames (names_of state.mesh) state.mesh.events (shown table state node)
+at_place_named state table None node r n is = cc
+at_place_named state table (Some place) node r n is =
+    shows_name table state node n.named (got_named state.mesh.nodes place node n.named.nodes is) (kept_plain state.algorithm state.mesh r n.fits state.clock place node is)
 
-pub show_named : (state : State) (name : List ℕ) (o : Option (State → NodeLog → Printed)) → ShowsName o → IsNamed state → NamedOutcome (after_step state (option_map (show_step name) o))
-show_named state name None own n = λ of. n
-show_named state name (Some print) own n = go (node_named state name) (λ node is. node_at state (place_of state name) node n is)
+pub show_named : (state : State) (name : List ℕ) (table : Table) → HasReachableMesh state → IsNamed state → NamedOutcome (show_step name (shown table) state)
+show_named state name table r n = go (node_named state name) (λ node is. at_place_named state table (place_of state name) node r n is)
   where
-    go : (o : Option NodeLog) → ((node : NodeLog) → o ≡ Some node → IsWord node.name) → NamedOutcome (option_map_or (λ node. Goes (after_print state (print state node))) o (Goes state))
+    go : (o : Option NodeLog) → ((node : NodeLog) → o ≡ Some node → HasNames (names_of state.mesh) state.mesh.events (shown table state node)) → NamedOutcome (option_map_or (λ node. Goes (after_print state (shown table state node))) o (Goes state))
     go None at = λ of. n
-    go (Some node) at = λ of. print_named state (print state node) (own state node n.named (at node refl)) n
+    go (Some node) at = λ of. print_named state (shown table state node) (at node refl) n

@@ -11,7 +11,7 @@ use Rattle.mesh_model.specs.Text.Claims.{name_or_dash}
 use Rattle.mesh_laws.proofs.Lines.Courses.{Follows}
 use Rattle.mesh_laws.proofs.Schedule.Members.{has_either, has_left}
 use Rattle.mesh_laws.proofs.Schedule.Steps.{Effect, no_ticks}
-use Rattle.mesh_lines.specs.ItemLines.{service_name}
+use Rattle.mesh_lines.specs.ItemLines.{IsPlainTable}
 use Rattle.mesh_lines.specs.LineWords.{AreNamed, IsWord}
 use Rattle.mesh_tie.proofs.GainLemmas.{GainsEvents, course_gains, effect_gains}
 use Rattle.mesh_lines.proofs.LogFits.{MeshFits}
@@ -55,7 +55,7 @@ one_more P xs x old new one has = go (has_either xs (x ∷ []) one has)
     go (inr (inl same)) = subst P (sym same) new
     go (inr (inr none)) = absurd none
 
--- what is printed has words for names; an event is one of those that there are, and its names go on
+-- what is printed has words for names, and facts without newlines; an event is one of those that there are, and its names go on
 -- to those that there are
 abbrev pub HasNames : NamesGiven → List Event → Printed → Type 0
 HasNames all events (LocalsShown table) = IsWord table.name
@@ -63,7 +63,7 @@ HasNames all events (OriginatorsShown table) = IsWord table.name
 HasNames all events (NeighborsShown table) = IsWord table.name
 HasNames all events (GlobalsShown table) = IsWord table.name
 HasNames all events (ClaimsShown table) = IsWord table.name × IsWord (name_or_dash table.lan)
-HasNames all events (ServiceShown table) = IsWord (service_name table)
+HasNames all events (ServiceShown table) = IsPlainTable table
 HasNames all events (Decoded bytes) = Unit {0}
 HasNames all events (Happened names event) = GoOn names all × IsOfName names.nodes event × Has events event
 

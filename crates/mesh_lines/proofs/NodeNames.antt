@@ -53,7 +53,7 @@ no_first_alias : (number earlier : ℕ) → HasAlias (first_commit ∷ []) numbe
 no_first_alias zero earlier has = let is = has.1 in cc
 no_first_alias (suc number) earlier has = let low = has.0 in omega (arith, low)
 
-alias_among : (algorithm : Algorithm) (mesh : Mesh) → IsReachable (queries_of algorithm) mesh → (mac : Mac) (number earlier : ℕ) → Has mesh.events (Alias mac number earlier) → IsAmong mesh.nodes mac
+pub alias_among : (algorithm : Algorithm) (mesh : Mesh) → IsReachable (queries_of algorithm) mesh → (mac : Mac) (number earlier : ℕ) → Has mesh.events (Alias mac number earlier) → IsAmong mesh.nodes mac
 alias_among algorithm mesh r mac number earlier told = go (among_or_none mac mesh.nodes)
   where
     has : HasAlias (commits mac (log_of mac mesh.nodes)) number earlier

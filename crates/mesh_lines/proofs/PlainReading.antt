@@ -227,8 +227,14 @@ all_forms = (
               (
                 field _ _ (λ a. end _ tt),
                 (
-                  field _ _ (λ a. field _ _ (λ b. end _ tt)),
-                  (field _ _ (λ a. end _ tt), at_names),
+                  field _ _ (λ a. end _ tt),
+                  (
+                    field _ _ (λ a. field _ _ (λ b. end _ tt)),
+                    (
+                      field _ _ (λ a. end _ tt),
+                      at_names,
+                    ),
+                  ),
                 ),
               ),
             ),

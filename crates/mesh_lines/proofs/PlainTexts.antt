@@ -1,21 +1,27 @@
 -- The texts that a run prints are those of its lines, and have no newline.
-use Rattle.std.proofs.Common.{◌≡◌, Some, subst}
+use Rattle.std.proofs.Common.{◌≡◌, ℕ, Some, slice_get, subst}
+use Rattle.mesh_base.specs.declared.address.Mac.{Mac}
 use Rattle.mesh_base.specs.declared.event.Event.{Event}
 use Rattle.mesh_base.specs.declared.event.Event.TheVariants.{FrameSent, Received, LanSent, Bridged, Lost, Alias, Pinged, Traced, Arp, Alfred}
+use Rattle.mesh_base.specs.declared.event.FactResult.{FactResult}
+use Rattle.mesh_base.specs.declared.event.FactResult.TheVariants.{Off, NoPrimary, Empty, Fact as FactTold}
 use Rattle.mesh_model.specs.declared.line_form.Algorithm.{Algorithm}
+use Rattle.mesh_model.specs.declared.service.Fact.{Fact}
 use Rattle.mesh_model.specs.Acts.Choosing.{call_frame}
-use Rattle.mesh_model.specs.Clients.Log.{LineGiven, Attach, Frame, Gone, Join, Leave, Arp as ArpGiven, Dhcp, Sets, Put, Get, Ping, Trace}
-use Rattle.mesh_model.specs.Net.Mesh.{Mesh}
+use Rattle.mesh_model.specs.Clients.Log.{LineGiven, Attach, Frame, Gone, Join, Leave, Arp as ArpGiven, Dhcp, Sets, Put, Get, Ping, Trace, Reboot}
+use Rattle.mesh_model.specs.Net.Mesh.{Mesh, NodeLog}
 use Rattle.mesh_model.specs.Net.Next.{Has}
 use Rattle.mesh_model.specs.Packets.Payload.{ClientFrame}
 use Rattle.mesh_model.specs.Routes.Algorithms.{queries_of}
+use Rattle.mesh_model.specs.Run.Shown.{fact_table}
 use Rattle.mesh_laws.specs.Cuts.{IsUnbroken}
-use Rattle.mesh_tie.specs.Carried.{HandsOutGiven, WasGiven, frame_of_line, on_lan, to_node}
+use Rattle.mesh_tie.specs.Carried.{HandsOutGiven, WasGiven, WasPut, frame_of_line, on_lan, to_node}
 use Rattle.mesh_tie.specs.Steps.{IsReachable}
 use Rattle.mesh_tie.proofs.CarriedClients.{hands_out_given_frames}
-use Rattle.mesh_tie.proofs.CarriedOn.{tells_no_facts}
+use Rattle.mesh_tie.proofs.CarriedOn.{keeps_put_facts, tells_put_facts}
 use Rattle.mesh_tie.proofs.VLemmas.{algorithms_keep}
-use Rattle.mesh_lines.specs.LineWords.{HasPlainText}
+use Rattle.mesh_lines.specs.ItemLines.{ArePlainFacts}
+use Rattle.mesh_lines.specs.LineWords.{HasPlainFact, HasPlainText}
 use Rattle.mesh_lines.proofs.LogFits.{GivenPlain, LinePlain, MeshFits, noted_fits}
 
 -- the text of the client frame of a line has no newline
@@ -32,6 +38,7 @@ line_plain (Put type_no version text) frame plain is = cc
 line_plain (Get type_no) frame plain is = cc
 line_plain (Ping target) frame plain is = cc
 line_plain (Trace target) frame plain is = cc
+line_plain Reboot frame plain is = cc
 
 -- the text of a client frame that a line gave has no newline
 given_plain : (mesh : Mesh) (frame : ClientFrame) → MeshFits mesh → WasGiven mesh frame → IsUnbroken frame.text
@@ -42,6 +49,26 @@ given_plain mesh frame fits (on_lan place put found by is tells) = fits.puts pla
 handed_out : (algorithm : Algorithm) (mesh : Mesh) → IsReachable (queries_of algorithm) mesh → HandsOutGiven mesh
 handed_out algorithm mesh r = hands_out_given_frames (queries_of algorithm) (algorithms_keep algorithm) mesh r
 
+-- ---- facts
+-- the text of a fact that a line put has no newline
+put_plain : (mesh : Mesh) (fact : Fact) → MeshFits mesh → WasPut mesh fact → IsUnbroken fact.bytes
+put_plain mesh fact fits w = subst GivenPlain w.given_is (noted_fits mesh.nodes w.place w.node w.entry fits.logs w.found w.noted).plain
+
+-- so it is of each that is told
+told_plain : (algorithm : Algorithm) (mesh : Mesh) → IsReachable (queries_of algorithm) mesh → MeshFits mesh → (node : Mac) (type_no : ℕ) (result : FactResult) → Has mesh.events (Alfred node type_no result) → HasPlainFact result
+told_plain algorithm mesh r fits node type_no Off has = tt
+told_plain algorithm mesh r fits node type_no NoPrimary has = tt
+told_plain algorithm mesh r fits node type_no Empty has = tt
+told_plain algorithm mesh r fits node type_no (FactTold source version text) has =
+    let one = tells_put_facts (queries_of algorithm) (algorithms_keep algorithm) mesh r node type_no source version text has in
+    put_plain mesh (record { source = source; type_no = one.0; version = version; bytes = text }) fits one.1
+
+-- and of each that a node keeps
+pub kept_plain : (algorithm : Algorithm) (mesh : Mesh) → IsReachable (queries_of algorithm) mesh → MeshFits mesh → (now place : ℕ) (node : NodeLog) → slice_get mesh.nodes place ≡ Some node → ArePlainFacts (fact_table algorithm now node).rows
+kept_plain algorithm mesh r fits now place node found kept has =
+    put_plain mesh kept.fact fits (keeps_put_facts (queries_of algorithm) (algorithms_keep algorithm) mesh r place node found now kept has)
+
+-- ---- events
 pub event_plain : (algorithm : Algorithm) (mesh : Mesh) → IsReachable (queries_of algorithm) mesh → MeshFits mesh → (event : Event) → Has mesh.events event → HasPlainText event
 event_plain algorithm mesh r fits (FrameSent number moment from to reason bytes) has = tt
 event_plain algorithm mesh r fits (Received moment node vid src dst text) has = given_plain mesh (record { dst = dst; src = src; vid = vid; text = text }) fits ((handed_out algorithm mesh r).handed_out moment node vid src dst text has)
@@ -52,4 +79,4 @@ event_plain algorithm mesh r fits (Alias node commit earlier) has = tt
 event_plain algorithm mesh r fits (Pinged node target seq result) has = tt
 event_plain algorithm mesh r fits (Traced node target result) has = tt
 event_plain algorithm mesh r fits (Arp node ip result) has = tt
-event_plain algorithm mesh r fits (Alfred node type_no result) has = absurd (tells_no_facts (queries_of algorithm) (algorithms_keep algorithm) mesh r node type_no result has)
+event_plain algorithm mesh r fits (Alfred node type_no result) has = told_plain algorithm mesh r fits node type_no result has

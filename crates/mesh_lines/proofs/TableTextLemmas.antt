@@ -43,12 +43,12 @@ use Rattle.mesh_lines.proofs.Words.{mac_from}
 
 -- ---- lines of aliases
 -- what is printed has its line among those of all
-line_among : (choice : FrameChoice) (printed : List Printed) (item : Printed) (line : List ℕ) → Has printed item → Has (item_lines choice item) line → Has (lines_printed choice printed) line
+pub line_among : (choice : FrameChoice) (printed : List Printed) (item : Printed) (line : List ℕ) → Has printed item → Has (item_lines choice item) line → Has (lines_printed choice printed) line
 line_among choice [] item line has one = absurd has
 line_among choice (first ∷ rest) item line (inl same) one = has_left (item_lines choice first) (lines_printed choice rest) line (subst (λ x. Has (item_lines choice x) line) same one)
 line_among choice (first ∷ rest) item line (inr has) one = has_right (item_lines choice first) (lines_printed choice rest) line (line_among choice rest item line has one)
 
-alias_line_is : (names all : NamesGiven) (mac : Mac) (number earlier : ℕ) → GoOn names all → HasName names.nodes mac → event_line names (Alias mac number earlier) ≡ event_line all (Alias mac number earlier)
+pub alias_line_is : (names all : NamesGiven) (mac : Mac) (number earlier : ℕ) → GoOn names all → HasName names.nodes mac → event_line names (Alias mac number earlier) ≡ event_line all (Alias mac number earlier)
 unfolding event_line
 alias_line_is names all mac number earlier g h = ap (λ name. line_of (codes "alias " ∷ name ∷ (codes " " ++ decimal number) ∷ (codes " " ++ decimal earlier) ∷ [])) (name_stays names all g.more mac g.nodes h)
 

@@ -5,7 +5,8 @@ use Rattle.mesh_model.specs.Run.PlainRun.{after_lines, start}
 use Rattle.mesh_model.specs.Run.State.{printed_text}
 use Rattle.mesh_model.specs.Scenario.Lines.{lines_of}
 use Rattle.mesh_lines.specs.PlainLines.{PlainContents}
-use Rattle.mesh_lines.specs.TextLaws.{AreFirst, PrintedIsPlain, TextsAreLines, TextsShowCommits, TextsShowRightFrames}
+use Rattle.mesh_lines.specs.TextLaws.{AreFirst, PrintedIsPlain, TextsAreLines, TextsShowAliases, TextsShowCommits, TextsShowRightFrames}
+use Rattle.mesh_lines.proofs.AliasTextLemmas.{alias_lines_are_right}
 use Rattle.mesh_lines.proofs.FrameTextLemmas.{table_frames_are_right}
 use Rattle.mesh_lines.proofs.InputLines.{input_lines_are_plain, plain_front}
 use Rattle.mesh_lines.proofs.ItemLemmas.{lines_of_text}
@@ -28,3 +29,6 @@ texts_show_commits choice input lines f text front = ok_lines_are_committed choi
 
 pub texts_show_right_frames : TextsShowRightFrames
 texts_show_right_frames choice input lines f text front = table_frames_are_right choice lines text (first_plain input lines f) front
+
+pub texts_show_aliases : TextsShowAliases
+texts_show_aliases choice input lines f text front = alias_lines_are_right choice lines text (first_plain input lines f) front

@@ -3,14 +3,16 @@
 -- has one. The main word is `item_lines`.
 use Rattle.std.specs.Prelude.{ℕ, ◌+◌, List, [], ◌∷◌, ◌++◌, length, flat_map, map, codes, if◌then◌else◌, ⊤}
 use Rattle.mesh_model.specs.declared.frame_choice.FrameChoice.{FrameChoice}
+use Rattle.mesh_model.specs.declared.service.KeptFact.{KeptFact}
 use Rattle.mesh_model.specs.Net.Next.{Has}
 use Rattle.mesh_model.specs.Run.State.{Printed, ClaimsShown, Decoded, GlobalsShown, Happened, LocalsShown, NeighborsShown, OriginatorsShown, ServiceShown}
 use Rattle.mesh_model.specs.Text.Claims.{ClaimTable, claim_header, claim_line, name_or_dash}
 use Rattle.mesh_model.specs.Text.Decode.{decode_lines}
 use Rattle.mesh_model.specs.Text.Events.{event_line, is_shown}
 use Rattle.mesh_model.specs.Text.GlobalTables.{GlobalPart, GlobalTable, entry_line, global_header, global_line, mark_line}
-use Rattle.mesh_model.specs.Text.Services.{AddressTable, AddressesOf, GatewayTable, GatewaysOf, GroupTable, GroupsOf, ServiceTable, address_header, address_line, gateway_header, gateway_line, group_header, groups_line, joined_line}
+use Rattle.mesh_model.specs.Text.Services.{AddressTable, AddressesOf, FactTable, FactsOf, GatewayTable, GatewaysOf, GroupTable, GroupsOf, ServiceTable, address_header, address_line, fact_header, fact_line, gateway_header, gateway_line, group_header, groups_line, joined_line}
 use Rattle.mesh_model.specs.Text.Tables.{LinkTable, LocalTable, OrigTable, local_header, local_line, neighbor_line, orig_line, route_header, vlan_line}
+use Rattle.mesh_laws.specs.Cuts.{IsUnbroken}
 use Rattle.mesh_lines.specs.LineWords.{AreNamed, HasPlainText, IsWord}
 
 -- the lines of a node's local table
@@ -61,17 +63,17 @@ abbrev pub address_lines : AddressTable → List (List ℕ)
 address_lines table = address_header table.name (length table.rows)
     ∷ map address_line table.rows
 
+-- the lines of the facts of a node
+abbrev pub fact_lines : FactTable → List (List ℕ)
+fact_lines table = fact_header table.name table.mode (length table.rows)
+    ∷ map (fact_line table.now) table.rows
+
 -- the lines of a table of a service
 abbrev pub service_lines : ServiceTable → List (List ℕ)
 service_lines (GatewaysOf table) = gateway_lines table
 service_lines (GroupsOf table) = group_lines table
 service_lines (AddressesOf table) = address_lines table
-
--- the name of the node of a table of a service
-abbrev pub service_name : ServiceTable → List ℕ
-service_name (GatewaysOf table) = table.name
-service_name (GroupsOf table) = table.name
-service_name (AddressesOf table) = table.name
+service_lines (FactsOf table) = fact_lines table
 
 -- the lines of what is printed at once
 abbrev pub item_lines : FrameChoice → Printed → List (List ℕ)
@@ -89,14 +91,26 @@ item_lines choice (Happened names event) =
 abbrev pub lines_printed : FrameChoice → List Printed → List (List ℕ)
 lines_printed choice printed = flat_map (item_lines choice) printed
 
--- the names and the text of what is printed at once have no newline
+-- the texts of facts have no newline
+abbrev pub ArePlainFacts : List KeptFact → Type 0
+ArePlainFacts rows = (kept : KeptFact) → Has rows kept → IsUnbroken kept.fact.bytes
+
+-- the name of the node of a table of a service is a word, and the texts of its facts have no
+-- newline
+abbrev pub IsPlainTable : ServiceTable → Type 0
+IsPlainTable (GatewaysOf table) = IsWord table.name
+IsPlainTable (GroupsOf table) = IsWord table.name
+IsPlainTable (AddressesOf table) = IsWord table.name
+IsPlainTable (FactsOf table) = IsWord table.name × ArePlainFacts table.rows
+
+-- the names and the texts of what is printed at once have no newline
 abbrev pub IsPlain : Printed → Type 0
 IsPlain (LocalsShown table) = IsWord table.name
 IsPlain (OriginatorsShown table) = IsWord table.name
 IsPlain (NeighborsShown table) = IsWord table.name
 IsPlain (GlobalsShown table) = IsWord table.name
 IsPlain (ClaimsShown table) = IsWord table.name × IsWord (name_or_dash table.lan)
-IsPlain (ServiceShown table) = IsWord (service_name table)
+IsPlain (ServiceShown table) = IsPlainTable table
 IsPlain (Decoded bytes) = ⊤
 IsPlain (Happened names event) = AreNamed names × HasPlainText event
 

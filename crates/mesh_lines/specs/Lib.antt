@@ -6,5 +6,6 @@ pub mod LineSources
 pub mod PlainLines
 pub mod TableText
 pub mod FrameText
+pub mod AliasText
 pub mod LineFields
 pub mod TextLaws

@@ -2,7 +2,7 @@
 -- word is `ReadIsPlain`.
 use Rattle.std.specs.Prelude.{◌≡◌, ℕ, List, [], ◌∷◌, Ok, ⊤}
 use Rattle.mesh_model.specs.declared.line_form.Command.{Command}
-use Rattle.mesh_model.specs.declared.line_form.Command.TheVariants.{Nothing, Algo, Node, Link, Lan, Frame, Gone, Join, Leave, Arp, Dhcp, Wifi, GwOff, GwServer, GwClient, Mcast, Dat, Alfred, Put, Get, Ping, Trace, Run, Deliver, Show, Decode}
+use Rattle.mesh_model.specs.declared.line_form.Command.TheVariants.{Nothing, Algo, Node, Link, Lan, Frame, Gone, Join, Leave, Arp, Dhcp, Wifi, GwOff, GwServer, GwClient, Mcast, Dat, Alfred, Put, Get, Ping, Trace, Reboot, Run, Deliver, Show, Decode}
 use Rattle.mesh_model.specs.Scenario.Commands.{command_of_line}
 use Rattle.mesh_model.specs.Scenario.Lines.{content, lines_of}
 use Rattle.mesh_laws.specs.Cuts.{IsUnbroken}
@@ -32,6 +32,7 @@ GivesPlain (Put node type_no version text) = IsUnbroken text
 GivesPlain (Get node type_no) = ⊤
 GivesPlain (Ping node target) = ⊤
 GivesPlain (Trace node target) = ⊤
+GivesPlain (Reboot node) = ⊤
 GivesPlain (Run time) = ⊤
 GivesPlain (Deliver number) = ⊤
 GivesPlain (Show node table) = ⊤

@@ -1,10 +1,12 @@
 -- The laws of the text that a run prints, over the first lines of any input, and any front of the
--- text: it is the lines of what was printed, and what its lines say of tables and frames is right.
--- The main words are `TextsAreLines`, `TextsShowCommits` and `TextsShowRightFrames`.
+-- text: it is the lines of what was printed, and what its lines say of tables, frames and aliases is
+-- right. The main words are `TextsAreLines`, `TextsShowCommits`, `TextsShowRightFrames` and
+-- `TextsShowAliases`.
 use Rattle.std.specs.Prelude.{◌≡◌, ℕ, List, ◌++◌}
 use Rattle.mesh_model.specs.declared.frame_choice.FrameChoice.{FrameChoice}
 use Rattle.mesh_model.specs.Run.PlainRun.{Run, after_lines, output, start}
 use Rattle.mesh_model.specs.Scenario.Lines.{lines_of}
+use Rattle.mesh_lines.specs.AliasText.{AliasLinesAreRight}
 use Rattle.mesh_lines.specs.FrameText.{TableFramesAreRight}
 use Rattle.mesh_lines.specs.ItemLines.{ArePlain, lines_printed}
 use Rattle.mesh_lines.specs.TableText.{OkLinesAreCommitted}
@@ -42,3 +44,9 @@ abbrev pub TextsShowRightFrames : Type 0
 TextsShowRightFrames = (choice : FrameChoice) (input : List ℕ) (lines : List (List ℕ)) →
     AreFirst input lines → (text : List ℕ) → IsFrontOf (after_lines (start choice) lines) text →
     TableFramesAreRight choice lines text
+
+-- each line of an alias, in a text, is of a commit that has it, and each such commit has its line
+abbrev pub TextsShowAliases : Type 0
+TextsShowAliases = (choice : FrameChoice) (input : List ℕ) (lines : List (List ℕ)) →
+    AreFirst input lines → (text : List ℕ) → IsFrontOf (after_lines (start choice) lines) text →
+    AliasLinesAreRight choice lines text

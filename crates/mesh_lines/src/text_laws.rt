@@ -1,6 +1,6 @@
 //! What the text of a run says, over the first lines of any input, and any front of the text.
 
-ghost use Rattle.mesh_lines.specs.TextLaws.{PrintedIsPlain, TextsAreLines, TextsShowCommits, TextsShowRightFrames};
+ghost use Rattle.mesh_lines.specs.TextLaws.{PrintedIsPlain, TextsAreLines, TextsShowAliases, TextsShowCommits, TextsShowRightFrames};
 
 /// The text of a run is the lines of what it printed, one after the other, each ended by its only
 /// newline.
@@ -21,4 +21,11 @@ pub fn texts_show_commits()
 /// it tells of an alias of that node.
 pub fn texts_show_right_frames()
     ensures { TextsShowRightFrames }
+{}
+
+/// Each line that begins with `alias` is that of a commit that has this alias, and each commit that
+/// has one has its line: where a tick made the commit, behind the lines of the tick's ELP and before
+/// those of its originator message; where a reboot did, as the only event of the scenario's line.
+pub fn texts_show_aliases()
+    ensures { TextsShowAliases }
 {}

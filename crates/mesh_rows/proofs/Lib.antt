@@ -5,6 +5,8 @@ pub mod DecodeOnLiterals
 pub mod NetOnLiterals
 pub mod TablesOnLiterals
 pub mod ServicesOnLiterals
+pub mod FragmentsOnLiterals
+pub mod LoopsOnLiterals
 pub mod LineOnLiterals
 pub mod WordsOnLiterals
 pub mod GeneratedOnLiterals

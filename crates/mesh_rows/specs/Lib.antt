@@ -13,6 +13,8 @@ pub mod CommitRows
 pub mod LineRows
 pub mod RouteRows
 pub mod ThroughputRows
+-- A node that reboots, and what others hear of it.
+pub mod RestartRows
 -- What is said of a worked scenario, of bytes that are decoded, and of calls that are written out.
 pub mod CallRows
 pub mod ContainerRows
@@ -20,3 +22,7 @@ pub mod EventRows
 pub mod WordRows
 -- Claims, services, and the frames that tell of them.
 pub mod ServiceRows
+-- A packet that is cut, and its parts as they come.
+pub mod FragmentRows
+-- Routes that lines tell of.
+pub mod LoopRows

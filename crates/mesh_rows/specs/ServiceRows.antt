@@ -1,6 +1,6 @@
 -- Nodes A to E, a client, and what comes to them: claims on a LAN, gateways, primaries, facts and
 -- the parts of a transaction. The main words are `node`, `client`, `claims`, `told` and `part`.
-use Rattle.std.specs.Prelude.{ℕ, ◌+◌, [], ◌∷◌, List, codes, Bool}
+use Rattle.std.specs.Prelude.{ℕ, ◌+◌, [], ◌∷◌, ◌++◌, List, map, replicate, codes, Bool}
 use Rattle.mesh_base.specs.declared.address.Mac.{Mac}
 use Rattle.mesh_base.specs.declared.client.Key.{Key}
 use Rattle.mesh_base.specs.declared.client.Vid.{Vid}
@@ -68,3 +68,27 @@ part moment number = record {
 abbrev pub end : ℕ → ℕ → TxnCall
 end moment count =
     record { moment = moment; sender = node 11; id = 1; brought = AnEnd count }
+
+-- ---- bytes of the ARP table
+
+-- C is told to have 10.0.0.2, in a frame to all stations that may be tagged: the bytes before the
+-- operation, and those of the answer
+abbrev pub told_front : List ℕ → ℕ → List ℕ
+told_front tag ethertype = 255 ∷ 255 ∷ 255 ∷ 255 ∷ 255 ∷ 255 ∷ (node 12).0 ++ tag
+    ++ 8 ∷ ethertype ∷ 0 ∷ 1 ∷ 8 ∷ 0 ∷ 6 ∷ 4 ∷ []
+
+abbrev pub told_rest : ℕ → List ℕ
+told_rest operation = 0 ∷ operation ∷ (node 12).0 ++ 10 ∷ 0 ∷ 0 ∷ 2 ∷ replicate 10 0
+
+-- the bytes in no VLAN
+abbrev pub told_bytes : List ℕ
+told_bytes = told_front [] 6 ++ told_rest 2
+
+-- the bytes with a tag of these two bytes
+abbrev pub tagged_bytes : ℕ → ℕ → List ℕ
+tagged_bytes high low = told_front (129 ∷ 0 ∷ high ∷ low ∷ []) 6 ++ told_rest 2
+
+-- each front of bytes that is shorter than they are
+abbrev pub shorter_fronts : List ℕ → List (List ℕ)
+shorter_fronts [] = []
+shorter_fronts (byte ∷ rest) = [] ∷ map (λ front. byte ∷ front) (shorter_fronts rest)

@@ -3,7 +3,7 @@
 
 ghost use Rattle.std.specs.Prelude.{◌≡◌, true, false, [], ◌∷◌, ◌++◌, codes, length, Some, None};
 ghost use Rattle.mesh_model.specs.declared.ending.LimitName.TheVariants.{Clients, Clock, FrameBytes, Frames, Nodes, Vlans};
-ghost use Rattle.mesh_model.specs.declared.ending.Refusal.TheVariants.{LinkTaken, NoSuchFrame, NotBuilt, SameNode, UnknownName};
+ghost use Rattle.mesh_model.specs.declared.ending.Refusal.TheVariants.{LinkTaken, NoSuchFrame, SameNode, UnknownName};
 ghost use Rattle.mesh_model.specs.declared.ending.Stop.TheVariants.{Limit, Refused};
 ghost use Rattle.mesh_model.specs.declared.frame_choice.FrameChoice.TheVariants.{All, Client, Hidden, Ogm};
 ghost use Rattle.mesh_model.specs.Acts.OwnContainers.{arp_table_container};

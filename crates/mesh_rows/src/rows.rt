@@ -5,7 +5,7 @@ ghost use Rattle.mesh_model.specs.Text.Messages.{halt_text};
 ghost use Rattle.mesh_model.specs.Scenario.Commands.{hash};
 ghost use Rattle.mesh_rows.specs.Rows.{lines, one_client, one_row, HaltsAt, RunsToItsEnd};
 ghost use Rattle.mesh_model.specs.declared.ending.LimitName.TheVariants.{Line};
-ghost use Rattle.mesh_model.specs.declared.ending.Refusal.TheVariants.{AddressTaken, BadMac, MissingWord, NameTaken, NotBuilt, UnknownName};
+ghost use Rattle.mesh_model.specs.declared.ending.Refusal.TheVariants.{AddressTaken, BadMac, MissingWord, NameTaken, UnknownName};
 ghost use Rattle.mesh_model.specs.declared.ending.Stop.TheVariants.{Limit, Refused};
 
 /// A node that saw a client prints it in its local table.
@@ -71,9 +71,9 @@ pub fn a_second_node_of_an_address_is_refused()
         [] 2 (Refused AddressTaken) }
 {}
 
-/// A form that isn't built is refused before a name that isn't known.
-pub fn a_fact_is_not_built()
-    ensures { HaltsAt (lines (codes "alfred A get 64" ∷ [])) [] 1 (Refused NotBuilt) }
+/// A fact is put at a node that an earlier line gave.
+pub fn a_fact_of_an_unknown_node_is_refused()
+    ensures { HaltsAt (lines (codes "alfred A put 64 1 hi" ∷ [])) [] 1 (Refused UnknownName) }
 {}
 
 /// The words of a line are looked at from left to right.

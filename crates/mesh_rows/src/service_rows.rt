@@ -1,8 +1,8 @@
 //! What nodes do for one another, computed from the definitions alone: gateways, groups, the ARP
 //! table, facts, their primaries, and transactions.
 
-ghost use Rattle.std.specs.Prelude.{◌≡◌, [], ◌∷◌, codes, true, false, None, Some, length};
-ghost use Rattle.mesh_model.specs.Packets.ArpMessages.{arp_message_of, arp_spelling};
+ghost use Rattle.std.specs.Prelude.{◌≡◌, [], ◌∷◌, ◌++◌, codes, true, false, None, Some, filter, is_some, length, map};
+ghost use Rattle.mesh_model.specs.Packets.ArpMessages.{arp_came, arp_message_of, arp_spelling};
 ghost use Rattle.mesh_model.specs.Packets.FactMessages.{HasEnd, HasPart, Primary, Requests, fact_message_of, fact_message_spelling};
 ghost use Rattle.mesh_model.specs.Services.ArpTable.{candidates_of, node_place, pair_address, pair_place, pairs_at};
 ghost use Rattle.mesh_model.specs.Services.Facts.{CameFrom, WasPut, facts_at, kept_fact};
@@ -13,7 +13,7 @@ ghost use Rattle.mesh_model.specs.Services.Transactions.{made_whole, transaction
 ghost use Rattle.mesh_model.specs.declared.line_form.Policy.TheVariants.{Best, Late, Stable};
 ghost use Rattle.mesh_model.specs.declared.service.Fan.TheVariants.{Each, Flood, Nobody};
 ghost use Rattle.mesh_model.specs.declared.service.Mark.TheVariants.{First, Local, Synced};
-ghost use Rattle.mesh_rows.specs.ServiceRows.{end, first_ip, gateway, learned, no_vlan, node, part, primary, second_ip, told, vlan};
+ghost use Rattle.mesh_rows.specs.ServiceRows.{end, first_ip, gateway, learned, no_vlan, node, part, primary, second_ip, shorter_fronts, tagged_bytes, told, told_bytes, told_front, told_rest, vlan};
 
 /// A gateway is chosen by its policy.
 pub fn a_gateway_is_chosen_by_its_policy()
@@ -78,6 +78,23 @@ pub fn a_pair_has_three_candidates()
         (node 14 ∷ node 13 ∷ node 12 ∷ node 11 ∷ node 10 ∷ [])
         ≡ node 12 ∷ node 10 ∷ node 13 ∷ [] }
     ensures few { candidates_of first_ip no_vlan (node 14 ∷ []) ≡ node 14 ∷ [] }
+{}
+
+/// Nothing comes of bytes that are no message of the ARP table: cut anywhere, or a byte longer, of
+/// another type, operation or subtype, or with a tag that is no VLAN's. The same bytes whole are one.
+pub fn nothing_comes_of_other_bytes()
+    ensures whole { is_some (arp_came 3 told_bytes) ≡ true }
+    ensures short { filter is_some (map (arp_came 3) (shorter_fronts told_bytes)) ≡ [] }
+    ensures long { arp_came 3 (told_bytes ++ 0 ∷ []) ≡ None }
+    ensures other_type { arp_came 3 (told_front [] 0 ++ told_rest 2) ≡ None }
+    ensures operation { map (λ operation. arp_came 3 (told_front [] 6 ++ told_rest operation))
+        (0 ∷ 1 ∷ 3 ∷ []) ≡ None ∷ None ∷ None ∷ [] }
+    ensures subtype { map (λ subtype. arp_came subtype told_bytes) (1 ∷ 2 ∷ 5 ∷ [])
+        ≡ None ∷ None ∷ None ∷ [] }
+    ensures vlans { map is_some (map (arp_came 3) (tagged_bytes 0 1 ∷ tagged_bytes 15 254 ∷ []))
+        ≡ true ∷ true ∷ [] }
+    ensures no_vlans { map (arp_came 3) (tagged_bytes 0 0 ∷ tagged_bytes 15 255 ∷ [])
+        ≡ None ∷ None ∷ [] }
 {}
 
 /// A question for the address of 10.0.0.2, in VLAN 7.

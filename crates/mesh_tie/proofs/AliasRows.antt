@@ -1,5 +1,5 @@
--- Which acts tell of an alias: those of a tick that commits one, and no others.
-use Rattle.std.proofs.Common.{◌≡◌, ◌⊎◌, inl, inr, ◌==◌, ℕ, suc, Bool, true, false, cond, List, [], ◌∷◌, ◌++◌, length, Option, Some, None, refl, sym, ap, subst, arith}
+-- Which acts tell of an alias: those of a tick that commits one, or of a reboot, and no others.
+use Rattle.std.proofs.Common.{◌≡◌, ◌⊎◌, inl, inr, ◌==◌, ℕ, suc, Bool, true, false, cond, List, [], ◌∷◌, ◌++◌, length, Option, Some, None, refl, sym, ap, subst, append-nil, ◌∙◌, arith}
 use Rattle.std.specs.List.{AllByRecursion}
 use Rattle.std.proofs.lemmas.Bool.{ne_eqb}
 use Rattle.mesh_base.specs.declared.address.Mac.{Mac}
@@ -10,24 +10,27 @@ use Rattle.mesh_model.specs.declared.packet.Head.{Head}
 use Rattle.mesh_model.specs.declared.packet.Head.TheVariants.{IvOgm, Bcast, Elp, Ogm2, Unicast, Frag, Unicast4, Icmp, Utvlv}
 use Rattle.mesh_model.specs.Acts.Choosing.{acts_of, asking_acts, call_frame, calling_acts, claimed_first, client_acts, from_lan_acts, on_from_lan, probing_acts, sighting_acts}
 use Rattle.mesh_model.specs.Acts.BridgeRows.{Place, round_acts, unclaim_acts}
+use Rattle.mesh_model.specs.Acts.FactRows.{fact_acts, fact_round_acts, get_acts}
 use Rattle.mesh_model.specs.Acts.FrameRows.{broadcast_acts, here_acts, passed_frame}
 use Rattle.mesh_model.specs.Acts.OwnContainers.{own_containers}
 use Rattle.mesh_model.specs.Acts.ProbeRows.{IcmpMessage}
-use Rattle.mesh_model.specs.Acts.Rows.{Own, alias_acts, alias_event, commit_acts, elp_acts, head_acts, icmp_acts, message_acts, own_by, packet_acts, packets_acts, place_at, taken_acts, tick_acts}
+use Rattle.mesh_model.specs.Acts.Rows.{Own, alias_acts, alias_event, commit_acts, elp_acts, head_acts, icmp_acts, message_acts, own_by, packet_acts, packets_acts, place_at, reboot_acts, taken_acts, tick_acts}
 use Rattle.mesh_model.specs.Acts.TableRows.{other_containers, own_answer}
-use Rattle.mesh_model.specs.Clients.Log.{LinkFrame, LanFrame, Frame, Gone, Join, Leave, Arp, Dhcp, Ping, Trace, Log, Line, LineGiven, Attach, Sets, Put, Get}
+use Rattle.mesh_model.specs.Clients.Log.{LinkFrame, LanFrame, Frame, Gone, Join, Leave, Arp, Dhcp, Ping, Trace, Reboot, Log, Line, LineGiven, Attach, Sets, Put, Get, line_reboots}
 use Rattle.mesh_model.specs.Clients.Lans.{Bridge}
 use Rattle.mesh_model.specs.Clients.Mentions.{Mention, key_of, mentions, next_mentions, passed_from_lan}
 use Rattle.mesh_model.specs.Clients.Settings.{Settings}
 use Rattle.mesh_model.specs.Commits.Aliases.{alias_before, last_alias}
 use Rattle.mesh_model.specs.Commits.Announcements.{announcement}
-use Rattle.mesh_model.specs.Commits.History.{History, with_message, committed, is_commit_tick, present_table}
+use Rattle.mesh_model.specs.Commits.History.{History, with_message, commits, committed, history, is_commit_tick, present_table, restarted}
+use Rattle.mesh_model.specs.Commits.Versions.{first_commit}
 use Rattle.mesh_model.specs.Knowledge.Known.{Knowledge}
 use Rattle.mesh_model.specs.Knowledge.Steps.{Coming, advertised, after_packet, after_sighting, knowledge}
 use Rattle.mesh_model.specs.Knowledge.Told.{Message, message_in, message_of, message_with}
 use Rattle.mesh_model.specs.Net.Next.{Has}
 use Rattle.mesh_model.specs.Packets.Containers.{containers_of, containers_spelling}
 use Rattle.mesh_model.specs.Packets.Contents.{first_roaming, first_table}
+use Rattle.mesh_model.specs.Packets.FactMessages.{fact_message_of}
 use Rattle.mesh_model.specs.Packets.FirstPacket.{Packet}
 use Rattle.mesh_model.specs.Packets.LanFrames.{client_frame_in, lan_message_of}
 use Rattle.mesh_model.specs.Packets.LinkFrame.{link_frame}
@@ -36,6 +39,7 @@ use Rattle.mesh_model.specs.Routes.Addresses.{same_mac}
 use Rattle.mesh_model.specs.Routes.Queries.{Queries}
 use Rattle.mesh_model.specs.Routes.RouteLog.{RouteLog}
 use Rattle.mesh_model.specs.Tables.Versions.{Version}
+use Rattle.mesh_laws.proofs.LastLogLemmas.{reboot_line}
 use Rattle.mesh_laws.proofs.Schedule.Members.{has_either, has_left, has_right}
 use Rattle.mesh_tie.proofs.ArpActs.{unicast4_acts}
 use Rattle.mesh_tie.proofs.BridgeActs.{claimed_puts}
@@ -43,7 +47,8 @@ use Rattle.mesh_tie.proofs.LanSteps.{lan_on}
 use Rattle.mesh_tie.proofs.CalmRows.{calm_call, calm_frame, calm_here, calm_session}
 use Rattle.mesh_tie.proofs.CommitLemmas.{Committed, as_before, committed_is, one_more}
 use Rattle.mesh_tie.proofs.EntryLemmas.{each_appended}
-use Rattle.mesh_tie.proofs.NamesRows.{IsPlain, plain_bridges, plain_round, plain_unclaim, plain_advert, plain_broadcast, plain_icmp, plain_message, plain_ogm, plain_other, plain_own, plain_passed, plain_question, plain_unicast4}
+use Rattle.mesh_tie.proofs.NamesRows.{IsPlain, plain_bridges, plain_round, plain_unclaim, plain_advert, plain_broadcast, plain_icmp, plain_message, plain_ogm, plain_other, plain_own, plain_passed, plain_question, plain_store, plain_unicast4}
+use Rattle.mesh_tie.proofs.FactActs.{came_stores, get_stores, round_stores}
 use Rattle.mesh_tie.proofs.Sayable.{IsCalm, IsNoAlias}
 
 -- ---- acts that tell of none
@@ -56,7 +61,7 @@ IsQuiet (Print event) = IsNoAlias event
 abbrev pub AreQuiet : List Act → Type 0
 AreQuiet acts = AllByRecursion IsQuiet acts
 
-plain_quiet : (acts : List Act) → AllByRecursion IsPlain acts → AreQuiet acts
+pub plain_quiet : (acts : List Act) → AllByRecursion IsPlain acts → AreQuiet acts
 plain_quiet [] plain = tt
 plain_quiet (Link to reason bytes ∷ acts) plain = (tt, plain_quiet acts plain.1)
 plain_quiet (Lan bytes ∷ acts) plain = (tt, plain_quiet acts plain.1)
@@ -95,7 +100,10 @@ packet_quiet q me own came known packet = go packet.head packet.tail
     go (Unicast ttl ttvn dst) tail =
         let here = here_acts q known own.mentions own.bridge (place_at me came) ttl tail in
         let passed = passed_frame q known (place_at me came) ttl ttvn dst tail in
-        quiet_if (same_mac dst me) here passed (calm_quiet here (calm_here q known own.mentions own.bridge (place_at me came) ttl tail)) (plain_quiet passed (plain_passed q known (place_at me came) ttl ttvn dst tail))
+        let told = fact_acts q known (place_at me came) (fact_message_of tail) in
+        quiet_if (same_mac dst me) (here ++ told) passed
+        (each_appended IsQuiet here told (calm_quiet here (calm_here q known own.mentions own.bridge (place_at me came) ttl tail)) (plain_quiet told (plain_store me told (came_stores q known (place_at me came) (fact_message_of tail)))))
+        (plain_quiet passed (plain_passed q known (place_at me came) ttl ttvn dst tail))
     go (Frag ttl number priority dst o seq total) tail = tt
     go (Unicast4 ttl ttvn dst src subtype) tail = plain_quiet (unicast4_acts q me came known ttl ttvn dst src subtype tail) (plain_unicast4 q me came known ttl ttvn dst src subtype tail)
     go (Icmp ttl msg dst o uid seq) tail =
@@ -119,9 +127,10 @@ packets_quiet q me own came known (packet ∷ rest) = each_appended IsQuiet (pac
 pub frame_quiet : (q : Queries) (me : Mac) (mine : Log) (now number : ℕ) (from : Mac) (throughput : ℕ) (bytes : List ℕ) → AreQuiet (acts_of q me mine now (LinkFrame number from throughput bytes))
 frame_quiet q me mine now number from throughput bytes = packets_quiet q me (own_by me mine) (record { now = now; from = from; throughput = throughput; number = number }) (knowledge q me mine) (link_frame bytes).packets
 
-pub line_quiet : (q : Queries) (me : Mac) (mine : Log) (now : ℕ) (line : LineGiven) → AreQuiet (acts_of q me mine now (Line line))
-line_quiet q me mine now (Attach lan gateways) = tt
-line_quiet q me mine now (Frame src dst vid text) =
+-- a line that isn't a reboot tells of none
+pub line_quiet : (q : Queries) (me : Mac) (mine : Log) (now : ℕ) (line : LineGiven) → line_reboots line ≡ false → AreQuiet (acts_of q me mine now (Line line))
+line_quiet q me mine now (Attach lan gateways) calm = tt
+line_quiet q me mine now (Frame src dst vid text) calm =
     let client : ClientFrame = record { dst = dst; src = src; vid = vid; text = text } in
     let key = key_of src vid in
     let known = knowledge q me mine in
@@ -129,26 +138,30 @@ line_quiet q me mine now (Frame src dst vid text) =
     each_appended IsQuiet (sighting_acts q me mine now key) (client_acts q me mine now client)
     (plain_quiet (sighting_acts q me mine now key) (plain_advert me key (advertised q me mine known now key)))
     (calm_quiet (client_acts q me mine now client) (calm_frame q (after_sighting q me mine now key known) ms (record { me = me; now = now }) client))
-line_quiet q me mine now (Gone key) = tt
-line_quiet q me mine now (Join key) = tt
-line_quiet q me mine now (Leave key) = tt
-line_quiet q me mine now (Arp mac own_ip asked_ip vid) =
+line_quiet q me mine now (Gone key) calm = tt
+line_quiet q me mine now (Join key) calm = tt
+line_quiet q me mine now (Leave key) calm = tt
+line_quiet q me mine now (Arp mac own_ip asked_ip vid) calm =
     let key = key_of mac vid in
     let known = after_sighting q me mine now key (knowledge q me mine) in
     let asking = asking_acts q me mine now mac own_ip asked_ip vid in
     plain_quiet (sighting_acts q me mine now key ++ asking)
     (each_appended IsPlain (sighting_acts q me mine now key) asking (plain_advert me key (advertised q me mine (knowledge q me mine) now key))
     (plain_question q known (record { me = me; now = now }) mac own_ip asked_ip vid))
-line_quiet q me mine now (Dhcp key text) =
+line_quiet q me mine now (Dhcp key text) calm =
     let known = after_sighting q me mine now key (knowledge q me mine) in
     each_appended IsQuiet (sighting_acts q me mine now key) (calling_acts q me mine now key text)
     (plain_quiet (sighting_acts q me mine now key) (plain_advert me key (advertised q me mine (knowledge q me mine) now key)))
     (calm_quiet (calling_acts q me mine now key text) (calm_call q known (record { me = me; now = now }) (call_frame key text)))
-line_quiet q me mine now (Sets setting) = tt
-line_quiet q me mine now (Put type_no version text) = tt
-line_quiet q me mine now (Get type_no) = tt
-line_quiet q me mine now (Ping target) = calm_quiet (probing_acts q me mine now target false) (calm_session q (knowledge q me mine) (record { me = me; now = now }) target false)
-line_quiet q me mine now (Trace target) = calm_quiet (probing_acts q me mine now target true) (calm_session q (knowledge q me mine) (record { me = me; now = now }) target true)
+line_quiet q me mine now (Sets setting) calm = tt
+line_quiet q me mine now (Put type_no version text) calm = tt
+line_quiet q me mine now (Get type_no) calm =
+    let at : Place = record { me = me; now = now } in
+    let got = get_acts q (knowledge q me mine) at type_no in
+    plain_quiet got (plain_store me got (get_stores q (knowledge q me mine) at type_no))
+line_quiet q me mine now (Ping target) calm = calm_quiet (probing_acts q me mine now target false) (calm_session q (knowledge q me mine) (record { me = me; now = now }) target false)
+line_quiet q me mine now (Trace target) calm = calm_quiet (probing_acts q me mine now target true) (calm_session q (knowledge q me mine) (record { me = me; now = now }) target true)
+line_quiet q me mine now Reboot calm = cc
 
 pub lan_quiet : (q : Queries) (me : Mac) (mine : Log) (now : ℕ) (bytes : List ℕ) → AreQuiet (acts_of q me mine now (LanFrame bytes))
 lan_quiet q me mine now bytes =
@@ -198,6 +211,27 @@ same_length me before = go (length before == length before) (Rattle.std.proofs.l
     go true is = refl
     go false is = cc
 
+-- the events of one commit more, with acts behind them that tell of no alias
+more_gains : (me : Mac) (before : List Version) (version : Version) (quiet : List Act) → AreQuiet quiet → Gains me before (version ∷ before) (alias_acts me before (version ∷ before) ++ quiet)
+more_gains me before version quiet none = gains_one version (events ++ quiet) only each
+  where
+    events : List Act
+    events = alias_acts me before (version ∷ before)
+
+    events_are : alias_acts me before (version ∷ before) ≡ alias_event me (length before) (alias_before version before)
+    events_are = ap (λ b. cond b [] (alias_event me (length before) (alias_before version before))) (ne_eqb (suc (length before)) (length before) (λ e. omega (arith, e)))
+
+    only : (mac : Mac) (number earlier : ℕ) → Has (events ++ quiet) (Print (Alias mac number earlier)) → (mac ≡ me) × (number ≡ length before) × (alias_before version before ≡ Some earlier)
+    only mac number earlier has = go (has_either events quiet (Print (Alias mac number earlier)) has)
+      where
+        go : Has events (Print (Alias mac number earlier)) ⊎ Has quiet (Print (Alias mac number earlier)) → (mac ≡ me) × (number ≡ length before) × (alias_before version before ≡ Some earlier)
+        go (inl told) = event_told me (length before) (alias_before version before) mac number earlier (subst (λ acts. Has acts (Print (Alias mac number earlier))) events_are told)
+        go (inr sent) = absurd (quiet_none quiet mac number earlier none sent)
+
+    each : (earlier : ℕ) → alias_before version before ≡ Some earlier → Has (events ++ quiet) (Print (Alias me (length before) earlier))
+    each earlier is = has_left events quiet (Print (Alias me (length before) earlier))
+        (subst (λ acts. Has acts (Print (Alias me (length before) earlier))) (sym events_are) (event_tells me (length before) (alias_before version before) earlier is))
+
 commit_gains : (q : Queries) (me : Mac) (settings : Settings) (routes : RouteLog) (index : ℕ) (before after : History) → Committed before after → Gains me before.commits after.commits (commit_acts q me settings routes index before after)
 commit_gains q me settings routes index before after (as_before same) = subst (λ (h : History). Gains me before.commits h.commits (commit_acts q me settings routes index before h)) (sym same)
     (gains_none (commit_acts q me settings routes index before before) (subst (λ acts. AreQuiet (acts ++ message)) (sym (same_length me before.commits)) (plain_quiet message (plain_message (q.beats routes index).ogm (containers_spelling (own_containers settings (announcement before)))))))
@@ -205,30 +239,26 @@ commit_gains q me settings routes index before after (as_before same) = subst (�
     message : List Act
     message = message_acts (q.beats routes index).ogm (containers_spelling (own_containers settings (announcement before)))
 commit_gains q me settings routes index before after (one_more version byte order same) = subst (λ (h : History). Gains me before.commits h.commits (commit_acts q me settings routes index before h)) (sym same)
-    (gains_one version (events ++ message) only each)
+    (more_gains me before.commits version message (plain_quiet message (plain_message (q.beats routes index).ogm (containers_spelling (own_containers settings (announcement more))))))
   where
     more : History
-    more = record { commits = version ∷ before.commits; sent = 0 }
-
-    events : List Act
-    events = alias_acts me before.commits (version ∷ before.commits)
+    more = record { commits = version ∷ before.commits; start = before.start; sent = 0 }
 
     message : List Act
     message = message_acts (q.beats routes index).ogm (containers_spelling (own_containers settings (announcement more)))
 
-    events_are : alias_acts me before.commits (version ∷ before.commits) ≡ alias_event me (length before.commits) (alias_before version before.commits)
-    events_are = ap (λ b. cond b [] (alias_event me (length before.commits) (alias_before version before.commits))) (ne_eqb (suc (length before.commits)) (length before.commits) (λ e. omega (arith, e)))
+-- a reboot tells of the alias of its first commit
+reboot_gains : (me : Mac) (before : History) → Gains me before.commits (restarted before).commits (reboot_acts me before)
+reboot_gains me before = subst (Gains me before.commits (restarted before).commits) (append-nil (reboot_acts me before)) (more_gains me before.commits first_commit [] tt)
 
-    only : (mac : Mac) (number earlier : ℕ) → Has (events ++ message) (Print (Alias mac number earlier)) → (mac ≡ me) × (number ≡ length before.commits) × (alias_before version before.commits ≡ Some earlier)
-    only mac number earlier has = go (has_either events message (Print (Alias mac number earlier)) has)
-      where
-        go : Has events (Print (Alias mac number earlier)) ⊎ Has message (Print (Alias mac number earlier)) → (mac ≡ me) × (number ≡ length before.commits) × (alias_before version before.commits ≡ Some earlier)
-        go (inl told) = event_told me (length before.commits) (alias_before version before.commits) mac number earlier (subst (λ acts. Has acts (Print (Alias mac number earlier))) events_are told)
-        go (inr sent) = absurd (quiet_none message mac number earlier (plain_quiet message (plain_message (q.beats routes index).ogm (containers_spelling (own_containers settings (announcement more))))) sent)
-
-    each : (earlier : ℕ) → alias_before version before.commits ≡ Some earlier → Has (events ++ message) (Print (Alias me (length before.commits) earlier))
-    each earlier is = has_left events message (Print (Alias me (length before.commits) earlier))
-        (subst (λ acts. Has acts (Print (Alias me (length before.commits) earlier))) (sym events_are) (event_tells me (length before.commits) (alias_before version before.commits) earlier is))
+-- a line tells of the aliases that its node's commits gain
+pub line_gains : (q : Queries) (me : Mac) (mine : Log) (now : ℕ) (line : LineGiven) (acts : List Act) → acts ≡ acts_of q me mine now (Line line)
+    → Gains me (commits me mine) (commits me (record { moment = now; given = Line line; acts = acts } ∷ mine)) acts
+line_gains q me mine now line acts is = go (line_reboots line) refl
+  where
+    go : (b : Bool) → line_reboots line ≡ b → Gains me (commits me mine) (cond b (restarted (history me mine)) (history me mine)).commits acts
+    go true reboots = subst (Gains me (commits me mine) (restarted (history me mine)).commits) (sym (is ∙ ap (λ x. acts_of q me mine now (Line x)) (reboot_line line reboots))) (reboot_gains me (history me mine))
+    go false calm = gains_none acts (subst AreQuiet (sym is) (line_quiet q me mine now line calm))
 
 -- acts that tell of no alias may stand before others
 gains_behind : (me : Mac) (before after : List Version) (quiet acts : List Act) → AreQuiet quiet → Gains me before after acts → Gains me before after (quiet ++ acts)
@@ -252,7 +282,7 @@ gains_then me before _ _ quiet none (gains_one version acts only each) = gains_o
     go mac number earlier (inl told) = only mac number earlier told
     go mac number earlier (inr told) = absurd (quiet_none quiet mac number earlier none told)
 
-pub tick_gains : (q : Queries) (me : Mac) (settings : Settings) (routes : RouteLog) (ms : List Mention) (before : History) (bridge : Bridge) (now index : ℕ)
+tick_gains : (q : Queries) (me : Mac) (settings : Settings) (routes : RouteLog) (ms : List Mention) (before : History) (bridge : Bridge) (now index : ℕ)
     → Gains me before.commits (cond (is_commit_tick index) (with_message (committed (present_table ms now) before)) before).commits (tick_acts q me settings routes ms before bridge now index)
 unfolding tick_acts
 tick_gains q me settings routes ms before bridge now index =
@@ -266,3 +296,13 @@ tick_gains q me settings routes ms before bridge now index =
     go : (b : Bool) → Gains me before.commits (cond b (with_message (committed (present_table ms now) before)) before).commits (cond b (commit_acts q me settings routes index before (committed (present_table ms now) before)) [])
     go true = commit_gains q me settings routes index before (committed (present_table ms now) before) (committed_is ms now before)
     go false = gains_none [] tt
+
+-- so do they with a round of the fact store behind them
+pub ticks_gain : (q : Queries) (me : Mac) (settings : Settings) (routes : RouteLog) (ms : List Mention) (before : History) (bridge : Bridge) (now index : ℕ) (known : Knowledge)
+    → Gains me before.commits (cond (is_commit_tick index) (with_message (committed (present_table ms now) before)) before).commits
+    (tick_acts q me settings routes ms before bridge now index ++ fact_round_acts q known (record { me = me; now = now }) index)
+ticks_gain q me settings routes ms before bridge now index known =
+    let at : Place = record { me = me; now = now } in
+    let round = fact_round_acts q known at index in
+    gains_then me before.commits (cond (is_commit_tick index) (with_message (committed (present_table ms now) before)) before).commits (tick_acts q me settings routes ms before bridge now index) round
+    (plain_quiet round (plain_store me round (round_stores q known at index))) (tick_gains q me settings routes ms before bridge now index)

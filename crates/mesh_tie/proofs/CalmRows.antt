@@ -7,7 +7,7 @@ use Rattle.mesh_base.specs.declared.address.Mac.{Mac}
 use Rattle.mesh_base.specs.declared.client.Key.{Key}
 use Rattle.mesh_base.specs.declared.client.Vid.{Vid}
 use Rattle.mesh_base.specs.declared.event.Reason.{Reason}
-use Rattle.mesh_base.specs.declared.event.Reason.TheVariants.{Fwd}
+use Rattle.mesh_base.specs.declared.event.Reason.TheVariants.{Alfred as ByAlfred, Fwd}
 use Rattle.mesh_base.specs.declared.event.LossReason.TheVariants.{Ttl, NoRoute}
 use Rattle.mesh_base.specs.declared.event.LossReason.{LossReason}
 use Rattle.mesh_model.specs.declared.act.Act.{Act}
@@ -25,6 +25,8 @@ use Rattle.mesh_model.specs.Clients.Mentions.{Mention, key_of}
 use Rattle.mesh_model.specs.Knowledge.Addressee.{Way, addressee}
 use Rattle.mesh_model.specs.Knowledge.Known.{Broadcast, Knowledge, is_new_broadcast, told_at}
 use Rattle.mesh_model.specs.Knowledge.Steps.{Coming}
+use Rattle.mesh_model.specs.Packets.Ethernet.{all_stations}
+use Rattle.mesh_model.specs.Packets.FactMessages.{Primary, fact_message_spelling}
 use Rattle.mesh_model.specs.Packets.Layout.{spelling}
 use Rattle.mesh_model.specs.Packets.Payload.{ClientFrame, client_frame_of, payload_spelling}
 use Rattle.mesh_model.specs.Routes.Queries.{Queries, is_elp}
@@ -32,6 +34,7 @@ use Rattle.mesh_model.specs.Routes.RouteLog.{RouteLog}
 use Rattle.mesh_tie.specs.Sources.{KeepsOriginators}
 use Rattle.mesh_tie.proofs.ArpActs.{IsAsking, each_asking, puts_packet, puts_told, question_puts, unicast4_acts, unicast4_puts}
 use Rattle.mesh_tie.proofs.BridgeActs.{AreBridging, IsBridging, hands_out, out_puts, puts_on_lan, round_puts, unclaim_puts}
+use Rattle.mesh_tie.proofs.FactActs.{AreStoring, IsStoring, each_storing, sends_announcement, sends_message, tells_fact, tells_none}
 use Rattle.mesh_tie.proofs.EntryLemmas.{each_appended}
 use Rattle.mesh_tie.proofs.KindLemmas.{bcast_frame, elp_frame, icmp_frame, unicast4_frame, unicast_frame}
 use Rattle.mesh_tie.proofs.ProbeActs.{AreProbing, IsProbing, icmp_puts, puts_message, puts_pinged, puts_traced, session_puts}
@@ -94,7 +97,7 @@ calm_lost at reason (Some frame) = ((λ me n e is. cc), tt)
 
 pub calm_broadcast : (known : Knowledge) (bridge : Bridge) (at : Place) (ttl : ℕ) (broadcast : Broadcast) (tail : List ℕ) → AllByRecursion IsCalm (broadcast_acts known bridge at ttl broadcast tail)
 unfolding broadcast_acts
-calm_broadcast known bridge at ttl broadcast tail = calm_if (is_new_broadcast at.me broadcast known.taken) (handed_out_if bridge at broadcast.orig (client_frame_of tail) ++ broadcast_on ttl broadcast tail) []
+calm_broadcast known bridge at ttl broadcast tail = calm_if (is_new_broadcast at.me at.now broadcast known.taken) (handed_out_if bridge at broadcast.orig (client_frame_of tail) ++ broadcast_on ttl broadcast tail) []
     (each_appended IsCalm (handed_out_if bridge at broadcast.orig (client_frame_of tail)) (broadcast_on ttl broadcast tail) (calm_handed bridge at broadcast.orig (client_frame_of tail))
     (calm_if (nat_le ttl 1) [] (sent_to_all (Bcast (ttl - 1) broadcast.number broadcast.orig) tail ∷ []) tt (calm_bcast (ttl - 1) broadcast.number broadcast.orig tail, tt))) tt
 
@@ -181,3 +184,13 @@ calm_question q known at mac own_ip asked_ip vid = each_asking IsCalm calm_askin
 pub calm_unicast4 : (q : Queries) (me : Mac) (came : Coming) (known : Knowledge) (ttl ttvn : ℕ) (dst src : Mac) (subtype : ℕ) (tail : List ℕ) → AllByRecursion IsCalm (unicast4_acts q me came known ttl ttvn dst src subtype tail)
 calm_unicast4 q me came known ttl ttvn dst src subtype tail =
     each_asking IsCalm calm_asking (unicast4_acts q me came known ttl ttvn dst src subtype tail) (unicast4_puts q me came known ttl ttvn dst src subtype tail)
+
+-- ---- the fact store
+calm_storing : (me : Mac) (act : Act) → IsStoring (λ mac. Unit {0}) (λ fact. Unit {0}) me act → IsCalm act
+calm_storing me _ (sends_message next dst message to has) = calm_unicast next (Some ByAlfred) 50 0 dst (fact_message_spelling dst me message)
+calm_storing me _ (sends_announcement number) = calm_bcast 50 number me (fact_message_spelling all_stations me Primary)
+calm_storing me _ (tells_fact type_no fact has) = λ me n e is. cc
+calm_storing me _ (tells_none type_no result none) = λ me n e is. cc
+
+pub calm_store : (me : Mac) (acts : List Act) → AreStoring (λ mac. Unit {0}) (λ fact. Unit {0}) me acts → AllByRecursion IsCalm acts
+calm_store me acts all = each_storing (λ mac. Unit {0}) (λ fact. Unit {0}) me IsCalm (calm_storing me) acts all

@@ -1,9 +1,8 @@
 -- Each payload that is carried is a client frame that a line gave; and the client frame that it is
 -- read as is from a client that records can tell.
 use Rattle.std.proofs.Common.{◌⊎◌, inl, inr, ◌≡◌, ◌<◌, ◌≤◌, ◌^◌, ◌+◌, ◌-◌, ◌==◌, ℕ, Bool, true, false, cond, nat_lt, List, [], ◌++◌, length, drop, slice_get, Option, Some, None, option_map, refl, sym, ap, ap₂, subst, ◌∙◌, append_assoc, arith}
-use Rattle.std.proofs.lemmas.Bool.{eqb-true, ltb-false}
+use Rattle.std.proofs.lemmas.Bool.{eqb-true}
 use Rattle.std.proofs.lemmas.Bool.Decides.{nat_tests}
-use Rattle.std.proofs.lemmas.List.{length-drop, length-take-le}
 use Rattle.byteorder.specs.Endian.{big_bytes, big_number}
 use Rattle.byteorder.specs.Numbers.{big_number-reads_back}
 use Rattle.mesh_base.specs.declared.address.Mac.{Mac}
@@ -19,71 +18,10 @@ use Rattle.mesh_tie.specs.Carried.{CarriesClients, CarriesGivenFrames, HandsOutG
 use Rattle.mesh_tie.specs.Sources.{IsWhole}
 use Rattle.mesh_tie.specs.Steps.{IsClient, IsReachable, TellsClient}
 use Rattle.mesh_tie.specs.TieLaws.{AllKeep}
-use Rattle.mesh_tie.proofs.CarriedLans.{type_begins}
+use Rattle.mesh_tie.proofs.EtherReading.{dst_whole, read_from, type_begins}
 use Rattle.mesh_tie.proofs.CarriedOn.{carried_on, was_given}
 use Rattle.mesh_tie.proofs.HeadLemmas.{mac6, six}
 use Rattle.mesh_tie.proofs.LanSteps.{BringsClient, lan_read}
-
--- ---- reading
--- a frame is read of bytes: its addresses at their places, a VLAN's wire number that fits two bytes
-record IsFrom (bytes : List ℕ) (frame : EtherFrame) : Type 0 where
-  dst : frame.dst ≡ address_in 0 bytes
-  src : frame.src ≡ address_in 6 bytes
-  small : frame.vid.0 < 2 ^ 16
-  whole : 12 ≤ length bytes
-
-abbrev IfFrom : List ℕ → Option EtherFrame → Type 0
-IfFrom bytes o = (frame : EtherFrame) → o ≡ Some frame → IsFrom bytes frame
-
-if_from : (bytes : List ℕ) (b : Bool) (o : Option EtherFrame) → (b ≡ true → IfFrom bytes o) → IfFrom bytes (cond b o None)
-if_from bytes true o from = from refl
-if_from bytes false o from = λ frame is. cc
-
-unless_from : (bytes : List ℕ) (b : Bool) (o : Option EtherFrame) → (b ≡ false → IfFrom bytes o) → IfFrom bytes (cond b None o)
-unless_from bytes true o from = λ frame is. cc
-unless_from bytes false o from = from refl
-
-behind_from : (bytes : List ℕ) (vid : Vid) (after : List ℕ) → 12 ≤ length bytes → vid.0 < 2 ^ 16 → IfFrom bytes (frame_behind client_ethertype bytes vid after)
-behind_from bytes vid after enough small =
-    let one : EtherFrame = record { dst = address_in 0 bytes; src = address_in 6 bytes; vid = vid; rest = drop 2 after } in
-    if_from bytes (begin_type client_ethertype after) (Some one) (λ b frame is. let same : one ≡ frame = cc in subst (IsFrom bytes) same (record { dst = refl; src = refl; small = small; whole = enough }))
-
-vlan_small : (n : ℕ) → is_vlan n ≡ true → 32768 + n < 2 ^ 16
-vlan_small n is = let low : n ≤ 4094 = grind (arith, nat_tests, is) in omega (arith, low)
-
-tagged_from : (bytes after : List ℕ) → 12 ≤ length bytes → IfFrom bytes (tagged_frame client_ethertype bytes after)
-tagged_from bytes after enough =
-    let n = big_number 2 after in
-    let vid : Vid = record { 0 = 32768 + n } in
-    unless_from bytes (nat_lt (length after) 2) (cond (is_vlan n) (frame_behind client_ethertype bytes vid (drop 2 after)) None)
-    (λ long. if_from bytes (is_vlan n) (frame_behind client_ethertype bytes vid (drop 2 after)) (λ is. behind_from bytes vid (drop 2 after) enough (vlan_small n is)))
-
-typed_from : (bytes after : List ℕ) → 12 ≤ length bytes → IfFrom bytes (frame_by_type client_ethertype bytes after)
-typed_from bytes after enough = go (begin_type vlan_ethertype after)
-  where
-    go : (b : Bool) → IfFrom bytes (cond b (tagged_frame client_ethertype bytes (drop 2 after)) (frame_behind client_ethertype bytes (record { 0 = 0 }) after))
-    go true = tagged_from bytes (drop 2 after) enough
-    go false = behind_from bytes (record { 0 = 0 }) after enough (omega arith)
-
-frame_from : (bytes : List ℕ) → IfFrom bytes (ether_frame_of client_ethertype bytes)
-frame_from bytes = unless_from bytes (nat_lt (length bytes) 12) (frame_by_type client_ethertype bytes (drop 12 bytes)) (λ long. let enough = ltb-false (length bytes) 12 long in typed_from bytes (drop 12 bytes) enough)
-
-client_from : (bytes : List ℕ) (o : Option EtherFrame) (frame : ClientFrame) → IfFrom bytes o → option_map client_frame o ≡ Some frame → IsFrom bytes (ether_frame frame)
-client_from bytes None frame from is = cc
-client_from bytes (Some one) frame from is = let same : client_frame one ≡ frame = cc in subst (λ (x : ClientFrame). IsFrom bytes (ether_frame x)) same (from one refl)
-
-read_from : (bytes : List ℕ) (frame : ClientFrame) → client_frame_of bytes ≡ Some frame → IsFrom bytes (ether_frame frame)
-read_from bytes frame is = client_from bytes (ether_frame_of client_ethertype bytes) frame (frame_from bytes) is
-
-pub dst_whole : (bytes : List ℕ) (frame : ClientFrame) → client_frame_of bytes ≡ Some frame → IsWhole frame.dst
-dst_whole bytes frame is = let f = read_from bytes frame is in let enough = f.whole in subst IsWhole (sym f.dst) (length-take-le 6 bytes (omega (arith, enough)))
-
-pub src_whole : (bytes : List ℕ) (frame : ClientFrame) → client_frame_of bytes ≡ Some frame → IsWhole frame.src
-src_whole bytes frame is =
-    let f = read_from bytes frame is in
-    let enough = f.whole in
-    let left = length-drop 6 bytes in
-    subst IsWhole (sym f.src) (length-take-le 6 (drop 6 bytes) (omega (arith, enough, left)))
 
 -- ---- reading again
 src_read : (dst src : Mac) (vid : Vid) (text : List ℕ) → IsWhole dst → IsWhole src → address_in 6 (payload_spelling (record { dst = dst; src = src; vid = vid; text = text })) ≡ src

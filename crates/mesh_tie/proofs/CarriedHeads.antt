@@ -5,15 +5,17 @@ use Rattle.mesh_base.specs.declared.address.Mac.{Mac}
 use Rattle.mesh_base.specs.declared.client.Vid.{Vid}
 use Rattle.mesh_base.specs.declared.event.Event.{Event}
 use Rattle.mesh_base.specs.declared.event.Event.TheVariants.{Alfred, Bridged, Received}
-use Rattle.mesh_base.specs.declared.event.FactResult.{FactResult}
+use Rattle.mesh_base.specs.declared.event.FactResult.TheVariants.{Fact as FactTold}
 use Rattle.mesh_base.specs.declared.event.Reason.{Reason}
 use Rattle.mesh_model.specs.declared.act.Act.{Act}
 use Rattle.mesh_model.specs.declared.act.Act.TheVariants.{Link, Lan, Print}
 use Rattle.mesh_model.specs.declared.packet.Head.{Head}
 use Rattle.mesh_model.specs.declared.packet.Head.TheVariants.{IvOgm, Bcast, Elp, Ogm2, Unicast, Frag, Unicast4, Icmp, Utvlv}
+use Rattle.mesh_model.specs.declared.service.Fact.{Fact}
 use Rattle.mesh_model.specs.Acts.BridgeRows.{Place, handed_out}
 use Rattle.mesh_model.specs.Acts.Packing.{sent_to, sent_to_all}
 use Rattle.mesh_model.specs.Net.Next.{Has}
+use Rattle.mesh_model.specs.Packets.FactMessages.{CameFact, FactMessage, fact_message_of, fact_message_spelling}
 use Rattle.mesh_model.specs.Packets.FirstPacket.{Packet}
 use Rattle.mesh_model.specs.Packets.Layout.{spelling}
 use Rattle.mesh_model.specs.Packets.LinkFrame.{link_frame}
@@ -21,25 +23,35 @@ use Rattle.mesh_model.specs.Packets.Payload.{ClientFrame, client_frame_of, paylo
 use Rattle.mesh_model.specs.Packets.Shapes.{Shape, elp, icmp, iv_ogm, ogm2, unicast4, utvlv}
 use Rattle.mesh_tie.specs.Carried.{IsReadOf, PutCarries}
 use Rattle.mesh_tie.specs.Sources.{IsWhole}
+use Rattle.mesh_tie.proofs.FactLemmas.{Fits, MessageHas}
 use Rattle.mesh_tie.proofs.HeadLemmas.{bcast_read, four_read, one_read, unicast_read}
 use Rattle.mesh_tie.proofs.KindLemmas.{EachPacket, IsKind, kind_each}
 
--- what holds of payloads that are carried, and of client frames that lines gave
+-- what holds of payloads that are carried, of client frames that lines gave, and of facts: messages of
+-- facts of which it holds are carried, and are read back as such
 pub record Kept : Type 1 where
   pub carried : List ℕ → Type 0
   pub given : ClientFrame → Type 0
+  pub fact : Fact → Type 0
+  pub whole : (one : Fact) → fact one → IsWhole one.source
   pub read_on : (payload : List ℕ) (frame : ClientFrame) → carried payload → client_frame_of payload ≡ Some frame → carried (payload_spelling frame)
+  pub told : (dst src : Mac) (message : FactMessage) → IsWhole dst → IsWhole src → MessageHas (Fits fact) message → carried (fact_message_spelling dst src message)
+  pub taken : (tail : List ℕ) (came : CameFact) → carried tail → fact_message_of tail ≡ Some came → MessageHas fact came.message
 
 -- a client frame is given, or read of what is carried
 abbrev pub IsCarried : Kept → ClientFrame → Type 0
 IsCarried P frame = P.given frame ⊎ IsReadOf P.carried frame
 
+-- a fact from a source, of a version, with this text
+abbrev pub IsTold : Kept → Mac → ℕ → List ℕ → Type 0
+IsTold P source version text = (type_no : ℕ) × P.fact (record { source = source; type_no = type_no; version = version; bytes = text })
+
 -- an event of a client frame that is handed out, or that reaches the clients of a LAN, tells of one
--- that is carried; none tells of facts
+-- that is carried; one of a fact tells of one of which it holds
 pub record Tells (P : Kept) (event : Event) : Type 0 where
   pub handed_out : (moment : ℕ) (node : Mac) (vid : Vid) (src dst : Mac) (text : List ℕ) → event ≡ Received moment node vid src dst text → IsCarried P (record { dst = dst; src = src; vid = vid; text = text })
   pub bridged : (moment lan : ℕ) (vid : Vid) (src dst : Mac) (text : List ℕ) → event ≡ Bridged moment lan vid src dst text → IsReadOf P.carried (record { dst = dst; src = src; vid = vid; text = text })
-  pub no_facts : (me : Mac) (type_no : ℕ) (asked : FactResult) → event ≡ Alfred me type_no asked → ⊥
+  pub told : (me : Mac) (type_no : ℕ) (source : Mac) (version : ℕ) (text : List ℕ) → event ≡ Alfred me type_no (FactTold source version text) → IsTold P source version text
 
 -- a packet that carries a payload is addressed by a whole address, and its payload has a property
 abbrev pub HeadHas : Kept → List ℕ → Head → Type 0
@@ -74,7 +86,7 @@ handed_has P at frame carried = record {
       let same : ◌≡◌ {A = ClientFrame} (record { dst = frame.dst; src = frame.src; vid = frame.vid; text = frame.text }) (record { dst = dst; src = src; vid = vid; text = text }) = cc in
       subst (IsCarried P) same carried;
   bridged = λ moment lan vid src dst text is. cc;
-  no_facts = λ me type_no asked is. cc;
+  told = λ me type_no source version text is. cc;
 }
 
 -- ---- spelled packets
@@ -104,11 +116,11 @@ elp_none P fields = none_of P elp (record { by_type = refl; heads = λ f. refl; 
 pub ogm2_none : (P : Kept) (fields : List ℕ) → FrameHas P (4 ∷ fields)
 ogm2_none P fields = none_of P ogm2 (record { by_type = refl; heads = λ f. refl; each = λ f tail. tt }) fields
 
+pub unicast4_none : (P : Kept) (fields : List ℕ) → FrameHas P (66 ∷ fields)
+unicast4_none P fields = none_of P unicast4 (record { by_type = refl; heads = λ f. refl; each = λ f tail. tt }) fields
+
 pub icmp_none : (P : Kept) (fields : List ℕ) → FrameHas P (67 ∷ fields)
 icmp_none P fields = none_of P icmp (record { by_type = refl; heads = λ f. refl; each = λ f tail. tt }) fields
 
 pub utvlv_none : (P : Kept) (fields : List ℕ) → FrameHas P (68 ∷ fields)
 utvlv_none P fields = none_of P utvlv (record { by_type = refl; heads = λ f. refl; each = λ f tail. tt }) fields
-
-pub unicast4_none : (P : Kept) (fields : List ℕ) → FrameHas P (66 ∷ fields)
-unicast4_none P fields = none_of P unicast4 (record { by_type = refl; heads = λ f. refl; each = λ f tail. tt }) fields

@@ -1,8 +1,6 @@
 -- What a gateway puts on its LAN carries payloads that came.
-use Rattle.std.proofs.Common.{◌≡◌, inr, ◌<◌, ◌==◌, ◌&&◌, slice_index, drop, ℕ, nat_le, Bool, true, false, cond, List, [], ◌∷◌, ◌++◌, length, Option, Some, None, refl, sym, ap, subst, ◌∙◌, arith}
-use Rattle.std.proofs.lemmas.Bool.Decides.{nat_tests}
-use Rattle.byteorder.specs.Endian.{big_bytes, big_number}
-use Rattle.byteorder.specs.Numbers.{big_number-reads_back}
+use Rattle.std.proofs.Common.{◌≡◌, inr, ◌==◌, slice_index, drop, ℕ, Bool, true, false, cond, List, [], ◌∷◌, ◌++◌, Option, Some, None, refl, sym, ap, subst, ◌∙◌, arith}
+use Rattle.byteorder.specs.Endian.{big_bytes}
 use Rattle.mesh_base.specs.declared.address.Mac.{Mac}
 use Rattle.mesh_base.specs.declared.client.Key.{Key}
 use Rattle.mesh_model.specs.declared.act.Act.TheVariants.{Lan}
@@ -17,7 +15,7 @@ use Rattle.mesh_model.specs.Clients.Log.{Log}
 use Rattle.mesh_model.specs.Clients.Mentions.{key_of}
 use Rattle.mesh_model.specs.Packets.Bodies.{key_of_bytes}
 use Rattle.mesh_model.specs.Packets.BodySpellings.{key_spelling}
-use Rattle.mesh_model.specs.Packets.Ethernet.{address_in, begin_type}
+use Rattle.mesh_model.specs.Packets.Ethernet.{address_in}
 use Rattle.mesh_model.specs.Packets.Numbers.{claim_ethertype}
 use Rattle.mesh_model.specs.Packets.LanFrames.{Claims, Nothing, announce_spelling, carried_by, claim_in, claim_spelling, client_frame_in, gateway_front, is_claiming, is_of_gateway, lan_message_of}
 use Rattle.mesh_model.specs.Packets.Payload.{ClientFrame, client_frame_of}
@@ -25,17 +23,10 @@ use Rattle.mesh_model.specs.Routes.RouteLog.{is_round}
 use Rattle.mesh_tie.specs.Sources.{IsWhole}
 use Rattle.mesh_tie.proofs.CarriedHeads.{ActHas, ActsHave, Kept, handed_has}
 use Rattle.mesh_tie.proofs.EntryLemmas.{each_appended}
+use Rattle.mesh_tie.proofs.EtherReading.{type_begins}
 use Rattle.mesh_tie.proofs.HeadLemmas.{mac6, six}
 
 -- ---- frames of gateways
--- what a type begins
-pub type_begins : (wanted ethertype : ℕ) (rest : List ℕ) → ethertype < 65536 → begin_type wanted (big_bytes 2 ethertype ++ rest) ≡ (ethertype == wanted)
-type_begins wanted ethertype rest fits =
-    let bytes = big_bytes 2 ethertype ++ rest in
-    let some : nat_le 2 (length bytes) ≡ true = grind (arith, nat_tests) in
-    ap (λ (test : Bool). test && (big_number 2 bytes == wanted)) some
-    ∙ ap (λ (n : ℕ). n == wanted) (big_number-reads_back 2 ethertype rest fits)
-
 -- a frame by which gateways agree is no client frame
 claim_none : (bytes : List ℕ) (b : Bool) → client_frame_in (cond b (Claims (slice_index bytes 3 == 0) (address_in 6 bytes) (key_of_bytes (drop 14 bytes))) Nothing) ≡ None
 claim_none bytes true = refl

@@ -1,27 +1,37 @@
 -- What holds of payloads, and goes on to hold with each step, holds of each that was ever sent.
-use Rattle.std.proofs.Common.{◌∙◌, ap, inl, inr, ℕ, suc, List, [], ◌∷◌, slice_get, refl}
+use Rattle.std.proofs.Common.{◌≡◌, ◌⊎◌, ◌++◌, ◌∙◌, Some, sym, ap, inl, inr, ℕ, suc, List, [], ◌∷◌, slice_get, refl, subst}
+use Rattle.std.specs.List.{AllByRecursion}
 use Rattle.mesh_base.specs.declared.address.Mac.{Mac}
 use Rattle.mesh_base.specs.declared.event.Event.TheVariants.{Alfred, Bridged, Received}
-use Rattle.mesh_base.specs.declared.event.FactResult.{FactResult}
+use Rattle.mesh_base.specs.declared.event.FactResult.TheVariants.{Fact as FactTold}
 use Rattle.mesh_model.specs.declared.packet.Head.{Head}
 use Rattle.mesh_model.specs.declared.packet.Head.TheVariants.{IvOgm, Bcast, Elp, Ogm2, Unicast, Frag, Unicast4, Icmp, Utvlv}
-use Rattle.mesh_model.specs.Clients.Log.{Given, Tick, LinkFrame, LanFrame, Line}
+use Rattle.mesh_model.specs.declared.service.Fact.{Fact}
+use Rattle.mesh_model.specs.declared.service.KeptFact.{KeptFact}
+use Rattle.mesh_model.specs.Clients.Log.{Given, LogEntry, Tick, LinkFrame, LanFrame, Line}
 use Rattle.mesh_model.specs.Net.Due.{ticks_in}
 use Rattle.mesh_model.specs.Net.Inputs.{entry_of}
 use Rattle.mesh_model.specs.Net.Limits.{scenario_setup}
 use Rattle.mesh_model.specs.Net.Mesh.{NodeLog, Mesh}
-use Rattle.mesh_model.specs.Net.Next.{Has}
 use Rattle.mesh_model.specs.Packets.Payload.{ClientFrame}
+use Rattle.mesh_model.specs.Net.Next.{Has}
 use Rattle.mesh_model.specs.Routes.Queries.{Queries}
+use Rattle.mesh_model.specs.Services.Facts.{facts_at}
 use Rattle.mesh_laws.proofs.Schedule.Steps.{get_front}
-use Rattle.mesh_tie.specs.Carried.{Carries, IsKept, TailHas, WasGiven, on_lan, to_node}
+use Rattle.mesh_laws.proofs.Schedule.Members.{one_some}
+use Rattle.mesh_tie.specs.Carried.{Carries, IsKept, IsReadOf, KeepsPutFacts, TailHas, TellsPutFacts, UnlessStored, WasGiven, WasPut, on_lan, to_node}
+use Rattle.mesh_laws.proofs.KeptLemmas.{kept_of}
+use Rattle.mesh_tie.specs.Sources.{IsWhole}
+use Rattle.mesh_tie.specs.Tie.{known_at_node}
 use Rattle.mesh_tie.specs.Steps.{IsReachable, Steps, begins, frame_comes, goes_on, lan_comes, lan_joins, line_gives, link_joins, node_joins, node_ticks, put_comes, put_reaches, time_passes}
 use Rattle.mesh_tie.specs.TieLaws.{AllKeep}
 use Rattle.mesh_tie.proofs.CarriedHeads.{IsCarried, Kept, HeadHas}
-use Rattle.mesh_tie.proofs.NodeLists.{noted_stays}
+use Rattle.mesh_tie.proofs.NodeLists.{Renewed, another, itself, noted_stays, renewed}
 use Rattle.mesh_tie.proofs.OrderSteps.{orderly}
 use Rattle.mesh_tie.proofs.SentLemmas.{HasGiven, given_is}
-use Rattle.mesh_tie.proofs.CarriedSteps.{HasKept, kept_in, step_keeps}
+use Rattle.mesh_tie.proofs.CarriedSteps.{HasKept, IsPut, Payload, kept_of_frame, kept_in, step_keeps}
+use Rattle.mesh_tie.proofs.FactLemmas.{OfKept, facts_have, more_message, more_stores}
+use Rattle.mesh_tie.proofs.LanSteps.{lan_read}
 
 -- ---- what goes on to hold
 given_stays : (queries : Mac → Queries) (mesh after : Mesh) (place now root : ℕ) (node : NodeLog) (given : Given) (frame : ClientFrame) → HasGiven (scenario_setup queries) place now root node given mesh after → WasGiven mesh frame → WasGiven after frame
@@ -56,10 +66,59 @@ was_given queries mesh after frame (lan_comes _ _ place now number node put foun
 was_given queries mesh _ frame (time_passes _ happening) (to_node at node entry line found noted is gives tells) = to_node at node entry line found noted is gives tells
 was_given queries mesh _ frame (time_passes _ happening) (on_lan at put found by is tells) = on_lan at put found by is tells
 
+-- a fact that was put stays put
+mac_stays : (at : ℕ) (entry : LogEntry) (nodes : List NodeLog) (place : ℕ) (node after : NodeLog) → slice_get nodes place ≡ Some node → Renewed at entry nodes place after → after.mac ≡ node.mac
+mac_stays at entry nodes place node after found (another d got) = ap (λ (n : NodeLog). n.mac) (one_some after node (sym got ∙ found))
+mac_stays at entry nodes place node after found (itself before same got noted) = ap (λ (n : NodeLog). n.mac) noted ∙ ap (λ (n : NodeLog). n.mac) (one_some before node (sym got ∙ found))
+
+put_stays : (queries : Mac → Queries) (mesh after : Mesh) (place now root : ℕ) (node : NodeLog) (given : Given) (fact : Fact) → HasGiven (scenario_setup queries) place now root node given mesh after → WasPut mesh fact → WasPut after fact
+put_stays queries mesh after place now root node given fact has w =
+    let entry = entry_of (scenario_setup queries) node now given in
+    let stays = noted_stays place entry mesh.nodes w.place w.node w.found in
+    record {
+      place = w.place;
+      node = stays.0;
+      entry = w.entry;
+      found = ap (λ ns. slice_get ns w.place) has.nodes ∙ stays.1;
+      noted = stays.2 w.entry w.noted;
+      given_is = w.given_is;
+      source_is = w.source_is ∙ sym (mac_stays place entry mesh.nodes w.place w.node stays.0 w.found (renewed place entry mesh.nodes w.place stays.0 stays.1));
+    }
+
+put_same : (mesh after : Mesh) (fact : Fact) → after.nodes ≡ mesh.nodes → WasPut mesh fact → WasPut after fact
+put_same mesh after fact same w = record { place = w.place; node = w.node; entry = w.entry; found = ap (λ ns. slice_get ns w.place) same ∙ w.found; noted = w.noted; given_is = w.given_is; source_is = w.source_is }
+
+was_put : (queries : Mac → Queries) (mesh after : Mesh) (fact : Fact) → Steps queries mesh after → WasPut mesh fact → WasPut after fact
+was_put queries mesh _ fact (node_joins _ new empty whole fresh) w = record {
+  place = w.place;
+  node = w.node;
+  entry = w.entry;
+  found = get_front mesh.nodes (new ∷ []) w.place w.node w.found;
+  noted = w.noted;
+  given_is = w.given_is;
+  source_is = w.source_is;
+}
+was_put queries mesh _ fact (link_joins _ link) w = put_same mesh (record mesh { links = mesh.links ++ link ∷ [] }) fact refl w
+was_put queries mesh after fact (line_gives _ _ place now node line found may of is) w =
+    put_stays queries mesh after place now 0 node (Line line) fact (given_is (scenario_setup queries) place now 0 node (Line line) mesh after found is) w
+was_put queries mesh after fact (node_ticks _ _ place now node found may is) w =
+    let index = suc (ticks_in node.log) in
+    put_stays queries mesh after place now index node (Tick index) fact (given_is (scenario_setup queries) place now index node (Tick index) mesh after found is) w
+was_put queries mesh after fact (frame_comes _ _ place now number throughput from node sent found may among whole is) w =
+    let given = LinkFrame (suc number) from throughput sent.bytes in
+    put_stays queries mesh after place now sent.root node given fact (given_is (scenario_setup queries) place now sent.root node given mesh after found is) w
+was_put queries mesh after fact (lan_joins _ lan) w = put_same mesh after fact refl w
+was_put queries mesh after fact (put_comes _ new one none spelled client) w = put_same mesh after fact refl w
+was_put queries mesh after fact (put_reaches _ number now new one there carries) w = put_same mesh after fact refl w
+was_put queries mesh after fact (lan_comes _ _ place now number node put found may among is) w =
+    put_stays queries mesh after place now 0 node (LanFrame put.bytes) fact (given_is (scenario_setup queries) place now 0 node (LanFrame put.bytes) mesh after found is) w
+was_put queries mesh after fact (time_passes _ happening) w = put_same mesh after fact refl w
+
 -- one that holds of more
 record IsWithin (P R : Kept) : Type 0 where
   carried : (payload : List ℕ) → P.carried payload → R.carried payload
   given : (frame : ClientFrame) → P.given frame → R.given frame
+  fact : (one : Fact) → P.fact one → R.fact one
 
 more_has : (P R : Kept) → IsWithin P R → (tail : List ℕ) (head : Head) → HeadHas P tail head → HeadHas R tail head
 more_has P R more tail (IvOgm ttl flags seq orig prev tq) h = tt
@@ -76,49 +135,82 @@ more_carried : (P R : Kept) → IsWithin P R → (frame : ClientFrame) → IsCar
 more_carried P R more frame (inl given) = inl (more.given frame given)
 more_carried P R more frame (inr read) = inr (read.0, more.carried read.0 read.1, read.2)
 
-more_kept : (P R : Kept) (mesh : Mesh) → IsWithin P R → HasKept P mesh → HasKept R mesh
-more_kept P R mesh more h = record {
+more_kept : (queries : Mac → Queries) (P R : Kept) (mesh : Mesh) → IsWithin P R → HasKept queries P mesh → HasKept queries R mesh
+more_kept queries P R mesh more h = record {
+  knows = λ place node got. more_stores IsWhole P.fact R.fact more.fact (kept_of (known_at_node queries node)) (h.knows place node got);
   frames = λ place frame got packet has. more_has P R more packet.tail packet.head (h.frames place frame got packet has);
   puts = λ place put got frame is. more.carried put.bytes (h.puts place put got frame is);
   events = λ event among. record {
     handed_out = λ moment node vid src dst text is. more_carried P R more (record { dst = dst; src = src; vid = vid; text = text }) ((h.events event among).handed_out moment node vid src dst text is);
     bridged = λ moment lan vid src dst text is. let read = (h.events event among).bridged moment lan vid src dst text is in (read.0, more.carried read.0 read.1, read.2);
-    no_facts = (h.events event among).no_facts;
+    told = λ me type_no source version text is. let one = (h.events event among).told me type_no source version text is in (one.0, more.fact (record { source = source; type_no = one.0; version = version; bytes = text }) one.1);
   };
 }
 
 -- ---- all steps
-all_kept : (queries : Mac → Queries) (P : Mesh → List ℕ → Type 0) → (kept : IsKept queries P) → AllKeep queries → (mesh : Mesh) → IsReachable queries mesh → HasKept (kept_in queries P kept mesh) mesh
-all_kept queries P kept keep _ begins = record { frames = λ place frame got. cc; puts = λ place put got. cc; events = λ event among. absurd among }
+all_kept : (queries : Mac → Queries) (P : Mesh → List ℕ → Type 0) → (kept : IsKept queries P) → AllKeep queries → (mesh : Mesh) → IsReachable queries mesh → HasKept queries (kept_in queries P kept mesh) mesh
+all_kept queries P kept keep _ begins = record { frames = λ place frame got. cc; puts = λ place put got. cc; events = λ event among. absurd among; knows = λ place node got. cc }
 all_kept queries P kept keep _ (goes_on mesh after r s) =
     step_keeps queries P mesh after kept keep (orderly queries mesh r) s
-    (more_kept (kept_in queries P kept mesh) (kept_in queries P kept after) mesh
-    (record { carried = λ payload p. kept.stays mesh after payload s p; given = λ frame was. was_given queries mesh after frame s was }) (all_kept queries P kept keep mesh r))
+    (more_kept queries (kept_in queries P kept mesh) (kept_in queries P kept after) mesh
+    (record {
+      carried = λ payload p. record { has = stays payload p.has; facts = λ came is. more_message (IsPut mesh) (IsPut after) (λ one put. (was_put queries mesh after one s put.0, put.1)) came.message (p.facts came is) };
+      given = λ frame was. was_given queries mesh after frame s was;
+      fact = λ one put. (was_put queries mesh after one s put.0, put.1);
+    }) (all_kept queries P kept keep mesh r))
+  where
+    stays : (payload : List ℕ) → UnlessStored (P mesh) payload → UnlessStored (P after) payload
+    stays payload (inl has) = inl (kept.stays mesh after payload s has)
+    stays payload (inr message) = inr message
 
-tail_has : (P : Kept) (tail : List ℕ) (head : Head) → HeadHas P tail head → TailHas P.carried tail head
-tail_has P tail (IvOgm ttl flags seq orig prev tq) h = tt
-tail_has P tail (Bcast ttl seq orig) h = h.1
-tail_has P tail (Elp orig seq interval) h = tt
-tail_has P tail (Ogm2 ttl flags seq orig throughput) h = tt
-tail_has P tail (Unicast ttl ttvn dst) h = h.1
-tail_has P tail (Frag ttl number priority dst orig seq total) h = tt
-tail_has P tail (Unicast4 ttl ttvn dst src subtype) h = tt
-tail_has P tail (Icmp ttl msg dst orig uid seq) h = tt
-tail_has P tail (Utvlv ttl dst src) h = tt
+tail_has : (queries : Mac → Queries) (P : Mesh → List ℕ → Type 0) (kept : IsKept queries P) (mesh : Mesh) (tail : List ℕ) (head : Head) → HeadHas (kept_in queries P kept mesh) tail head → TailHas (P mesh) tail head
+tail_has queries P kept mesh tail (IvOgm ttl flags seq orig prev tq) h = tt
+tail_has queries P kept mesh tail (Bcast ttl seq orig) h = h.1.has
+tail_has queries P kept mesh tail (Elp orig seq interval) h = tt
+tail_has queries P kept mesh tail (Ogm2 ttl flags seq orig throughput) h = tt
+tail_has queries P kept mesh tail (Unicast ttl ttvn dst) h = h.1.has
+tail_has queries P kept mesh tail (Frag ttl number priority dst orig seq total) h = tt
+tail_has queries P kept mesh tail (Unicast4 ttl ttvn dst src subtype) h = tt
+tail_has queries P kept mesh tail (Icmp ttl msg dst orig uid seq) h = tt
+tail_has queries P kept mesh tail (Utvlv ttl dst src) h = tt
+
+read_kept : (F : Fact → Type 0) (P : List ℕ → Type 0) (frame : ClientFrame) → IsReadOf (Payload F P) frame → IsReadOf P frame
+read_kept F P frame (payload, has, read) = (payload, kept_of_frame F P payload frame has read, read)
+
+given_or_read : (F : Fact → Type 0) (P : List ℕ → Type 0) (given : ClientFrame → Type 0) (frame : ClientFrame) → given frame ⊎ IsReadOf (Payload F P) frame → given frame ⊎ IsReadOf P frame
+given_or_read F P given frame (inl one) = inl one
+given_or_read F P given frame (inr read) = inr (read_kept F P frame read)
 
 -- what is kept holds of all that is carried
 pub carried_on : (queries : Mac → Queries) → AllKeep queries → (P : Mesh → List ℕ → Type 0) → IsKept queries P → (mesh : Mesh) → IsReachable queries mesh → Carries P mesh
 carried_on queries keep P kept mesh r =
     let all = all_kept queries P kept keep mesh r in
     record {
-      frames = λ place frame got packet has. tail_has (kept_in queries P kept mesh) packet.tail packet.head (all.frames place frame got packet has);
-      puts = all.puts;
-      handed_out = λ moment node vid src dst text among. (all.events (Received moment node vid src dst text) among).handed_out moment node vid src dst text refl;
-      bridged = λ moment lan vid src dst text among. (all.events (Bridged moment lan vid src dst text) among).bridged moment lan vid src dst text refl;
+      frames = λ place frame got packet has. tail_has queries P kept mesh packet.tail packet.head (all.frames place frame got packet has);
+      puts = λ place put got frame is. kept_of_frame (IsPut mesh) (P mesh) put.bytes frame (all.puts place put got frame is) (lan_read put.bytes frame is);
+      handed_out = λ moment node vid src dst text among. given_or_read (IsPut mesh) (P mesh) (WasGiven mesh) (record { dst = dst; src = src; vid = vid; text = text }) ((all.events (Received moment node vid src dst text) among).handed_out moment node vid src dst text refl);
+      bridged = λ moment lan vid src dst text among. read_kept (IsPut mesh) (P mesh) (record { dst = dst; src = src; vid = vid; text = text }) ((all.events (Bridged moment lan vid src dst text) among).bridged moment lan vid src dst text refl);
     }
 
--- no event tells of facts
-pub tells_no_facts : (queries : Mac → Queries) → AllKeep queries → (mesh : Mesh) → IsReachable queries mesh → (me : Mac) (type_no : ℕ) (asked : FactResult) → Has mesh.events (Alfred me type_no asked) → ⊥
-tells_no_facts queries keep mesh r me type_no asked has =
-    let any : IsKept queries (λ m payload. Unit {0}) = record { stays = λ m after payload s p. tt; begun = λ m frame was. tt; read_on = λ m payload frame p read. tt } in
-    ((all_kept queries (λ m payload. Unit {0}) any keep mesh r).events (Alfred me type_no asked) has).no_facts me type_no asked refl
+-- ---- facts
+-- whatever is said of payloads
+any_kept : (queries : Mac → Queries) → IsKept queries (λ mesh payload. Unit {0})
+any_kept queries = record { stays = λ mesh after payload s p. tt; begun = λ mesh frame was. tt; read_on = λ mesh payload frame p read. tt }
+
+-- each fact that was printed was put
+pub tells_put_facts : TellsPutFacts
+tells_put_facts queries keep mesh r me asked source version text has =
+    let one = ((all_kept queries (λ m payload. Unit {0}) (any_kept queries) keep mesh r).events (Alfred me asked (FactTold source version text)) has).told me asked source version text refl in
+    (one.0, one.1.0)
+
+among_kept : (F : Fact → Type 0) (rows : List KeptFact) (kept : KeptFact) → AllByRecursion (OfKept F) rows → Has rows kept → F kept.fact
+among_kept F [] kept all has = absurd has
+among_kept F (first ∷ rest) kept all (inl same) = subst (OfKept F) (sym same) all.0
+among_kept F (first ∷ rest) kept all (inr has) = among_kept F rest kept all.1 has
+
+-- each fact that a node keeps was put
+pub keeps_put_facts : KeepsPutFacts
+keeps_put_facts queries keep mesh r place node found now kept has =
+    let calls = (known_at_node queries node).services.facts in
+    let stores = (all_kept queries (λ m payload. Unit {0}) (any_kept queries) keep mesh r).knows place node found in
+    (among_kept (IsPut mesh) (facts_at calls now) kept (facts_have (IsPut mesh) calls now stores.facts) has).0

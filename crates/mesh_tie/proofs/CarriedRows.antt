@@ -1,5 +1,5 @@
 -- What the rows send carries payloads that came, or that a line begins.
-use Rattle.std.proofs.Common.{◌≡◌, ◌-◌, ℕ, suc, Bool, true, false, cond, ◌||◌, ◌==◌, nat_le, List, [], ◌∷◌, ◌++◌, length, drop, Option, Some, None, refl}
+use Rattle.std.proofs.Common.{◌≡◌, ◌-◌, ℕ, suc, Bool, true, false, cond, ◌||◌, ◌==◌, nat_le, List, [], ◌∷◌, ◌++◌, length, drop, Option, Some, None, refl, subst}
 use Rattle.std.specs.Option.{unwrap_or}
 use Rattle.mesh_base.specs.Address.{is_broadcast, is_group}
 use Rattle.mesh_base.specs.declared.address.Mac.{Mac}
@@ -7,14 +7,17 @@ use Rattle.mesh_base.specs.declared.client.Key.{Key}
 use Rattle.mesh_base.specs.declared.client.Vid.{Vid}
 use Rattle.mesh_base.specs.declared.event.LossReason.{LossReason}
 use Rattle.mesh_base.specs.declared.event.LossReason.TheVariants.{Unknown, Ttl, NoRoute}
-use Rattle.mesh_base.specs.declared.event.Reason.TheVariants.{Fwd}
+use Rattle.mesh_base.specs.declared.event.Reason.TheVariants.{Alfred as ByAlfred, Fwd}
+use Rattle.mesh_base.specs.declared.event.FactResult.TheVariants.{Fact as FactTold}
 use Rattle.mesh_model.specs.declared.act.Act.{Act}
 use Rattle.mesh_model.specs.declared.packet.Head.{Head}
 use Rattle.mesh_model.specs.declared.packet.Head.TheVariants.{IvOgm, Bcast, Elp, Ogm2, Unicast, Frag, Unicast4, Icmp, Utvlv}
+use Rattle.mesh_model.specs.declared.service.Fact.{Fact}
 use Rattle.mesh_model.specs.declared.table_outcome.Request.{Request}
 use Rattle.mesh_model.specs.Acts.ArpRows.{question_acts}
 use Rattle.mesh_model.specs.Acts.BridgeRows.{Place, handed_out, out_acts, round_acts, spread_of_broadcast, spread_of_packet, unclaim_acts}
 use Rattle.mesh_model.specs.Acts.GroupRows.{addressed, call_acts, flooded, group_acts}
+use Rattle.mesh_model.specs.Acts.FactRows.{fact_acts}
 use Rattle.mesh_model.specs.Acts.FrameRows.{advert_acts, arrived, broadcast_acts, broadcast_on, frame_acts, handed_out_if, here_acts, is_present, lost, lost_if, on_route, on_way, passed_frame, readdressed}
 use Rattle.mesh_model.specs.Acts.OwnContainers.{own_containers}
 use Rattle.mesh_model.specs.Acts.Packing.{reply_containers, request_containers, roaming_container, sent_over, sent_to_all}
@@ -33,18 +36,25 @@ use Rattle.mesh_model.specs.Knowledge.Steps.{Coming, before_announcement, reques
 use Rattle.mesh_model.specs.Knowledge.Told.{Message, TableMessage, Asks, Answers, Neither, message_in, message_of, message_with, stamp_told}
 use Rattle.mesh_model.specs.Packets.Containers.{containers_of, containers_spelling}
 use Rattle.mesh_model.specs.Packets.Contents.{first_roaming, first_table}
+use Rattle.mesh_model.specs.Packets.Ethernet.{all_stations}
+use Rattle.mesh_model.specs.Packets.FactMessages.{CameFact, Primary, fact_message_of, fact_message_spelling}
 use Rattle.mesh_model.specs.Packets.FirstPacket.{Packet}
 use Rattle.mesh_model.specs.Packets.Layout.{spelling}
 use Rattle.mesh_model.specs.Packets.Payload.{ClientFrame, client_frame_of, payload_spelling}
 use Rattle.mesh_model.specs.Routes.Addresses.{same_mac}
 use Rattle.mesh_model.specs.Routes.Queries.{Queries, is_elp}
 use Rattle.mesh_model.specs.Routes.RouteLog.{RouteLog}
+use Rattle.mesh_model.specs.Tables.Versions.{Version}
 use Rattle.mesh_model.specs.Tables.Answers.{Reply, own_reply}
+use Rattle.mesh_laws.proofs.KeptLemmas.{kept_of}
 use Rattle.mesh_tie.specs.Sources.{HasWholeAddresses, IsMessageOf, IsWhole, KeepsOriginators, MessageOf, word_of}
 use Rattle.mesh_tie.specs.Tie.{KnowsWhole}
 use Rattle.mesh_tie.proofs.ArpActs.{IsAsking, each_asking, puts_packet, puts_told, question_puts, unicast4_acts, unicast4_puts}
 use Rattle.mesh_tie.proofs.CarriedLans.{out_has, round_has, unclaim_has}
 use Rattle.mesh_tie.proofs.EntryLemmas.{each_appended}
+use Rattle.mesh_tie.proofs.FactActs.{AreStoring, Came, IsNoFact, IsStoring, each_storing, fact_puts, sends_announcement, sends_message, tells_fact, tells_none}
+use Rattle.mesh_tie.proofs.FactLemmas.{Stores}
+use Rattle.mesh_tie.proofs.FactReading.{sender_whole}
 use Rattle.mesh_tie.proofs.KnowsLemmas.{IfWay, addressee_whole}
 use Rattle.mesh_tie.proofs.ServesLemmas.{receiver_whole}
 use Rattle.mesh_tie.proofs.ServingActs.{IsServing, call_serves, each_serving, group_serves, serves_all, serves_here, serves_one}
@@ -94,12 +104,12 @@ probe_none P (act ∷ acts) all = (one act all.0, probe_none P acts all.1)
   where
     one : (act : Act) → IsProbing act → ActHas P act
     one _ (puts_message next m) = icmp_none P (drop 1 (spelling (icmp_head m) []))
-    one _ (puts_pinged node target seq result) = record { handed_out = λ moment n vid src dst text is. cc; bridged = λ moment lan vid src dst text is. cc; no_facts = λ me type_no asked is. cc }
-    one _ (puts_traced node target result) = record { handed_out = λ moment n vid src dst text is. cc; bridged = λ moment lan vid src dst text is. cc; no_facts = λ me type_no asked is. cc }
+    one _ (puts_pinged node target seq result) = record { handed_out = λ moment n vid src dst text is. cc; bridged = λ moment lan vid src dst text is. cc; told = λ me type_no source version text is. cc }
+    one _ (puts_traced node target result) = record { handed_out = λ moment n vid src dst text is. cc; bridged = λ moment lan vid src dst text is. cc; told = λ me type_no source version text is. cc }
 
 asking_none : (P : Kept) (act : Act) → IsAsking act → ActHas P act
 asking_none P _ (puts_packet next ttl ttvn dst src subtype payload) = unicast4_none P (drop 1 (spelling (Unicast4 ttl ttvn dst src subtype) payload))
-asking_none P _ (puts_told node ip result) = record { handed_out = λ moment n vid src dst text is. cc; bridged = λ moment lan vid src dst text is. cc; no_facts = λ me type_no asked is. cc }
+asking_none P _ (puts_told node ip result) = record { handed_out = λ moment n vid src dst text is. cc; bridged = λ moment lan vid src dst text is. cc; told = λ me type_no source version text is. cc }
 
 pub question_none : (P : Kept) (q : Queries) (known : Knowledge) (at : Place) (mac : Mac) (own_ip asked_ip : ℕ) (vid : Vid) → ActsHave P (question_acts q known at mac own_ip asked_ip vid)
 question_none P q known at mac own_ip asked_ip vid = each_asking (ActHas P) (asking_none P) (question_acts q known at mac own_ip asked_ip vid) (question_puts q known at mac own_ip asked_ip vid)
@@ -143,6 +153,30 @@ ogm_has P q me came head source message tail known keeps from is =
     (messages_none P source heard.forward tail (λ sent e. keeps.onward known.routes came.now came.from came.throughput head sent source from is e))
     (have_if P heard.accepted (accepted_acts q me came head message known) [] (request_none P me (q.route before.routes came.now message.orig) message (request_out q before came.now message)) tt)
 
+-- ---- the fact store
+storing_has : (P : Kept) (me : Mac) → IsWhole me → (act : Act) → IsStoring IsWhole P.fact me act → ActHas P act
+storing_has P me mine _ (sends_message next dst message to has) = unicast_has P next (Some ByAlfred) 50 0 dst (fact_message_spelling dst me message) to (P.told dst me message to mine has)
+storing_has P me mine _ (sends_announcement number) = bcast_has P 50 number me (fact_message_spelling all_stations me Primary) mine (P.told all_stations me Primary refl mine tt)
+storing_has P me mine _ (tells_fact type_no fact has) = record {
+  handed_out = λ moment n vid src dst text is. cc;
+  bridged = λ moment lan vid src dst text is. cc;
+  told = λ node asked source version text is.
+      let same : ◌≡◌ {A = Fact} (record { source = fact.source; type_no = fact.type_no; version = fact.version; bytes = fact.bytes }) (record { source = source; type_no = fact.type_no; version = version; bytes = text }) = cc in
+      (fact.type_no, subst P.fact same has);
+}
+storing_has P me mine _ (tells_none type_no result none) = record {
+  handed_out = λ moment n vid src dst text is. cc;
+  bridged = λ moment lan vid src dst text is. cc;
+  told = λ node asked source version text is. let same : result ≡ FactTold source version text = cc in absurd (subst IsNoFact same none);
+}
+
+pub stores_have : (P : Kept) (me : Mac) (acts : List Act) → IsWhole me → AreStoring IsWhole P.fact me acts → ActsHave P acts
+stores_have P me acts mine all = each_storing IsWhole P.fact me (ActHas P) (storing_has P me mine) acts all
+
+-- what came in a payload that is carried
+pub taken_came : (P : Kept) (tail : List ℕ) → P.carried tail → (came : CameFact) → fact_message_of tail ≡ Some came → Came IsWhole P.fact came
+taken_came P tail carried came is = record { sender = sender_whole tail came is; message = P.taken tail came carried is }
+
 -- ---- client frames
 handed_if : (P : Kept) (bridge : Bridge) (at : Place) (orig : Mac) (tail : List ℕ) → IsWhole at.me → P.carried tail → ActsHave P (handed_out_if bridge at orig (client_frame_of tail))
 handed_if P bridge at orig tail mine p = go (client_frame_of tail) refl
@@ -152,7 +186,7 @@ handed_if P bridge at orig tail mine p = go (client_frame_of tail) refl
     go (Some frame) is = out_has P bridge at (spread_of_broadcast bridge orig frame) frame tail mine p is
 
 lost_one : (P : Kept) (at : Place) (reason : LossReason) (frame : ClientFrame) → ActHas P (lost at reason frame)
-lost_one P at reason frame = record { handed_out = λ moment n vid src dst text is. cc; bridged = λ moment lan vid src dst text is. cc; no_facts = λ me type_no asked is. cc }
+lost_one P at reason frame = record { handed_out = λ moment n vid src dst text is. cc; bridged = λ moment lan vid src dst text is. cc; told = λ me type_no source version text is. cc }
 
 lost_has : (P : Kept) (at : Place) (reason : LossReason) (o : Option ClientFrame) → ActsHave P (lost_if at reason o)
 lost_has P at reason None = tt
@@ -160,7 +194,7 @@ lost_has P at reason (Some frame) = (lost_one P at reason frame, tt)
 
 broadcast_has : (P : Kept) (known : Knowledge) (bridge : Bridge) (at : Place) (ttl : ℕ) (broadcast : Broadcast) (tail : List ℕ) → IsWhole at.me → IsWhole broadcast.orig → P.carried tail → ActsHave P (broadcast_acts known bridge at ttl broadcast tail)
 unfolding broadcast_acts
-broadcast_has P known bridge at ttl broadcast tail mine whole p = have_if P (is_new_broadcast at.me broadcast known.taken) (handed_out_if bridge at broadcast.orig (client_frame_of tail) ++ broadcast_on ttl broadcast tail) []
+broadcast_has P known bridge at ttl broadcast tail mine whole p = have_if P (is_new_broadcast at.me at.now broadcast known.taken) (handed_out_if bridge at broadcast.orig (client_frame_of tail) ++ broadcast_on ttl broadcast tail) []
     (each_appended (ActHas P) (handed_out_if bridge at broadcast.orig (client_frame_of tail)) (broadcast_on ttl broadcast tail) (handed_if P bridge at broadcast.orig tail mine p)
     (have_if P (nat_le ttl 1) [] (sent_to_all (Bcast (ttl - 1) broadcast.number broadcast.orig) tail ∷ []) tt (bcast_has P (ttl - 1) broadcast.number broadcast.orig tail whole p, tt))) tt
 
@@ -222,10 +256,10 @@ frame_has P q known ms at frame mine k given p =
     go (Some way) whole = (addressed_has P q known at.now 50 way (payload_spelling frame) (whole way refl) p, tt)
 
 -- ---- packets
-pub packet_has : (P : Kept) (q : Queries) (me : Mac) (own : Own) (came : Coming) (packet : Packet) (known : Knowledge) → KeepsOriginators me q → IsWhole me → IsWhole came.from → KnowsWhole known → HasWholeAddresses packet.head → PacketHas P packet
+pub packet_has : (P : Kept) (q : Queries) (me : Mac) (own : Own) (came : Coming) (packet : Packet) (known : Knowledge) → KeepsOriginators me q → IsWhole me → IsWhole came.from → KnowsWhole known → Stores IsWhole P.fact (kept_of known) → HasWholeAddresses packet.head → PacketHas P packet
     → ActsHave P (packet_acts q me own came known packet)
 unfolding packet_acts
-packet_has P q me own came packet known keeps mine from k whole has = go packet.head packet.tail whole has
+packet_has P q me own came packet known keeps mine from k s whole has = go packet.head packet.tail whole has
   where
     taken : (head : Head) (source : Mac) (tail : List ℕ) (o : Option Message) → IsMessageOf source head → ActsHave P (taken_acts q me came head o tail known)
     taken head source tail None is = tt
@@ -236,8 +270,14 @@ packet_has P q me own came packet known keeps mine from k whole has = go packet.
     go (Bcast ttl seq o) tail w h = broadcast_has P known own.bridge (place_at me came) ttl (record { orig = o; number = seq }) tail mine h.0 h.1
     go (Elp o seq interval) tail w h = tt
     go (Ogm2 ttl flags seq o throughput) tail w h = taken (Ogm2 ttl flags seq o throughput) o tail (message_with o (first_table (containers_of tail))) (record { word = refl; addresses = w })
-    go (Unicast ttl ttvn dst) tail w h = have_if P (same_mac dst me) (here_acts q known own.mentions own.bridge (place_at me came) ttl tail) (passed_frame q known (place_at me came) ttl ttvn dst tail)
-        (here_has P q known own.mentions own.bridge (place_at me came) ttl tail mine k h.1) (passed_has P q known (place_at me came) ttl ttvn dst tail h.0 h.1)
+    go (Unicast ttl ttvn dst) tail w h =
+        let at = place_at me came in
+        let here = here_acts q known own.mentions own.bridge at ttl tail in
+        let told = fact_acts q known at (fact_message_of tail) in
+        have_if P (same_mac dst me) (here ++ told) (passed_frame q known at ttl ttvn dst tail)
+        (each_appended (ActHas P) here told (here_has P q known own.mentions own.bridge at ttl tail mine k h.1)
+        (stores_have P me told mine (fact_puts IsWhole P.fact q known at (fact_message_of tail) s (taken_came P tail h.1))))
+        (passed_has P q known at ttl ttvn dst tail h.0 h.1)
     go (Frag ttl number priority dst o seq total) tail w h = tt
     go (Unicast4 ttl ttvn dst src subtype) tail w h =
         each_asking (ActHas P) (asking_none P) (unicast4_acts q me came known ttl ttvn dst src subtype tail) (unicast4_puts q me came known ttl ttvn dst src subtype tail)
@@ -251,6 +291,14 @@ packet_has P q me own came packet known keeps mine from k whole has = go packet.
         (each_appended (ActHas P) answer unclaim (own_has P q me known came.now own src (message_in (first_table (containers_of tail)))) (unclaim_has P (place_at me came) own.bridge (first_roaming (containers_of tail)) mine)) (other_has P q known came.now ttl dst src tail)
 
 -- ---- ticks
+-- an event of an alias carries nothing
+event_has : (P : Kept) (me : Mac) (number : ℕ) (o : Option ℕ) → ActsHave P (alias_event me number o)
+event_has P me number None = tt
+event_has P me number (Some earlier) = (record { handed_out = λ moment n vid src dst text is. cc; bridged = λ moment lan vid src dst text is. cc; told = λ me type_no source version text is. cc }, tt)
+
+pub aliases_have : (P : Kept) (me : Mac) (before after : List Version) → ActsHave P (alias_acts me before after)
+aliases_have P me before after = have_if P (length after == length before) [] (alias_event me (length before) (last_alias after)) tt (event_has P me (length before) (last_alias after))
+
 pub tick_has : (P : Kept) (q : Queries) (me : Mac) (settings : Settings) (routes : RouteLog) (ms : List Mention) (before : History) (bridge : Bridge) (now index : ℕ) → KeepsOriginators me q → IsWhole me → ActsHave P (tick_acts q me settings routes ms before bridge now index)
 unfolding tick_acts
 tick_has P q me settings routes ms before bridge now index keeps whole =
@@ -262,9 +310,5 @@ tick_has P q me settings routes ms before bridge now index keeps whole =
     (elps_none P (q.beats routes index).elp (λ head is. keeps.elps routes index head is))
     (each_appended (ActHas P) made (round_acts at bridge index) (have_if P (is_commit_tick index) (commit_acts q me settings routes index before after) []
     (each_appended (ActHas P) (alias_acts me before.commits after.commits) (message_acts (q.beats routes index).ogm tail)
-    (have_if P (length after.commits == length before.commits) [] (alias_event me (length before.commits) (last_alias after.commits)) tt (event (last_alias after.commits)))
+    (aliases_have P me before.commits after.commits)
     (messages_none P me (q.beats routes index).ogm tail (λ head is. keeps.own routes index head whole is))) tt) (round_has P at bridge index whole))
-  where
-    event : (o : Option ℕ) → ActsHave P (alias_event me (length before.commits) o)
-    event None = tt
-    event (Some earlier) = (record { handed_out = λ moment n vid src dst text is. cc; bridged = λ moment lan vid src dst text is. cc; no_facts = λ me type_no asked is. cc }, tt)

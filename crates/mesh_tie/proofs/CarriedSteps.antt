@@ -1,19 +1,25 @@
 -- What a step of a mesh sends, puts and hands out carries payloads that came, or that a line begins.
-use Rattle.std.proofs.Common.{◌++◌, Option, Some, None, length, ◌∙◌, ap, ◌≡◌, ◌⊎◌, inl, inr, ℕ, suc, true, false, List, [], ◌∷◌, slice_get, refl, sym, subst}
+use Rattle.std.proofs.Common.{Bool, cond, ◌++◌, Option, Some, None, length, ◌∙◌, ap, ◌≡◌, ◌⊎◌, inl, inr, ℕ, suc, true, false, List, [], ◌∷◌, slice_get, refl, sym, subst}
 use Rattle.mesh_base.specs.declared.address.Mac.{Mac}
 use Rattle.mesh_base.specs.declared.event.Event.{Event}
 use Rattle.mesh_model.specs.declared.act.Act.{Act}
 use Rattle.mesh_model.specs.declared.act.Act.TheVariants.{Lan, Link, Print}
+use Rattle.mesh_model.specs.declared.packet.Head.{Head}
+use Rattle.mesh_model.specs.declared.packet.Head.TheVariants.{IvOgm, Bcast, Elp, Ogm2, Unicast, Frag, Unicast4, Icmp, Utvlv}
+use Rattle.mesh_model.specs.declared.service.Fact.{Fact}
 use Rattle.mesh_model.specs.Acts.BridgeRows.{Place}
 use Rattle.mesh_model.specs.Acts.Choosing.{acts_of, asking_acts, call_frame, calling_acts, claimed_first, client_acts, from_lan_acts, on_from_lan, sighting_acts}
+use Rattle.mesh_model.specs.Acts.FactRows.{fact_round_acts, get_acts}
 use Rattle.mesh_model.specs.Acts.FrameRows.{frame_acts}
-use Rattle.mesh_model.specs.Acts.Rows.{Own, own_by, packet_acts, packets_acts}
+use Rattle.mesh_model.specs.Acts.Rows.{Own, own_by, packet_acts, packets_acts, tick_acts}
 use Rattle.mesh_model.specs.Clients.Lans.{bridge}
-use Rattle.mesh_model.specs.Clients.Log.{Given, Tick, LinkFrame, LanFrame, Line, LineGiven, Attach, Frame, Gone, Join, Leave, Arp, Dhcp, Sets, Put, Get, Ping, Trace, Log}
+use Rattle.mesh_model.specs.Clients.Log.{Given, LogEntry, Tick, LinkFrame, LanFrame, Line, LineGiven, Attach, Frame, Gone, Join, Leave, Arp, Dhcp, Sets, Put, Get, Ping, Trace, Reboot, Log}
 use Rattle.mesh_model.specs.Clients.Mentions.{Mention, key_of, mentions, next_mentions, passed_from_lan}
-use Rattle.mesh_model.specs.Commits.History.{history}
+use Rattle.mesh_model.specs.Commits.History.{history, is_commit_tick, restarted}
 use Rattle.mesh_model.specs.Knowledge.Known.{Knowledge}
-use Rattle.mesh_model.specs.Knowledge.Steps.{Coming, advertised, after_packet, after_sighting, knowledge, stays_on_lan}
+use Rattle.mesh_model.specs.Knowledge.Offers.{choice_by}
+use Rattle.mesh_model.specs.Knowledge.Steps.{Coming, advertised, after_packet, after_packets, after_passed, after_sighting, after_tick, before_round, knowledge, next_knowledge, stays_on_lan}
+use Rattle.mesh_model.specs.Knowledge.Told.{message_of}
 use Rattle.mesh_model.specs.Net.Due.{ticks_in}
 use Rattle.mesh_model.specs.Net.Inputs.{entry_of, noting}
 use Rattle.mesh_model.specs.Net.Limits.{scenario_setup}
@@ -22,45 +28,76 @@ use Rattle.mesh_model.specs.Net.Lans.{with_events}
 use Rattle.mesh_model.specs.Net.Sending.{put_event}
 use Rattle.mesh_model.specs.Packets.LanFrames.{client_frame_in, lan_message_of}
 use Rattle.mesh_model.specs.Net.Next.{Has}
+use Rattle.mesh_model.specs.Packets.FactMessages.{CameFact, fact_message_of}
+use Rattle.mesh_model.specs.Routes.RouteLog.{OwnTick}
 use Rattle.mesh_model.specs.Packets.FirstPacket.{Packet}
 use Rattle.mesh_model.specs.Packets.LinkFrame.{link_frame}
 use Rattle.mesh_model.specs.Packets.Payload.{ClientFrame, client_frame_of, payload_spelling}
 use Rattle.mesh_model.specs.Routes.Queries.{Queries}
-use Rattle.mesh_laws.proofs.Schedule.Members.{get_either, get_last, has_either}
-use Rattle.mesh_tie.specs.Carried.{IsKept, IsReadOf, PutCarries, WasGiven, frame_of_line, on_lan, to_node}
+use Rattle.mesh_laws.proofs.Schedule.Members.{get_either, get_last, has_either, one_some}
+use Rattle.mesh_laws.proofs.KeptLemmas.{has_payload, head_comes, kept_of, passed_kept, tick_kept}
+use Rattle.mesh_tie.specs.Carried.{IsKept, IsReadOf, PutCarries, UnlessStored, WasGiven, WasPut, frame_of_line, on_lan, to_node}
 use Rattle.mesh_tie.specs.Sources.{HasWholeAddresses, IsWhole, KeepsOriginators}
 use Rattle.mesh_tie.specs.Steps.{Steps, TellsClient, bridged_event, frame_comes, lan_comes, lan_joins, line_gives, link_joins, node_joins, node_ticks, put_comes, put_reaches, time_passes, with_lan_frame}
 use Rattle.mesh_tie.specs.Tie.{IsOrderly, KnowsWhole, known_at_node}
 use Rattle.mesh_tie.specs.TieLaws.{AllKeep}
-use Rattle.mesh_tie.proofs.CarriedHeads.{Kept, Tells, ActHas, ActsHave, FrameHas, PacketHas}
+use Rattle.mesh_tie.proofs.CarriedHeads.{HeadHas, Kept, Tells, ActHas, ActsHave, FrameHas, PacketHas}
 use Rattle.mesh_tie.proofs.CarriedLans.{claimed_has}
-use Rattle.mesh_tie.proofs.CarriedRows.{advert_has, call_has, frame_has, have_if, packet_has, question_none, session_has, tick_has}
+use Rattle.mesh_tie.proofs.CarriedRows.{advert_has, aliases_have, call_has, frame_has, have_if, packet_has, question_none, session_has, stores_have, taken_came, tick_has}
+use Rattle.mesh_tie.proofs.EtherReading.{dst_whole, src_whole}
+use Rattle.mesh_tie.proofs.FactActs.{fact_round_puts, get_puts}
+use Rattle.mesh_tie.proofs.FactLemmas.{MessageHas, Stores}
+use Rattle.mesh_tie.proofs.FactReading.{frame_no_message, message_back, message_no_frame}
+use Rattle.mesh_tie.proofs.FactSteps.{line_stored, packet_stored, same_stores}
 use Rattle.mesh_tie.proofs.EntryLemmas.{each_appended}
 use Rattle.mesh_tie.proofs.KnowsLemmas.{packet_knows, sighting_knows}
 use Rattle.mesh_tie.proofs.AddressLemmas.{heads_whole}
 use Rattle.mesh_tie.proofs.LanSteps.{lan_read, passed_came}
-use Rattle.mesh_tie.proofs.NodeLists.{got_noted}
+use Rattle.mesh_tie.proofs.NodeLists.{Renewed, another, got_front, got_noted, itself, renewed}
 use Rattle.mesh_tie.proofs.SentLemmas.{HasGiven, IsOfActs, given_is}
 
 -- ---- one input
-packets_have : (P : Kept) (q : Queries) (me : Mac) (own : Own) (came : Coming) (packets : List Packet) (known : Knowledge) → KeepsOriginators me q → IsWhole me → IsWhole came.from → KnowsWhole known
+-- a payload has its property
+payload_has : (P : Kept) (head : Head) (tail : List ℕ) → has_payload head ≡ true → HeadHas P tail head → P.carried tail
+payload_has P (IvOgm ttl flags seq orig prev tq) tail is h = cc
+payload_has P (Bcast ttl seq orig) tail is h = h.1
+payload_has P (Elp orig seq interval) tail is h = cc
+payload_has P (Ogm2 ttl flags seq orig throughput) tail is h = cc
+payload_has P (Unicast ttl ttvn dst) tail is h = h.1
+payload_has P (Frag ttl number priority dst orig seq total) tail is h = cc
+payload_has P (Unicast4 ttl ttvn dst src subtype) tail is h = cc
+payload_has P (Icmp ttl msg dst orig uid seq) tail is h = cc
+payload_has P (Utvlv ttl dst src) tail is h = cc
+
+-- what a node keeps of the fact store after a packet
+packet_keeps : (P : Kept) (q : Queries) (me : Mac) (came : Coming) (packet : Packet) (known : Knowledge) → PacketHas P packet → Stores IsWhole P.fact (kept_of known) → Stores IsWhole P.fact (kept_of (after_packet q me came known packet))
+packet_keeps P q me came packet known has s =
+    packet_stored IsWhole P.fact came.now packet.head packet.tail known (after_packet q me came known packet) (head_comes q me came (message_of packet) packet.tail packet.head known)
+    (λ payload. taken_came P packet.tail (payload_has P packet.head packet.tail payload has)) s
+
+packets_have : (P : Kept) (q : Queries) (me : Mac) (own : Own) (came : Coming) (packets : List Packet) (known : Knowledge) → KeepsOriginators me q → IsWhole me → IsWhole came.from → KnowsWhole known → Stores IsWhole P.fact (kept_of known)
     → ((packet : Packet) → Has packets packet → HasWholeAddresses packet.head × PacketHas P packet) → ActsHave P (packets_acts q me own came known packets)
 unfolding packets_acts
-packets_have P q me own came [] known keeps mine from k each = tt
-packets_have P q me own came (packet ∷ rest) known keeps mine from k each =
+packets_have P q me own came [] known keeps mine from k s each = tt
+packets_have P q me own came (packet ∷ rest) known keeps mine from k s each =
     let one = each packet (inl refl) in
     let after = after_packet q me came known packet in
     each_appended (ActHas P) (packet_acts q me own came known packet) (packets_acts q me own came after rest)
-    (packet_has P q me own came packet known keeps mine from k one.0 one.1)
-    (packets_have P q me own came rest after keeps mine from (packet_knows q me came packet known one.0 k) (λ p has. each p (inr has)))
+    (packet_has P q me own came packet known keeps mine from k s one.0 one.1)
+    (packets_have P q me own came rest after keeps mine from (packet_knows q me came packet known one.0 k) (packet_keeps P q me came packet known one.1 s) (λ p has. each p (inr has)))
+
+packets_keep : (P : Kept) (q : Queries) (me : Mac) (came : Coming) (packets : List Packet) (known : Knowledge) → Stores IsWhole P.fact (kept_of known) → ((packet : Packet) → Has packets packet → PacketHas P packet) → Stores IsWhole P.fact (kept_of (after_packets q me came known packets))
+packets_keep P q me came [] known s each = s
+packets_keep P q me came (packet ∷ rest) known s each =
+    packets_keep P q me came rest (after_packet q me came known packet) (packet_keeps P q me came packet known (each packet (inl refl)) s) (λ p has. each p (inr has))
 
 -- the client frame of a line is given, and is carried as it is spelled
 abbrev Begins : Kept → LineGiven → Type 0
 Begins P line = (frame : ClientFrame) → frame_of_line line ≡ Some frame → P.given frame × P.carried (payload_spelling frame)
 
-line_has : (P : Kept) (q : Queries) (me : Mac) (mine : Log) (now : ℕ) (line : LineGiven) → Begins P line → IsWhole me → KnowsWhole (knowledge q me mine) → ActsHave P (acts_of q me mine now (Line line))
-line_has P q me mine now (Attach lan gateways) begin whole k = tt
-line_has P q me mine now (Frame src dst vid text) begin whole k =
+line_has : (P : Kept) (q : Queries) (me : Mac) (mine : Log) (now : ℕ) (line : LineGiven) → Begins P line → IsWhole me → KnowsWhole (knowledge q me mine) → Stores IsWhole P.fact (kept_of (knowledge q me mine)) → ActsHave P (acts_of q me mine now (Line line))
+line_has P q me mine now (Attach lan gateways) begin whole k s = tt
+line_has P q me mine now (Frame src dst vid text) begin whole k s =
     let frame : ClientFrame = record { dst = dst; src = src; vid = vid; text = text } in
     let key = key_of src vid in
     let known = knowledge q me mine in
@@ -68,25 +105,28 @@ line_has P q me mine now (Frame src dst vid text) begin whole k =
     let begun = begin frame refl in
     each_appended (ActHas P) (sighting_acts q me mine now key) (client_acts q me mine now frame) (advert_has P me key (advertised q me mine known now key))
     (frame_has P q (after_sighting q me mine now key known) ms (record { me = me; now = now }) frame whole (sighting_knows q me mine now key known k) (inl begun.0) begun.1)
-line_has P q me mine now (Gone key) begin whole k = tt
-line_has P q me mine now (Join key) begin whole k = tt
-line_has P q me mine now (Leave key) begin whole k = tt
-line_has P q me mine now (Arp mac own_ip asked_ip vid) begin whole k =
+line_has P q me mine now (Gone key) begin whole k s = tt
+line_has P q me mine now (Join key) begin whole k s = tt
+line_has P q me mine now (Leave key) begin whole k s = tt
+line_has P q me mine now (Arp mac own_ip asked_ip vid) begin whole k s =
     let key = key_of mac vid in
     let known = after_sighting q me mine now key (knowledge q me mine) in
     each_appended (ActHas P) (sighting_acts q me mine now key) (asking_acts q me mine now mac own_ip asked_ip vid) (advert_has P me key (advertised q me mine (knowledge q me mine) now key))
     (question_none P q known (record { me = me; now = now }) mac own_ip asked_ip vid)
-line_has P q me mine now (Dhcp key text) begin whole k =
+line_has P q me mine now (Dhcp key text) begin whole k s =
     let known = knowledge q me mine in
     let frame = call_frame key text in
     let begun = begin frame refl in
     each_appended (ActHas P) (sighting_acts q me mine now key) (calling_acts q me mine now key text) (advert_has P me key (advertised q me mine known now key))
     (call_has P q (after_sighting q me mine now key known) (record { me = me; now = now }) frame whole (sighting_knows q me mine now key known k) (inl begun.0) begun.1)
-line_has P q me mine now (Sets setting) begin whole k = tt
-line_has P q me mine now (Put type_no version text) begin whole k = tt
-line_has P q me mine now (Get type_no) begin whole k = tt
-line_has P q me mine now (Ping target) begin whole k = session_has P q (knowledge q me mine) (record { me = me; now = now }) target false
-line_has P q me mine now (Trace target) begin whole k = session_has P q (knowledge q me mine) (record { me = me; now = now }) target true
+line_has P q me mine now (Sets setting) begin whole k s = tt
+line_has P q me mine now (Put type_no version text) begin whole k s = tt
+line_has P q me mine now (Get type_no) begin whole k s =
+    let at : Place = record { me = me; now = now } in
+    stores_have P me (get_acts q (knowledge q me mine) at type_no) whole (get_puts IsWhole P.fact q (knowledge q me mine) at type_no s)
+line_has P q me mine now (Ping target) begin whole k s = session_has P q (knowledge q me mine) (record { me = me; now = now }) target false
+line_has P q me mine now (Trace target) begin whole k s = session_has P q (knowledge q me mine) (record { me = me; now = now }) target true
+line_has P q me mine now Reboot begin whole k s = let old = history me mine in aliases_have P me old.commits (restarted old).commits
 
 lan_has : (P : Kept) (q : Queries) (me : Mac) (mine : Log) (now : ℕ) (bytes : List ℕ) → PutCarries P.carried bytes → IsWhole me → KnowsWhole (knowledge q me mine) → ActsHave P (acts_of q me mine now (LanFrame bytes))
 lan_has P q me mine now bytes carries whole k =
@@ -114,10 +154,11 @@ lan_has P q me mine now bytes carries whole k =
 
 -- ---- one step
 -- what is kept holds of all that was sent, put and handed out
-pub record HasKept (P : Kept) (mesh : Mesh) : Type 0 where
+pub record HasKept (queries : Mac → Queries) (P : Kept) (mesh : Mesh) : Type 0 where
   pub frames : (place : ℕ) (frame : SentFrame) → slice_get mesh.frames place ≡ Some frame → FrameHas P frame.bytes
   pub puts : (place : ℕ) (put : LanPut) → slice_get mesh.puts place ≡ Some put → PutCarries P.carried put.bytes
   pub events : (event : Event) → Has mesh.events event → Tells P event
+  pub knows : (place : ℕ) (node : NodeLog) → slice_get mesh.nodes place ≡ Some node → Stores IsWhole P.fact (kept_of (known_at_node queries node))
 
 -- an act among others
 link_has : (P : Kept) (acts : List Act) (act : Act) → ActsHave P acts → Has acts act → ActHas P act
@@ -126,13 +167,24 @@ link_has P (first ∷ rest) act all (inl is) = subst (ActHas P) (sym is) all.0
 link_has P (first ∷ rest) act all (inr has) = link_has P rest act all.1 has
 
 given_keep : (P : Kept) (queries : Mac → Queries) (mesh after : Mesh) (place now root : ℕ) (node : NodeLog) (given : Given) → HasGiven (scenario_setup queries) place now root node given mesh after
-    → HasKept P mesh → ActsHave P (acts_of (queries node.mac) node.mac node.log now given) → HasKept P after
-given_keep P queries mesh after place now root node given has old acts = record {
+    → slice_get mesh.nodes place ≡ Some node → HasKept queries P mesh → Stores IsWhole P.fact (kept_of (next_knowledge (queries node.mac) node.mac node.log (known_at_node queries node) now given))
+    → ActsHave P (acts_of (queries node.mac) node.mac node.log now given) → HasKept queries P after
+given_keep P queries mesh after place now root node given has found old kept acts = record {
   frames = λ at frame got. sent at frame (get_either mesh.frames has.more at frame (subst (λ fs. slice_get fs at ≡ Some frame) has.frames got));
   puts = λ at put got. was_put at put (get_either mesh.puts has.more_puts at put (subst (λ ps. slice_get ps at ≡ Some put) has.puts got));
   events = λ event among. told event (has_either mesh.events has.more_events event (subst (λ es. Has es event) has.events among));
+  knows = λ at n got. stored at n (renewed place entry mesh.nodes at n (subst (λ ns. slice_get ns at ≡ Some n) has.nodes got));
 }
   where
+    entry : LogEntry
+    entry = entry_of (scenario_setup queries) node now given
+
+    stored : (at : ℕ) (n : NodeLog) → Renewed place entry mesh.nodes at n → Stores IsWhole P.fact (kept_of (known_at_node queries n))
+    stored at n (another d got) = old.knows at n got
+    stored at n (itself before same got noted) =
+        let one : node ≡ before = one_some node before (sym found ∙ ap (slice_get mesh.nodes) same ∙ got) in
+        subst (λ (x : NodeLog). Stores IsWhole P.fact (kept_of (known_at_node queries x))) (ap (noting entry) one ∙ sym noted) kept
+
     made : List Act
     made = (entry_of (scenario_setup queries) node now given).acts
 
@@ -146,16 +198,48 @@ given_keep P queries mesh after place now root node given has old acts = record 
 
     by_act : (event : Event) → IsOfActs made node.mac now event → Tells P event
     by_act event (inl print) = link_has P made (Print event) acts print
-    by_act event (inr (inl s)) = let sending = s.is in record { handed_out = λ moment n vid src dst text is. cc; bridged = λ moment lan vid src dst text is. cc; no_facts = λ me type_no asked is. cc }
-    by_act event (inr (inr s)) = let sending = s.is in record { handed_out = λ moment n vid src dst text is. cc; bridged = λ moment lan vid src dst text is. cc; no_facts = λ me type_no asked is. cc }
+    by_act event (inr (inl s)) = let sending = s.is in record { handed_out = λ moment n vid src dst text is. cc; bridged = λ moment lan vid src dst text is. cc; told = λ me type_no source version text is. cc }
+    by_act event (inr (inr s)) = let sending = s.is in record { handed_out = λ moment n vid src dst text is. cc; bridged = λ moment lan vid src dst text is. cc; told = λ me type_no source version text is. cc }
 
     told : (event : Event) → Has mesh.events event ⊎ Has has.more_events event → Tells P event
     told event (inl before) = old.events event before
     told event (inr new) = by_act event (has.came event new)
 
+-- what is kept of a payload, unless it is a message of facts; and its facts, where it is one
+pub record Payload (F : Fact → Type 0) (P : List ℕ → Type 0) (payload : List ℕ) : Type 0 where
+  pub has : UnlessStored P payload
+  pub facts : (came : CameFact) → fact_message_of payload ≡ Some came → MessageHas F came.message
+
+-- a message of facts is no client frame
+pub kept_of_frame : (F : Fact → Type 0) (P : List ℕ → Type 0) (payload : List ℕ) (one : ClientFrame) → Payload F P payload → client_frame_of payload ≡ Some one → P payload
+kept_of_frame F P payload one p is = go p.has
+  where
+    go : UnlessStored P payload → P payload
+    go (inl has) = has
+    go (inr m) = absurd (message_no_frame m.dst m.src m.message one m.whole_dst m.whole_src (ap client_frame_of (sym m.spelled) ∙ is))
+
+-- a client frame is no message of facts
+pub kept_frame : (F : Fact → Type 0) (P : List ℕ → Type 0) (frame : ClientFrame) → IsWhole frame.dst → IsWhole frame.src → P (payload_spelling frame) → Payload F P (payload_spelling frame)
+kept_frame F P frame whole also p = record { has = inl p; facts = λ came is. absurd (frame_no_message frame came whole also is) }
+
+-- a fact that a line put, from a whole address
+abbrev pub IsPut : Mesh → Fact → Type 0
+IsPut mesh fact = WasPut mesh fact × IsWhole fact.source
+
 -- what is kept in a mesh
 abbrev pub kept_in : (queries : Mac → Queries) (P : Mesh → List ℕ → Type 0) → IsKept queries P → Mesh → Kept
-kept_in queries P kept mesh = record { carried = P mesh; given = WasGiven mesh; read_on = kept.read_on mesh }
+kept_in queries P kept mesh = record {
+  carried = Payload (IsPut mesh) (P mesh);
+  given = WasGiven mesh;
+  fact = IsPut mesh;
+  whole = λ one put. put.1;
+  read_on = λ payload frame c read. kept_frame (IsPut mesh) (P mesh) frame (dst_whole payload frame read) (src_whole payload frame read) (kept.read_on mesh payload frame (kept_of_frame (IsPut mesh) (P mesh) payload frame c read) read);
+  told = λ dst src message whole also has. record {
+    has = inr (record { dst = dst; src = src; message = message; whole_dst = whole; whole_src = also; spelled = refl });
+    facts = λ came is. message_back (IsPut mesh) (λ one put. put.1) dst src message came whole also has is;
+  };
+  taken = λ tail came c is. c.facts came is;
+}
 
 -- a line tells its client frame
 line_tells : (line : LineGiven) (frame : ClientFrame) → TellsClient line → frame_of_line line ≡ Some frame → TellsClient (Frame frame.src frame.dst frame.vid frame.text)
@@ -171,6 +255,7 @@ line_tells (Put type_no version text) frame of is = cc
 line_tells (Get type_no) frame of is = cc
 line_tells (Ping target) frame of is = cc
 line_tells (Trace target) frame of is = cc
+line_tells Reboot frame of is = cc
 
 -- the client frame of a line, behind the line's step
 line_begins : (queries : Mac → Queries) (P : Mesh → List ℕ → Type 0) (mesh after : Mesh) (place now : ℕ) (node : NodeLog) (line : LineGiven) → (kept : IsKept queries P) → slice_get mesh.nodes place ≡ Some node → TellsClient line
@@ -179,7 +264,8 @@ line_begins queries P mesh after place now node line kept found of has frame is 
     let entry = entry_of (scenario_setup queries) node now (Line line) in
     let given : WasGiven after frame = to_node place (noting entry node) entry line
     (ap (λ ns. slice_get ns place) has.nodes ∙ got_noted mesh.nodes place node entry found) (inl refl) refl is (line_tells line frame of is) in
-    (given, kept.begun after frame given)
+    let tells = line_tells line frame of is in
+    (given, kept_frame (IsPut after) (P after) frame tells.1 tells.0.fits.address (kept.begun after frame given))
 
 at_end : {X : Type 0} (xs : List X) (x : X) → slice_get (xs ++ x ∷ []) (length xs) ≡ Some x
 at_end [] x = refl
@@ -194,11 +280,12 @@ more_told P events new old tells event has = go (has_either events (new ∷ []) 
     go (inr (inl is)) = subst (Tells P) (sym is) tells
     go (inr (inr none)) = absurd none
 
-put_keeps : (P : Kept) (mesh : Mesh) (put : LanPut) → HasKept P mesh → PutCarries P.carried put.bytes → HasKept P (with_lan_frame put mesh)
-put_keeps P mesh put old carries = record {
+put_keeps : (queries : Mac → Queries) (P : Kept) (mesh : Mesh) (put : LanPut) → HasKept queries P mesh → PutCarries P.carried put.bytes → HasKept queries P (with_lan_frame put mesh)
+put_keeps queries P mesh put old carries = record {
+  knows = old.knows;
   frames = old.frames;
   puts = λ at other got. go at other (get_last mesh.puts put at other got);
-  events = more_told P mesh.events (put_event mesh put) old.events (record { handed_out = λ moment n vid src dst text is. cc; bridged = λ moment lan vid src dst text is. cc; no_facts = λ me type_no asked is. cc });
+  events = more_told P mesh.events (put_event mesh put) old.events (record { handed_out = λ moment n vid src dst text is. cc; bridged = λ moment lan vid src dst text is. cc; told = λ me type_no source version text is. cc });
 }
   where
     go : (at : ℕ) (other : LanPut) → (slice_get mesh.puts at ≡ Some other) ⊎ (other ≡ put) → PutCarries P.carried other.bytes
@@ -208,42 +295,93 @@ put_keeps P mesh put old carries = record {
 bridged_tells : (P : Kept) (now : ℕ) (put : LanPut) (frame : ClientFrame) → P.carried put.bytes → client_frame_of put.bytes ≡ Some frame → Tells P (bridged_event now put frame)
 bridged_tells P now put frame p read = record {
   handed_out = λ moment n vid src dst text is. cc;
-  no_facts = λ me type_no asked is. cc;
+  told = λ me type_no source version text is. cc;
   bridged = λ moment lan vid src dst text is.
       let same : ◌≡◌ {A = ClientFrame} (record { dst = frame.dst; src = frame.src; vid = frame.vid; text = frame.text }) (record { dst = dst; src = src; vid = vid; text = text }) = cc in
       subst (IsReadOf P.carried) same (put.bytes, p, read);
 }
 
+-- the fact that a line puts, behind the line's step
+put_by : (queries : Mac → Queries) (mesh after : Mesh) (place now : ℕ) (node : NodeLog) (line : LineGiven) → slice_get mesh.nodes place ≡ Some node → HasGiven (scenario_setup queries) place now 0 node (Line line) mesh after
+    → (type_no version : ℕ) (bytes : List ℕ) → line ≡ Put type_no version bytes → WasPut after (record { source = node.mac; type_no = type_no; version = version; bytes = bytes })
+put_by queries mesh after place now node line found has type_no version bytes is =
+    let entry = entry_of (scenario_setup queries) node now (Line line) in
+    record {
+      place = place;
+      node = noting entry node;
+      entry = entry;
+      found = ap (λ ns. slice_get ns place) has.nodes ∙ got_noted mesh.nodes place node entry found;
+      noted = inl refl;
+      given_is = ap Line is;
+      source_is = refl;
+    }
+
+before_stored : (D : Mac → Type 0) (F : Fact → Type 0) (q : Queries) (now index : ℕ) (known : Knowledge) → Stores D F (kept_of known) → Stores D F (kept_of (before_round q now index known))
+before_stored D F q now index known s = go (is_commit_tick index)
+  where
+    ticked : Knowledge
+    ticked = record known { routes = OwnTick now index ∷ known.routes }
+
+    go : (b : Bool) → Stores D F (kept_of (cond b (record ticked { services = record ticked.services { choice = choice_by known.services.settings.gateway q ticked now } }) ticked))
+    go true = s
+    go false = s
+
+lan_stored : (F : Fact → Type 0) (q : Queries) (me : Mac) (mine : Log) (known : Knowledge) (now : ℕ) (bytes : List ℕ) → Stores IsWhole F (kept_of known)
+    → Stores IsWhole F (kept_of (next_knowledge q me mine known now (LanFrame bytes)))
+lan_stored F q me mine known now bytes s =
+    let ms = next_mentions me mine (mentions me mine) now (LanFrame bytes) in
+    let passed = passed_from_lan me mine now (client_frame_in (lan_message_of bytes)) in
+    same_stores IsWhole F known (after_passed q me mine known now ms passed) (passed_kept q me mine known now ms passed) s
+
 pub step_keeps : (queries : Mac → Queries) (P : Mesh → List ℕ → Type 0) (mesh after : Mesh) → (kept : IsKept queries P) → AllKeep queries → IsOrderly queries mesh → Steps queries mesh after
-    → HasKept (kept_in queries P kept after) mesh → HasKept (kept_in queries P kept after) after
-step_keeps queries P mesh _ kept keep o (node_joins _ node empty whole fresh) old = record { frames = old.frames; puts = old.puts; events = old.events }
-step_keeps queries P mesh _ kept keep o (link_joins _ link) old = record { frames = old.frames; puts = old.puts; events = old.events }
+    → HasKept queries (kept_in queries P kept after) mesh → HasKept queries (kept_in queries P kept after) after
+step_keeps queries P mesh _ kept keep o (node_joins _ new empty whole fresh) old = record { frames = old.frames; puts = old.puts; events = old.events; knows = λ at n got. joined at n (got_front mesh.nodes new at n got) }
+  where
+    holds : NodeLog → Type 0
+    holds n = Stores IsWhole (IsPut (record mesh { nodes = mesh.nodes ++ new ∷ [] })) (kept_of (known_at_node queries n))
+
+    joined : (at : ℕ) (n : NodeLog) → (slice_get mesh.nodes at ≡ Some n) ⊎ ((n ≡ new) × (slice_get mesh.nodes at ≡ None)) → holds n
+    joined at n (inl before) = old.knows at n before
+    joined at n (inr is) = subst (λ l. Stores IsWhole (IsPut (record mesh { nodes = mesh.nodes ++ new ∷ [] })) (kept_of (knowledge (queries n.mac) n.mac l))) (sym (ap (λ (x : NodeLog). x.log) is.0 ∙ empty)) (record { primaries = tt; facts = tt; pushes = tt; answers = tt })
+step_keeps queries P mesh _ kept keep o (link_joins _ link) old = record { frames = old.frames; puts = old.puts; events = old.events; knows = old.knows }
 step_keeps queries P mesh after kept keep o (line_gives _ _ place now node line found may of is) old =
     let has = given_is (scenario_setup queries) place now 0 node (Line line) mesh after found is in
-    given_keep (kept_in queries P kept after) queries mesh after place now 0 node (Line line) has old
-    (line_has (kept_in queries P kept after) (queries node.mac) node.mac node.log now line (line_begins queries P mesh after place now node line kept found of has) (o.whole place node found) (o.knows place node found))
+    given_keep (kept_in queries P kept after) queries mesh after place now 0 node (Line line) has found old
+    (line_stored IsWhole (IsPut after) (queries node.mac) node.mac node.log (known_at_node queries node) now line (λ type_no version bytes put. (put_by queries mesh after place now node line found has type_no version bytes put, o.whole place node found)) (old.knows place node found))
+    (line_has (kept_in queries P kept after) (queries node.mac) node.mac node.log now line (line_begins queries P mesh after place now node line kept found of has) (o.whole place node found) (o.knows place node found) (old.knows place node found))
 step_keeps queries P mesh after kept keep o (node_ticks _ _ place now node found may is) old =
     let index = suc (ticks_in node.log) in
-    given_keep (kept_in queries P kept after) queries mesh after place now index node (Tick index) (given_is (scenario_setup queries) place now index node (Tick index) mesh after found is) old
+    let before = before_round (queries node.mac) now index (known_at_node queries node) in
+    let at : Place = record { me = node.mac; now = now } in
+    let told = fact_round_acts (queries node.mac) before at index in
+    let ticks = tick_acts (queries node.mac) node.mac (known_at_node queries node).services.settings (known_at_node queries node).routes (mentions node.mac node.log) (history node.mac node.log) (bridge node.log) now index in
+    given_keep (kept_in queries P kept after) queries mesh after place now index node (Tick index) (given_is (scenario_setup queries) place now index node (Tick index) mesh after found is) found old
+    (same_stores IsWhole (IsPut after) (known_at_node queries node) (after_tick (queries node.mac) now index (known_at_node queries node)) (tick_kept (queries node.mac) now index (known_at_node queries node)) (old.knows place node found))
+    (each_appended (ActHas (kept_in queries P kept after)) ticks told
     (tick_has (kept_in queries P kept after) (queries node.mac) node.mac (known_at_node queries node).services.settings (known_at_node queries node).routes (mentions node.mac node.log) (history node.mac node.log) (bridge node.log) now index (keep node.mac) (o.whole place node found))
+    (stores_have (kept_in queries P kept after) node.mac told (o.whole place node found) (fact_round_puts IsWhole (IsPut after) (queries node.mac) before at index
+    (before_stored IsWhole (IsPut after) (queries node.mac) now index (known_at_node queries node) (old.knows place node found)))))
 step_keeps queries P mesh after kept keep o (frame_comes _ _ place now number throughput from node frame found may sent whole is) old =
     let came : Coming = record { now = now; from = from; throughput = throughput; number = suc number } in
     let given = LinkFrame (suc number) from throughput frame.bytes in
-    given_keep (kept_in queries P kept after) queries mesh after place now frame.root node given (given_is (scenario_setup queries) place now frame.root node given mesh after found is) old
-    (packets_have (kept_in queries P kept after) (queries node.mac) node.mac (own_by node.mac node.log) came (link_frame frame.bytes).packets (known_at_node queries node) (keep node.mac) (o.whole place node found) whole (o.knows place node found)
+    given_keep (kept_in queries P kept after) queries mesh after place now frame.root node given (given_is (scenario_setup queries) place now frame.root node given mesh after found is) found old
+    (packets_keep (kept_in queries P kept after) (queries node.mac) node.mac came (link_frame frame.bytes).packets (known_at_node queries node) (old.knows place node found) (λ packet has. old.frames number frame sent packet has))
+    (packets_have (kept_in queries P kept after) (queries node.mac) node.mac (own_by node.mac node.log) came (link_frame frame.bytes).packets (known_at_node queries node) (keep node.mac) (o.whole place node found) whole (o.knows place node found) (old.knows place node found)
     (λ packet has. (heads_whole frame.bytes packet has, old.frames number frame sent packet has)))
-step_keeps queries P mesh _ kept keep o (lan_joins _ lan) old = record { frames = old.frames; puts = old.puts; events = old.events }
-step_keeps queries P mesh _ kept keep o (put_comes _ put frame by is tells) old = put_keeps (kept_in queries P kept (with_lan_frame put mesh)) mesh put old (own kept)
+step_keeps queries P mesh _ kept keep o (lan_joins _ lan) old = record { frames = old.frames; puts = old.puts; events = old.events; knows = old.knows }
+step_keeps queries P mesh _ kept keep o (put_comes _ put frame by is tells) old = put_keeps queries (kept_in queries P kept (with_lan_frame put mesh)) mesh put old (own kept)
   where
     own : (kept : IsKept queries P) → PutCarries (kept_in queries P kept (with_lan_frame put mesh)).carried put.bytes
-    own kept other e = subst (P (with_lan_frame put mesh)) (sym is) (kept.begun (with_lan_frame put mesh) frame (on_lan (length mesh.puts) put (at_end mesh.puts put) by is tells))
+    own kept other e = subst (Payload (IsPut (with_lan_frame put mesh)) (P (with_lan_frame put mesh))) (sym is) (kept_frame (IsPut (with_lan_frame put mesh)) (P (with_lan_frame put mesh)) frame tells.1 tells.0.fits.address (kept.begun (with_lan_frame put mesh) frame (on_lan (length mesh.puts) put (at_end mesh.puts put) by is tells)))
 step_keeps queries P mesh _ kept keep o (put_reaches _ number now put frame found carries) old = record {
   frames = old.frames;
+  knows = old.knows;
   puts = old.puts;
   events = more_told (kept_in queries P kept (with_events (bridged_event now put frame ∷ []) mesh)) mesh.events (bridged_event now put frame) old.events
       (bridged_tells (kept_in queries P kept (with_events (bridged_event now put frame ∷ []) mesh)) now put frame (old.puts number put found frame carries) (lan_read put.bytes frame carries));
 }
 step_keeps queries P mesh after kept keep o (lan_comes _ _ place now number node put found may among is) old =
-    given_keep (kept_in queries P kept after) queries mesh after place now 0 node (LanFrame put.bytes) (given_is (scenario_setup queries) place now 0 node (LanFrame put.bytes) mesh after found is) old
+    given_keep (kept_in queries P kept after) queries mesh after place now 0 node (LanFrame put.bytes) (given_is (scenario_setup queries) place now 0 node (LanFrame put.bytes) mesh after found is) found old
+    (lan_stored (IsPut after) (queries node.mac) node.mac node.log (known_at_node queries node) now put.bytes (old.knows place node found))
     (lan_has (kept_in queries P kept after) (queries node.mac) node.mac node.log now put.bytes (old.puts number put among) (o.whole place node found) (o.knows place node found))
-step_keeps queries P mesh _ kept keep o (time_passes _ happening) old = record { frames = old.frames; puts = old.puts; events = old.events }
+step_keeps queries P mesh _ kept keep o (time_passes _ happening) old = record { frames = old.frames; puts = old.puts; events = old.events; knows = old.knows }

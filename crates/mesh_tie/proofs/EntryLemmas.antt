@@ -33,7 +33,7 @@ each_taken P zero xs all = tt
 each_taken P (suc n) [] all = tt
 each_taken P (suc n) (x ∷ xs) all = (all.0, each_taken P n xs all.1)
 
-each_dropped : {X : Type 0} (P : X → Type 0) (n : ℕ) (xs : List X) → AllByRecursion P xs → AllByRecursion P (drop n xs)
+pub each_dropped : {X : Type 0} (P : X → Type 0) (n : ℕ) (xs : List X) → AllByRecursion P xs → AllByRecursion P (drop n xs)
 each_dropped P zero xs all = all
 each_dropped P (suc n) [] all = tt
 each_dropped P (suc n) (x ∷ xs) all = each_dropped P n xs all.1

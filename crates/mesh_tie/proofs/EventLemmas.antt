@@ -8,7 +8,7 @@ use Rattle.mesh_base.specs.declared.event.Reason.TheVariants.{Table}
 use Rattle.mesh_model.specs.declared.act.Act.{Act}
 use Rattle.mesh_model.specs.declared.act.Act.TheVariants.{Link, Print}
 use Rattle.mesh_model.specs.declared.happening.Happening.{Happening}
-use Rattle.mesh_model.specs.Clients.Log.{Given, Tick, LinkFrame, LanFrame, Log, LogEntry, Line}
+use Rattle.mesh_model.specs.Clients.Log.{Given, Tick, LinkFrame, LanFrame, Log, LogEntry, Line, line_reboots}
 use Rattle.mesh_model.specs.Commits.History.{commits}
 use Rattle.mesh_model.specs.Net.Due.{ticks_in}
 use Rattle.mesh_model.specs.Net.Inputs.{entry_of, given_to, noted_at, noting}
@@ -34,10 +34,10 @@ use Rattle.mesh_tie.proofs.LogLemmas.{Grows, grows_same}
 use Rattle.mesh_tie.proofs.MeshSteps.{LogAfter, Reached, grows_after, log_after, log_joined}
 use Rattle.mesh_tie.proofs.NodeLists.{got_noted}
 use Rattle.mesh_tie.proofs.ReachLemmas.{reached}
-use Rattle.mesh_tie.proofs.NameSteps.{AllName, EntryNames, act_of, frame_acts_name, lan_acts_name, line_acts_name, sent_grows, tick_names}
+use Rattle.mesh_tie.proofs.NameSteps.{AllName, EntryNames, act_of, frame_acts_name, lan_acts_name, line_acts_name, reboot_names, sent_grows, tick_names}
 use Rattle.mesh_tie.proofs.NamesRows.{ActNames}
 use Rattle.mesh_tie.proofs.Sayable.{one_or_two}
-use Rattle.mesh_tie.proofs.SeenLemmas.{aliases_are_seen, calm_commits, line_calm}
+use Rattle.mesh_tie.proofs.SeenLemmas.{CommitsNothing, aliases_are_seen, calm_commits}
 use Rattle.mesh_tie.proofs.SentLemmas.{HasGiven, IsOfActs, given_is}
 
 -- ---- lists that are split
@@ -215,10 +215,10 @@ given_right queries orig mesh after place now root node given found next l is na
         (names (λ n e told. none n e (subst (λ es. Has es (Alias orig n e)) (sym p) (has_left mesh.events more (Alias orig n e) told)))) found
         (split_has has.more_events more (FrameSent number moment me to (Some Table) bytes) rest q)
 
--- an input that is no tick leaves the commits without an alias
+-- an input that is no tick and no reboot leaves the commits without an alias
 calm_clear : (queries : Mac → Queries) (orig : Mac) (mesh : Mesh) (place now : ℕ) (node : NodeLog) (given : Given) → IsReachable queries mesh
     → LogAfter orig node (entry_of (scenario_setup queries) node now given) (log_of orig mesh.nodes) (log_of orig (noted_at place (entry_of (scenario_setup queries) node now given) mesh.nodes))
-    → ((index : ℕ) → given ≡ Tick index → ⊥) → ToldNoneOf orig mesh.events → HasNoAlias (commits orig (log_of orig (noted_at place (entry_of (scenario_setup queries) node now given) mesh.nodes)))
+    → CommitsNothing given → ToldNoneOf orig mesh.events → HasNoAlias (commits orig (log_of orig (noted_at place (entry_of (scenario_setup queries) node now given) mesh.nodes)))
 calm_clear queries orig mesh place now node given r l calm none = go (one_or_two node.mac orig)
   where
     entry : LogEntry
@@ -302,7 +302,17 @@ step_right queries mesh _ keep r h fit (link_joins _ link) orig right = unlinked
 step_right queries mesh after keep r h fit (line_gives _ _ place now node line found may of is) orig right =
     let l = log_after queries orig mesh place node (entry_of (scenario_setup queries) node now (Line line)) h.holds.orderly found in
     given_right queries orig mesh after place now 0 node (Line line) found tt l is
-    (λ none. line_acts_name queries mesh place now node line orig of h found (calm_clear queries orig mesh place now node (Line line) r l (line_calm line) none)) right
+    (λ none. by (line_reboots line) refl (λ calm. line_acts_name queries mesh place now node line orig of h found (calm_clear queries orig mesh place now node (Line line) r l calm none))) right
+  where
+    log : Log
+    log = log_of orig (noted_at place (entry_of (scenario_setup queries) node now (Line line)) mesh.nodes)
+
+    Right : Type 0
+    Right = EntryNames queries orig node.mac log mesh.frames node.log (entry_of (scenario_setup queries) node now (Line line))
+
+    by : (b : Bool) → line_reboots line ≡ b → (line_reboots line ≡ false → Right) → Right
+    by true reboots calm = reboot_names queries mesh place now node line orig log reboots
+    by false is calm = calm is
 step_right queries mesh after keep r h fit (node_ticks _ _ place now node found may is) orig right =
     let index = suc (ticks_in node.log) in
     let entry = entry_of (scenario_setup queries) node now (Tick index) in
@@ -312,10 +322,7 @@ step_right queries mesh after keep r h fit (frame_comes _ _ place now number thr
     let given = LinkFrame (suc number) from throughput frame.bytes in
     let l = log_after queries orig mesh place node (entry_of (scenario_setup queries) node now given) h.holds.orderly found in
     given_right queries orig mesh after place now frame.root node given found tt l is
-    (λ none. frame_acts_name queries mesh after place now number throughput from node frame orig keep h fit found sent whole is (calm_clear queries orig mesh place now node given r l (λ index e. no_tick index e) none)) right
-  where
-    no_tick : (index : ℕ) → LinkFrame (suc number) from throughput frame.bytes ≡ Tick index → ⊥
-    no_tick index e = cc
+    (λ none. frame_acts_name queries mesh after place now number throughput from node frame orig keep h fit found sent whole is (calm_clear queries orig mesh place now node given r l tt none)) right
 step_right queries mesh _ keep r h fit (lan_joins _ lan) orig right = beside_right queries orig mesh (with_lan lan mesh) [] refl refl (sym (append-nil mesh.events)) (λ number moment me to bytes has. absurd has) right
 step_right queries mesh _ keep r h fit (put_comes _ put frame by is tells) orig right =
     beside_right queries orig mesh (with_lan_frame put mesh) (put_event mesh put ∷ []) refl refl refl (λ number moment me to bytes has. no_put number moment me to bytes has) right
@@ -333,10 +340,7 @@ step_right queries mesh after keep r h fit (lan_comes _ _ place now number node 
     let given = LanFrame put.bytes in
     let l = log_after queries orig mesh place node (entry_of (scenario_setup queries) node now given) h.holds.orderly found in
     given_right queries orig mesh after place now 0 node given found tt l is
-    (λ none. lan_acts_name queries mesh place now node put.bytes orig h found (calm_clear queries orig mesh place now node given r l (λ index e. no_tick index e) none)) right
-  where
-    no_tick : (index : ℕ) → LanFrame put.bytes ≡ Tick index → ⊥
-    no_tick index e = cc
+    (λ none. lan_acts_name queries mesh place now node put.bytes orig h found (calm_clear queries orig mesh place now node given r l tt none)) right
 step_right queries mesh _ keep r h fit (time_passes _ happening) orig right = unlinked_right queries orig mesh mesh.links happening right
 
 no_events : (before : List Event) (e : Event) (after : List Event) → [] ≡ before ++ e ∷ after → ⊥

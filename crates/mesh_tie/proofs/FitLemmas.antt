@@ -13,7 +13,7 @@ use Rattle.mesh_model.specs.declared.packet.Head.TheVariants.{IvOgm, Bcast, Elp,
 use Rattle.mesh_model.specs.declared.table_row.LocalRow.{LocalRow}
 use Rattle.mesh_model.specs.Acts.NodeLimits.{acts_before_sighting}
 use Rattle.mesh_model.specs.Clients.Limits.{clients_limit, limit_of_mention, limit_of_mentions, passed_limit}
-use Rattle.mesh_model.specs.Clients.Log.{Given, Tick, LinkFrame, Frame, Gone, Join, Leave, Arp, Dhcp, Ping, Trace, Log, LogEntry, LanFrame, Line, LineGiven, Attach, Sets, Put, Get}
+use Rattle.mesh_model.specs.Clients.Log.{Given, Tick, LinkFrame, Frame, Gone, Join, Leave, Arp, Dhcp, Ping, Trace, Reboot, Log, LogEntry, LanFrame, Line, LineGiven, Attach, Sets, Put, Get}
 use Rattle.mesh_model.specs.Clients.Mentions.{Mention, News, Sighted, Departed, Roamed, Joined, Left, is_wifi_on, key_of, mentions, passed_from_lan, passed_mentions, roamed, roamed_by, roamed_in, sighted_after}
 use Rattle.mesh_model.specs.Clients.Present.{entry_with, is_membership, last_membership, last_mention, mentioned_keys, present_clients, present_row, row_after, row_by, same_key, sighting_age}
 use Rattle.mesh_model.specs.Commits.History.{History, with_message, commits, committed, history, is_commit_tick, present_table, with_commit}
@@ -267,6 +267,11 @@ line_next me log now (Put type_no version text) acts fits late names none = log_
 line_next me log now (Get type_no) acts fits late names none = log_stays me log now (Line (Get type_no)) acts fits late refl refl
 line_next me log now (Ping target) acts fits late names none = log_stays me log now (Line (Ping target)) acts fits late refl refl
 line_next me log now (Trace target) acts fits late names none = log_stays me log now (Line (Trace target)) acts fits late refl refl
+line_next me log now Reboot acts fits late names none = record {
+  few = λ at later. omega arith;
+  mentioned = tt;
+  made = newest_or_older (λ v. FitsAnswer v.table) first_commit (commits me log) (record { few = omega arith; each = tt }) fits.made;
+}
 
 -- a log with one frame of a LAN more
 lan_next : (me : Mac) (log : Log) (now : ℕ) (bytes : List ℕ) (acts : List Act) → LogFits me log → newest_moment log ≤ now → BringsClient bytes → passed_limit me log now (LanFrame bytes) ≡ None

@@ -105,8 +105,8 @@ bcast_frame fields = nothing_of bcast (record { by_type = refl; heads = λ f. re
 pub elp_frame : (fields : List ℕ) → TellsNothing (3 ∷ fields)
 elp_frame fields = nothing_of elp (record { by_type = refl; heads = λ f. refl; each = λ f tail. refl }) fields
 
-pub icmp_frame : (fields : List ℕ) → TellsNothing (67 ∷ fields)
-icmp_frame fields = nothing_of icmp (record { by_type = refl; heads = λ f. refl; each = λ f tail. refl }) fields
-
 pub unicast4_frame : (fields : List ℕ) → TellsNothing (66 ∷ fields)
 unicast4_frame fields = nothing_of unicast4 (record { by_type = refl; heads = λ f. refl; each = λ f tail. refl }) fields
+
+pub icmp_frame : (fields : List ℕ) → TellsNothing (67 ∷ fields)
+icmp_frame fields = nothing_of icmp (record { by_type = refl; heads = λ f. refl; each = λ f tail. refl }) fields

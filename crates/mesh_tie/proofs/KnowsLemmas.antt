@@ -14,8 +14,9 @@ use Rattle.mesh_model.specs.declared.table_outcome.Request.{Request}
 use Rattle.mesh_model.specs.Clients.Log.{Log}
 use Rattle.mesh_model.specs.Clients.Present.{same_key}
 use Rattle.mesh_model.specs.Knowledge.Addressee.{Way, addressee, best_holder, marked_way, table_reason, table_way, way_to}
-use Rattle.mesh_model.specs.Knowledge.Known.{Knowledge, agreed_byte, is_new_broadcast}
-use Rattle.mesh_model.specs.Knowledge.Steps.{Coming, advertised, after_announcement, after_answer, after_containers, after_head, after_message, after_packet, after_reply, after_roaming, after_sighting, after_taken, announced_table, asked_by_request, before_announcement, released_under, request_out, sighting_calls, with_announcement, with_head, with_life}
+use Rattle.mesh_model.specs.Knowledge.FactStore.{after_fact_message}
+use Rattle.mesh_model.specs.Knowledge.Known.{Broadcast, Knowledge, agreed_byte, is_new_broadcast, taken_at}
+use Rattle.mesh_model.specs.Knowledge.Steps.{Coming, advertised, after_announcement, after_answer, after_broadcast, after_containers, after_head, after_message, after_packet, after_reply, after_roaming, after_sighting, after_taken, announced_by, announced_table, asked_by_request, before_announcement, released_under, request_out, sighting_calls, with_announcement, with_head, with_life}
 use Rattle.mesh_model.specs.Knowledge.Told.{Message, TableMessage, Asks, Answers, Neither, message_in, message_of, message_with}
 use Rattle.mesh_model.specs.Marks.Calls.{Call, Calls, Marked, Released, Unmarked, Advised, Asked, Forgotten}
 use Rattle.mesh_model.specs.Marks.RoamingMarks.{is_ended, is_young, mark_by, mark_of, mark_to, next_mark, target_by}
@@ -23,15 +24,17 @@ use Rattle.mesh_model.specs.Packets.ArpMessages.{arp_came}
 use Rattle.mesh_model.specs.Packets.Bodies.{TtData}
 use Rattle.mesh_model.specs.Packets.Containers.{containers_of}
 use Rattle.mesh_model.specs.Packets.Contents.{first_roaming, first_table}
+use Rattle.mesh_model.specs.Packets.FactMessages.{fact_message_of}
 use Rattle.mesh_model.specs.Packets.FirstPacket.{Packet}
 use Rattle.mesh_model.specs.Probes.OpenProbes.{is_answer}
 use Rattle.mesh_model.specs.Routes.Addresses.{insert_mac, is_smaller, mac_order, same_mac}
 use Rattle.mesh_model.specs.Routes.BestRoute.{best, better}
 use Rattle.mesh_model.specs.Routes.Queries.{Queries}
 use Rattle.mesh_model.specs.Tables.Known.{Announced, Answered, Dropped, TableCalls, holders_by, known_by, names, originators_by}
+use Rattle.mesh_laws.proofs.StoreLemmas.{message_rest}
 use Rattle.mesh_tie.specs.Sources.{HasWholeAddresses, IsWhole}
 use Rattle.mesh_tie.specs.Tie.{HasWholeSource, HasWholeTarget, KnowsWhole}
-use Rattle.mesh_tie.proofs.PairLemmas.{arp_leaves}
+use Rattle.mesh_tie.proofs.PairLemmas.{arp_leaves, rest_leaves}
 use Rattle.mesh_tie.proofs.ServesLemmas.{offer_whole}
 
 -- ---- packets
@@ -97,10 +100,16 @@ packet_knows q me came packet known whole k = go packet.head packet.tail whole
   where
     go : (head : Head) (tail : List ℕ) → HasWholeAddresses head → KnowsWhole (after_head q me came (message_of (record { head = head; tail = tail })) tail head known)
     go (IvOgm ttl flags seq o prev tq) tail whole = taken_knows q came (IvOgm ttl flags seq o prev tq) o (first_table (containers_of tail)) tail known whole.0 k
-    go (Bcast ttl seq o) tail whole = knows_if (is_new_broadcast me (record { orig = o; number = seq }) known.taken) (record known { taken = record { orig = o; number = seq } ∷ known.taken }) known (record { tables = k.tables; marks = k.marks; services = k.services }) k
+    go (Bcast ttl seq o) tail whole =
+        let broadcast : Broadcast = record { orig = o; number = seq } in
+        let taken = after_broadcast me came.now broadcast known in
+        let told = announced_by me came.now broadcast tail known in
+        (rest_leaves taken (after_fact_message came.now told taken) (message_rest came.now told taken)).knows (knows_if (is_new_broadcast me came.now broadcast known.taken) (record known { taken = taken_at came.now broadcast known.taken ∷ known.taken }) known (record { tables = k.tables; marks = k.marks; services = k.services }) k)
     go (Elp o seq interval) tail whole = with_head_knows came (Elp o seq interval) known k
     go (Ogm2 ttl flags seq o throughput) tail whole = taken_knows q came (Ogm2 ttl flags seq o throughput) o (first_table (containers_of tail)) tail known whole k
-    go (Unicast ttl ttvn dst) tail whole = k
+    go (Unicast ttl ttvn dst) tail whole =
+        let after = after_fact_message came.now (fact_message_of tail) known in
+        knows_if (same_mac dst me) after known ((rest_leaves known after (message_rest came.now (fact_message_of tail) known)).knows k) k
     go (Frag ttl number priority dst o seq total) tail whole = k
     go (Unicast4 ttl ttvn dst src subtype) tail whole = (arp_leaves (same_mac dst me) came.now (arp_came subtype tail) known).knows k
     go (Icmp ttl msg dst o uid seq) tail whole = knows_if (same_mac dst me && is_answer msg) (after_reply q came.now msg seq known) known (record { tables = k.tables; marks = k.marks; services = k.services }) k

@@ -24,6 +24,11 @@ pub mod SentLemmas
 pub mod LogLemmas
 pub mod NodeLists
 pub mod OrderSteps
+pub mod EtherReading
+pub mod FactLemmas
+pub mod FactReading
+pub mod FactActs
+pub mod FactSteps
 pub mod CarriedHeads
 pub mod CarriedLans
 pub mod CarriedRows
@@ -46,6 +51,9 @@ pub mod AliasRows
 pub mod SeenLemmas
 pub mod ShownLemmas
 pub mod EventLemmas
+pub mod StandParts
+pub mod StandSteps
+pub mod StandLemmas
 pub mod PrintLemmas
 pub mod TablePrints
 pub mod LawLemmas

@@ -1,5 +1,5 @@
 -- Each line leads to a mesh that steps reach, and so does every plain run.
-use Rattle.std.proofs.Common.{map, ◌≡◌, ◌⊎◌, inl, inr, ◌≤◌, ◌+◌, ◌-◌, ◌||◌, ℕ, zero, suc, Bool, true, false, cond, nat_lt, nat_le, List, [], ◌∷◌, length, slice_get, Option, Some, None, option_map, is_some, Ok, Err, refl, sym, ap, subst, ◌∙◌, arith}
+use Rattle.std.proofs.Common.{map, ◌≡◌, ◌⊎◌, inl, inr, ◌≤◌, ◌+◌, ◌-◌, ◌||◌, ℕ, zero, suc, Bool, true, false, cond, nat_lt, nat_le, List, [], ◌∷◌, length, slice_get, Option, Some, None, is_some, Ok, Err, refl, sym, ap, subst, ◌∙◌, arith}
 use Rattle.std.specs.List.{list_any}
 use Rattle.std.specs.Option.{option_map_or, option_or}
 use Rattle.std.proofs.lemmas.Bool.{ltb-false, true≢false}
@@ -12,11 +12,11 @@ use Rattle.mesh_model.specs.declared.ending.Stop.TheVariants.{Limit, Refused}
 use Rattle.mesh_model.specs.declared.frame_choice.FrameChoice.{FrameChoice}
 use Rattle.mesh_model.specs.declared.line_form.Algorithm.{Algorithm}
 use Rattle.mesh_model.specs.declared.line_form.Command.{Command}
-use Rattle.mesh_model.specs.declared.line_form.Command.TheVariants.{Nothing, Algo, Node, Link, Lan, Frame, Gone, Join, Leave, Arp, Dhcp, Wifi, GwOff, GwServer, GwClient, Mcast, Dat, Alfred, Put, Get, Ping, Trace, Run as RunFor, Deliver, Show, Decode}
+use Rattle.mesh_model.specs.declared.line_form.Command.TheVariants.{Nothing, Algo, Node, Link, Lan, Frame, Gone, Join, Leave, Arp, Dhcp, Wifi, GwOff, GwServer, GwClient, Mcast, Dat, Alfred, Put, Get, Ping, Trace, Reboot, Run as RunFor, Deliver, Show, Decode}
 use Rattle.mesh_model.specs.Clients.Log.{Line, LineGiven, Attach, Sets}
 use Rattle.mesh_model.specs.Clients.Settings.{NoPart, Serves, Chooses}
-use Rattle.mesh_model.specs.Clients.Settings.{ArpTable as ArpTableSet, Gateway as GatewaySet, Multicast as MulticastSet, Wifi as WifiSet}
-use Rattle.mesh_model.specs.Clients.Log.{Frame as FrameGiven, Gone as GoneGiven, Join as JoinGiven, Leave as LeaveGiven, Arp as ArpGiven, Dhcp as DhcpGiven, Ping as PingGiven, Trace as TraceGiven}
+use Rattle.mesh_model.specs.Clients.Settings.{ArpTable as ArpTableSet, FactStore as FactStoreSet, Gateway as GatewaySet, Multicast as MulticastSet, Wifi as WifiSet}
+use Rattle.mesh_model.specs.Clients.Log.{Frame as FrameGiven, Gone as GoneGiven, Join as JoinGiven, Leave as LeaveGiven, Arp as ArpGiven, Dhcp as DhcpGiven, Put as PutGiven, Get as GetGiven, Ping as PingGiven, Trace as TraceGiven, Reboot as RebootGiven}
 use Rattle.mesh_model.specs.Net.Inputs.{all_given, given_to}
 use Rattle.mesh_model.specs.Net.Lans.{joins_lan, with_lan}
 use Rattle.mesh_model.specs.Net.Limits.{clock_limit, lans_limit, links_limit, nodes_limit}
@@ -30,10 +30,10 @@ use Rattle.mesh_model.specs.Run.Demands.{first_unmet, is_taken, refusal_if}
 use Rattle.mesh_model.specs.Run.Outcome.{Outcome, Ends, Goes, reached}
 use Rattle.mesh_model.specs.Run.Passing.{after_attempt, course_outcome, gone_on, run_until}
 use Rattle.mesh_model.specs.Run.PlainRun.{Run, after_line, after_lines, after_outcome, after_reading, line_outcome, passes_input, passes_line, plain_run, start}
-use Rattle.mesh_model.specs.Run.Rules.{after_step, carried_out, first_refused_rule, not_built, setup_of, unless_refused, wrong_name}
+use Rattle.mesh_model.specs.Run.Rules.{carried_out, first_refused_rule, setup_of, unless_refused, wrong_name}
 use Rattle.mesh_model.specs.Run.Shown.{after_print, shown}
 use Rattle.mesh_model.specs.Run.State.{Decoded, Printed, State, first_state, lan_place_of, node_named, place_of}
-use Rattle.mesh_model.specs.Run.Steps.{Step, at_node, at_place, gateways_at, gateways_step, lan_frame_step, places_named, choice_step, input_step, link_step, new_node, session_step, show_step, step_of, with_link, with_node}
+use Rattle.mesh_model.specs.Run.Steps.{Step, at_node, at_place, gateways_at, gateways_step, lan_frame_step, places_named, choice_step, input_step, link_step, new_node, session_step, step_of, with_link, with_node}
 use Rattle.mesh_model.specs.Scenario.Commands.{command_of_line}
 use Rattle.mesh_model.specs.Scenario.Lines.{content, lines_of}
 use Rattle.mesh_model.specs.Scenario.Readings.{Reading}
@@ -136,10 +136,6 @@ show_leads : (state : State) (print : State → NodeLog → Printed) (o : Option
 show_leads state print None b = stays_leads state b
 show_leads state print (Some node) b = goes_leads (after_print state (print state node)) b.reachable b.settled
 
-shown_leads : (state : State) (name : List ℕ) (o : Option (State → NodeLog → Printed)) → IsBetweenLines state → Leads (after_step state (option_map (show_step name) o))
-shown_leads state name None b = stays_leads state b
-shown_leads state name (Some print) b = show_leads state print (node_named state name) b
-
 -- ---- LANs
 -- at the LAN of a name, or else at the node of it
 place_leads : (state : State) (name : List ℕ) (line : LineGiven) (on_lan : ℕ → Step) → IsBetweenLines state → TellsClient line → ((lan : ℕ) → Leads (on_lan lan state)) → Leads (at_place name on_lan (input_step (setup_of state.algorithm) line) state)
@@ -198,7 +194,7 @@ none_has (first ∷ rest) mac (suc place) n none got = none_has rest mac place n
 
 fresh_mac : (state : State) (name : List ℕ) (mac : Mac) → first_refused_rule state (Node name mac) ≡ None → IsNew mac state.mesh.nodes
 fresh_mac state name mac none place other got same =
-    let unmet = second_none (wrong_name state (Node name mac)) (first_unmet state (Rattle.mesh_model.specs.Run.Demands.NewNode name mac)) (second_none (not_built (Node name mac)) (option_or (wrong_name state (Node name mac)) (first_unmet state (Rattle.mesh_model.specs.Run.Demands.NewNode name mac))) none) in
+    let unmet = second_none (wrong_name state (Node name mac)) (first_unmet state (Rattle.mesh_model.specs.Run.Demands.NewNode name mac)) none in
     let taken = unmet_none (list_any (has_address mac) state.mesh.nodes) AddressTaken (second_none (refusal_if (is_taken state name) NameTaken) (refusal_if (list_any (has_address mac) state.mesh.nodes) AddressTaken) unmet) in
     true≢false (sym (ap (λ (m : Mac). Rattle.mesh_model.specs.Routes.Addresses.same_mac m mac) same ∙ same_self mac) ∙ none_has state.mesh.nodes mac place other taken got)
 
@@ -214,7 +210,7 @@ choice_leads : (state : State) (algorithm : Algorithm) → IsBetweenLines state 
 choice_leads state algorithm b none = goes_leads (record state { algorithm = algorithm }) (reachable_anyhow (queries_of state.algorithm) (queries_of algorithm) state.mesh b.reachable none) b.settled
 
 -- ---- commands
-step_leads : (state : State) (command : Command) → IsBetweenLines state → IsTellable command → first_refused_rule state command ≡ None → Leads (after_step state (step_of (setup_of state.algorithm) command))
+step_leads : (state : State) (command : Command) → IsBetweenLines state → IsTellable command → first_refused_rule state command ≡ None → Leads (step_of (setup_of state.algorithm) command state)
 step_leads state Nothing b tell none = stays_leads state b
 step_leads state (Algo algorithm) b tell none = choice_leads state algorithm b (none_yet state algorithm none)
 step_leads state (Node name mac) b tell none = node_leads state name mac b tell (fresh_mac state name mac none) (nat_le nodes_limit (length state.mesh.nodes))
@@ -235,20 +231,21 @@ step_leads state (GwServer node down up) b tell none = line_leads state node (Se
 step_leads state (GwClient node policy) b tell none = line_leads state node (Sets (GatewaySet (Chooses policy))) b tt
 step_leads state (Mcast node flags) b tell none = line_leads state node (Sets (MulticastSet flags)) b tt
 step_leads state (Dat node on) b tell none = line_leads state node (Sets (ArpTableSet on)) b tt
-step_leads state (Alfred node mode) b tell none = stays_leads state b
-step_leads state (Put node type_no version text) b tell none = stays_leads state b
-step_leads state (Get node type_no) b tell none = stays_leads state b
+step_leads state (Alfred node mode) b tell none = line_leads state node (Sets (FactStoreSet mode)) b tt
+step_leads state (Put node type_no version text) b tell none = line_leads state node (PutGiven type_no version text) b tt
+step_leads state (Get node type_no) b tell none = line_leads state node (GetGiven type_no) b tt
 step_leads state (Ping node target) b tell none = session_leads state PingGiven (λ mac. tt) node target b
 step_leads state (Trace node target) b tell none = session_leads state TraceGiven (λ mac. tt) node target b
+step_leads state (Reboot node) b tell none = line_leads state node RebootGiven b tt
 step_leads state (RunFor time) b tell none = time_leads state time (nat_lt clock_limit (state.clock + time)) refl b
 step_leads state (Deliver number) b tell none = again_leads state (number - 1) b
-step_leads state (Show node table) b tell none = shown_leads state node (shown table) b
+step_leads state (Show node table) b tell none = show_leads state (shown table) (node_named state node) b
 step_leads state (Decode bytes) b tell none = goes_leads (after_print state (Decoded bytes)) b.reachable b.settled
 
 command_leads : (state : State) (command : Command) → IsBetweenLines state → IsTellable command → Leads (carried_out (setup_of state.algorithm) state command)
 command_leads state command b tell = go (first_refused_rule state command) refl
   where
-    go : (o : Option Refusal) → first_refused_rule state command ≡ o → Leads (unless_refused state o (after_step state (step_of (setup_of state.algorithm) command)))
+    go : (o : Option Refusal) → first_refused_rule state command ≡ o → Leads (unless_refused state o (step_of (setup_of state.algorithm) command state))
     go None none = step_leads state command b tell none
     go (Some refusal) none = ends_leads state (Refused refusal) b.reachable
 

@@ -6,15 +6,16 @@ use Rattle.mesh_model.specs.declared.act.Act.{Act}
 use Rattle.mesh_model.specs.declared.act.Act.TheVariants.{Link}
 use Rattle.mesh_model.specs.declared.table_change.Change.{Change}
 use Rattle.mesh_model.specs.Acts.Choosing.{acts_of}
+use Rattle.mesh_model.specs.Acts.FactRows.{fact_round_acts}
 use Rattle.mesh_model.specs.Acts.Rows.{own_by, tick_acts}
 use Rattle.mesh_model.specs.Clients.Lans.{bridge}
-use Rattle.mesh_model.specs.Clients.Log.{Given, Tick, LinkFrame, Log, LogEntry, LanFrame, Line, LineGiven}
+use Rattle.mesh_model.specs.Clients.Log.{Given, Tick, LinkFrame, Log, LogEntry, LanFrame, Line, LineGiven, line_reboots}
 use Rattle.mesh_model.specs.Clients.Mentions.{Mention, mentions}
 use Rattle.mesh_model.specs.Commits.Announcements.{announced_changes, told_changes}
-use Rattle.mesh_model.specs.Commits.History.{History, with_message, commits, committed, history, is_commit_tick, next_history, present_table}
-use Rattle.mesh_model.specs.Commits.Versions.{last_commit}
+use Rattle.mesh_model.specs.Commits.History.{History, with_message, commits, committed, history, is_commit_tick, next_history, present_table, restarted}
+use Rattle.mesh_model.specs.Commits.Versions.{first_commit, last_commit}
 use Rattle.mesh_model.specs.Knowledge.Known.{Knowledge}
-use Rattle.mesh_model.specs.Knowledge.Steps.{line_knowledge, knowledge, next_knowledge}
+use Rattle.mesh_model.specs.Knowledge.Steps.{before_round, line_knowledge, knowledge, next_knowledge}
 use Rattle.mesh_model.specs.Net.Due.{ticks_in}
 use Rattle.mesh_model.specs.Net.Inputs.{entry_of, given_to, noted_at, noting}
 use Rattle.mesh_model.specs.Net.Limits.{scenario_setup}
@@ -33,16 +34,18 @@ use Rattle.mesh_tie.specs.Sources.{IsWhole, KeepsOriginators}
 use Rattle.mesh_tie.specs.Steps.{IsReachable, Steps, begins, frame_comes, goes_on, lan_comes, lan_joins, line_gives, link_joins, node_joins, node_ticks, put_comes, put_reaches, time_passes, TellsClient}
 use Rattle.mesh_tie.specs.Tie.{CommitsFit, FitsAnswer, FitsEntry, IsOrderly, IsTied, NodeIsTied, known_at_node}
 use Rattle.mesh_tie.specs.TieLaws.{AllKeep}
-use Rattle.mesh_tie.proofs.CommitLemmas.{Chain, Committed, Follows, announced_are, as_before, chain, chain_committed, committed_is, last_and_older, last_at, number_now, one_more, told_are}
-use Rattle.mesh_tie.proofs.EntryLemmas.{OfCommits, changes_of}
+use Rattle.mesh_tie.proofs.CommitLemmas.{Chain, Committed, Follows, announced_are, as_before, chain, chain_committed, committed_is, last_and_older, last_at, none_in_order, number_now, one_more, told_are}
+use Rattle.mesh_tie.proofs.CalmRows.{calm_store}
+use Rattle.mesh_tie.proofs.FactActs.{round_stores}
+use Rattle.mesh_tie.proofs.EntryLemmas.{OfCommits, changes_of, each_appended}
 use Rattle.mesh_tie.proofs.LanSteps.{BringsClient, lan_row, lan_same}
 use Rattle.mesh_tie.proofs.LogLemmas.{Grows, log_first, log_rest, frame_grows, grows_entry, grows_same, log_found, log_itself, log_other, node_grows, node_later}
 use Rattle.mesh_tie.proofs.NodeLists.{Renewed, another, got_front, got_noted, itself, none_front, noted_none, other_place, renewed}
-use Rattle.mesh_tie.proofs.NodeSteps.{Announcer, Goes, Ready, goes_by, line_row, line_same, packets_go, stays_tied, tick_row, tick_same}
+use Rattle.mesh_tie.proofs.NodeSteps.{Announcer, Goes, Ready, goes_by, line_comes, line_row, packets_go, stays_tied, tick_row, tick_same}
 use Rattle.mesh_tie.proofs.NodeMoves.{Comes}
 use Rattle.mesh_tie.proofs.OrderSteps.{joined, orderly}
 use Rattle.mesh_tie.proofs.PacketSteps.{CameIn}
-use Rattle.mesh_tie.proofs.Sayable.{ActSays, frame_more, one_or_two, then_path}
+use Rattle.mesh_tie.proofs.Sayable.{ActSays, Sayable, calm_row, frame_more, one_or_two, then_path}
 use Rattle.mesh_tie.proofs.SentLemmas.{HasGiven, IsFromActs, given_is}
 use Rattle.mesh_tie.proofs.TableLemmas.{FitsChange}
 
@@ -68,6 +71,16 @@ commits_more w before after is (one_more version byte order same) = record {
   nodes = refl;
 }
 
+-- a reboot commits the empty table under byte 0
+commits_first : (w : World) (made : List Version) → w.commits ≡ made → Committing w (first_commit ∷ made)
+commits_first w made is = record {
+  world = with_world_commit first_commit w;
+  path = then_move w w (with_world_commit first_commit w) (no_move w) (commits_move w first_commit (omega arith) none_in_order);
+  commits = ap (λ cs. first_commit ∷ cs) is;
+  said = refl;
+  nodes = refl;
+}
+
 commits_next : (w : World) (ms : List Mention) (before : History) (now : ℕ) (given : Given) → w.commits ≡ before.commits → Committing w (next_history ms before now given).commits
 commits_next w ms before now (Tick index) is = go (is_commit_tick index)
   where
@@ -76,7 +89,11 @@ commits_next w ms before now (Tick index) is = go (is_commit_tick index)
     go false = commits_stay w before.commits is
 commits_next w ms before now (LinkFrame number from throughput bytes) is = commits_stay w before.commits is
 commits_next w ms before now (LanFrame bytes) is = commits_stay w before.commits is
-commits_next w ms before now (Line line) is = commits_stay w before.commits is
+commits_next w ms before now (Line line) is = go (line_reboots line)
+  where
+    go : (b : Bool) → Committing w (cond b (restarted before) before).commits
+    go true = commits_first w before.commits is
+    go false = commits_stay w before.commits is
 
 -- ---- a node that is given something
 -- what holds before its acts: the commits are those after the input, and all else is as before
@@ -227,11 +244,11 @@ pub fits_among : (nodes : List NodeLog) → ((place : ℕ) (node : NodeLog) → 
     → (orig : Mac) → OfCommits FitsEntry (commits orig (log_of orig nodes))
 fits_among [] fit orig = none
   where
-    none : (n : ℕ) (version : Version) → commit_numbered n (Rattle.mesh_model.specs.Commits.Versions.first_commit ∷ []) ≡ Some version → AllByRecursion FitsEntry version.table
+    none : (n : ℕ) (version : Version) → commit_numbered n (first_commit ∷ []) ≡ Some version → AllByRecursion FitsEntry version.table
     none n version is = go (n == 0) is
       where
-        go : (b : Bool) → cond b (Some Rattle.mesh_model.specs.Commits.Versions.first_commit) None ≡ Some version → AllByRecursion FitsEntry version.table
-        go true q = let same : Rattle.mesh_model.specs.Commits.Versions.first_commit ≡ version = cc in subst (λ (v : Version). AllByRecursion FitsEntry v.table) same tt
+        go : (b : Bool) → cond b (Some first_commit) None ≡ Some version → AllByRecursion FitsEntry version.table
+        go true q = let same : first_commit ≡ version = cc in subst (λ (v : Version). AllByRecursion FitsEntry v.table) same tt
         go false q = cc
 fits_among (first ∷ rest) fit orig = go (one_or_two first.mac orig) (fits_among rest (λ place node got. fit (suc place) node got) orig)
   where
@@ -247,7 +264,7 @@ line_does queries orig mesh place now node line log o found of v midway =
     let known = known_at_node queries node in
     goes_by orig log mesh.frames 0 v place (acts_of q node.mac node.log now (Line line)) (line_knowledge q node.mac node.log known now line).tables
     (line_row orig log 0 v q node.mac node.log now line of (o.whole place node found) (o.knows place node found))
-    (λ u later. subst (λ calls. Comes orig log mesh.frames u place (known_by calls orig)) (sym (line_same q node.mac node.log known now line)) (stays_tied orig log mesh.frames v place known.tables (midway.nodes place node found) u later))
+    (λ u later. line_comes orig log mesh.frames u place q node.mac node.log known now line (stays_tied orig log mesh.frames v place known.tables (midway.nodes place node found) u later))
 
 lan_does : (queries : Mac → Queries) (orig : Mac) (mesh : Mesh) (place now : ℕ) (node : NodeLog) (bytes : List ℕ) (log : Log) → IsOrderly queries mesh → slice_get mesh.nodes place ≡ Some node → BringsClient bytes
     → DoesIt queries orig mesh place node (entry_of (scenario_setup queries) node now (LanFrame bytes)) 0 log
@@ -269,7 +286,9 @@ tick_does : (queries : Mac → Queries) (orig : Mac) (mesh : Mesh) (place now : 
 tick_does queries orig mesh place now node before log keeps o found l fit v midway =
     subst (Goes orig log mesh.frames index v place acts) (sym (tick_same q now index known))
     (goes_by orig log mesh.frames index v place acts known.tables
-    (tick_row orig log v q node.mac known.services.settings known.routes ms old (bridge node.log) now index keeps announcer) (stays_tied orig log mesh.frames v place known.tables (midway.nodes place node found)))
+    (each_appended (Sayable orig log index v) ticks told
+    (tick_row orig log v q node.mac known.services.settings known.routes ms old (bridge node.log) now index keeps announcer)
+    (calm_row orig log index v told (calm_store node.mac told (round_stores q (before_round q now index known) (record { me = node.mac; now = now }) index)))) (stays_tied orig log mesh.frames v place known.tables (midway.nodes place node found)))
   where
     q : Queries
     q = queries node.mac
@@ -286,8 +305,14 @@ tick_does queries orig mesh place now node before log keeps o found l fit v midw
     index : ℕ
     index = suc (ticks_in node.log)
 
+    ticks : List Act
+    ticks = tick_acts q node.mac known.services.settings known.routes ms old (bridge node.log) now index
+
+    told : List Act
+    told = fact_round_acts q (before_round q now index known) (record { me = node.mac; now = now }) index
+
     acts : List Act
-    acts = tick_acts q node.mac known.services.settings known.routes ms old (bridge node.log) now index
+    acts = ticks ++ told
 
     entry : LogEntry
     entry = entry_of (scenario_setup queries) node now (Tick index)
@@ -295,7 +320,7 @@ tick_does queries orig mesh place now node before log keeps o found l fit v midw
     after : History
     after = committed (present_table ms now) old
 
-    linked : Chain after.commits
+    linked : Chain after
     linked = chain_committed old after (committed_is ms now old) (chain node.mac node.log)
 
     made : is_commit_tick index ≡ true → commits node.mac (entry ∷ node.log) ≡ after.commits
@@ -307,7 +332,7 @@ tick_does queries orig mesh place now node before log keeps o found l fit v midw
     changes_fit : is_commit_tick index ≡ true → ((announced_changes after ≡ []) ⊎ AreLastChanges after.commits (announced_changes after)) → AllByRecursion FitsChange (announced_changes after)
     changes_fit is (inl none) = subst (AllByRecursion FitsChange) (sym none) tt
     changes_fit is (inr are) =
-        let parts = last_and_older after.commits linked in
+        let parts = last_and_older after linked in
         changes_of FitsEntry after.commits (last_commit after.commits) parts.0 (announced_changes after) (λ n version got. (all_fit is n version got).each) parts.1
         (subst (λ cs. AreLastChanges cs (announced_changes after)) parts.1 are)
 
@@ -315,7 +340,7 @@ tick_does queries orig mesh place now node before log keeps o found l fit v midw
     announcer is = record {
       whole = o.whole place node found;
       chain = linked;
-      fits = all_fit is (last_number after.commits) (last_commit after.commits) (last_at after.commits linked);
+      fits = all_fit is (last_number after.commits) (last_commit after.commits) (last_at after linked);
       changes_fit = changes_fit is (announced_are after linked).0;
       commits = λ same. midway.commits ∙ ap (commits orig) (l.itself same).1 ∙ ap (λ m. commits m (entry ∷ node.log)) (sym same) ∙ made is;
       past = λ same. subst (λ x. index ≤ ticks_in x) (sym (l.itself same).1) (omega arith);
@@ -333,7 +358,7 @@ frame_ready queries orig mesh place now number throughput from node bytes before
   fits = subst (OfCommits FitsEntry) (sym midway.commits) all;
   speaker = record {
     whole = o.whole place node found;
-    fits = fit (last_commit own) (last_number own, last_at own linked);
+    fits = fit (last_commit own.commits) (last_number own.commits, last_at own linked);
     told_fit = changes_fit;
     older = (last_and_older own linked).0;
     commits = λ same. midway.commits ∙ ap (commits orig) (l.itself same).1 ∙ ap (λ m. commits m node.log) (sym same) ∙ (last_and_older own linked).1;
@@ -341,8 +366,8 @@ frame_ready queries orig mesh place now number throughput from node bytes before
   };
 }
   where
-    own : List Version
-    own = commits node.mac node.log
+    own : History
+    own = history node.mac node.log
 
     linked : Chain own
     linked = chain node.mac node.log
@@ -351,7 +376,7 @@ frame_ready queries orig mesh place now number throughput from node bytes before
     changes_fit changes is =
         let told = told_are own changes linked is in
         let parts = last_and_older own linked in
-        (changes_of FitsEntry own (last_commit own) parts.0 changes (λ n version got. (fit version (n, got)).each) parts.1 (subst (λ cs. AreLastChanges cs changes) parts.1 told.last), told.few)
+        (changes_of FitsEntry own.commits (last_commit own.commits) parts.0 changes (λ n version got. (fit version (n, got)).each) parts.1 (subst (λ cs. AreLastChanges cs changes) parts.1 told.last), told.few)
 
 -- the frame of a number
 pub came_in : (mesh : Mesh) (number : ℕ) (frame : SentFrame) → slice_get mesh.frames number ≡ Some frame → CameIn mesh.frames frame.root (suc number)

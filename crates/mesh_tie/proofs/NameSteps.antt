@@ -6,14 +6,16 @@ use Rattle.mesh_base.specs.declared.event.Reason.TheVariants.{Table}
 use Rattle.mesh_model.specs.declared.act.Act.{Act}
 use Rattle.mesh_model.specs.declared.act.Act.TheVariants.{Link, Lan, Print}
 use Rattle.mesh_model.specs.Acts.Choosing.{acts_of, asking_acts, call_frame, calling_acts, claimed_first, client_acts, from_lan_acts, on_from_lan, probing_acts, sighting_acts}
+use Rattle.mesh_model.specs.Acts.BridgeRows.{Place}
+use Rattle.mesh_model.specs.Acts.FactRows.{fact_round_acts, get_acts}
 use Rattle.mesh_model.specs.Acts.FrameRows.{frame_acts}
-use Rattle.mesh_model.specs.Acts.Rows.{Own, own_by, packet_acts, packets_acts}
+use Rattle.mesh_model.specs.Acts.Rows.{Own, own_by, packet_acts, packets_acts, tick_acts}
 use Rattle.mesh_model.specs.Clients.Lans.{bridge}
-use Rattle.mesh_model.specs.Clients.Log.{Given, Tick, LinkFrame, Frame, Gone, Join, Leave, Arp, Dhcp, Ping, Trace, Log, LogEntry, LanFrame, Line, LineGiven, Attach, Sets, Put, Get}
+use Rattle.mesh_model.specs.Clients.Log.{Given, Tick, LinkFrame, Frame, Gone, Join, Leave, Arp, Dhcp, Ping, Trace, Reboot, Log, LogEntry, LanFrame, Line, LineGiven, Attach, Sets, Put, Get, line_reboots}
 use Rattle.mesh_model.specs.Clients.Mentions.{Mention, key_of, mentions, next_mentions, passed_from_lan}
-use Rattle.mesh_model.specs.Commits.History.{commits, history}
+use Rattle.mesh_model.specs.Commits.History.{commits, history, restarted}
 use Rattle.mesh_model.specs.Knowledge.Known.{Knowledge}
-use Rattle.mesh_model.specs.Knowledge.Steps.{Coming, advertised, after_packet, after_sighting, knowledge, stays_on_lan}
+use Rattle.mesh_model.specs.Knowledge.Steps.{Coming, advertised, after_packet, after_sighting, before_round, knowledge, stays_on_lan}
 use Rattle.mesh_model.specs.Net.Due.{ticks_in}
 use Rattle.mesh_model.specs.Net.Inputs.{entry_of, given_to, noted_at, noting}
 use Rattle.mesh_model.specs.Net.Limits.{scenario_setup}
@@ -28,6 +30,7 @@ use Rattle.mesh_model.specs.Tables.Known.{TableCalls, known_by, names}
 use Rattle.mesh_model.specs.Tables.Versions.{Version}
 use Rattle.mesh_laws.specs.Machine.Agreement.{HasNoAlias}
 use Rattle.mesh_laws.specs.Machine.World.{World, commit_numbered}
+use Rattle.mesh_laws.proofs.LastLogLemmas.{reboot_line}
 use Rattle.mesh_laws.proofs.Schedule.Members.{one_some}
 use Rattle.mesh_laws.proofs.Schedule.Steps.{get_front}
 use Rattle.mesh_tie.specs.ByTable.{FramesByTable, HadCome, IsOfPacket, IsSentByTable, NamedThen}
@@ -38,7 +41,7 @@ use Rattle.mesh_tie.specs.Steps.{IsReachable, Steps, TellsClient, begins, frame_
 use Rattle.mesh_tie.specs.Tie.{CommitsFit, IsTied, KnowsWhole, NodeIsTied, known_at_node}
 use Rattle.mesh_tie.specs.TieLaws.{AllKeep}
 use Rattle.mesh_tie.proofs.BridgeActs.{claimed_puts}
-use Rattle.mesh_tie.proofs.CarriedClients.{dst_whole, src_whole}
+use Rattle.mesh_tie.proofs.EtherReading.{dst_whole, src_whole}
 use Rattle.mesh_tie.proofs.CommitLemmas.{Follows, numbered_next}
 use Rattle.mesh_tie.proofs.EntryLemmas.{each_appended}
 use Rattle.mesh_tie.proofs.FitLemmas.{commits_always_fit}
@@ -48,7 +51,8 @@ use Rattle.mesh_tie.proofs.LanSteps.{lan_read, passed_came}
 use Rattle.mesh_tie.proofs.MeshSteps.{LogAfter, Reached, came_in, fits_among, frame_ready, grows_after, log_after, log_joined, midway_of}
 use Rattle.mesh_tie.proofs.NodeLists.{Renewed, another, got_front, itself, renewed}
 use Rattle.mesh_tie.proofs.ReachLemmas.{reached}
-use Rattle.mesh_tie.proofs.NamesRows.{ActNames, CanName, IsClear, found_told, frame_names, names_if, names_tick, packet_names, plain_advert, plain_call, plain_bridges, plain_names, plain_question, plain_session}
+use Rattle.mesh_tie.proofs.NamesRows.{ActNames, CanName, IsClear, found_told, frame_names, names_aliases, names_if, names_tick, packet_names, plain_advert, plain_call, plain_bridges, plain_names, plain_question, plain_session, plain_store}
+use Rattle.mesh_tie.proofs.FactActs.{get_stores, round_stores}
 use Rattle.mesh_tie.proofs.NodeSteps.{Ready, packet_goes, ready_later}
 use Rattle.mesh_tie.proofs.PacketSteps.{CameIn}
 use Rattle.mesh_tie.proofs.Sayable.{one_or_two, packet_more}
@@ -140,13 +144,17 @@ line_names orig log frames v m q me mine now (Dhcp key text) of k clear tied =
     (plain_names (Before q me mine) orig log frames (calling_acts q me mine now key text) (plain_call q known (record { me = me; now = now }) (call_frame key text)))
 line_names orig log frames v m q me mine now (Sets setting) of k clear tied = tt
 line_names orig log frames v m q me mine now (Put type_no version text) of k clear tied = tt
-line_names orig log frames v m q me mine now (Get type_no) of k clear tied = tt
+line_names orig log frames v m q me mine now (Get type_no) of k clear tied =
+    let known = knowledge q me mine in
+    let at : Place = record { me = me; now = now } in
+    plain_names (Before q me mine) orig log frames (get_acts q known at type_no) (plain_store me (get_acts q known at type_no) (get_stores q known at type_no))
 line_names orig log frames v m q me mine now (Ping target) of k clear tied =
     let known = knowledge q me mine in
     plain_names (Before q me mine) orig log frames (probing_acts q me mine now target false) (plain_session q known (record { me = me; now = now }) target false)
 line_names orig log frames v m q me mine now (Trace target) of k clear tied =
     let known = knowledge q me mine in
     plain_names (Before q me mine) orig log frames (probing_acts q me mine now target true) (plain_session q known (record { me = me; now = now }) target true)
+line_names orig log frames v m q me mine now Reboot of k clear tied = let old = history me mine in names_aliases (Before q me mine) orig log frames me old.commits (restarted old).commits
 
 -- a frame of a LAN
 lan_names : (orig : Mac) (log : Log) (frames : List SentFrame) (v : World) (m : ℕ) (q : Queries) (me : Mac) (mine : Log) (now : ℕ) (bytes : List ℕ) → KnowsWhole (knowledge q me mine) → IsClear orig log v
@@ -320,6 +328,15 @@ line_acts_name queries mesh place now node line orig of h found clear =
     line_names orig log mesh.frames v.0 place (queries node.mac) node.mac node.log now line of (h.holds.orderly.knows place node found)
     (record { base = v.1.base; none = subst HasNoAlias (sym v.1.commits) clear; commits = v.1.commits }) (v.1.nodes place node found)
 
+-- those of a reboot send nothing
+pub reboot_names : (queries : Mac → Queries) (mesh : Mesh) (place now : ℕ) (node : NodeLog) (line : LineGiven) (orig : Mac) (log : Log) → line_reboots line ≡ true
+    → EntryNames queries orig node.mac log mesh.frames node.log (entry_of (scenario_setup queries) node now (Line line))
+reboot_names queries mesh place now node line orig log is =
+    let old = history node.mac node.log in
+    let Looks : Act → TableCalls → Type 0 = Before (queries node.mac) node.mac node.log in
+    subst (λ x. AllByRecursion (ActNames Looks orig log mesh.frames) (acts_of (queries node.mac) node.mac node.log now (Line x))) (sym (reboot_line line is))
+    (names_aliases Looks orig log mesh.frames node.mac old.commits (restarted old).commits)
+
 pub lan_acts_name : (queries : Mac → Queries) (mesh : Mesh) (place now : ℕ) (node : NodeLog) (bytes : List ℕ) (orig : Mac) → Reached queries mesh → slice_get mesh.nodes place ≡ Some node
     → HasNoAlias (commits orig (log_of orig (noted_at place (entry_of (scenario_setup queries) node now (LanFrame bytes)) mesh.nodes)))
     → EntryNames queries orig node.mac (log_of orig (noted_at place (entry_of (scenario_setup queries) node now (LanFrame bytes)) mesh.nodes)) mesh.frames node.log (entry_of (scenario_setup queries) node now (LanFrame bytes))
@@ -336,7 +353,15 @@ pub tick_names : (queries : Mac → Queries) (mesh : Mesh) (place now : ℕ) (no
     → EntryNames queries orig node.mac log mesh.frames node.log (entry_of (scenario_setup queries) node now (Tick (suc (ticks_in node.log))))
 tick_names queries mesh place now node orig log =
     let known = known_at_node queries node in
-    names_tick (Before (queries node.mac) node.mac node.log) orig log mesh.frames (queries node.mac) node.mac known.services.settings known.routes (mentions node.mac node.log) (history node.mac node.log) (bridge node.log) now (suc (ticks_in node.log))
+    let q = queries node.mac in
+    let index = suc (ticks_in node.log) in
+    let before = before_round q now index known in
+    let at : Place = record { me = node.mac; now = now } in
+    let told = fact_round_acts q before at index in
+    each_appended (ActNames (Before q node.mac node.log) orig log mesh.frames)
+    (tick_acts q node.mac known.services.settings known.routes (mentions node.mac node.log) (history node.mac node.log) (bridge node.log) now index) told
+    (names_tick (Before q node.mac node.log) orig log mesh.frames q node.mac known.services.settings known.routes (mentions node.mac node.log) (history node.mac node.log) (bridge node.log) now index)
+    (plain_names (Before q node.mac node.log) orig log mesh.frames told (plain_store node.mac told (round_stores q before at index)))
 
 pub frame_acts_name : (queries : Mac → Queries) (mesh after : Mesh) (place now number throughput : ℕ) (from : Mac) (node : NodeLog) (frame : SentFrame) (orig : Mac) → AllKeep queries → Reached queries mesh → CommitsFit after → slice_get mesh.nodes place ≡ Some node
     → slice_get mesh.frames number ≡ Some frame → IsWhole from → given_to (scenario_setup queries) place now frame.root (LinkFrame (suc number) from throughput frame.bytes) mesh ≡ Ok after

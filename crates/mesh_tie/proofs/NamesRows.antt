@@ -19,6 +19,7 @@ use Rattle.mesh_model.specs.declared.table_outcome.Request.{Request}
 use Rattle.mesh_model.specs.Acts.ArpRows.{question_acts}
 use Rattle.mesh_model.specs.Acts.BridgeRows.{Place, handed_out, out_acts, round_acts, spread_of_broadcast, spread_of_packet, unclaim_acts}
 use Rattle.mesh_model.specs.Acts.GroupRows.{addressed, call_acts, flooded, group_acts}
+use Rattle.mesh_model.specs.Acts.FactRows.{fact_acts}
 use Rattle.mesh_model.specs.Acts.FrameRows.{advert_acts, arrived, broadcast_acts, broadcast_on, frame_acts, handed_out_if, here_acts, is_present, lost, lost_if, on_route, on_way, passed_frame, readdressed}
 use Rattle.mesh_model.specs.Acts.OwnContainers.{own_containers}
 use Rattle.mesh_model.specs.Acts.Packing.{reply_containers, request_containers, sent_over, sent_to_all}
@@ -42,6 +43,7 @@ use Rattle.mesh_model.specs.Net.Mesh.{SentFrame}
 use Rattle.mesh_model.specs.Net.Next.{Has}
 use Rattle.mesh_model.specs.Packets.Containers.{containers_of, containers_spelling}
 use Rattle.mesh_model.specs.Packets.Contents.{first_roaming, first_table}
+use Rattle.mesh_model.specs.Packets.FactMessages.{fact_message_of}
 use Rattle.mesh_model.specs.Packets.FirstPacket.{Packet}
 use Rattle.mesh_model.specs.Packets.Payload.{ClientFrame, client_frame_of, payload_spelling}
 use Rattle.mesh_model.specs.Routes.Addresses.{is_smaller, same_mac}
@@ -66,6 +68,7 @@ use Rattle.mesh_tie.proofs.ArpActs.{IsAsking, each_asking, puts_packet, puts_tol
 use Rattle.mesh_tie.proofs.BridgeActs.{AreBridging, IsBridging, hands_out, out_puts, puts_on_lan, round_puts, unclaim_puts}
 use Rattle.mesh_tie.proofs.CommitLemmas.{at_root}
 use Rattle.mesh_tie.proofs.EntryLemmas.{each_appended}
+use Rattle.mesh_tie.proofs.FactActs.{IsStoring, Storing, came_stores, each_storing, sends_announcement, sends_message, tells_fact, tells_none}
 use Rattle.mesh_tie.proofs.KnowsLemmas.{addressee_whole}
 use Rattle.mesh_tie.proofs.ServingActs.{IsServing, call_serves, each_serving, for_gateway, for_group, group_serves, serves_all, serves_here, serves_one}
 use Rattle.mesh_tie.proofs.ProbeActs.{AreProbing, IsProbing, icmp_puts, puts_message, puts_pinged, puts_traced, session_puts}
@@ -143,7 +146,7 @@ plain_lost at why (Some frame) = (((λ number moment from to reason bytes is. cc
 
 pub plain_broadcast : (known : Knowledge) (bridge : Bridge) (at : Place) (ttl : ℕ) (broadcast : Broadcast) (tail : List ℕ) → AllByRecursion IsPlain (broadcast_acts known bridge at ttl broadcast tail)
 unfolding broadcast_acts
-plain_broadcast known bridge at ttl broadcast tail = plain_if (is_new_broadcast at.me broadcast known.taken) (handed_out_if bridge at broadcast.orig (client_frame_of tail) ++ broadcast_on ttl broadcast tail) []
+plain_broadcast known bridge at ttl broadcast tail = plain_if (is_new_broadcast at.me at.now broadcast known.taken) (handed_out_if bridge at broadcast.orig (client_frame_of tail) ++ broadcast_on ttl broadcast tail) []
     (each_appended IsPlain (handed_out_if bridge at broadcast.orig (client_frame_of tail)) (broadcast_on ttl broadcast tail) (plain_handed bridge at broadcast.orig (client_frame_of tail))
     (plain_if (nat_le ttl 1) [] (sent_to_all (Bcast (ttl - 1) broadcast.number broadcast.orig) tail ∷ []) tt ((λ is. cc), tt))) tt
 
@@ -198,6 +201,15 @@ plain_question q known at mac own_ip asked_ip vid = each_asking IsPlain plain_as
 pub plain_unicast4 : (q : Queries) (me : Mac) (came : Coming) (known : Knowledge) (ttl ttvn : ℕ) (dst src : Mac) (subtype : ℕ) (tail : List ℕ) → AllByRecursion IsPlain (unicast4_acts q me came known ttl ttvn dst src subtype tail)
 plain_unicast4 q me came known ttl ttvn dst src subtype tail =
     each_asking IsPlain plain_asking (unicast4_acts q me came known ttl ttvn dst src subtype tail) (unicast4_puts q me came known ttl ttvn dst src subtype tail)
+
+plain_storing : (me : Mac) (act : Act) → IsStoring (λ mac. Unit {0}) (λ fact. Unit {0}) me act → IsPlain act
+plain_storing me _ (sends_message next dst message to has) = λ is. cc
+plain_storing me _ (sends_announcement number) = λ is. cc
+plain_storing me _ (tells_fact type_no fact has) = ((λ number moment from to reason bytes is. cc), (λ me n e is. cc))
+plain_storing me _ (tells_none type_no result none) = ((λ number moment from to reason bytes is. cc), (λ me n e is. cc))
+
+pub plain_store : (me : Mac) (acts : List Act) → Storing me acts → AllByRecursion IsPlain acts
+plain_store me acts all = each_storing (λ mac. Unit {0}) (λ fact. Unit {0}) me IsPlain (plain_storing me) acts all
 
 -- ---- why something is sent by table
 some_one : {X : Type 0} (x y : X) → Some x ≡ Some y → x ≡ y
@@ -363,6 +375,10 @@ names_event : (looks : Act → TableCalls → Type 0) (orig : Mac) (log : Log) (
 names_event looks orig log frames me n None = tt
 names_event looks orig log frames me n (Some earlier) = ((λ number moment from to reason bytes is. cc), tt)
 
+-- events of aliases send nothing
+pub names_aliases : (looks : Act → TableCalls → Type 0) (orig : Mac) (log : Log) (frames : List SentFrame) (me : Mac) (before after : List Version) → AllByRecursion (ActNames looks orig log frames) (alias_acts me before after)
+names_aliases looks orig log frames me before after = names_if looks orig log frames (length after == length before) [] (alias_event me (length before) (last_alias after)) tt (names_event looks orig log frames me (length before) (last_alias after))
+
 pub names_tick : (looks : Act → TableCalls → Type 0) (orig : Mac) (log : Log) (frames : List SentFrame) (q : Queries) (me : Mac) (settings : Settings) (routes : RouteLog) (ms : List Mention) (before : History) (bridge : Bridge) (now index : ℕ)
     → AllByRecursion (ActNames looks orig log frames) (tick_acts q me settings routes ms before bridge now index)
 unfolding tick_acts
@@ -377,8 +393,7 @@ names_tick looks orig log frames q me settings routes ms before bridge now index
     (each_appended (ActNames looks orig log frames) made (round_acts at bridge index)
     (names_if looks orig log frames (is_commit_tick index) (commit_acts q me settings routes index before after) []
     (each_appended (ActNames looks orig log frames) (alias_acts me before.commits after.commits) message
-    (names_if looks orig log frames (length after.commits == length before.commits) [] (alias_event me (length before.commits) (last_alias after.commits)) tt
-    (names_event looks orig log frames me (length before.commits) (last_alias after.commits)))
+    (names_aliases looks orig log frames me before.commits after.commits)
     (plain_names looks orig log frames message (plain_message (q.beats routes index).ogm (containers_spelling (own_containers settings (announcement after)))))) tt)
     (plain_names looks orig log frames (round_acts at bridge index) (plain_round at bridge index)))
 
@@ -433,8 +448,14 @@ packet_names looks orig log frames q me own came packet known can = go packet.he
     go (Bcast ttl seq o) tail = plain (broadcast_acts known own.bridge (place_at me came) ttl (record { orig = o; number = seq }) tail) (plain_broadcast known own.bridge (place_at me came) ttl (record { orig = o; number = seq }) tail)
     go (Elp o seq interval) tail = tt
     go (Ogm2 ttl flags seq o throughput) tail = plain (taken_acts q me came (Ogm2 ttl flags seq o throughput) (message_with o (first_table (containers_of tail))) tail known) (taken (Ogm2 ttl flags seq o throughput) tail (message_with o (first_table (containers_of tail))))
-    go (Unicast ttl ttvn dst) tail = names_if looks orig log frames (same_mac dst me) (here_acts q known own.mentions own.bridge (place_at me came) ttl tail) (passed_frame q known (place_at me came) ttl ttvn dst tail)
-        (here_names looks orig log frames q known own.mentions own.bridge (place_at me came) ttl tail can) (plain (passed_frame q known (place_at me came) ttl ttvn dst tail) (plain_passed q known (place_at me came) ttl ttvn dst tail))
+    go (Unicast ttl ttvn dst) tail =
+        let at = place_at me came in
+        let here = here_acts q known own.mentions own.bridge at ttl tail in
+        let told = fact_acts q known at (fact_message_of tail) in
+        let passed = passed_frame q known at ttl ttvn dst tail in
+        names_if looks orig log frames (same_mac dst me) (here ++ told) passed
+        (each_appended (ActNames looks orig log frames) here told (here_names looks orig log frames q known own.mentions own.bridge at ttl tail can) (plain told (plain_store me told (came_stores q known at (fact_message_of tail)))))
+        (plain passed (plain_passed q known at ttl ttvn dst tail))
     go (Frag ttl number priority dst o seq total) tail = tt
     go (Unicast4 ttl ttvn dst src subtype) tail = plain (unicast4_acts q me came known ttl ttvn dst src subtype tail) (plain_unicast4 q me came known ttl ttvn dst src subtype tail)
     go (Icmp ttl msg dst o uid seq) tail =

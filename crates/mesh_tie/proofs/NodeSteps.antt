@@ -7,23 +7,25 @@ use Rattle.mesh_model.specs.declared.act.Act.{Act}
 use Rattle.mesh_model.specs.declared.packet.Head.{Head}
 use Rattle.mesh_model.specs.declared.packet.Head.TheVariants.{Utvlv}
 use Rattle.mesh_model.specs.declared.table_change.Change.{Change}
-use Rattle.mesh_model.specs.Acts.BridgeRows.{round_acts}
+use Rattle.mesh_model.specs.Acts.BridgeRows.{Place, round_acts}
 use Rattle.mesh_model.specs.Acts.Choosing.{acts_of, asking_acts, call_frame, calling_acts, client_acts, probing_acts, sighting_acts}
+use Rattle.mesh_model.specs.Acts.FactRows.{get_acts}
 use Rattle.mesh_model.specs.Acts.FrameRows.{advert_acts}
 use Rattle.mesh_model.specs.Acts.OwnContainers.{own_containers}
 use Rattle.mesh_model.specs.Acts.Packing.{roaming_container, sent_to_all}
 use Rattle.mesh_model.specs.Acts.Rows.{Own, alias_acts, alias_event, commit_acts, elp_acts, message_acts, packet_acts, packets_acts, tick_acts}
 use Rattle.mesh_model.specs.Clients.Lans.{Bridge}
-use Rattle.mesh_model.specs.Clients.Log.{Frame, Gone, Join, Leave, Arp, Dhcp, Ping, Trace, Log, Line, LineGiven, Attach, Sets, Put, Get}
+use Rattle.mesh_model.specs.Clients.Log.{Frame, Gone, Join, Leave, Arp, Dhcp, Ping, Trace, Reboot, Log, Line, LineGiven, Attach, Sets, Put, Get, line_reboots}
 use Rattle.mesh_model.specs.Clients.Mentions.{Mention, key_of, mentions, next_mentions}
 use Rattle.mesh_model.specs.Clients.Settings.{Settings}
 use Rattle.mesh_model.specs.Commits.Announcements.{announced_changes, announcement}
-use Rattle.mesh_model.specs.Commits.History.{History, committed, is_commit_tick, present_table}
+use Rattle.mesh_model.specs.Commits.History.{History, committed, history, is_commit_tick, present_table, restarted}
 use Rattle.mesh_model.specs.Commits.Aliases.{last_alias}
 use Rattle.mesh_model.specs.Commits.Versions.{last_commit}
 use Rattle.mesh_model.specs.Knowledge.Addressee.{Way}
+use Rattle.mesh_model.specs.Knowledge.FactStore.{after_get}
 use Rattle.mesh_model.specs.Knowledge.Known.{Knowledge}
-use Rattle.mesh_model.specs.Knowledge.Steps.{Coming, advertised, after_call, after_frame, after_sent, after_tick, is_flooded, line_knowledge, after_packet, after_packets, after_sighting, knowledge}
+use Rattle.mesh_model.specs.Knowledge.Steps.{Coming, advertised, after_call, after_frame, after_sent, after_tick, before_round, is_flooded, line_knowledge, after_packet, after_packets, after_sighting, knowledge}
 use Rattle.mesh_model.specs.Knowledge.Offers.{choice_by, gateway_way}
 use Rattle.mesh_model.specs.Knowledge.Told.{stamp_told}
 use Rattle.mesh_model.specs.Net.Due.{ticks_in}
@@ -40,18 +42,21 @@ use Rattle.mesh_model.specs.Tables.Sums.{sums_of}
 use Rattle.mesh_model.specs.Tables.Versions.{Stamp, Version}
 use Rattle.mesh_laws.specs.Machine.Moves.{AreLastChanges, Reaches, announcement_of, announces}
 use Rattle.mesh_laws.specs.Machine.World.{Announcement, Node, Saying, World, WasSaid, start}
+use Rattle.mesh_laws.proofs.LastLogLemmas.{reboot_line}
+use Rattle.mesh_laws.proofs.StoreLemmas.{get_rest, round_at_rest}
 use Rattle.mesh_tvlv.specs.Laws.{FitsKey}
 use Rattle.mesh_tie.specs.Originators.{last_number, number_at_root}
 use Rattle.mesh_tie.specs.Sayings.{FrameSays, IsAnnounced, PacketSays}
 use Rattle.mesh_tie.specs.Sources.{IsWhole, KeepsOriginators}
 use Rattle.mesh_tie.specs.Steps.{TellsClient}
 use Rattle.mesh_tie.specs.Tie.{FitsAnswer, FitsEntry, KnowsWhole, NodeIsTied}
-use Rattle.mesh_tie.proofs.CalmRows.{calm_call, calm_elps, calm_frame, calm_question, calm_round, calm_session}
+use Rattle.mesh_tie.proofs.CalmRows.{calm_call, calm_elps, calm_frame, calm_question, calm_round, calm_session, calm_store}
+use Rattle.mesh_tie.proofs.FactActs.{get_stores}
 use Rattle.mesh_tie.proofs.CommitLemmas.{Chain, announced_are, last_and_older}
 use Rattle.mesh_tie.proofs.EntryLemmas.{OfCommits, each_appended, reached_entries}
 use Rattle.mesh_tie.proofs.KnowsLemmas.{advertised_whole, packet_knows, sighting_knows}
-use Rattle.mesh_tie.proofs.NodeMoves.{Comes, at_same}
-use Rattle.mesh_tie.proofs.PairLemmas.{question_leaves}
+use Rattle.mesh_tie.proofs.NodeMoves.{Comes, at_same, forgets}
+use Rattle.mesh_tie.proofs.PairLemmas.{Leaves, question_leaves, rest_leaves}
 use Rattle.mesh_tie.proofs.PacketSteps.{CameIn, packet_comes, packet_row}
 use Rattle.mesh_tie.proofs.Sayable.{ActSays, IsLater, Sayable, Speaks, Within, act_more, all_said, calm_row, containers_say, frame_sayable, itself, message_says, no_answer, one_or_two, packet_more, says_one, silent, then_path}
 use Rattle.mesh_tie.proofs.ServesLemmas.{choice_whole, set_whole}
@@ -165,7 +170,7 @@ packets_know q me came (packet ∷ rest) known whole k = packets_know q me came 
 -- what a node commits and announces at a tick
 pub record Announcer (orig : Mac) (log : Log) (w : World) (me : Mac) (index : ℕ) (after : History) : Type 0 where
   pub whole : IsWhole me
-  pub chain : Chain after.commits
+  pub chain : Chain after
   pub fits : FitsAnswer (last_commit after.commits).table
   pub changes_fit : AllByRecursion FitsChange (announced_changes after)
   pub commits : me ≡ orig → w.commits ≡ after.commits
@@ -197,7 +202,7 @@ own_message orig log w q me settings routes index after head keeps a is y later 
     go : (me ≡ orig) ⊎ (me ≢ orig) → Speaks y Said
     go (inr other) = silent y Said (says y.said (λ same. absurd (other same)))
     go (inl same) =
-        let parts = last_and_older after.commits a.chain in
+        let parts = last_and_older after a.chain in
         let older = parts.0 in
         let all : w.commits ≡ last ∷ older = a.commits same ∙ parts.1 in
         let which : (changes ≡ []) ⊎ AreLastChanges (last ∷ older) changes = subst (λ cs. (changes ≡ []) ⊎ AreLastChanges cs changes) parts.1 (announced_are after a.chain).0 in
@@ -291,9 +296,13 @@ line_row orig log root w q me mine now (Dhcp key text) of whole k =
     (calm_row orig log root w (calling_acts q me mine now key text) (calm_call q known (record { me = me; now = now }) (call_frame key text)))
 line_row orig log root w q me mine now (Sets setting) of whole k = tt
 line_row orig log root w q me mine now (Put type_no version text) of whole k = tt
-line_row orig log root w q me mine now (Get type_no) of whole k = tt
+line_row orig log root w q me mine now (Get type_no) of whole k =
+    let at : Place = record { me = me; now = now } in
+    let got = get_acts q (knowledge q me mine) at type_no in
+    calm_row orig log root w got (calm_store me got (get_stores q (knowledge q me mine) at type_no))
 line_row orig log root w q me mine now (Ping target) of whole k = calm_row orig log root w (probing_acts q me mine now target false) (calm_session q (knowledge q me mine) (record { me = me; now = now }) target false)
 line_row orig log root w q me mine now (Trace target) of whole k = calm_row orig log root w (probing_acts q me mine now target true) (calm_session q (knowledge q me mine) (record { me = me; now = now }) target true)
+line_row orig log root w q me mine now Reboot of whole k = let old = history me mine in alias_row orig log root w me old.commits (restarted old).commits
 
 -- what is known after a broadcast was sent, or not
 sent_knows : (b : Bool) (known : Knowledge) → KnowsWhole known → KnowsWhole (cond b (after_sent known) known)
@@ -326,8 +335,11 @@ call_same q now known = go (is_some (gateway_way q known now))
 
 -- a tick
 pub tick_knows : (q : Queries) (now index : ℕ) (known : Knowledge) → KnowsWhole known → KnowsWhole (after_tick q now index known)
-tick_knows q now index known k = go (is_commit_tick index)
+tick_knows q now index known k = (rest_leaves before (after_tick q now index known) (round_at_rest q now index before)).knows (go (is_commit_tick index))
   where
+    before : Knowledge
+    before = before_round q now index known
+
     ticked : Knowledge
     ticked = record known { routes = OwnTick now index ∷ known.routes }
 
@@ -336,8 +348,11 @@ tick_knows q now index known k = go (is_commit_tick index)
     go false = record { tables = k.tables; marks = k.marks; services = k.services }
 
 pub tick_same : (q : Queries) (now index : ℕ) (known : Knowledge) → (after_tick q now index known).tables ≡ known.tables
-tick_same q now index known = go (is_commit_tick index)
+tick_same q now index known = (rest_leaves before (after_tick q now index known) (round_at_rest q now index before)).tables ∙ go (is_commit_tick index)
   where
+    before : Knowledge
+    before = before_round q now index known
+
     ticked : Knowledge
     ticked = record known { routes = OwnTick now index ∷ known.routes }
 
@@ -345,20 +360,40 @@ tick_same q now index known = go (is_commit_tick index)
     go true = refl
     go false = refl
 
--- a line leaves what is known of tables as it is
-pub line_same : (q : Queries) (me : Mac) (mine : Log) (known : Knowledge) (now : ℕ) (line : LineGiven) → (line_knowledge q me mine known now line).tables ≡ known.tables
-line_same q me mine known now (Attach lan gateways) = refl
-line_same q me mine known now (Frame src dst vid text) = frame_same q now (key_of dst vid) (after_sighting q me mine now (key_of src vid) known)
-line_same q me mine known now (Gone key) = refl
-line_same q me mine known now (Join key) = refl
-line_same q me mine known now (Leave key) = refl
-line_same q me mine known now (Arp mac own_ip asked_ip vid) = (question_leaves q me now mac own_ip asked_ip vid (after_sighting q me mine now (key_of mac vid) known)).tables
-line_same q me mine known now (Dhcp key text) = call_same q now (after_sighting q me mine now key known)
-line_same q me mine known now (Sets setting) = refl
-line_same q me mine known now (Put type_no version text) = refl
-line_same q me mine known now (Get type_no) = refl
-line_same q me mine known now (Ping target) = refl
-line_same q me mine known now (Trace target) = refl
+-- a question for facts
+get_leaves : (q : Queries) (now type_no : ℕ) (known : Knowledge) → Leaves known (after_get q now type_no known.services.settings.fact_store known)
+get_leaves q now type_no known =
+    let mode = known.services.settings.fact_store in
+    rest_leaves known (after_get q now type_no mode known) (get_rest q now type_no mode known)
+
+-- a line that isn't a reboot leaves what is known of tables as it is
+line_same : (q : Queries) (me : Mac) (mine : Log) (known : Knowledge) (now : ℕ) (line : LineGiven) → line_reboots line ≡ false → (line_knowledge q me mine known now line).tables ≡ known.tables
+line_same q me mine known now (Attach lan gateways) calm = refl
+line_same q me mine known now (Frame src dst vid text) calm = frame_same q now (key_of dst vid) (after_sighting q me mine now (key_of src vid) known)
+line_same q me mine known now (Gone key) calm = refl
+line_same q me mine known now (Join key) calm = refl
+line_same q me mine known now (Leave key) calm = refl
+line_same q me mine known now (Arp mac own_ip asked_ip vid) calm = (question_leaves q me now mac own_ip asked_ip vid (after_sighting q me mine now (key_of mac vid) known)).tables
+line_same q me mine known now (Dhcp key text) calm = call_same q now (after_sighting q me mine now key known)
+line_same q me mine known now (Sets setting) calm = refl
+line_same q me mine known now (Put type_no version text) calm = refl
+line_same q me mine known now (Get type_no) calm = (get_leaves q now type_no known).tables
+line_same q me mine known now (Ping target) calm = refl
+line_same q me mine known now (Trace target) calm = refl
+line_same q me mine known now Reboot calm = cc
+
+-- after a reboot nothing is known of them
+line_none : (q : Queries) (me : Mac) (mine : Log) (known : Knowledge) (now : ℕ) (line : LineGiven) → line_reboots line ≡ true → (line_knowledge q me mine known now line).tables ≡ []
+line_none q me mine known now line is = ap (λ x. (line_knowledge q me mine known now x).tables) (reboot_line line is)
+
+-- so the node stays tied behind a line: it forgets what it knew, or knows what it knew
+pub line_comes : (orig : Mac) (log : Log) (frames : List SentFrame) (w : World) (m : ℕ) (q : Queries) (me : Mac) (mine : Log) (known : Knowledge) (now : ℕ) (line : LineGiven) → Comes orig log frames w m (known_by known.tables orig)
+    → Comes orig log frames w m (known_by (line_knowledge q me mine known now line).tables orig)
+line_comes orig log frames w m q me mine known now line c = go (line_reboots line) refl
+  where
+    go : (b : Bool) → line_reboots line ≡ b → Comes orig log frames w m (known_by (line_knowledge q me mine known now line).tables orig)
+    go true is = subst (λ calls. Comes orig log frames w m (known_by calls orig)) (sym (line_none q me mine known now line is)) (forgets orig log frames w m (known_by known.tables orig) c)
+    go false is = subst (λ calls. Comes orig log frames w m (known_by calls orig)) (sym (line_same q me mine known now line is)) c
 
 pub line_knows : (q : Queries) (me : Mac) (mine : Log) (known : Knowledge) (now : ℕ) (line : LineGiven) → KnowsWhole known → KnowsWhole (line_knowledge q me mine known now line)
 line_knows q me mine known now (Attach lan gateways) k = k
@@ -371,7 +406,8 @@ line_knows q me mine known now (Arp mac own_ip asked_ip vid) k =
     (question_leaves q me now mac own_ip asked_ip vid (after_sighting q me mine now key known)).knows (sighting_knows q me mine now key known k)
 line_knows q me mine known now (Dhcp key text) k = call_knows q now (after_sighting q me mine now key known) (sighting_knows q me mine now key known k)
 line_knows q me mine known now (Sets setting) k = record { tables = k.tables; marks = k.marks; services = set_whole setting known.services k.services }
-line_knows q me mine known now (Put type_no version text) k = k
-line_knows q me mine known now (Get type_no) k = k
+line_knows q me mine known now (Put type_no version text) k = record { tables = k.tables; marks = k.marks; services = record { offers = k.services.offers; choice = k.services.choice } }
+line_knows q me mine known now (Get type_no) k = (get_leaves q now type_no known).knows k
 line_knows q me mine known now (Ping target) k = record { tables = k.tables; marks = k.marks; services = k.services }
 line_knows q me mine known now (Trace target) k = record { tables = k.tables; marks = k.marks; services = k.services }
+line_knows q me mine known now Reboot k = record { tables = tt; marks = tt; services = record { offers = tt; choice = λ gateway is. cc } }

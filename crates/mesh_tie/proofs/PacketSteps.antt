@@ -8,18 +8,22 @@ use Rattle.mesh_model.specs.declared.packet.Head.{Head}
 use Rattle.mesh_model.specs.declared.packet.Head.TheVariants.{IvOgm, Bcast, Elp, Ogm2, Unicast, Frag, Unicast4, Icmp, Utvlv}
 use Rattle.mesh_model.specs.declared.table_change.Change.{Change}
 use Rattle.mesh_model.specs.Acts.BridgeRows.{unclaim_acts}
+use Rattle.mesh_model.specs.Acts.FactRows.{fact_acts}
+use Rattle.mesh_model.specs.Acts.FrameRows.{here_acts, passed_frame}
 use Rattle.mesh_model.specs.Acts.ProbeRows.{IcmpMessage}
 use Rattle.mesh_model.specs.Acts.Rows.{Own, head_acts, icmp_acts, packet_acts, place_at, taken_acts}
 use Rattle.mesh_model.specs.Acts.TableRows.{other_containers, own_answer}
 use Rattle.mesh_model.specs.Clients.Log.{Log}
-use Rattle.mesh_model.specs.Knowledge.Known.{Broadcast, Knowledge, is_new_broadcast}
-use Rattle.mesh_model.specs.Knowledge.Steps.{Coming, after_announcement, after_answer, after_broadcast, after_containers, after_head, after_message, after_packet, after_reply, after_roaming, after_taken, announced_table, before_announcement, request_out, with_announcement, with_head, with_life}
+use Rattle.mesh_model.specs.Knowledge.FactStore.{after_fact_message}
+use Rattle.mesh_model.specs.Knowledge.Known.{Broadcast, Knowledge, is_new_broadcast, taken_at}
+use Rattle.mesh_model.specs.Knowledge.Steps.{Coming, after_announcement, after_answer, after_broadcast, after_containers, after_head, after_message, after_packet, after_reply, after_roaming, after_taken, announced_by, announced_table, before_announcement, request_out, with_announcement, with_head, with_life}
 use Rattle.mesh_model.specs.Knowledge.Told.{Message, TableMessage, Asks, Answers, Neither, message_changes, message_in, message_of, message_with, stamp_told}
 use Rattle.mesh_model.specs.Net.Mesh.{SentFrame}
 use Rattle.mesh_model.specs.Packets.ArpMessages.{arp_came}
 use Rattle.mesh_model.specs.Packets.Bodies.{TtData}
 use Rattle.mesh_model.specs.Packets.Containers.{containers_of}
 use Rattle.mesh_model.specs.Packets.Contents.{first_roaming, first_table}
+use Rattle.mesh_model.specs.Packets.FactMessages.{CameFact, fact_message_of}
 use Rattle.mesh_model.specs.Packets.FirstPacket.{Packet}
 use Rattle.mesh_model.specs.Probes.OpenProbes.{is_answer}
 use Rattle.mesh_model.specs.Routes.Addresses.{same_mac}
@@ -29,11 +33,13 @@ use Rattle.mesh_model.specs.Tables.Known.{Announced, Answered, Dropped, TableCal
 use Rattle.mesh_model.specs.Tables.Versions.{Stamp}
 use Rattle.mesh_laws.specs.Machine.World.{Saying, World, WasSaid}
 use Rattle.mesh_laws.proofs.MacLemmas.{same_exact}
+use Rattle.mesh_laws.proofs.StoreLemmas.{message_rest}
 use Rattle.mesh_tie.specs.Sayings.{IsAnnounced, IsAnswered, PacketSays, saying_of}
 use Rattle.mesh_tie.specs.Sources.{IsMessageOf, IsWhole, KeepsOriginators}
 use Rattle.mesh_tie.proofs.ArpActs.{unicast4_acts}
-use Rattle.mesh_tie.proofs.PairLemmas.{arp_leaves}
-use Rattle.mesh_tie.proofs.CalmRows.{calm_unicast4, calm_broadcast, calm_here, calm_icmp, calm_passed, calm_unclaim}
+use Rattle.mesh_tie.proofs.FactActs.{came_stores}
+use Rattle.mesh_tie.proofs.PairLemmas.{arp_leaves, rest_leaves}
+use Rattle.mesh_tie.proofs.CalmRows.{calm_unicast4, calm_broadcast, calm_here, calm_icmp, calm_passed, calm_store, calm_unclaim}
 use Rattle.mesh_tie.proofs.EntryLemmas.{each_appended}
 use Rattle.mesh_tie.proofs.NodeMoves.{Comes, IsBrought, answers_come, forgets, tells}
 use Rattle.mesh_tie.proofs.Sayable.{Sayable, calm_row}
@@ -136,12 +142,20 @@ containers_come orig log frames w m q me now dst src tail known says c = go (sam
     go false = c
 
 -- a broadcast
-broadcast_same : (me : Mac) (broadcast : Broadcast) (known : Knowledge) → (after_broadcast me broadcast known).tables ≡ known.tables
-broadcast_same me broadcast known = go (is_new_broadcast me broadcast known.taken)
+broadcast_same : (me : Mac) (now : ℕ) (broadcast : Broadcast) (known : Knowledge) → (after_broadcast me now broadcast known).tables ≡ known.tables
+broadcast_same me now broadcast known = go (is_new_broadcast me now broadcast known.taken)
   where
-    go : (b : Bool) → (cond b (record known { taken = broadcast ∷ known.taken }) known).tables ≡ known.tables
+    go : (b : Bool) → (cond b (record known { taken = taken_at now broadcast known.taken ∷ known.taken }) known).tables ≡ known.tables
     go true = refl
     go false = refl
+
+-- a message of the fact store
+fact_same : (now : ℕ) (o : Option CameFact) (known : Knowledge) → (after_fact_message now o known).tables ≡ known.tables
+fact_same now o known = (rest_leaves known (after_fact_message now o known) (message_rest now o known)).tables
+
+facts_same : (b : Bool) (now : ℕ) (o : Option CameFact) (known : Knowledge) → (cond b (after_fact_message now o known) known).tables ≡ known.tables
+facts_same true now o known = fact_same now o known
+facts_same false now o known = refl
 
 -- an answer to a probe
 reply_same : (q : Queries) (now msg seq : ℕ) (b : Bool) (known : Knowledge) → (cond b (after_reply q now msg seq known) known).tables ≡ known.tables
@@ -175,11 +189,13 @@ packet_comes orig log frames w m q me root came packet known f p c = go packet.h
         → Tied orig log frames w m (after_head q me came (message_of (record { head = head; tail = tail })) tail head known).tables
     go (IvOgm ttl flags seq o prev tq) tail p = taken_comes orig log frames w m q root came (IvOgm ttl flags seq o prev tq) (message_with o (first_table (containers_of tail))) tail known f
         (λ one is. message_taken orig log w.said root (IvOgm ttl flags seq o prev tq) o tail one (record { word = refl; addresses = p.addresses }) p.says.0 p.says.1 is) c
-    go (Bcast ttl seq o) tail p = subst (Tied orig log frames w m) (sym (broadcast_same me (record { orig = o; number = seq }) known)) c
+    go (Bcast ttl seq o) tail p =
+        let broadcast : Broadcast = record { orig = o; number = seq } in
+        subst (Tied orig log frames w m) (sym (fact_same came.now (announced_by me came.now broadcast tail known) (after_broadcast me came.now broadcast known) ∙ broadcast_same me came.now broadcast known)) c
     go (Elp o seq interval) tail p = c
     go (Ogm2 ttl flags seq o throughput) tail p = taken_comes orig log frames w m q root came (Ogm2 ttl flags seq o throughput) (message_with o (first_table (containers_of tail))) tail known f
         (λ one is. message_taken orig log w.said root (Ogm2 ttl flags seq o throughput) o tail one (record { word = refl; addresses = p.addresses }) p.says.0 p.says.1 is) c
-    go (Unicast ttl ttvn dst) tail p = c
+    go (Unicast ttl ttvn dst) tail p = subst (Tied orig log frames w m) (sym (facts_same (same_mac dst me) came.now (fact_message_of tail) known)) c
     go (Frag ttl number priority dst o seq total) tail p = c
     go (Unicast4 ttl ttvn dst src subtype) tail p = subst (Tied orig log frames w m) (sym (arp_leaves (same_mac dst me) came.now (arp_came subtype tail) known).tables) c
     go (Icmp ttl msg dst o uid seq) tail p = subst (Tied orig log frames w m) (sym (reply_same q came.now msg seq (same_mac dst me && is_answer msg) known)) c
@@ -208,9 +224,15 @@ packet_row orig log w m q me own root came packet known keeps from s h p = go pa
     go (Elp o seq interval) tail p = tt
     go (Ogm2 ttl flags seq o throughput) tail p = taken (Ogm2 ttl flags seq o throughput) o tail (message_with o (first_table (containers_of tail)))
         (λ one is. message_taken orig log w.said root (Ogm2 ttl flags seq o throughput) o tail one (record { word = refl; addresses = p.addresses }) p.says.0 p.says.1 is)
-    go (Unicast ttl ttvn dst) tail p = either (same_mac dst me) (Rattle.mesh_model.specs.Acts.FrameRows.here_acts q known own.mentions own.bridge (place_at me came) ttl tail) (Rattle.mesh_model.specs.Acts.FrameRows.passed_frame q known (place_at me came) ttl ttvn dst tail)
-        (calm_row orig log root w (Rattle.mesh_model.specs.Acts.FrameRows.here_acts q known own.mentions own.bridge (place_at me came) ttl tail) (calm_here q known own.mentions own.bridge (place_at me came) ttl tail))
-        (calm_row orig log root w (Rattle.mesh_model.specs.Acts.FrameRows.passed_frame q known (place_at me came) ttl ttvn dst tail) (calm_passed q known (place_at me came) ttl ttvn dst tail))
+    go (Unicast ttl ttvn dst) tail p =
+        let at = place_at me came in
+        let here = here_acts q known own.mentions own.bridge at ttl tail in
+        let told = fact_acts q known at (fact_message_of tail) in
+        let passed = passed_frame q known at ttl ttvn dst tail in
+        either (same_mac dst me) (here ++ told) passed
+        (each_appended (Sayable orig log root w) here told (calm_row orig log root w here (calm_here q known own.mentions own.bridge at ttl tail))
+        (calm_row orig log root w told (calm_store me told (came_stores q known at (fact_message_of tail)))))
+        (calm_row orig log root w passed (calm_passed q known at ttl ttvn dst tail))
     go (Frag ttl number priority dst o seq total) tail p = tt
     go (Unicast4 ttl ttvn dst src subtype) tail p = calm_row orig log root w (unicast4_acts q me came known ttl ttvn dst src subtype tail) (calm_unicast4 q me came known ttl ttvn dst src subtype tail)
     go (Icmp ttl msg dst o uid seq) tail p =

@@ -1,14 +1,18 @@
--- What a node learns of the ARP table and what it asks for leaves what it knows of tables, and where it
--- may send.
-use Rattle.std.proofs.Common.{◌≡◌, ℕ, Bool, true, false, cond, Option, Some, None, refl}
+-- What a node learns of the ARP table, what it asks for, and what it keeps of the fact store leaves what
+-- it knows of tables, and where it may send.
+use Rattle.std.proofs.Common.{◌≡◌, ℕ, Bool, true, false, cond, Option, Some, None, refl, ap, sym, subst}
+use Rattle.std.specs.List.{AllByRecursion}
 use Rattle.mesh_base.specs.declared.address.Mac.{Mac}
 use Rattle.mesh_base.specs.declared.client.Vid.{Vid}
 use Rattle.mesh_model.specs.Knowledge.Known.{Knowledge}
 use Rattle.mesh_model.specs.Knowledge.Pairs.{after_arp, after_asking, after_came, after_question, is_asked, with_ask, with_learned}
+use Rattle.mesh_model.specs.Knowledge.Served.{Offered}
 use Rattle.mesh_model.specs.Packets.ArpMessages.{ArpCame, Asks, Puts, Tells}
 use Rattle.mesh_model.specs.Routes.Queries.{Queries}
 use Rattle.mesh_model.specs.Services.ArpTable.{AskedFor, PairCall, ToldOf}
-use Rattle.mesh_tie.specs.Tie.{KnowsWhole}
+use Rattle.mesh_laws.proofs.StoreLemmas.{LeavesRest, Rest}
+use Rattle.mesh_tie.specs.Sources.{IsWhole}
+use Rattle.mesh_tie.specs.Tie.{HasWholeSource, HasWholeTarget, KnowsWhole}
 
 -- what is known of tables is as it was, and addresses that a node may send to stay whole
 pub record Leaves (before after : Knowledge) : Type 0 where
@@ -21,6 +25,20 @@ nothing_leaves known = record { tables = refl; knows = λ k. k }
 leaves_if : (before : Knowledge) (b : Bool) (one other : Knowledge) → Leaves before one → Leaves before other → Leaves before (cond b one other)
 leaves_if before true one other l m = l
 leaves_if before false one other l m = m
+
+-- what the fact store leaves
+pub rest_leaves : (before after : Knowledge) → LeavesRest before after → Leaves before after
+rest_leaves before after same = record {
+  tables = ap (λ (r : Rest). r.tables) same;
+  knows = λ k. record {
+    tables = subst (λ (r : Rest). AllByRecursion HasWholeSource r.tables) (sym same) k.tables;
+    marks = subst (λ (r : Rest). AllByRecursion HasWholeTarget r.marks) (sym same) k.marks;
+    services = record {
+      offers = subst (λ (r : Rest). AllByRecursion (λ (one : Offered). IsWhole one.orig) r.offers) (sym same) k.services.offers;
+      choice = subst (λ (r : Rest). (gateway : Mac) → r.choice ≡ Some gateway → IsWhole gateway) (sym same) k.services.choice;
+    };
+  };
+}
 
 learned_leaves : (now ip : ℕ) (vid : Vid) (mac : Mac) (known : Knowledge) → Leaves known (with_learned now ip vid mac known)
 learned_leaves now ip vid mac known = record {

@@ -1,5 +1,5 @@
 -- What is printed of frames that were sent by table.
-use Rattle.std.proofs.Common.{◌≡◌, inl, inr, ◌+◌, ◌-◌, ℕ, Bool, true, false, cond, nat_le, nat_lt, List, [], ◌∷◌, ◌++◌, length, map, Option, Some, None, option_map, is_some, Ok, Err, refl, sym, ap, subst, ◌∙◌, append-nil}
+use Rattle.std.proofs.Common.{◌≡◌, inl, inr, ◌+◌, ◌-◌, ℕ, Bool, true, false, cond, nat_le, nat_lt, List, [], ◌∷◌, ◌++◌, length, map, Option, Some, None, is_some, Ok, Err, refl, sym, ap, ◌∙◌, append-nil}
 use Rattle.std.specs.Option.{option_map_or}
 use Rattle.mesh_base.specs.declared.address.Mac.{Mac}
 use Rattle.mesh_base.specs.declared.event.Event.{Event}
@@ -12,13 +12,13 @@ use Rattle.mesh_model.specs.declared.ending.Stop.TheVariants.{Limit}
 use Rattle.mesh_model.specs.declared.frame_choice.FrameChoice.{FrameChoice}
 use Rattle.mesh_model.specs.declared.line_form.Algorithm.{Algorithm}
 use Rattle.mesh_model.specs.declared.line_form.Command.{Command}
-use Rattle.mesh_model.specs.declared.line_form.Command.TheVariants.{Nothing, Algo, Node, Link, Lan, Frame, Gone, Join, Leave, Arp, Dhcp, Wifi, GwOff, GwServer, GwClient, Mcast, Dat, Alfred, Put, Get, Ping, Trace, Run as RunFor, Deliver, Show, Decode}
+use Rattle.mesh_model.specs.declared.line_form.Command.TheVariants.{Nothing, Algo, Node, Link, Lan, Frame, Gone, Join, Leave, Arp, Dhcp, Wifi, GwOff, GwServer, GwClient, Mcast, Dat, Alfred, Put, Get, Ping, Trace, Reboot, Run as RunFor, Deliver, Show, Decode}
 use Rattle.mesh_model.specs.declared.line_form.Table.{Table}
 use Rattle.mesh_model.specs.declared.line_form.Table.TheVariants.{Originators, Neighbors, Locals, Globals, Claims, Gateways, Groups, Addresses, Facts}
 use Rattle.mesh_model.specs.Clients.Log.{Line, LineGiven, Sets}
 use Rattle.mesh_model.specs.Clients.Settings.{NoPart, Serves, Chooses}
-use Rattle.mesh_model.specs.Clients.Settings.{ArpTable as ArpTableSet, Gateway as GatewaySet, Multicast as MulticastSet, Wifi as WifiSet}
-use Rattle.mesh_model.specs.Clients.Log.{Frame as FrameGiven, Gone as GoneGiven, Join as JoinGiven, Leave as LeaveGiven, Arp as ArpGiven, Dhcp as DhcpGiven, Ping as PingGiven, Trace as TraceGiven}
+use Rattle.mesh_model.specs.Clients.Settings.{ArpTable as ArpTableSet, FactStore as FactStoreSet, Gateway as GatewaySet, Multicast as MulticastSet, Wifi as WifiSet}
+use Rattle.mesh_model.specs.Clients.Log.{Frame as FrameGiven, Gone as GoneGiven, Join as JoinGiven, Leave as LeaveGiven, Arp as ArpGiven, Dhcp as DhcpGiven, Put as PutGiven, Get as GetGiven, Ping as PingGiven, Trace as TraceGiven, Reboot as RebootGiven}
 use Rattle.mesh_model.specs.Net.Inputs.{all_given, given_to}
 use Rattle.mesh_model.specs.Net.Lans.{joins_lan}
 use Rattle.mesh_model.specs.Net.Limits.{clock_limit, lans_limit, links_limit, nodes_limit}
@@ -31,15 +31,16 @@ use Rattle.mesh_model.specs.Routes.Algorithms.{queries_of}
 use Rattle.mesh_model.specs.Run.Outcome.{Outcome, Ends, Goes, reached}
 use Rattle.mesh_model.specs.Run.Passing.{after_attempt, course_outcome, events_since, gone_on, run_until}
 use Rattle.mesh_model.specs.Run.PlainRun.{Run, after_line, after_lines, after_outcome, after_reading, line_outcome, passes_input, passes_line, start}
-use Rattle.mesh_model.specs.Run.Rules.{after_step, carried_out, first_refused_rule, setup_of, unless_refused}
+use Rattle.mesh_model.specs.Run.Rules.{carried_out, first_refused_rule, setup_of, unless_refused}
 use Rattle.mesh_model.specs.Run.Shown.{after_print, shown}
 use Rattle.mesh_model.specs.Run.State.{Printed, LocalsShown, OriginatorsShown, NeighborsShown, GlobalsShown, ClaimsShown, ServiceShown, Decoded, Happened, State, names_of, lan_place_of, node_named, place_of}
-use Rattle.mesh_model.specs.Run.Steps.{Step, at_node, at_place, gateways_at, gateways_step, lan_frame_step, places_named, choice_step, input_step, link_step, new_node, session_step, show_step, step_of, with_link, with_node}
+use Rattle.mesh_model.specs.Run.Steps.{Step, at_node, at_place, gateways_at, gateways_step, lan_frame_step, places_named, choice_step, input_step, link_step, new_node, session_step, step_of, with_link, with_node}
 use Rattle.mesh_model.specs.Scenario.Commands.{command_of_line}
 use Rattle.mesh_model.specs.Scenario.Halt.{Halt}
 use Rattle.mesh_model.specs.Scenario.Lines.{content}
 use Rattle.mesh_model.specs.Scenario.Readings.{Reading}
 use Rattle.mesh_laws.proofs.Lines.Courses.{going_follows}
+use Rattle.mesh_tie.specs.AliasesStand.{EventsArePrinted, events_in}
 use Rattle.mesh_tie.specs.LinesByTable.{LinesByTableAreRight}
 use Rattle.mesh_tie.proofs.EventLemmas.{events_by_table_are_right}
 use Rattle.mesh_tie.proofs.GainLemmas.{GainsEvents, again_gains, all_gains, course_gains, gained_is, given_gains, lan_gains, put_gains}
@@ -47,18 +48,7 @@ use Rattle.mesh_tie.proofs.LineReach.{first_holds, lines_hold}
 use Rattle.mesh_tie.proofs.VLemmas.{algorithms_keep}
 
 -- ---- the events among what is printed
-events_in : List Printed → List Event
-events_in [] = []
-events_in (LocalsShown table ∷ rest) = events_in rest
-events_in (OriginatorsShown table ∷ rest) = events_in rest
-events_in (NeighborsShown table ∷ rest) = events_in rest
-events_in (GlobalsShown table ∷ rest) = events_in rest
-events_in (ClaimsShown table ∷ rest) = events_in rest
-events_in (ServiceShown table ∷ rest) = events_in rest
-events_in (Decoded bytes ∷ rest) = events_in rest
-events_in (Happened names event ∷ rest) = event ∷ events_in rest
-
-events_both : (xs ys : List Printed) → events_in (xs ++ ys) ≡ events_in xs ++ events_in ys
+pub events_both : (xs ys : List Printed) → events_in (xs ++ ys) ≡ events_in xs ++ events_in ys
 unfolding events_in
 events_both [] ys = refl
 events_both (LocalsShown table ∷ xs) ys = events_both xs ys
@@ -75,7 +65,7 @@ unfolding events_in
 events_happened names [] = refl
 events_happened names (e ∷ es) = ap (λ xs. e ∷ xs) (events_happened names es)
 
-printed_has : (xs : List Printed) (event : Event) → Has (events_in xs) event → (names : NamesGiven) × Has xs (Happened names event)
+pub printed_has : (xs : List Printed) (event : Event) → Has (events_in xs) event → (names : NamesGiven) × Has xs (Happened names event)
 unfolding events_in
 printed_has [] event has = absurd has
 printed_has (LocalsShown table ∷ xs) event has = let p = printed_has xs event has in (p.0, inr p.1)
@@ -182,17 +172,8 @@ show_same : (state : State) (print : State → NodeLog → Printed) (o : Option 
 show_same state print None none same = same
 show_same state print (Some node) none same = print_same state (print state node) (none node) same
 
-shown_same : (state : State) (name : List ℕ) (o : Option (State → NodeLog → Printed)) → ((print : State → NodeLog → Printed) → o ≡ Some print → (node : NodeLog) → IsNoEvent (print state node)) → SameEvents state
-    → SameOutcome (after_step state (option_map (show_step name) o))
-shown_same state name None none same = same
-shown_same state name (Some print) none same = show_same state print (node_named state name) (none print refl) same
-
 -- the tables that are shown are no events
-abbrev IfShown : State → NodeLog → Option (State → NodeLog → Printed) → Type 0
-IfShown state node None = Unit {0}
-IfShown state node (Some print) = IsNoEvent (print state node)
-
-shown_none : (table : Table) (state : State) (node : NodeLog) → IfShown state node (shown table)
+shown_none : (table : Table) (state : State) (node : NodeLog) → IsNoEvent (shown table state node)
 unfolding events_in
 shown_none Originators state node = refl
 shown_none Neighbors state node = refl
@@ -202,16 +183,13 @@ shown_none Claims state node = refl
 shown_none Gateways state node = refl
 shown_none Groups state node = refl
 shown_none Addresses state node = refl
-shown_none Facts state node = tt
-
-tables_same : (table : Table) (state : State) (print : State → NodeLog → Printed) → shown table ≡ Some print → (node : NodeLog) → IsNoEvent (print state node)
-tables_same table state print is node = subst (IfShown state node) is (shown_none table state node)
+shown_none Facts state node = refl
 
 decoded_none : (bytes : List ℕ) → IsNoEvent (Decoded bytes)
 unfolding events_in
 decoded_none bytes = refl
 
-command_same : (state : State) (command : Command) → SameEvents state → SameOutcome (after_step state (step_of (setup_of state.algorithm) command))
+command_same : (state : State) (command : Command) → SameEvents state → SameOutcome (step_of (setup_of state.algorithm) command state)
 command_same state Nothing same = same
 command_same state (Algo algorithm) same = choice_same state algorithm same
 command_same state (Node name mac) same = full_same (nat_le nodes_limit (length state.mesh.nodes)) (Ends state (Limit Nodes)) (with_node state (new_node name mac state.clock)) same (with_node_same state (new_node name mac state.clock) same)
@@ -233,20 +211,21 @@ command_same state (GwServer node down up) same = line_same state node (Sets (Ga
 command_same state (GwClient node policy) same = line_same state node (Sets (GatewaySet (Chooses policy))) same
 command_same state (Mcast node flags) same = line_same state node (Sets (MulticastSet flags)) same
 command_same state (Dat node on) same = line_same state node (Sets (ArpTableSet on)) same
-command_same state (Alfred node mode) same = same
-command_same state (Put node type_no version text) same = same
-command_same state (Get node type_no) same = same
+command_same state (Alfred node mode) same = line_same state node (Sets (FactStoreSet mode)) same
+command_same state (Put node type_no version text) same = line_same state node (PutGiven type_no version text) same
+command_same state (Get node type_no) same = line_same state node (GetGiven type_no) same
 command_same state (Ping node target) same = session_same state PingGiven node target same
 command_same state (Trace node target) same = session_same state TraceGiven node target same
+command_same state (Reboot node) same = line_same state node RebootGiven same
 command_same state (RunFor time) same = time_same state (state.clock + time) (nat_lt clock_limit (state.clock + time)) same
 command_same state (Deliver number) same = attempt_same state (delivered (setup_of state.algorithm) (number - 1) state.clock state.mesh) same (λ after is. again_gains (setup_of state.algorithm) (number - 1) state.clock state.mesh after is)
-command_same state (Show node table) same = shown_same state node (shown table) (λ print is. tables_same table state print is) same
+command_same state (Show node table) same = show_same state (shown table) (node_named state node) (shown_none table state) same
 command_same state (Decode bytes) same = print_same state (Decoded bytes) (decoded_none bytes) same
 
 carried_same : (state : State) (command : Command) → SameEvents state → SameOutcome (carried_out (setup_of state.algorithm) state command)
 carried_same state command same = go (first_refused_rule state command)
   where
-    go : (o : Option Refusal) → SameOutcome (unless_refused state o (after_step state (step_of (setup_of state.algorithm) command)))
+    go : (o : Option Refusal) → SameOutcome (unless_refused state o (step_of (setup_of state.algorithm) command state))
     go None = command_same state command same
     go (Some refusal) = same
 
@@ -278,17 +257,21 @@ lines_same : (run : Run) (lines : List (List ℕ)) → SameEvents run.state → 
 lines_same run [] same = same
 lines_same run (line ∷ lines) same = lines_same (after_line run line) lines (after_same run line same)
 
-printed_same : (choice : FrameChoice) (lines : List (List ℕ)) → events_in (after_lines (start choice) lines).state.printed ≡ (after_lines (start choice) lines).state.mesh.events
+pub events_are_printed : EventsArePrinted
 unfolding SameEvents events_in
-printed_same choice lines = lines_same (start choice) lines refl
+events_are_printed choice lines = lines_same (start choice) lines refl
+
+-- an event between others of what is printed is between others of the mesh
+pub events_parted : (choice : FrameChoice) (lines : List (List ℕ)) (before after : List Printed) (names : NamesGiven) (event : Event) → (after_lines (start choice) lines).state.printed ≡ before ++ Happened names event ∷ after
+    → (after_lines (start choice) lines).state.mesh.events ≡ events_in before ++ event ∷ events_in after
+unfolding events_in
+events_parted choice lines before after names event printed = sym (events_are_printed choice lines) ∙ ap events_in printed ∙ events_both before (Happened names event ∷ after)
 
 -- ---- the law
 pub lines_by_table_are_right : LinesByTableAreRight
-unfolding events_in
 lines_by_table_are_right choice lines orig before after names number moment me next bytes printed none =
     let run = after_lines (start choice) lines in
     let event : Event = FrameSent number moment me next (Some ByTable) bytes in
-    let events : run.state.mesh.events ≡ events_in before ++ event ∷ events_in after =
-    sym (printed_same choice lines) ∙ ap events_in printed ∙ events_both before (Happened names event ∷ after) in
+    let events = events_parted choice lines before after names event printed in
     events_by_table_are_right (queries_of run.state.algorithm) (algorithms_keep run.state.algorithm) run.state.mesh (lines_hold (start choice) lines (first_holds choice)).reachable orig (events_in before) (events_in after) number moment me next bytes events
     (λ n e told. let p = printed_has before (Alias orig n e) told in none p.0 n e p.1)

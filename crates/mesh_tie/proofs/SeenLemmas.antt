@@ -9,12 +9,12 @@ use Rattle.mesh_base.specs.declared.event.Event.TheVariants.{Alias}
 use Rattle.mesh_model.specs.declared.act.Act.{Act}
 use Rattle.mesh_model.specs.declared.act.Act.TheVariants.{Print}
 use Rattle.mesh_model.specs.Clients.Lans.{bridge}
-use Rattle.mesh_model.specs.Knowledge.Steps.{knowledge}
+use Rattle.mesh_model.specs.Knowledge.Steps.{before_round, knowledge}
 use Rattle.mesh_model.specs.Net.Sending.{put_event}
-use Rattle.mesh_model.specs.Clients.Log.{Given, Tick, LinkFrame, Log, LogEntry, LanFrame, Line, LineGiven}
+use Rattle.mesh_model.specs.Clients.Log.{Given, Tick, LinkFrame, Log, LogEntry, LanFrame, Line, line_reboots}
 use Rattle.mesh_model.specs.Clients.Mentions.{mentions}
 use Rattle.mesh_model.specs.Commits.Aliases.{alias_before, are_aliases, last_alias}
-use Rattle.mesh_model.specs.Commits.History.{History, with_message, commits, committed, history, is_commit_tick, present_table}
+use Rattle.mesh_model.specs.Commits.History.{commits, history, next_history, restarted}
 use Rattle.mesh_model.specs.Commits.Versions.{commit_numbered, first_commit, same_table}
 use Rattle.mesh_model.specs.Net.Due.{ticks_in}
 use Rattle.mesh_model.specs.Net.Inputs.{entry_of, given_to, noted_at}
@@ -36,7 +36,7 @@ use Rattle.mesh_laws.proofs.Schedule.Members.{has_either, has_left}
 use Rattle.mesh_tie.specs.AliasesSeen.{AliasesAreSeen, AliasesAreTold, HasAlias}
 use Rattle.mesh_tie.specs.Originators.{commits_of, log_of}
 use Rattle.mesh_tie.specs.Steps.{IsReachable, Steps, begins, frame_comes, goes_on, lan_comes, lan_joins, line_gives, link_joins, node_joins, node_ticks, put_comes, put_reaches, time_passes, bridged_event, with_lan_frame}
-use Rattle.mesh_tie.proofs.AliasRows.{AreQuiet, Gains, frame_quiet, gains_none, gains_one, lan_quiet, line_quiet, quiet_none, tick_gains}
+use Rattle.mesh_tie.proofs.AliasRows.{AreQuiet, Gains, frame_quiet, gains_none, gains_one, lan_quiet, line_gains, quiet_none, ticks_gain}
 use Rattle.mesh_tie.proofs.LogLemmas.{AreDistinct, log_found, log_itself, log_other}
 use Rattle.mesh_tie.proofs.MeshSteps.{log_joined}
 use Rattle.mesh_tie.proofs.NodeLists.{Renewed, another, got_front, itself, no_length, renewed}
@@ -101,22 +101,26 @@ none_more w older none new one other a b bytes sums = go (split_commit w older o
     go (inr p) (inr q) = none one other p q bytes sums
 
 -- ---- meshes
--- an input that is no tick commits nothing
-pub calm_commits : (me : Mac) (log : Log) (entry : LogEntry) → ((index : ℕ) → entry.given ≡ Tick index → ⊥) → commits me (entry ∷ log) ≡ commits me log
+-- what is no tick and no reboot
+abbrev pub CommitsNothing : Given → Type 0
+CommitsNothing (Tick index) = ⊥
+CommitsNothing (LinkFrame number from throughput bytes) = Unit {0}
+CommitsNothing (LanFrame bytes) = Unit {0}
+CommitsNothing (Line line) = line_reboots line ≡ false
+
+-- such an input commits nothing
+pub calm_commits : (me : Mac) (log : Log) (entry : LogEntry) → CommitsNothing entry.given → commits me (entry ∷ log) ≡ commits me log
 calm_commits me log entry calm = go entry.given calm
   where
-    go : (given : Given) → ((index : ℕ) → given ≡ Tick index → ⊥) → (Rattle.mesh_model.specs.Commits.History.next_history (mentions me log) (history me log) entry.moment given).commits ≡ commits me log
-    go (Tick index) calm = absurd (calm index refl)
+    go : (given : Given) → CommitsNothing given → (next_history (mentions me log) (history me log) entry.moment given).commits ≡ commits me log
+    go (Tick index) calm = absurd calm
     go (LinkFrame number from throughput bytes) calm = refl
     go (LanFrame bytes) calm = refl
-    go (Line line) calm = refl
-
-pub line_calm : (line : LineGiven) (index : ℕ) → Line line ≡ Tick index → ⊥
-line_calm line index is = cc
+    go (Line line) calm = ap (λ b. (cond b (restarted (history me log)) (history me log)).commits) calm
 
 -- ---- events tell of them
 -- an event tells of an alias exactly where these commits have it
-abbrev AreTold : Mac → Mesh → List Version → Type 0
+abbrev pub AreTold : Mac → Mesh → List Version → Type 0
 AreTold orig mesh made = (number earlier : ℕ) → Has mesh.events (Alias orig number earlier) ↔ HasAlias made number earlier
 
 has_old : (version : Version) (older : List Version) (number earlier : ℕ) → HasAlias older number earlier → HasAlias (version ∷ older) number earlier
@@ -213,7 +217,7 @@ given_told queries orig mesh after place now root node given distinct found is g
     go (inr other) = subst (λ ns. AreTold orig after (commits orig (log_of orig ns))) (sym has.nodes) (subst (λ l. AreTold orig after (commits orig l)) (sym (log_other orig mesh.nodes place node entry found other))
         (other_told (commits node.mac (entry ∷ node.log)) gains other))
 
-calm_gains : (queries : Mac → Queries) (node : NodeLog) (now : ℕ) (given : Given) → ((index : ℕ) → given ≡ Tick index → ⊥) → AreQuiet (entry_of (scenario_setup queries) node now given).acts
+calm_gains : (queries : Mac → Queries) (node : NodeLog) (now : ℕ) (given : Given) → CommitsNothing given → AreQuiet (entry_of (scenario_setup queries) node now given).acts
     → Gains node.mac (commits node.mac node.log) (commits node.mac (entry_of (scenario_setup queries) node now given ∷ node.log)) (entry_of (scenario_setup queries) node now given).acts
 calm_gains queries node now given calm quiet =
     let entry = entry_of (scenario_setup queries) node now given in
@@ -236,28 +240,22 @@ step_told : (queries : Mac → Queries) (mesh after : Mesh) → AreDistinct mesh
 step_told queries mesh _ distinct (node_joins _ node empty whole fresh) orig told = subst (λ l. AreTold orig mesh (commits orig l)) (sym (log_joined orig mesh.nodes node empty)) told
 step_told queries mesh _ distinct (link_joins _ link) orig told = told
 step_told queries mesh after distinct (line_gives _ _ place now node line found may of is) orig told =
-    given_told queries orig mesh after place now 0 node (Line line) distinct found is (calm_gains queries node now (Line line) (line_calm line) (line_quiet (queries node.mac) node.mac node.log now line)) told
+    given_told queries orig mesh after place now 0 node (Line line) distinct found is (line_gains (queries node.mac) node.mac node.log now line (entry_of (scenario_setup queries) node now (Line line)).acts refl) told
 step_told queries mesh after distinct (node_ticks _ _ place now node found may is) orig told =
     let index = suc (ticks_in node.log) in
     let known = knowledge (queries node.mac) node.mac node.log in
     given_told queries orig mesh after place now index node (Tick index) distinct found is
-    (tick_gains (queries node.mac) node.mac known.services.settings known.routes (mentions node.mac node.log) (history node.mac node.log) (bridge node.log) now index) told
+    (ticks_gain (queries node.mac) node.mac known.services.settings known.routes (mentions node.mac node.log) (history node.mac node.log) (bridge node.log) now index (before_round (queries node.mac) now index known)) told
 step_told queries mesh after distinct (frame_comes _ _ place now number throughput from node frame found may sent whole is) orig told =
     let given = LinkFrame (suc number) from throughput frame.bytes in
     given_told queries orig mesh after place now frame.root node given distinct found is
-    (calm_gains queries node now given (λ index e. no_tick index e) (frame_quiet (queries node.mac) node.mac node.log now (suc number) from throughput frame.bytes)) told
-  where
-    no_tick : (index : ℕ) → LinkFrame (suc number) from throughput frame.bytes ≡ Tick index → ⊥
-    no_tick index e = cc
+    (calm_gains queries node now given tt (frame_quiet (queries node.mac) node.mac node.log now (suc number) from throughput frame.bytes)) told
 step_told queries mesh _ distinct (lan_joins _ lan) orig told = told
 step_told queries mesh _ distinct (put_comes _ put frame by is tells) orig told = told_beside orig mesh (put_event mesh put) (with_lan_frame put mesh).events (commits_of orig mesh) refl (λ number earlier e. cc) told
 step_told queries mesh _ distinct (put_reaches _ number now put frame found carries) orig told = told_beside orig mesh (bridged_event now put frame) (mesh.events ++ bridged_event now put frame ∷ []) (commits_of orig mesh) refl (λ number earlier e. cc) told
 step_told queries mesh after distinct (lan_comes _ _ place now number node put found may among is) orig told =
     given_told queries orig mesh after place now 0 node (LanFrame put.bytes) distinct found is
-    (calm_gains queries node now (LanFrame put.bytes) (λ index e. no_tick index e) (lan_quiet (queries node.mac) node.mac node.log now put.bytes)) told
-  where
-    no_tick : (index : ℕ) → LanFrame put.bytes ≡ Tick index → ⊥
-    no_tick index e = cc
+    (calm_gains queries node now (LanFrame put.bytes) tt (lan_quiet (queries node.mac) node.mac node.log now put.bytes)) told
 step_told queries mesh _ distinct (time_passes _ happening) orig told = told
 
 -- ---- nodes have distinct addresses
@@ -295,9 +293,9 @@ step_distinct queries mesh after d (lan_comes _ _ place now number node put foun
 step_distinct queries mesh _ d (time_passes _ happening) = d
 
 -- what holds of every mesh that is reached
-record Tells (mesh : Mesh) : Type 0 where
-  distinct : AreDistinct mesh.nodes
-  told : (orig : Mac) → AreTold orig mesh (commits_of orig mesh)
+pub record Tells (mesh : Mesh) : Type 0 where
+  pub distinct : AreDistinct mesh.nodes
+  pub told : (orig : Mac) → AreTold orig mesh (commits_of orig mesh)
 
 first_told : (orig : Mac) → AreTold orig Rattle.mesh_model.specs.Net.Mesh.empty_mesh (first_commit ∷ [])
 first_told orig number earlier = (λ has. absurd has, λ is. absurd (none is))
@@ -309,7 +307,7 @@ first_told orig number earlier = (λ has. absurd has, λ is. absurd (none is))
         let alias : last_alias (first_commit ∷ []) ≡ Some earlier = ap (λ n. last_alias (drop n (first_commit ∷ []))) (let same : 0 ≡ 1 - suc number = omega (arith, first) in same) ∙ h.1 in
         cc
 
-all_tell : (queries : Mac → Queries) (mesh : Mesh) → IsReachable queries mesh → Tells mesh
+pub all_tell : (queries : Mac → Queries) (mesh : Mesh) → IsReachable queries mesh → Tells mesh
 all_tell queries _ begins = record { distinct = λ place other n second got more same. cc; told = first_told }
 all_tell queries _ (goes_on mesh after r s) =
     let before = all_tell queries mesh r in

@@ -27,7 +27,7 @@ among_all P (first ∷ rest) x all (inl is) = subst P (sym is) all.0
 among_all P (first ∷ rest) x all (inr has) = among_all P rest x all.1 has
 
 -- ---- originators that offered something
-each_placed : (P : Mac → Type 0) (mac : Mac) (macs : List Mac) → P mac → AllByRecursion P macs → AllByRecursion P (placed mac_order mac macs)
+pub each_placed : (P : Mac → Type 0) (mac : Mac) (macs : List Mac) → P mac → AllByRecursion P macs → AllByRecursion P (placed mac_order mac macs)
 each_placed P mac [] one all = (one, tt)
 each_placed P mac (first ∷ rest) one all = go (mac_order mac first) (each_placed P mac rest one all.1)
   where

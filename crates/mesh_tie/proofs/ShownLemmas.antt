@@ -9,6 +9,7 @@ use Rattle.mesh_base.specs.Names.{NamesGiven}
 use Rattle.mesh_model.specs.declared.ending.LimitName.TheVariants.{Input, Line}
 use Rattle.mesh_model.specs.declared.ending.Stop.TheVariants.{Limit}
 use Rattle.mesh_model.specs.declared.line_form.Command.{Command}
+use Rattle.mesh_model.specs.Clients.Log.{Line as LineGives}
 use Rattle.mesh_model.specs.Net.Mesh.{Mesh, Setup}
 use Rattle.mesh_model.specs.Net.Next.{Has}
 use Rattle.mesh_model.specs.Net.Runs.{Course, PassedLimit, begin, run_to}
@@ -75,11 +76,11 @@ led_prints setup state command outcome (stayed e) all = subst (λ o. EventsPrint
 led_prints setup state command outcome (chose algorithm is e) all = subst (λ o. EventsPrinted (reached o)) (sym e) all
 led_prints setup state command outcome (noded node new made few e) all = subst (λ o. EventsPrinted (reached o)) (sym e) all
 led_prints setup state command outcome (linked link delay e) all = subst (λ o. EventsPrinted (reached o)) (sym e) all
-led_prints setup state command outcome (given place input after none gives g e) all = subst (λ o. EventsPrinted (reached o)) (sym e)
-    (gone_prints state state.clock after (effect_gains setup state.clock state.mesh after (tickless setup state.mesh place state.clock 0 input after none gives g)) all)
+led_prints setup state command outcome (given place line after of g e) all = subst (λ o. EventsPrinted (reached o)) (sym e)
+    (gone_prints state state.clock after (effect_gains setup state.clock state.mesh after (tickless setup state.mesh place state.clock 0 (LineGives line) after refl tt g)) all)
 led_prints setup state command outcome (again place after g e) all = subst (λ o. EventsPrinted (reached o)) (sym e)
     (gone_prints state state.clock after (again_gains setup place state.clock state.mesh after g) all)
-led_prints setup state command outcome (given_all places line after g e) all = subst (λ o. EventsPrinted (reached o)) (sym e) (gone_prints state state.clock after (all_gains setup places state.clock line state.mesh after g) all)
+led_prints setup state command outcome (given_all places line after plain calm g e) all = subst (λ o. EventsPrinted (reached o)) (sym e) (gone_prints state state.clock after (all_gains setup places state.clock line state.mesh after g) all)
 led_prints setup state command outcome (lanned name gateways after g e) all = subst (λ o. EventsPrinted (reached o)) (sym e) (gone_prints state state.clock after (lan_gains setup name gateways state.clock state.mesh after g) all)
 led_prints setup state command outcome (put_there put after at low g e) all = subst (λ o. EventsPrinted (reached o)) (sym e) (gone_prints state state.clock after (put_gains setup put state.mesh after g) all)
 led_prints setup state command outcome (passed time run low e) all = subst (λ o. EventsPrinted (reached o)) (sym e)

@@ -1,5 +1,5 @@
 -- What is printed of tables.
-use Rattle.std.proofs.Common.{◌≡◌, inl, inr, ◌+◌, ◌-◌, ℕ, Bool, true, false, cond, nat_le, nat_lt, List, [], ◌∷◌, ◌++◌, length, map, Option, Some, None, option_map, option_and_then, slice_get, append_assoc, is_some, Ok, Err, refl, sym, ap, subst, ◌∙◌, append-nil}
+use Rattle.std.proofs.Common.{◌≡◌, inl, inr, ◌+◌, ◌-◌, ℕ, Bool, true, false, cond, nat_le, nat_lt, List, [], ◌∷◌, ◌++◌, length, map, Option, Some, None, option_and_then, slice_get, append_assoc, is_some, Ok, Err, refl, sym, ap, subst, ◌∙◌, append-nil}
 use Rattle.std.specs.Option.{option_map_or}
 use Rattle.mesh_base.specs.declared.address.Mac.{Mac}
 use Rattle.mesh_base.specs.declared.event.Event.{Event}
@@ -8,13 +8,13 @@ use Rattle.mesh_model.specs.declared.ending.Refusal.{Refusal}
 use Rattle.mesh_model.specs.declared.ending.Stop.TheVariants.{Limit}
 use Rattle.mesh_model.specs.declared.frame_choice.FrameChoice.{FrameChoice}
 use Rattle.mesh_model.specs.declared.line_form.Command.{Command}
-use Rattle.mesh_model.specs.declared.line_form.Command.TheVariants.{Nothing, Algo, Node, Link, Lan, Frame, Gone, Join, Leave, Arp, Dhcp, Wifi, GwOff, GwServer, GwClient, Mcast, Dat, Alfred, Put, Get, Ping, Trace, Run as RunFor, Deliver, Show, Decode}
+use Rattle.mesh_model.specs.declared.line_form.Command.TheVariants.{Nothing, Algo, Node, Link, Lan, Frame, Gone, Join, Leave, Arp, Dhcp, Wifi, GwOff, GwServer, GwClient, Mcast, Dat, Alfred, Put, Get, Ping, Trace, Reboot, Run as RunFor, Deliver, Show, Decode}
 use Rattle.mesh_model.specs.declared.line_form.Table.{Table}
 use Rattle.mesh_model.specs.declared.line_form.Table.TheVariants.{Originators, Neighbors, Locals, Globals, Claims, Gateways, Groups, Addresses, Facts}
 use Rattle.mesh_model.specs.Clients.Log.{Line, LineGiven, Sets}
 use Rattle.mesh_model.specs.Clients.Settings.{NoPart, Serves, Chooses}
-use Rattle.mesh_model.specs.Clients.Settings.{ArpTable as ArpTableSet, Gateway as GatewaySet, Multicast as MulticastSet, Wifi as WifiSet}
-use Rattle.mesh_model.specs.Clients.Log.{Frame as FrameGiven, Gone as GoneGiven, Join as JoinGiven, Leave as LeaveGiven, Arp as ArpGiven, Dhcp as DhcpGiven, Ping as PingGiven, Trace as TraceGiven}
+use Rattle.mesh_model.specs.Clients.Settings.{ArpTable as ArpTableSet, FactStore as FactStoreSet, Gateway as GatewaySet, Multicast as MulticastSet, Wifi as WifiSet}
+use Rattle.mesh_model.specs.Clients.Log.{Frame as FrameGiven, Gone as GoneGiven, Join as JoinGiven, Leave as LeaveGiven, Arp as ArpGiven, Dhcp as DhcpGiven, Put as PutGiven, Get as GetGiven, Ping as PingGiven, Trace as TraceGiven, Reboot as RebootGiven}
 use Rattle.mesh_model.specs.Net.Inputs.{all_given, given_to}
 use Rattle.mesh_model.specs.Net.Lans.{joins_lan}
 use Rattle.mesh_model.specs.Net.Limits.{clock_limit, lans_limit, links_limit, nodes_limit}
@@ -26,7 +26,7 @@ use Rattle.mesh_model.specs.Packets.Payload.{payload_spelling}
 use Rattle.mesh_model.specs.Run.Outcome.{Outcome, Ends, Goes, reached}
 use Rattle.mesh_model.specs.Run.Passing.{after_attempt, course_outcome, events_since, gone_on, run_until}
 use Rattle.mesh_model.specs.Run.PlainRun.{Run, after_line, after_lines, after_outcome, after_reading, line_outcome, passes_input, passes_line, start}
-use Rattle.mesh_model.specs.Run.Rules.{after_step, carried_out, first_refused_rule, setup_of, unless_refused}
+use Rattle.mesh_model.specs.Run.Rules.{carried_out, first_refused_rule, setup_of, unless_refused}
 use Rattle.mesh_model.specs.Run.Shown.{after_print, global_table, shown}
 use Rattle.mesh_model.specs.Run.State.{Printed, GlobalsShown, Decoded, Happened, State, names_of, lan_place_of, node_named, place_of}
 use Rattle.mesh_model.specs.Run.Steps.{Step, at_node, at_place, gateways_at, gateways_step, lan_frame_step, places_named, input_step, link_step, new_node, session_step, show_step, step_of, with_link, with_node}
@@ -134,34 +134,32 @@ adds_print state one of = record { new = one ∷ []; printed = refl; tables = λ
     only table (inr none) = absurd none
 
 -- a table that is printed of a node is its own
-abbrev PrintsOwn : State → Option (State → NodeLog → Printed) → Type 0
-PrintsOwn state None = Unit {0}
-PrintsOwn state (Some print) = (node : NodeLog) (table : GlobalTable) → GlobalsShown table ≡ print state node → table ≡ global_table state.algorithm state.clock node
-
-prints_own : (state : State) (table : Table) → PrintsOwn state (shown table)
-prints_own state Originators = λ node t is. cc
-prints_own state Neighbors = λ node t is. cc
-prints_own state Locals = λ node t is. cc
-prints_own state Globals = λ node t is. cc
-prints_own state Claims = λ node t is. cc
-prints_own state Gateways = λ node t is. cc
-prints_own state Groups = λ node t is. cc
-prints_own state Addresses = λ node t is. cc
-prints_own state Facts = tt
+prints_own : (state : State) (shown_one : Table) (node : NodeLog) (table : GlobalTable) → GlobalsShown table ≡ shown shown_one state node → table ≡ global_table state.algorithm state.clock node
+prints_own state Originators node table is = cc
+prints_own state Neighbors node table is = cc
+prints_own state Locals node table is = cc
+prints_own state Globals node table is = cc
+prints_own state Claims node table is = cc
+prints_own state Gateways node table is = cc
+prints_own state Groups node table is = cc
+prints_own state Addresses node table is = cc
+prints_own state Facts node table is = cc
 
 node_at : (state : State) (o : Option ℕ) (node : NodeLog) → option_and_then (slice_get state.mesh.nodes) o ≡ Some node → (place : ℕ) × (slice_get state.mesh.nodes place ≡ Some node)
 node_at state None node is = cc
 node_at state (Some place) node is = (place, is)
 
-adds_show : (state : State) (name : List ℕ) (o : Option (State → NodeLog → Printed)) → PrintsOwn state o → AddsTo state (after_step state (option_map (show_step name) o))
-adds_show state name None own = adds_none state state refl
-adds_show state name (Some print) own = go (node_named state name) (λ node is. node_at state (place_of state name) node is)
+adds_show : (state : State) (name : List ℕ) (shown_one : Table) → AddsTo state (show_step name (shown shown_one) state)
+adds_show state name shown_one = go (node_named state name) (λ node is. node_at state (place_of state name) node is)
   where
+    print : State → NodeLog → Printed
+    print = shown shown_one
+
     go : (o : Option NodeLog) → ((node : NodeLog) → o ≡ Some node → (place : ℕ) × (slice_get state.mesh.nodes place ≡ Some node)) → AddsTo state (option_map_or (λ node. Goes (after_print state (print state node))) o (Goes state))
     go None at = adds_none state state refl
-    go (Some node) at = adds_print state (print state node) (λ table is. let p = at node refl in record { place = p.0; node = node; found = p.1; is = own node table is })
+    go (Some node) at = adds_print state (print state node) (λ table is. let p = at node refl in record { place = p.0; node = node; found = p.1; is = prints_own state shown_one node table is })
 
-adds_command : (state : State) (command : Command) → AddsTo state (after_step state (step_of (setup_of state.algorithm) command))
+adds_command : (state : State) (command : Command) → AddsTo state (step_of (setup_of state.algorithm) command state)
 adds_command state Nothing = adds_none state state refl
 adds_command state (Algo algorithm) = adds_none state (record state { algorithm = algorithm }) refl
 adds_command state (Node name mac) = adds_full (nat_le nodes_limit (length state.mesh.nodes)) state (Ends state (Limit Nodes)) (with_node state (new_node name mac state.clock)) (adds_none state state refl) (adds_none state (with_node state (new_node name mac state.clock)) refl)
@@ -183,14 +181,15 @@ adds_command state (GwServer node down up) = adds_line state node (Sets (Gateway
 adds_command state (GwClient node policy) = adds_line state node (Sets (GatewaySet (Chooses policy)))
 adds_command state (Mcast node flags) = adds_line state node (Sets (MulticastSet flags))
 adds_command state (Dat node on) = adds_line state node (Sets (ArpTableSet on))
-adds_command state (Alfred node mode) = adds_none state state refl
-adds_command state (Put node type_no version text) = adds_none state state refl
-adds_command state (Get node type_no) = adds_none state state refl
+adds_command state (Alfred node mode) = adds_line state node (Sets (FactStoreSet mode))
+adds_command state (Put node type_no version text) = adds_line state node (PutGiven type_no version text)
+adds_command state (Get node type_no) = adds_line state node (GetGiven type_no)
 adds_command state (Ping node target) = adds_session state PingGiven node target
 adds_command state (Trace node target) = adds_session state TraceGiven node target
+adds_command state (Reboot node) = adds_line state node RebootGiven
 adds_command state (RunFor time) = adds_time state (state.clock + time) (nat_lt clock_limit (state.clock + time))
 adds_command state (Deliver number) = adds_attempt state (delivered (setup_of state.algorithm) (number - 1) state.clock state.mesh)
-adds_command state (Show node table) = adds_show state node (shown table) (prints_own state table)
+adds_command state (Show node table) = adds_show state node table
 adds_command state (Decode bytes) = adds_print state (Decoded bytes) (λ table is. absurd (no_table table is))
   where
     no_table : (table : GlobalTable) → GlobalsShown table ≡ Decoded bytes → ⊥
@@ -199,7 +198,7 @@ adds_command state (Decode bytes) = adds_print state (Decoded bytes) (λ table i
 adds_carried : (state : State) (command : Command) → AddsTo state (carried_out (setup_of state.algorithm) state command)
 adds_carried state command = go (first_refused_rule state command)
   where
-    go : (o : Option Refusal) → AddsTo state (unless_refused state o (after_step state (step_of (setup_of state.algorithm) command)))
+    go : (o : Option Refusal) → AddsTo state (unless_refused state o (step_of (setup_of state.algorithm) command state))
     go None = adds_command state command
     go (Some refusal) = adds_none state state refl
 

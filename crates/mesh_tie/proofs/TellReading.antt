@@ -270,27 +270,30 @@ all_forms = (
               (
                 field _ _ (λ a. end _ tt),
                 (
-                  field _ _ (λ a. field _ _ (λ b. end _ tt)),
+                  field _ _ (λ a. end _ tt),
                   (
-                    field _ _ (λ a. end _ tt),
+                    field _ _ (λ a. field _ _ (λ b. end _ tt)),
                     (
-                      field _ _ (λ a. field_with Tells unicast_field _ unicast_tells (λ src tells. field_with Tells target_field _ target_tells (λ dst told.
-                          field_with SmallVid vid_field _ vid_small (λ vid small. text (λ t. Frame a src dst vid t) (λ t. (client_of src vid tells small, told.whole)))))),
+                      field _ _ (λ a. end _ tt),
                       (
-                        field _ _ (λ a. key unicast_field (λ k. the_end (Gone a k)) unicast_tells (λ k client. end (Gone a k) client)),
+                        field _ _ (λ a. field_with Tells unicast_field _ unicast_tells (λ src tells. field_with Tells target_field _ target_tells (λ dst told.
+                            field_with SmallVid vid_field _ vid_small (λ vid small. text (λ t. Frame a src dst vid t) (λ t. (client_of src vid tells small, told.whole)))))),
                         (
-                          field _ _ (λ a. key group_field (λ k. the_end (Join a k)) group_tells (λ k client. end (Join a k) client)),
+                          field _ _ (λ a. key unicast_field (λ k. the_end (Gone a k)) unicast_tells (λ k client. end (Gone a k) client)),
                           (
-                            field _ _ (λ a. key group_field (λ k. the_end (Leave a k)) group_tells (λ k client. end (Leave a k) client)),
+                            field _ _ (λ a. key group_field (λ k. the_end (Join a k)) group_tells (λ k client. end (Join a k) client)),
                             (
-                              field _ _ (λ a. field_with Tells unicast_field _ unicast_tells (λ mac tells. field _ _ (λ own. field _ _ (λ asked. field_with SmallVid vid_field _ vid_small (λ vid small. end (Arp a mac own asked vid) (client_of mac vid tells small)))))),
+                              field _ _ (λ a. key group_field (λ k. the_end (Leave a k)) group_tells (λ k client. end (Leave a k) client)),
                               (
-                                field _ _ (λ a. key unicast_field (λ k. a_text (λ t. Dhcp a k t)) unicast_tells (λ k client. text (λ t. Dhcp a k t) (λ t. client))),
+                                field _ _ (λ a. field_with Tells unicast_field _ unicast_tells (λ mac tells. field _ _ (λ own. field _ _ (λ asked. field_with SmallVid vid_field _ vid_small (λ vid small. end (Arp a mac own asked vid) (client_of mac vid tells small)))))),
                                 (
-                                  settings,
+                                  field _ _ (λ a. key unicast_field (λ k. a_text (λ t. Dhcp a k t)) unicast_tells (λ k client. text (λ t. Dhcp a k t) (λ t. client))),
                                   (
-                                    alfred_forms,
-                                    tt,
+                                    settings,
+                                    (
+                                      alfred_forms,
+                                      tt,
+                                    ),
                                   ),
                                 ),
                               ),

@@ -1,35 +1,57 @@
 -- What frames carry for clients: the payloads of broadcasts and of packets for one node, and client
--- frames on LANs. A payload is passed on as it came, whoever addresses it anew or bridges it. So
--- what holds of payloads and goes on to hold with each step holds of all that was ever sent, if it
--- holds of those that are begun: the client frames that lines give. That each is one of these, as
--- it was spelled, is such a thing, and that each client frame in them is from a client that records
--- can tell. The main words are `Carries`, `CarriesGivenFrames` and `CarriesClients`.
+-- frames on LANs. A payload is a message of the fact store, or it is passed on as it came, whoever
+-- addresses it anew or bridges it. So what holds of payloads and goes on to hold with each step
+-- holds of all others that were ever sent, if it holds of those that are begun: the client frames
+-- that lines give. That each is one of these, as it was spelled, is such a thing, and that each
+-- client frame in them is from a client that records can tell. The facts that nodes keep and print
+-- are those that lines put. The main words are `Carries`, `CarriesGivenFrames`, `CarriesClients`
+-- and `TellsPutFacts`.
 use Rattle.std.specs.Prelude.{◌≡◌, ◌⊎◌, ℕ, List, slice_get, Option, Some, None, ⊤}
 use Rattle.mesh_base.specs.declared.address.Mac.{Mac}
 use Rattle.mesh_base.specs.declared.client.Vid.{Vid}
-use Rattle.mesh_base.specs.declared.event.Event.TheVariants.{Bridged, Received}
+use Rattle.mesh_base.specs.declared.event.Event.TheVariants.{Alfred, Bridged, Received}
+use Rattle.mesh_base.specs.declared.event.FactResult.TheVariants.{Fact as FactTold}
 use Rattle.mesh_model.specs.declared.packet.Head.{Head}
 use Rattle.mesh_model.specs.declared.packet.Head.TheVariants.{IvOgm, Bcast, Elp, Ogm2, Unicast, Frag, Unicast4, Icmp, Utvlv}
+use Rattle.mesh_model.specs.declared.service.Fact.{Fact}
+use Rattle.mesh_model.specs.declared.service.KeptFact.{KeptFact}
 use Rattle.mesh_model.specs.Acts.Choosing.{call_frame}
-use Rattle.mesh_model.specs.Clients.Log.{Line, LineGiven, LogEntry, Attach, Frame, Gone, Join, Leave, Arp, Dhcp, Sets, Put, Get, Ping, Trace}
+use Rattle.mesh_model.specs.Clients.Log.{Line, LineGiven, LogEntry, Attach, Frame, Gone, Join, Leave, Arp, Dhcp, Sets, Put, Get, Ping, Trace, Reboot}
 use Rattle.mesh_model.specs.Clients.Mentions.{key_of}
 use Rattle.mesh_model.specs.Net.Mesh.{NodeLog, SentFrame, LanPut, Mesh}
 use Rattle.mesh_model.specs.Net.Next.{Has}
+use Rattle.mesh_model.specs.Packets.FactMessages.{FactMessage, fact_message_spelling}
 use Rattle.mesh_model.specs.Packets.FirstPacket.{Packet}
 use Rattle.mesh_model.specs.Packets.LanFrames.{client_frame_in, lan_message_of}
 use Rattle.mesh_model.specs.Packets.LinkFrame.{link_frame}
 use Rattle.mesh_model.specs.Packets.Payload.{ClientFrame, client_frame_of, payload_spelling}
 use Rattle.mesh_model.specs.Routes.Queries.{Queries}
+use Rattle.mesh_model.specs.Services.Facts.{facts_at}
+use Rattle.mesh_tie.specs.Sources.{IsWhole}
 use Rattle.mesh_tie.specs.Steps.{IsClient, IsReachable, Steps, TellsClient}
+use Rattle.mesh_tie.specs.Tie.{known_at_node}
 use Rattle.mesh_tie.specs.TieLaws.{AllKeep}
 
--- something holds of the tail of a packet, where the packet is of a kind that carries a payload
+-- a payload is a message of the fact store between two nodes, or for all, as it is spelled
+pub record IsStoreMessage (payload : List ℕ) : Type 0 where
+  pub dst : Mac
+  pub src : Mac
+  pub message : FactMessage
+  pub whole_dst : IsWhole dst
+  pub whole_src : IsWhole src
+  pub spelled : payload ≡ fact_message_spelling dst src message
+
+-- something holds of a payload, unless it is such a message
+abbrev pub UnlessStored : (List ℕ → Type 0) → List ℕ → Type 0
+UnlessStored P payload = P payload ⊎ IsStoreMessage payload
+
+-- it holds of the tail of a packet, where the packet is of a kind that carries a payload
 abbrev pub TailHas : (List ℕ → Type 0) → List ℕ → Head → Type 0
 TailHas P tail (IvOgm ttl flags seq orig prev tq) = ⊤
-TailHas P tail (Bcast ttl seq orig) = P tail
+TailHas P tail (Bcast ttl seq orig) = UnlessStored P tail
 TailHas P tail (Elp orig seq interval) = ⊤
 TailHas P tail (Ogm2 ttl flags seq orig throughput) = ⊤
-TailHas P tail (Unicast ttl ttvn dst) = P tail
+TailHas P tail (Unicast ttl ttvn dst) = UnlessStored P tail
 TailHas P tail (Frag ttl number priority dst orig seq total) = ⊤
 TailHas P tail (Unicast4 ttl ttvn dst src subtype) = ⊤
 TailHas P tail (Icmp ttl msg dst orig uid seq) = ⊤
@@ -61,6 +83,7 @@ frame_of_line (Put type_no version text) = None
 frame_of_line (Get type_no) = None
 frame_of_line (Ping target) = None
 frame_of_line (Trace target) = None
+frame_of_line Reboot = None
 
 -- a line gave a node of a mesh a client frame, with a client that records can tell, or put it on a
 -- LAN
@@ -143,3 +166,34 @@ IsFromClient payload = (frame : ClientFrame) → client_frame_of payload ≡ Som
 abbrev pub CarriesClients : Type 0
 CarriesClients = (queries : Mac → Queries) → AllKeep queries → (mesh : Mesh) →
     IsReachable queries mesh → Carries (λ mesh payload. IsFromClient payload) mesh
+
+-- ---- facts
+
+-- a line put a fact at a node of a mesh, which is the fact's source
+pub record WasPut (mesh : Mesh) (fact : Fact) : Type 0 where
+  pub place : ℕ
+  pub node : NodeLog
+  pub entry : LogEntry
+  pub found : slice_get mesh.nodes place ≡ Some node
+  pub noted : Has node.log entry
+  pub given_is : entry.given ≡ Line (Put fact.type_no fact.version fact.bytes)
+  pub source_is : fact.source ≡ node.mac
+
+-- each fact that was ever printed is one that a line put, byte by byte
+abbrev pub TellsPutFacts : Type 0
+TellsPutFacts = (queries : Mac → Queries) → AllKeep queries → (mesh : Mesh) →
+    IsReachable queries mesh → (me : Mac) (asked : ℕ) (source : Mac) (version : ℕ)
+    (text : List ℕ) → Has mesh.events (Alfred me asked (FactTold source version text)) →
+    (type_no : ℕ) × WasPut mesh (record {
+      source = source;
+      type_no = type_no;
+      version = version;
+      bytes = text;
+    })
+
+-- each fact that a node has at a moment is one that a line put, byte by byte
+abbrev pub KeepsPutFacts : Type 0
+KeepsPutFacts = (queries : Mac → Queries) → AllKeep queries → (mesh : Mesh) →
+    IsReachable queries mesh → (place : ℕ) (node : NodeLog) →
+    slice_get mesh.nodes place ≡ Some node → (now : ℕ) (kept : KeptFact) →
+    Has (facts_at (known_at_node queries node).services.facts now) kept → WasPut mesh kept.fact

@@ -11,6 +11,7 @@ pub mod ByTable
 pub mod Carried
 pub mod PlainRuns
 pub mod AliasesSeen
+pub mod AliasesStand
 pub mod FullAnswers
 pub mod ShownTables
 pub mod LinesByTable

@@ -10,7 +10,7 @@ use Rattle.mesh_base.specs.declared.client.Key.{Key}
 use Rattle.mesh_base.specs.declared.event.Event.{Event}
 use Rattle.mesh_base.specs.declared.event.Event.TheVariants.{Bridged}
 use Rattle.mesh_model.specs.declared.happening.Happening.{Happening}
-use Rattle.mesh_model.specs.Clients.Log.{Tick, LinkFrame, LanFrame, Line, LineGiven, Attach, Frame, Gone, Join, Leave, Arp, Dhcp, Sets, Put, Get, Ping, Trace, Log}
+use Rattle.mesh_model.specs.Clients.Log.{Tick, LinkFrame, LanFrame, Line, LineGiven, Attach, Frame, Gone, Join, Leave, Arp, Dhcp, Sets, Put, Get, Ping, Trace, Reboot, Log}
 use Rattle.mesh_model.specs.Clients.Mentions.{key_of}
 use Rattle.mesh_model.specs.Net.Due.{ticks_in}
 use Rattle.mesh_model.specs.Net.Inputs.{given_to}
@@ -44,6 +44,7 @@ TellsClient (Put type_no version text) = ⊤
 TellsClient (Get type_no) = ⊤
 TellsClient (Ping target) = ⊤
 TellsClient (Trace target) = ⊤
+TellsClient Reboot = ⊤
 
 -- the moment of the newest entry of a log, 0 where there is none
 abbrev pub newest_moment : Log → ℕ

@@ -2,7 +2,7 @@
 //! was ever carried for clients, whatever the aliases.
 
 ghost use Rattle.mesh_tie.specs.ByTable.{FramesByTable};
-ghost use Rattle.mesh_tie.specs.Carried.{CarriesClients, CarriesGivenFrames, HandsOutGivenFrames};
+ghost use Rattle.mesh_tie.specs.Carried.{CarriesClients, CarriesGivenFrames, HandsOutGivenFrames, KeepsPutFacts, TellsPutFacts};
 ghost use Rattle.mesh_tie.specs.TieLaws.{AnswersCarry, MessagesAnnounce};
 
 /// Every originator message announces the commit of its root: its byte, its sums, and its changes
@@ -23,12 +23,15 @@ pub fn frames_by_table_are_for_named_clients()
     ensures { FramesByTable }
 {}
 
-/// Every payload that a broadcast or a packet for one node ever carried, and every client frame
-/// that was put on a LAN, is a client frame that a line gave, as it is spelled. Each client frame
-/// that a node hands out, or that reaches the clients of a LAN, is one that a line gave. The client
-/// frame that a payload is read as is from a client that records can tell.
+/// Every payload that a broadcast or a packet for one node ever carried is a client frame that a
+/// line gave, as it is spelled, or a message of the fact store; every client frame that was put on a
+/// LAN is one that a line gave. So is each that a node hands out, or that reaches the clients of a
+/// LAN. The client frame that a payload is read as is from a client that records can tell. Each fact
+/// that is printed for a question, and each that a node keeps, is one that a line put.
 pub fn carried_frames_were_given()
     ensures given { CarriesGivenFrames }
     ensures handed_out { HandsOutGivenFrames }
     ensures clients { CarriesClients }
+    ensures facts { TellsPutFacts }
+    ensures kept { KeepsPutFacts }
 {}

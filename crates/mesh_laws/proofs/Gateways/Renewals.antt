@@ -3,7 +3,7 @@ use Rattle.std.proofs.Common.{◌≡◌, ℕ, ◌<◌, ◌⊎◌, inl, inr, Bool
 use Rattle.std.specs.List.{list_any}
 use Rattle.std.proofs.lemmas.Bool.{cases_eq, eq-eqb, ne_eqb, true≢false}
 use Rattle.mesh_model.specs.Clients.Lans.{Bridge, bridge, next_bridge}
-use Rattle.mesh_model.specs.Clients.Log.{Given, Line, LineGiven, Attach, Frame, Gone, Join, Leave, Arp, Dhcp, Sets, Put, Get, Ping, Trace, LogEntry}
+use Rattle.mesh_model.specs.Clients.Log.{Given, Line, LineGiven, Attach, Frame, Gone, Join, Leave, Arp, Dhcp, Sets, Put, Get, Ping, Trace, Reboot, LogEntry}
 use Rattle.mesh_model.specs.Net.Inputs.{all_given, after_entry, entry_of, given_node, given_to, noted, noted_at}
 use Rattle.mesh_model.specs.Net.Mesh.{NodeLog, Mesh, Setup}
 use Rattle.mesh_model.specs.Net.Next.{Has}
@@ -125,3 +125,4 @@ line_quiet now (Put type_no version text) plain b = refl
 line_quiet now (Get type_no) plain b = refl
 line_quiet now (Ping target) plain b = refl
 line_quiet now (Trace target) plain b = refl
+line_quiet now Reboot plain b = refl

@@ -12,7 +12,7 @@ use Rattle.mesh_model.specs.Run.State.{Printed, Happened, State, names_of, print
 use Rattle.mesh_model.specs.Run.Outcome.{Outcome, Goes, Ends, reached}
 use Rattle.mesh_model.specs.Run.Passing.{events_since, gone_on, course_outcome}
 use Rattle.mesh_model.specs.Run.Steps.{step_of}
-use Rattle.mesh_model.specs.Run.Rules.{first_refused_rule, unless_refused, after_step, carried_out}
+use Rattle.mesh_model.specs.Run.Rules.{first_refused_rule, unless_refused, carried_out}
 use Rattle.mesh_laws.specs.LineLaws.{IsRun}
 use Rattle.mesh_laws.proofs.Lines.Ways.{Led, ended, printed, stayed, chose, noded, linked, given, again, given_all, lanned, put_there, passed, led}
 
@@ -39,9 +39,9 @@ outcome_grows setup state command outcome (chose algorithm is e) = subst (λ o. 
 outcome_grows setup state command outcome (printed more e) = subst (λ o. Grows state (reached o)) (sym e) (record { more = more ∷ []; grows = refl; choice = refl })
 outcome_grows setup state command outcome (noded node new made few e) = subst (λ o. Grows state (reached o)) (sym e) (grows_by_none state _ refl refl)
 outcome_grows setup state command outcome (linked link delay e) = subst (λ o. Grows state (reached o)) (sym e) (grows_by_none state _ refl refl)
-outcome_grows setup state command outcome (given place input after none gives g e) = subst (λ o. Grows state (reached o)) (sym e) (gone_on_grows state state.clock after)
+outcome_grows setup state command outcome (given place line after of g e) = subst (λ o. Grows state (reached o)) (sym e) (gone_on_grows state state.clock after)
 outcome_grows setup state command outcome (again place after g e) = subst (λ o. Grows state (reached o)) (sym e) (gone_on_grows state state.clock after)
-outcome_grows setup state command outcome (given_all places line after g e) = subst (λ o. Grows state (reached o)) (sym e) (gone_on_grows state state.clock after)
+outcome_grows setup state command outcome (given_all places line after plain calm g e) = subst (λ o. Grows state (reached o)) (sym e) (gone_on_grows state state.clock after)
 outcome_grows setup state command outcome (lanned name gateways after g e) = subst (λ o. Grows state (reached o)) (sym e) (gone_on_grows state state.clock after)
 outcome_grows setup state command outcome (put_there put after at low g e) = subst (λ o. Grows state (reached o)) (sym e) (gone_on_grows state state.clock after)
 outcome_grows setup state command outcome (passed time run low e) = subst (λ o. Grows state (reached o)) (sym e)
@@ -63,7 +63,7 @@ pub text_grows : (setup : Setup) (state : State) (command : Command) → (more :
 text_grows setup state command = let g = grows setup state command in (flat_map (printed_text state.choice) g.more, text_of_more state (reached (carried_out setup state command)) g)
 
 pub refused_changes_nothing : (setup : Setup) (state : State) (command : Command) (refusal : Refusal) → first_refused_rule state command ≡ Some refusal → carried_out setup state command ≡ Ends state (Refused refusal)
-refused_changes_nothing setup state command refusal e = ap (λ r. unless_refused state r (after_step state (step_of setup command))) e
+refused_changes_nothing setup state command refusal e = ap (λ r. unless_refused state r (step_of setup command state)) e
 
 end_of_two : (a b : State) (s t : Stop) → Ends a s ≡ Ends b t → a ≡ b
 end_of_two a b s t e = cc
@@ -78,9 +78,9 @@ ends_change_nothing setup state after command stop outcome (chose algorithm is e
 ends_change_nothing setup state after command stop outcome (printed more e) f = absurd (no_end _ after stop (sym e ∙ f))
 ends_change_nothing setup state after command stop outcome (noded node new made few e) f = absurd (no_end _ after stop (sym e ∙ f))
 ends_change_nothing setup state after command stop outcome (linked link delay e) f = absurd (no_end _ after stop (sym e ∙ f))
-ends_change_nothing setup state after command stop outcome (given place input mesh none gives g e) f = absurd (no_end _ after stop (sym e ∙ f))
+ends_change_nothing setup state after command stop outcome (given place line mesh of g e) f = absurd (no_end _ after stop (sym e ∙ f))
 ends_change_nothing setup state after command stop outcome (again place mesh g e) f = absurd (no_end _ after stop (sym e ∙ f))
-ends_change_nothing setup state after command stop outcome (given_all places line mesh g e) f = absurd (no_end _ after stop (sym e ∙ f))
+ends_change_nothing setup state after command stop outcome (given_all places line mesh plain calm g e) f = absurd (no_end _ after stop (sym e ∙ f))
 ends_change_nothing setup state after command stop outcome (lanned name gateways mesh g e) f = absurd (no_end _ after stop (sym e ∙ f))
 ends_change_nothing setup state after command stop outcome (put_there put mesh at low g e) f = absurd (no_end _ after stop (sym e ∙ f))
 ends_change_nothing setup state after command stop outcome (passed time run low e) f = inl (time, run)

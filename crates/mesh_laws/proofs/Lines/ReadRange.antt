@@ -13,7 +13,7 @@ use Rattle.mesh_model.specs.declared.ending.Refusal.TheVariants.{BadName, BadNum
 use Rattle.mesh_model.specs.declared.ending.Stop.TheVariants.{Refused, Limit}
 use Rattle.mesh_model.specs.declared.line_form.Policy.TheVariants.{Best, Stable}
 use Rattle.mesh_model.specs.declared.line_form.Command.{Command}
-use Rattle.mesh_model.specs.declared.line_form.Command.TheVariants.{Nothing, Algo, Node, Link, Lan, Frame, Gone, Join, Leave, Arp, Dhcp, Wifi, GwOff, GwServer, GwClient, Mcast, Dat, Alfred, Put, Get, Ping, Trace, Run, Deliver, Show, Decode}
+use Rattle.mesh_model.specs.declared.line_form.Command.TheVariants.{Nothing, Algo, Node, Link, Lan, Frame, Gone, Join, Leave, Arp, Dhcp, Wifi, GwOff, GwServer, GwClient, Mcast, Dat, Alfred, Put, Get, Ping, Trace, Reboot, Run, Deliver, Show, Decode}
 use Rattle.mesh_model.specs.Scenario.AlfredForms.{read_alfred, read_alfred_form, read_get, read_mode, read_put}
 use Rattle.mesh_model.specs.Scenario.Commands.{command_of_line, command_of_words, is_comment, node_forms, read_form}
 use Rattle.mesh_model.specs.Scenario.Fields.{group_field, unicast_field, word_field}
@@ -51,6 +51,7 @@ InRange (Put node type_no version text) = ⊤
 InRange (Get node type_no) = ⊤
 InRange (Ping node target) = ⊤
 InRange (Trace node target) = ⊤
+InRange (Reboot node) = ⊤
 InRange (Run time) = ⊤
 InRange (Deliver number) = ⊤
 InRange (Show node table) = ⊤
@@ -308,26 +309,29 @@ all-forms = (
               (
                 field _ _ (λ a. end _ tt),
                 (
-                  field _ _ (λ a. field _ _ (λ b. end _ tt)),
+                  field _ _ (λ a. end _ tt),
                   (
-                    field _ _ (λ a. end _ tt),
+                    field _ _ (λ a. field _ _ (λ b. end _ tt)),
                     (
-                      field _ _ (λ a. field _ _ (λ b. field _ _ (λ c. field _ _ (λ d. text _ (λ t. tt))))),
+                      field _ _ (λ a. end _ tt),
                       (
-                        field _ _ (λ a. key unicast_field (λ k. the_end (Gone a k)) (λ k. end (Gone a k) tt)),
+                        field _ _ (λ a. field _ _ (λ b. field _ _ (λ c. field _ _ (λ d. text _ (λ t. tt))))),
                         (
-                          field _ _ (λ a. key group_field (λ k. the_end (Join a k)) (λ k. end (Join a k) tt)),
+                          field _ _ (λ a. key unicast_field (λ k. the_end (Gone a k)) (λ k. end (Gone a k) tt)),
                           (
-                            field _ _ (λ a. key group_field (λ k. the_end (Leave a k)) (λ k. end (Leave a k) tt)),
+                            field _ _ (λ a. key group_field (λ k. the_end (Join a k)) (λ k. end (Join a k) tt)),
                             (
-                              field _ _ (λ a. field _ _ (λ b. field _ _ (λ c. field _ _ (λ d. field _ _ (λ e. end _ tt))))),
+                              field _ _ (λ a. key group_field (λ k. the_end (Leave a k)) (λ k. end (Leave a k) tt)),
                               (
-                                field _ _ (λ a. key unicast_field (λ k. a_text (λ t. Dhcp a k t)) (λ k. text (λ t. Dhcp a k t) (λ t. tt))),
+                                field _ _ (λ a. field _ _ (λ b. field _ _ (λ c. field _ _ (λ d. field _ _ (λ e. end _ tt))))),
                                 (
-                                  settings,
+                                  field _ _ (λ a. key unicast_field (λ k. a_text (λ t. Dhcp a k t)) (λ k. text (λ t. Dhcp a k t) (λ t. tt))),
                                   (
-                                    alfred-forms,
-                                    tt,
+                                    settings,
+                                    (
+                                      alfred-forms,
+                                      tt,
+                                    ),
                                   ),
                                 ),
                               ),

@@ -1,4 +1,5 @@
 use Rattle.mesh_tie.proofs.CarriedClients.{carries_clients, carries_given_frames, hands_out_given_frames}
+use Rattle.mesh_tie.proofs.CarriedOn.{keeps_put_facts, tells_put_facts}
 use Rattle.mesh_tie.proofs.sent_laws.carried_frames_were_given.Goals as goal
 
 pub returns-clause-given : goal.returns-clause-given
@@ -9,3 +10,9 @@ returns-clause-handed_out c = hands_out_given_frames
 
 pub returns-clause-clients : goal.returns-clause-clients
 returns-clause-clients c = carries_clients
+
+pub returns-clause-facts : goal.returns-clause-facts
+returns-clause-facts c = tells_put_facts
+
+pub returns-clause-kept : goal.returns-clause-kept
+returns-clause-kept c = keeps_put_facts

@@ -1,0 +1,11 @@
+-- Named under a signature by `unfolding loops_on_literals`, it lets the room of loops compute on routes that are
+-- written out.
+use Rattle.std.specs.Prelude.{⊤}
+use lib.Utf8.{encode}
+use Rattle.std.specs.Fmt.{digits}
+use Rattle.hex.specs.Hex.{encode_with}
+use Rattle.mesh_model.specs.Loops.Reports.{clear_line, loop_line}
+
+unfoldable pub loops_on_literals : ⊤
+unfolding encode digits encode_with clear_line loop_line
+loops_on_literals = tt
