@@ -1,0 +1,16 @@
+//! Fragments of packets that are too long for a link: how a packet is cut, and how the fragments
+//! that come are put together.
+
+#![tactic(auto)]
+
+mod assembly;
+mod cuts;
+mod frag;
+mod frags;
+pub mod laws;
+mod parts;
+
+pub use cuts::{Cuts, cut};
+pub use frag::Frag;
+pub use frags::Frags;
+pub use mesh_model::Head;
