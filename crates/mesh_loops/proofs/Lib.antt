@@ -1,0 +1,10 @@
+pub mod WalkLemmas
+pub mod HeadLemmas
+pub mod PairLemmas
+pub mod LoopLemmas
+pub mod ChangedLemmas
+pub mod NotedLemmas
+pub mod SetLemmas
+pub mod FollowLemmas
+pub mod PassedLemmas
+pub mod RingLemmas
