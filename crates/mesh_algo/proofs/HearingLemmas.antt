@@ -1,15 +1,15 @@
 -- A hearing and the life that it goes on with: whether it is the first of its number, what it makes
 -- of the life's row, and what is answered.
-use Rattle.std.proofs.Common.{◌≡◌, ⊎_elim, ℕ, ◌+◌, ◌-◌, ◌<◌, max, nat_lt, Bool, true, false, cond, not, ◌&&◌, ◌||◌, List, [], ◌∷◌, is_none, Option, Some, None, arith, refl, sym, ap, ap₂, ◌∙◌}
+use Rattle.std.proofs.Common.{◌≡◌, ⊎_elim, ℕ, ◌+◌, ◌-◌, ◌<◌, max, nat_lt, Bool, true, false, cond, not, ◌&&◌, ◌||◌, List, [], ◌∷◌, find, is_none, option_map, Option, Some, None, arith, refl, sym, ap, ap₂, ◌∙◌}
 use Rattle.std.proofs.lemmas.Bool.{and_parts, cases_Bool, le-ltb, lt-ltb, not-false, not-true, true≢false}
 use Rattle.mesh_model.specs.declared.route.Meeting.{Meeting}
-use Rattle.mesh_model.specs.Routes.Life.{HeardOgm, since, life, is_live, meeting, newest, numbers_from, is_first, is_accepted, forwarded}
+use Rattle.mesh_model.specs.Routes.Life.{HeardOgm, began_wild, since, life, is_live, meeting, newest, numbers_from, is_first, is_accepted, forwarded}
 use Rattle.mesh_model.specs.Routes.Numbers.{has, greatest, window}
 use Rattle.mesh_laws.proofs.WindowLemmas.{has-le, has-window, window-cons}
 use Rattle.mesh_algo.specs.declared.life.Life.{Life}
-use Rattle.mesh_algo.specs.LifeRows.{life_row, life_with, newest_by, forwarded_by}
+use Rattle.mesh_algo.specs.LifeRows.{life_row, life_with, newest_by, forwarded_by, restarted_by}
 use Rattle.mesh_algo.proofs.LifeLemmas.{and_false, numbers-le, forwarded-le, late_newest, next_newest, late_forwarded, next_forwarded}
-use Rattle.mesh_algo.proofs.LifeRows.{forwarded_by_row, newest_by_row, no_life}
+use Rattle.mesh_algo.proofs.LifeRows.{forwarded_by_row, newest_by_row, no_life, restarted_by_row}
 use Rattle.mesh_algo.proofs.Meetings.{late_is_none, meets_near, meets_nothing}
 
 -- how the number of a hearing meets the life that its originator then has
@@ -20,6 +20,10 @@ met h hearings = meeting h.moment h.seq (life h.moment hearings)
 pub record IsMet (h : HeardOgm) (hearings : List HeardOgm) : Type 0 where
   pub late : h.late ≡ (met h hearings).late
   pub restart : h.restart ≡ (met h hearings).restart
+
+-- the restart with which a life began is the hearing itself or one before it
+began_step : (h : HeardOgm) (alive : List HeardOgm) → began_wild (h ∷ alive) ≡ cond h.restart (Some h.moment) (began_wild alive)
+began_step h alive = elim h.restart as (λ b. option_map (λ (g : HeardOgm). g.moment) (cond b (Some h) (find (λ (g : HeardOgm). g.restart) alive)) ≡ cond b (Some h.moment) (began_wild alive)) [ true ↦ refl | false ↦ refl ]
 
 -- ---- the hearings of an originator before it
 module _ (h : HeardOgm) (hearings : List HeardOgm) (is_met : IsMet h hearings) where
@@ -34,6 +38,12 @@ module _ (h : HeardOgm) (hearings : List HeardOgm) (is_met : IsMet h hearings) w
         | true ↦ refl
         | false ↦ row_is
       ]
+
+  -- when the life with it began with a restart
+  pub restarted_is : (kept : Option Life) (m : Meeting) (restarted : Option ℕ) → kept ≡ life_row alive → m ≡ met h hearings → restarted ≡ cond m.restart (Some h.moment) (restarted_by kept) → restarted ≡ began_wild (h ∷ alive)
+  restarted_is kept m restarted kept_is m_is e =
+      e ∙ ap (λ x. cond x.restart (Some h.moment) (restarted_by kept)) m_is ∙ ap (λ b. cond b (Some h.moment) (restarted_by kept)) (sym is_met.restart)
+      ∙ ap (λ r. cond h.restart (Some h.moment) r) (restarted_by_row alive kept kept_is) ∙ sym (began_step h alive)
 
   -- a number on time is less than 64 below the newest
   pub near : h.late ≡ false → newest alive < h.seq + 64
@@ -108,17 +118,18 @@ module _ (h : HeardOgm) (alive : List HeardOgm) where
   abbrev pub touched : Life → Life
   touched row = record row { last = h.moment }
 
-  row_parts : (l : List HeardOgm) (row : Life) → life_row l ≡ Some row → Some (touched row) ≡ Some (record { last = h.moment; newest = newest l; forwarded = window (forwarded l) })
+  row_parts : (l : List HeardOgm) (row : Life) → life_row l ≡ Some row → Some (touched row) ≡ Some (record { last = h.moment; newest = newest l; forwarded = window (forwarded l); restarted = began_wild l })
   row_parts [] row e = cc
   row_parts (g ∷ older) row e = sym (ap touch e)
     where
       touch : Option Life → Option Life
       touch None = None
-      touch (Some r) = Some (record { last = h.moment; newest = r.newest; forwarded = r.forwarded })
+      touch (Some r) = Some (record { last = h.moment; newest = r.newest; forwarded = r.forwarded; restarted = r.restarted })
 
-  pub touched_life : (row : Life) → life_row alive ≡ Some row → is_first h alive ≡ false → h.sent_on ≡ false → Some (touched row) ≡ life_row (h ∷ alive)
-  touched_life row e first kept =
-      row_parts alive row e ∙ ap₂ (λ n f. Some (record { last = h.moment; newest = n; forwarded = window f })) (sym (touched_newest first)) (sym (touched_forwarded first kept))
+  pub touched_life : (row : Life) → life_row alive ≡ Some row → is_first h alive ≡ false → h.sent_on ≡ false → h.restart ≡ false → Some (touched row) ≡ life_row (h ∷ alive)
+  touched_life row e first kept same =
+      row_parts alive row e ∙ ap₂ (λ n f. Some (record { last = h.moment; newest = n; forwarded = window f; restarted = began_wild alive })) (sym (touched_newest first)) (sym (touched_forwarded first kept))
+      ∙ ap (λ r. Some (record { last = h.moment; newest = newest (h ∷ alive); forwarded = window (forwarded (h ∷ alive)); restarted = r })) (sym (began_step h alive ∙ ap (λ b. cond b (Some h.moment) (began_wild alive)) same))
 
   accepted_not : (l : List HeardOgm) (row : Life) → life_row l ≡ Some row → (h.late ≡ false → max h.seq (newest l) ≡ newest l) → is_accepted h l ≡ false
   accepted_not [] row e up = cc
@@ -141,11 +152,12 @@ module _ (h : HeardOgm) (alive : List HeardOgm) where
   forwarded_step row false e = forwarded_by_row alive row e
 
   -- the row of the life with it
-  pub next_life : (row : Option Life) (sent : Bool) → row ≡ life_row alive → h.late ≡ false → sent ≡ h.sent_on → Some (life_with h.moment h.seq row sent) ≡ life_row (h ∷ alive)
-  next_life row sent e timely sent_is =
+  pub next_life : (row : Option Life) (restarted : Option ℕ) (sent : Bool) → row ≡ life_row alive → restarted ≡ began_wild (h ∷ alive) → h.late ≡ false → sent ≡ h.sent_on → Some (life_with h.moment h.seq restarted row sent) ≡ life_row (h ∷ alive)
+  next_life row restarted sent e began timely sent_is =
       let n = newest_by_row alive row e in let t = next_newest h.from h alive timely in
       let top : max (newest_by row) h.seq ≡ newest (h ∷ alive) = omega (arith, n, t) in
-      ap₂ (λ m f. Some (record { last = h.moment; newest = m; forwarded = f })) top
+      ap (λ r. Some (life_with h.moment h.seq r row sent)) began
+      ∙ ap₂ (λ m f. Some (record { last = h.moment; newest = m; forwarded = f; restarted = began_wild (h ∷ alive) })) top
       (ap (λ b. cond b (window (h.seq ∷ forwarded_by row)) (forwarded_by row)) sent_is ∙ forwarded_step row h.sent_on e
       ∙ ap (λ l. window l) (sym (next_forwarded h.from h alive timely)))
 

@@ -5,11 +5,11 @@ use Rattle.std.specs.Map.{keys_of, lookup}
 use Rattle.std.proofs.lemmas.Bool.{eqb-true, true≢false}
 use Rattle.mesh_base.specs.declared.address.Mac.{Mac}
 use Rattle.mesh_model.specs.Routes.Addresses.{same_mac}
-use Rattle.mesh_model.specs.Routes.Life.{HeardOgm, life_span, since, life, is_live, newest, forwarded}
+use Rattle.mesh_model.specs.Routes.Life.{HeardOgm, began_wild, life_span, since, life, is_live, newest, forwarded}
 use Rattle.mesh_model.specs.Routes.Numbers.{has, greatest, among, window}
 use Rattle.mesh_laws.proofs.WindowLemmas.{among-agree, has-le}
 use Rattle.mesh_algo.specs.declared.life.Life.{Life}
-use Rattle.mesh_algo.specs.LifeRows.{latest, life_row, newest_by, forwarded_by}
+use Rattle.mesh_algo.specs.LifeRows.{latest, life_row, newest_by, forwarded_by, restarted_by}
 use Rattle.mesh_algo.proofs.LifeLemmas.{and_false}
 
 -- ---- windows
@@ -48,6 +48,10 @@ pub forwarded_by_row : (alive : List HeardOgm) (row : Option Life) → row ≡ l
 forwarded_by_row [] row e = ap forwarded_by e ∙ sym window_nil
 forwarded_by_row (h ∷ alive) row e = ap forwarded_by e
 
+pub restarted_by_row : (alive : List HeardOgm) (row : Option Life) → row ≡ life_row alive → restarted_by row ≡ began_wild alive
+restarted_by_row [] row e = ap restarted_by e
+restarted_by_row (h ∷ alive) row e = ap restarted_by e
+
 pub newest_of_row : (alive : List HeardOgm) (row : Life) → life_row alive ≡ Some row → row.newest ≡ newest alive
 newest_of_row alive row e = newest_by_row alive (Some row) (sym e)
 
@@ -79,6 +83,14 @@ before_is_latest h hearings row e =
     elim h.restart as (λ b. life_row (cond b [] (life h.moment hearings)) ≡ Some row → cond b [] (life h.moment hearings) ≡ latest hearings) [
       | true ↦ λ r. cc
       | false ↦ λ r. life_is_latest h.moment hearings row r
+    ] e
+
+-- a hearing that goes on with a life is no restart
+pub stays : (h : HeardOgm) (hearings : List HeardOgm) (row : Life) → life_row (since h hearings) ≡ Some row → h.restart ≡ false
+stays h hearings row e =
+    elim h.restart as (λ b. life_row (cond b [] (life h.moment hearings)) ≡ Some row → b ≡ false) [
+      | true ↦ λ r. cc
+      | false ↦ λ r. refl
     ] e
 
 -- the test that there is none

@@ -13,7 +13,7 @@ use Rattle.mesh_model.specs.Routes.Life.{HeardOgm, of, life, is_live, heard_orig
 use Rattle.mesh_model.specs.Routes.Neighbours.{ElpHeard, elp_senders, is_own_elp, is_up, is_young, last_elp, row_by_elp}
 use Rattle.mesh_model.specs.Routes.Ogm2.{OgmV, elp_of_head, ogm2_of_head}
 use Rattle.mesh_model.specs.Routes.Quality.{own_ogms}
-use Rattle.mesh_model.specs.Routes.Queries.{is_elp, is_ogm, unheard}
+use Rattle.mesh_model.specs.Routes.Queries.{is_ogm, unheard}
 use Rattle.mesh_model.specs.Routes.RouteLog.{RouteLog, HeadCame, is_ogm_tick}
 use Rattle.mesh_algo.specs.AlgoLaws.{HasElps, HasRouteByMetric, HasLiveRoutes, HasOgmAtEvenTicks, HasSameAnswers, HearsNoneBut, IgnoresAllBut, SendsElps, SendsOgms}
 use Rattle.mesh_algo.proofs.BestLemmas.{is_among, best_is_top}

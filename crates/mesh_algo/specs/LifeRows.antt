@@ -1,7 +1,7 @@
 -- The row that an algorithm keeps of an originator's last life, and what follows from it. The main
 -- word is `life_row`.
 use Rattle.std.specs.Prelude.{ℕ, ◌-◌, nat_lt, max, Bool, List, [], ◌∷◌, Option, Some, None, if◌then◌else◌}
-use Rattle.mesh_model.specs.Routes.Life.{HeardOgm, since, life_span, newest, forwarded}
+use Rattle.mesh_model.specs.Routes.Life.{HeardOgm, began_wild, since, life_span, newest, forwarded}
 use Rattle.mesh_model.specs.Routes.Numbers.{window}
 use Rattle.mesh_algo.specs.declared.life.Life.{Life}
 
@@ -17,6 +17,7 @@ life_row (h ∷ older) = Some (record {
   last = h.moment;
   newest = newest (h ∷ older);
   forwarded = window (forwarded (h ∷ older));
+  restarted = began_wild (h ∷ older);
 })
 
 -- a row of a life, if it is one at a moment
@@ -33,10 +34,16 @@ abbrev pub forwarded_by : Option Life → List ℕ
 forwarded_by None = []
 forwarded_by (Some life) = life.forwarded
 
--- the row of a life with a hearing more, of a number at a moment
-abbrev pub life_with : ℕ → ℕ → Option Life → Bool → Life
-life_with moment number row sent_on = record {
+-- the moment of the restart with which a life began, if it began with one, by its row
+abbrev pub restarted_by : Option Life → Option ℕ
+restarted_by None = None
+restarted_by (Some life) = life.restarted
+
+-- the row of a life with a hearing more, of a number at a moment, that began with a restart then
+abbrev pub life_with : ℕ → ℕ → Option ℕ → Option Life → Bool → Life
+life_with moment number restarted row sent_on = record {
   last = moment;
   newest = max (newest_by row) number;
   forwarded = if sent_on then window (number ∷ forwarded_by row) else forwarded_by row;
+  restarted = restarted;
 }

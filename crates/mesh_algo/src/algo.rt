@@ -1,4 +1,4 @@
-ghost use Rattle.std.specs.Prelude.{◌≡◌, ◌↔◌, ◌≤◌, ℕ, Bool, false, ◌∷◌, length, slice_get, is_some, Ok, IfOk, OnOk, OnErr, IsNone};
+ghost use Rattle.std.specs.Prelude.{◌≡◌, ◌↔◌, ◌≤◌, ℕ, Bool, false, [], ◌∷◌, length, slice_get, is_some, Ok, IfOk, OnOk, OnErr, IsNone};
 ghost use Rattle.mesh_base.specs.declared.address.Mac.{Mac};
 ghost use Rattle.mesh_model.specs.declared.packet.Head.{Head};
 ghost use Rattle.mesh_model.specs.Routes.Queries.{Queries, unheard};
@@ -41,6 +41,10 @@ pub trait Algo {
         ensures other { hears head.now ≡ false →
             (result ≡ Ok unheard) × (self.new ≡ self.old) }
         ensures err { OnErr result (self.new ≡ self.old) };
+
+    /// Forgets all, at a reboot.
+    fn restart(&mut self)
+        ensures { (me : Mac) (log : RouteLog) → stands self.old me log → stands self.new me [] };
 
     /// The metric of an originator, 0 where there is no route to it.
     fn metric(&self, now: Millis, orig: Mac) -> u32

@@ -6,6 +6,7 @@
 
 pub mod algo;
 pub mod best;
+pub mod far;
 pub mod laws;
 pub mod life;
 pub mod pair;

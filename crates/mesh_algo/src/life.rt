@@ -1,17 +1,15 @@
-ghost use Rattle.std.specs.Prelude.{◌≡◌, ℕ, ◌∷◌, ◌||◌, nat_lt, is_none, List, None, if◌then◌else◌};
-ghost use Rattle.mesh_model.specs.Routes.Life.{HeardOgm, meeting};
+ghost use Rattle.std.specs.Prelude.{◌≡◌, ℕ, ◌∷◌, ◌||◌, nat_lt, is_none, List, None, Some, if◌then◌else◌};
+ghost use Rattle.mesh_model.specs.Routes.Life.{HeardOgm, is_wild, meeting};
 ghost use Rattle.mesh_model.specs.Routes.Numbers.{window};
-ghost use Rattle.mesh_algo.specs.LifeRows.{forwarded_by, life_at, life_row, life_with, newest_by};
+ghost use Rattle.mesh_algo.specs.LifeRows.{forwarded_by, life_at, life_row, life_with, newest_by, restarted_by};
 
+use crate::far::{is_far, may_begin};
 use crate::seq_window::SeqWindow;
 use mesh_base::Millis;
 use mesh_model::Meeting;
 
 /// How long an originator lives after a hearing, in milliseconds.
 const LIFE_SPAN: Millis = 200_000;
-
-/// How many numbers below the newest one is late.
-const LATE: u32 = 64;
 
 /// The life of an originator up to its last hearing.
 #[derive(Clone, Copy, Debug)]
@@ -22,6 +20,8 @@ pub struct Life {
     pub newest: u32,
     /// The numbers that were sent on.
     pub forwarded: SeqWindow,
+    /// The moment of the restart with which it began, if it began with one.
+    pub restarted: Option<Millis>,
 }
 
 impl Life {
@@ -53,15 +53,39 @@ pub fn forwarded_of(life: &Option<Life>) -> SeqWindow
     }
 }
 
-/// How a number that comes at a moment meets the life of its originator.
-pub fn meeting(_now: Millis, seq: u32, life: &Option<Life>) -> Meeting
-    ensures { (alive : List HeardOgm) → life.now ≡ life_row alive →
-        result ≡ meeting _now seq alive }
+/// The moment of the restart with which a life began, if it began with one.
+pub fn restarted_of(life: &Option<Life>) -> Option<Millis>
+    ensures { result ≡ restarted_by life.now }
 {
-    Meeting {
-        late: newest_of(life).saturating_sub(seq) >= LATE,
-        restart: false,
+    match life {
+        None => None,
+        Some(life) => life.restarted,
     }
+}
+
+/// How a number that comes at a moment meets the life of its originator.
+pub fn meeting(now: Millis, seq: u32, life: &Option<Life>) -> Meeting
+    ensures { (alive : List HeardOgm) → life.now ≡ life_row alive →
+        result ≡ meeting now seq alive }
+{
+    if !is_wild(seq, life) {
+        return Meeting {
+            late: false,
+            restart: false,
+        };
+    }
+    let restart = may_begin(now, restarted_of(life));
+    Meeting {
+        late: !restart,
+        restart,
+    }
+}
+
+// Whether a number is wild in the life of its originator.
+fn is_wild(seq: u32, life: &Option<Life>) -> bool
+    ensures { (alive : List HeardOgm) → life.now ≡ life_row alive → result ≡ is_wild seq alive }
+{
+    life.is_some() && is_far(seq, newest_of(life))
 }
 
 /// The life that a hearing goes on with: none where it is a restart.
@@ -78,14 +102,32 @@ pub fn is_accepted(seq: u32, life: &Option<Life>) -> bool
     life.is_none() || newest_of(life) < seq
 }
 
+/// When the life with a hearing more began with a restart, if it did.
+pub fn restarted_then(now: Millis, met: Meeting, life: &Option<Life>) -> Option<Millis>
+    ensures { result ≡ (if met.restart then Some now else restarted_by life.now) }
+{
+    if met.restart {
+        Some(now)
+    } else {
+        restarted_of(life)
+    }
+}
+
 /// The life with a number more that isn't late.
-pub fn life_after(now: Millis, seq: u32, life: &Option<Life>, sent_on: bool) -> Life
-    ensures { result ≡ life_with now seq life.now sent_on }
+pub fn life_after(
+    now: Millis,
+    seq: u32,
+    restarted: Option<Millis>,
+    life: &Option<Life>,
+    sent_on: bool,
+) -> Life
+    ensures { result ≡ life_with now seq restarted life.now sent_on }
 {
     Life {
         last: now,
         newest: newest_of(life).max(seq),
         forwarded: forwarded_after(seq, life, sent_on),
+        restarted,
     }
 }
 

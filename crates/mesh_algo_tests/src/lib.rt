@@ -1,6 +1,8 @@
-//! Tests of mesh_algo: how large a window is.
+//! Tests of mesh_algo: how numbers meet lives, and how large a window is.
 
 #![tactic(auto)]
 
+#[cfg(test)]
+mod restarts;
 #[cfg(test)]
 mod window_size;

@@ -7,7 +7,7 @@ use Rattle.mesh_base.specs.declared.address.Mac.{Mac}
 use Rattle.mesh_model.specs.Routes.Addresses.{same_mac}
 use Rattle.mesh_model.specs.Routes.AlgorithmIv.{answer_to, iv_route}
 use Rattle.mesh_model.specs.Routes.BestRoute.{best_route, is_over}
-use Rattle.mesh_model.specs.Routes.Life.{HeardOgm, of, is_live, newest, is_first, forwarded}
+use Rattle.mesh_model.specs.Routes.Life.{HeardOgm, began_wild, of, is_live, newest, is_first, forwarded}
 use Rattle.mesh_model.specs.Routes.Numbers.{has, among}
 use Rattle.mesh_model.specs.Routes.Quality.{average_quality}
 use Rattle.mesh_model.specs.Routes.RouteLog.{RouteLog}
@@ -61,9 +61,9 @@ module _ (me : Mac) (log : RouteLog) (came : OgmCame) (first : is_first (hearing
       ∙ ap (λ b. nat_lt 1 came.ttl && (same_mac came.from came.orig || (nat_lt 0 own.value && (is_over came.from (iv_route (own ∷ lived)) && not b)))) (sym (has_sent own (of came.orig (hearings me log came)) (is_met me log came) on_time) ∙ ap (λ l. has came.seq l) (sym (forwarded_by_row lived row e)))
 
   -- ---- the tables
-  module _ (row : Option Life) (path : Path) (value : ℕ) (old new : Tables)
+  module _ (restarted : Option ℕ) (row : Option Life) (path : Path) (value : ℕ) (old new : Tables)
       (is : IsHeard me old log came row) (path_is : path ≡ kept_row came.from lived) (value_is : value ≡ own.value)
-      (written : IsWritten came row (path_with path came.seq value) value (old.lives, old.paths) (new.lives, new.paths)) where
+      (written : IsWritten came restarted row (path_with path came.seq value) value (old.lives, old.paths) (new.lives, new.paths)) where
     put_row : (pair : Pair) → same_mac came.from pair.from ≡ true → Some (path_with path came.seq value) ≡ path_row pair.from (own ∷ lived)
     put_row pair t =
         ap₂ (λ p n. Some (path_with p came.seq n)) (path_is ∙ ap (λ k. kept_row k lived) (same_exact came.from pair.from t)) value_is
@@ -113,14 +113,14 @@ module _ (me : Mac) (log : RouteLog) (came : OgmCame) (first : is_first (hearing
     sent_then : goes_on came value (forwarded_by row) (is_over_after came row new.paths) ≡ own.sent_on
     sent_then = ap₂ (λ n b. goes_on came n (forwarded_by row) b) value_is over_then ∙ sym (sent_is row is.row_is)
 
-    life_is : Some (life_then came row value new.paths) ≡ life_row (own ∷ lived)
-    life_is = next_life own lived row _ is.row_is on_time sent_then
+    life_is : restarted ≡ began_wild (own ∷ lived) → Some (life_then came restarted row value new.paths) ≡ life_row (own ∷ lived)
+    life_is began = next_life own lived row restarted _ is.row_is began on_time sent_then
 
-    pub first_stands : (tp : ℕ) → new.me ≡ old.me → new.sent ≡ old.sent → StandsFor me new (input_of came tp ∷ log)
-    first_stands tp same_me same_sent =
+    pub first_stands : (tp : ℕ) → restarted ≡ began_wild (own ∷ lived) → new.me ≡ old.me → new.sent ≡ old.sent → StandsFor me new (input_of came tp ∷ log)
+    first_stands tp began same_me same_sent =
         step_stands me log came tp old new is.stands is.passing same_me same_sent
         (lives_step me log came old.lives new.lives is.stands.lives_stand
-        (λ q. written.lives_are q is.stands.paths_stand.rise ∙ ap (λ r. cond (same_mac came.orig q) r (lookup (same_mac q) old.lives)) life_is)
+        (λ q. written.lives_are q is.stands.paths_stand.rise ∙ ap (λ r. cond (same_mac came.orig q) r (lookup (same_mac q) old.lives)) (life_is began))
         (written.lives_rise is.stands.lives_stand.rise))
         paths_then
 

@@ -19,7 +19,7 @@ use Rattle.mesh_laws.proofs.MacLemmas.{same_exact}
 use Rattle.mesh_algo.specs.LifeRows.{latest, life_row}
 use Rattle.mesh_algo.specs.Pairs.{pair_order, same_pair}
 use Rattle.mesh_algo.proofs.HearingLemmas.{lives_on, not_accepted, touched, touched_life}
-use Rattle.mesh_algo.proofs.LifeRows.{before_is_latest}
+use Rattle.mesh_algo.proofs.LifeRows.{before_is_latest, stays}
 use Rattle.mesh_iv.specs.declared.ogm.OgmCame.{OgmCame}
 use Rattle.mesh_iv.specs.declared.path.Path.{Path}
 use Rattle.mesh_algo.specs.declared.life.Life.{Life}
@@ -121,7 +121,7 @@ module _ (me : Mac) (log : RouteLog) (came : OgmCame) where
   touch_stands tp row old new is first same_me same_sent updated sorted same_paths =
       let other = other_orig is.passing in
       let last = before_is_latest h (of came.orig hearings) row (sym is.row_is) in
-      let life_is : Some (touched h alive row) ≡ life_row (h ∷ alive) = touched_life h alive row (sym is.row_is) first (not_sent first) in
+      let life_is : Some (touched h alive row) ≡ life_row (h ∷ alive) = touched_life h alive row (sym is.row_is) first (not_sent first) (stays h (of came.orig hearings) row (sym is.row_is)) in
       step_stands tp old new is.stands is.passing same_me same_sent
       (lives_step old.lives new.lives is.stands.lives_stand (λ q. updated q ∙ ap (λ r. cond (same_mac came.orig q) r (lookup (same_mac q) old.lives)) life_is) sorted)
       (paths_step old.paths new.paths is.stands.paths_stand other

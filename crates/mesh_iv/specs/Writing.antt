@@ -30,10 +30,10 @@ is_over_after came life rows =
     is_best came.from
     (walk (path_score (max (newest_by life) came.seq)) came.orig None rows)
 
--- the originator's row is then this
-abbrev pub life_then : OgmCame → Option Life → ℕ → List (Pair × Path) → Life
-life_then came life value rows =
-    life_with came.moment came.seq life
+-- the originator's row is then this, in a life that began with a restart at a moment, if so
+abbrev pub life_then : OgmCame → Option ℕ → Option Life → ℕ → List (Pair × Path) → Life
+life_then came restarted life value rows =
+    life_with came.moment came.seq restarted life
     (goes_on came value (forwarded_by life) (is_over_after came life rows))
 
 -- the rows of originators, and the rows of pairs
@@ -49,14 +49,14 @@ abbrev pub LivesRise : Rows → Type 0
 LivesRise rows = IsStrictlySortedBy mac_order (keys_of rows.0)
 
 -- the two tables have the rows of an OGM more, where their keys ascend
-pub record IsWritten (came : OgmCame) (life : Option Life) (row : Path) (value : ℕ) (old new : Rows)
-    : Type 0 where
+pub record IsWritten (came : OgmCame) (restarted : Option ℕ) (life : Option Life) (row : Path)
+    (value : ℕ) (old new : Rows) : Type 0 where
   pub paths_are : (pair : Pair) →
       lookup (same_pair pair) new.1
       ≡ path_put came row (rows_kept (is_none life) came.orig old.1) pair
   pub paths_rise : PathsRise old → PathsRise new
   pub lives_are : (orig : Mac) → PathsRise old →
       lookup (same_mac orig) new.0
-      ≡ (if same_mac came.orig orig then Some (life_then came life value new.1)
+      ≡ (if same_mac came.orig orig then Some (life_then came restarted life value new.1)
       else lookup (same_mac orig) old.0)
   pub lives_rise : LivesRise old → LivesRise new

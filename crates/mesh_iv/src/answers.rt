@@ -84,6 +84,12 @@ impl Algo for Iv {
         }
     }
 
+    fn restart(&mut self) {
+        self.sent = 0;
+        self.lives.clear();
+        self.paths.clear();
+    }
+
     fn metric(&self, now: Millis, orig: Mac) -> u32 {
         self.best(now, orig).map_or(0, |best| best.score)
     }

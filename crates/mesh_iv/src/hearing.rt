@@ -2,7 +2,7 @@ ghost use Rattle.std.specs.Prelude.{◌≡◌, ℕ, ◌∷◌, max, false, Optio
 ghost use Rattle.mesh_base.specs.declared.address.Mac.{Mac};
 ghost use Rattle.mesh_model.specs.Routes.AlgorithmIv.{answer_to, iv_answer};
 ghost use Rattle.mesh_model.specs.Routes.Hearings.{heard};
-ghost use Rattle.mesh_model.specs.Routes.Life.{is_first};
+ghost use Rattle.mesh_model.specs.Routes.Life.{began_wild, is_first};
 ghost use Rattle.mesh_model.specs.Routes.Ogm.{passes};
 ghost use Rattle.mesh_model.specs.Routes.Quality.{echo_quality};
 ghost use Rattle.mesh_model.specs.Routes.RouteLog.{RouteLog};
@@ -17,10 +17,10 @@ use crate::ogm::{OgmCame, Places};
 use crate::path::Path;
 use crate::quality::transmit_quality;
 use crate::writing::write;
-use mesh_algo::life::{going_on, is_accepted, meeting, newest_of};
+use mesh_algo::life::{going_on, is_accepted, meeting, newest_of, restarted_then};
 use mesh_algo::table::{place_of, put, put_near};
 use mesh_algo::{Hearing, Life, Pair};
-use mesh_base::NoMemory;
+use mesh_base::{Millis, NoMemory};
 
 /// What is made of a head that isn't heard.
 pub(crate) const UNHEARD: Hearing = Hearing {
@@ -58,7 +58,8 @@ impl Iv {
             self.touch(ogm, near, &life)?;
             return Ok(UNHEARD);
         }
-        let hearing = self.hear_first(ogm, near, &life, &path)?;
+        let restarted = restarted_then(ogm.moment, met, &life);
+        let hearing = self.hear_first(ogm, near, restarted, &life, &path)?;
         Ok(hearing)
     }
 
@@ -108,6 +109,7 @@ impl Iv {
             last: ogm.moment,
             newest: life.newest,
             forwarded: life.forwarded,
+            restarted: life.restarted,
         };
         put_near(&mut self.lives, near.life, ogm.orig, life)?;
         Ok(())
@@ -118,11 +120,13 @@ impl Iv {
         &mut self,
         ogm: &OgmCame,
         near: Places,
+        restarted: Option<Millis>,
         life: &Option<Life>,
         path: &Path,
     ) -> Result<Hearing, NoMemory>
         ensures noted { OnOk result ((me : Mac) (log : RouteLog) (tp : ℕ) →
             IsFirstHeard me self.old log ogm.now life.now path.now →
+            restarted ≡ began_wild (hearing_of me log ogm.now ∷ life_before me log ogm.now) →
             StandsFor me self.new (input_of ogm.now tp ∷ log)) }
         ensures heard { IfOk result (λ hearing. (me : Mac) (log : RouteLog) →
             IsFirstHeard me self.old log ogm.now life.now path.now →
@@ -137,6 +141,7 @@ impl Iv {
             &mut self.paths,
             ogm,
             near,
+            restarted,
             life,
             row,
             value,

@@ -21,14 +21,17 @@ fn two_tables_and_two_numbers_are_all(rt: HostRuntime) {
         last,
         newest,
         forwarded,
+        restarted,
     } = Life {
         last: 1,
         newest: 2,
         forwarded: SeqWindow::new(),
+        restarted: Some(3),
     };
     let Path { heard, values } = Path::new();
     assert_eq!(rt;
         (last, newest, forwarded.count(), heard.count(), values),
         (1, 2, 0, 0, [0; 5])
     );
+    assert_eq!(rt; restarted, Some(3));
 }

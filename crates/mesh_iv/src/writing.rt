@@ -15,7 +15,7 @@ use mesh_algo::best::is_best;
 use mesh_algo::life::{life_after, newest_of};
 use mesh_algo::table::{first_path_near, put_near, put_path};
 use mesh_algo::{Head, Life, Pair};
-use mesh_base::{Mac, NoMemory};
+use mesh_base::{Mac, Millis, NoMemory};
 
 /// Writes the rows of an OGM that is the first of its number from its neighbour, and answers how it
 /// is sent on. Both tables stay as they were where memory runs out.
@@ -24,11 +24,12 @@ pub(crate) fn write(
     paths: &mut IndexMap<Pair, Path>,
     ogm: &OgmCame,
     near: Places,
+    restarted: Option<Millis>,
     life: &Option<Life>,
     row: Path,
     value: u8,
 ) -> Result<Option<Head>, NoMemory>
-    ensures written { OnOk result (IsWritten ogm.now life.now row value
+    ensures written { OnOk result (IsWritten ogm.now restarted life.now row value
         (lives.old.entries, paths.old.entries) (lives.new.entries, paths.new.entries)) }
     ensures answer { IfOk result (λ forward. IsStrictlySortedBy pair_order (keys paths.old) →
         forward ≡ sent_on_as ogm.now value (forwarded_by life.now)
@@ -41,7 +42,7 @@ pub(crate) fn write(
     put_path(paths, near.path, ogm.pair(), life.is_none(), row)?;
     let over = is_over(paths, ogm, near, life, value);
     let sent = goes_on(ogm, value, life, over);
-    let after = life_after(ogm.moment, ogm.seq, life, sent);
+    let after = life_after(ogm.moment, ogm.seq, restarted, life, sent);
     put_near(lives, near.life, ogm.orig, after)?;
     Ok(sent.then_some(head_on(ogm, value, over)))
 }

@@ -8,7 +8,7 @@ use Rattle.mesh_model.specs.Routes.Addresses.{same_mac}
 use Rattle.mesh_model.specs.Routes.AlgorithmV.{answer_to_v}
 use Rattle.mesh_model.specs.Routes.BestRoute.{best_route, is_over}
 use Rattle.mesh_model.specs.Routes.HearingsV.{path_throughput}
-use Rattle.mesh_model.specs.Routes.Life.{HeardOgm, of, is_live, newest, is_first, forwarded}
+use Rattle.mesh_model.specs.Routes.Life.{HeardOgm, began_wild, of, is_live, newest, is_first, forwarded}
 use Rattle.mesh_model.specs.Routes.Numbers.{has}
 use Rattle.mesh_model.specs.Routes.RouteLog.{RouteLog}
 use Rattle.mesh_laws.proofs.MacLemmas.{same_exact, same_equiv, same_self}
@@ -68,9 +68,9 @@ module _ (me : Mac) (log : RouteLog) (came : OgmCame) (first : is_first (hearing
       ∙ ap (λ b. rest (route_by up (own ∷ lived)) b) (sym (has_sent own (of came.orig (hearings me log came)) (is_met me log came) on_time) ∙ ap (λ l. has came.seq l) (sym (forwarded_by_row lived row e)))
 
   -- ---- the tables
-  module _ (elp : Option LastElp) (row : Option Life) (path : Path) (value : ℕ) (old new : Tables)
+  module _ (elp : Option LastElp) (restarted : Option ℕ) (row : Option Life) (path : Path) (value : ℕ) (old new : Tables)
       (is : IsHeard me old log came elp row) (path_is : path ≡ kept_row came.from lived) (value_is : value ≡ own.value)
-      (written : IsWritten came elp row (path_with path came.seq value) value (old.origs, old.paths) (new.origs, new.paths)) where
+      (written : IsWritten came elp restarted row (path_with path came.seq value) value (old.origs, old.paths) (new.origs, new.paths)) where
     put_row : (pair : Pair) → same_mac came.from pair.from ≡ true → Some (path_with path came.seq value) ≡ path_row pair.from (own ∷ lived)
     put_row pair t =
         ap₂ (λ p n. Some (path_with p came.seq n)) (path_is ∙ ap (λ k. kept_row k lived) (same_exact came.from pair.from t)) value_is
@@ -118,11 +118,11 @@ module _ (me : Mac) (log : RouteLog) (came : OgmCame) (first : is_first (hearing
     sent_then : goes_on came value (forwarded_by row) (is_over_after came row old.origs new.paths) ≡ own.sent_on
     sent_then = ap₂ (λ n b. goes_on came n (forwarded_by row) b) value_is over_then ∙ sym (sent_is row is.row_is)
 
-    pub first_stands : new.me ≡ old.me → new.ogms ≡ old.ogms → new.elps ≡ old.elps → StandsFor me new (input_of came ∷ log)
-    first_stands same_me same_ogms same_elps =
+    pub first_stands : restarted ≡ began_wild (own ∷ lived) → new.me ≡ old.me → new.ogms ≡ old.ogms → new.elps ≡ old.elps → StandsFor me new (input_of came ∷ log)
+    first_stands began same_me same_ogms same_elps =
         step_stands me log came old new is.stands is.passing same_me same_ogms same_elps
-        (origs_step me log came old.origs new.origs elp (life_with came.moment came.seq row (goes_on came value (forwarded_by row) (is_over_after came row old.origs new.paths)))
-        is.stands.origs_stand is.elp_is (next_life own lived row _ is.row_is on_time sent_then)
+        (origs_step me log came old.origs new.origs elp (life_with came.moment came.seq restarted row (goes_on came value (forwarded_by row) (is_over_after came row old.origs new.paths)))
+        is.stands.origs_stand is.elp_is (next_life own lived row restarted _ is.row_is began on_time sent_then)
         (λ q. written.origs_are q is.stands.paths_stand.rise) (written.origs_rise is.stands.origs_stand.rise))
         paths_then
 

@@ -32,11 +32,11 @@ is_over_after came life origs paths =
     is_best came.from (walk (path_score (up_in came.moment origs) (max (newest_by life) came.seq))
     came.orig None paths)
 
--- the originator's row is then this
-abbrev pub orig_then : OgmCame → Option LastElp → Option Life → ℕ → List (Mac × Orig)
+-- the originator's row is then this, in a life that began with a restart at a moment, if so
+abbrev pub orig_then : OgmCame → Option LastElp → Option ℕ → Option Life → ℕ → List (Mac × Orig)
     → List (Pair × Path) → Orig
-orig_then came elp life value origs paths = record {
-  life = Some (life_with came.moment came.seq life
+orig_then came elp restarted life value origs paths = record {
+  life = Some (life_with came.moment came.seq restarted life
       (goes_on came value (forwarded_by life) (is_over_after came life origs paths)));
   elp = elp;
 }
@@ -54,14 +54,14 @@ abbrev pub OrigsRise : Rows → Type 0
 OrigsRise rows = IsStrictlySortedBy mac_order (keys_of rows.0)
 
 -- the two tables have the rows of an OGM more, where their keys ascend
-pub record IsWritten (came : OgmCame) (elp : Option LastElp) (life : Option Life) (row : Path)
-    (value : ℕ) (old new : Rows) : Type 0 where
+pub record IsWritten (came : OgmCame) (elp : Option LastElp) (restarted : Option ℕ)
+    (life : Option Life) (row : Path) (value : ℕ) (old new : Rows) : Type 0 where
   pub paths_are : (pair : Pair) →
       lookup (same_pair pair) new.1
       ≡ path_put came row (rows_kept (is_none life) came.orig old.1) pair
   pub paths_rise : PathsRise old → PathsRise new
   pub origs_are : (orig : Mac) → PathsRise old →
       lookup (same_mac orig) new.0
-      ≡ (if same_mac came.orig orig then Some (orig_then came elp life value old.0 new.1)
+      ≡ (if same_mac came.orig orig then Some (orig_then came elp restarted life value old.0 new.1)
       else lookup (same_mac orig) old.0)
   pub origs_rise : OrigsRise old → OrigsRise new

@@ -117,6 +117,13 @@ impl Algo for V {
         }
     }
 
+    fn restart(&mut self) {
+        self.ogms = 0;
+        self.elps = 0;
+        self.origs.clear();
+        self.paths.clear();
+    }
+
     fn metric(&self, now: Millis, orig: Mac) -> u32 {
         self.best(now, orig).map_or(0, |best| best.score)
     }

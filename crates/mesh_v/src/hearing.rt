@@ -3,7 +3,7 @@ ghost use Rattle.mesh_base.specs.declared.address.Mac.{Mac};
 ghost use Rattle.mesh_model.specs.declared.packet.Head.TheVariants.{Elp};
 ghost use Rattle.mesh_model.specs.Routes.AlgorithmV.{answer_to_v, v_answer};
 ghost use Rattle.mesh_model.specs.Routes.HearingsV.{heard_v, passes_v};
-ghost use Rattle.mesh_model.specs.Routes.Life.{is_first};
+ghost use Rattle.mesh_model.specs.Routes.Life.{began_wild, is_first};
 ghost use Rattle.mesh_model.specs.Routes.Neighbours.{is_up};
 ghost use Rattle.mesh_model.specs.Routes.RouteLog.{RouteLog, HeadCame};
 ghost use Rattle.mesh_v.specs.Came.{ogm_in};
@@ -18,7 +18,7 @@ use crate::path::Path;
 use crate::row::{LastElp, Orig, elp_in, is_up, life_in};
 use crate::v::V;
 use crate::writing::write;
-use mesh_algo::life::{going_on, is_accepted, meeting};
+use mesh_algo::life::{going_on, is_accepted, meeting, restarted_then};
 use mesh_algo::table::{place_of, put, put_near};
 use mesh_algo::{Hearing, Life};
 use mesh_base::{Mac, Millis, NoMemory};
@@ -87,7 +87,8 @@ impl V {
             self.touch(ogm, near, elp, &life)?;
             return Ok(UNHEARD);
         }
-        let hearing = self.hear_first(ogm, near, elp, &life, &path)?;
+        let restarted = restarted_then(ogm.moment, met, &life);
+        let hearing = self.hear_first(ogm, near, elp, restarted, &life, &path)?;
         Ok(hearing)
     }
 
@@ -147,6 +148,7 @@ impl V {
             last: ogm.moment,
             newest: life.newest,
             forwarded: life.forwarded,
+            restarted: life.restarted,
         };
         let row = Orig {
             life: Some(life),
@@ -162,11 +164,13 @@ impl V {
         ogm: &OgmCame,
         near: Places,
         elp: Option<LastElp>,
+        restarted: Option<Millis>,
         life: &Option<Life>,
         path: &Path,
     ) -> Result<Hearing, NoMemory>
         ensures noted { OnOk result ((me : Mac) (log : RouteLog) →
             IsFirstHeard me self.old log ogm.now elp life.now path.now →
+            restarted ≡ began_wild (hearing_of me log ogm.now ∷ life_before me log ogm.now) →
             StandsFor me self.new (input_of ogm.now ∷ log)) }
         ensures heard { IfOk result (λ hearing. (me : Mac) (log : RouteLog) →
             IsFirstHeard me self.old log ogm.now elp life.now path.now →
@@ -182,6 +186,7 @@ impl V {
             ogm,
             near,
             elp,
+            restarted,
             life,
             row,
             value,

@@ -16,7 +16,7 @@ use mesh_algo::best::is_best;
 use mesh_algo::life::{forwarded_of, life_after, newest_of};
 use mesh_algo::table::{first_path_near, put_near, put_path};
 use mesh_algo::{Head, Life, Pair};
-use mesh_base::{Mac, NoMemory};
+use mesh_base::{Mac, Millis, NoMemory};
 
 /// Writes the rows of an OGM that is the first of its number from its neighbour, and answers how it
 /// is sent on. Both tables stay as they were where memory runs out.
@@ -26,11 +26,12 @@ pub(crate) fn write(
     ogm: &OgmCame,
     near: Places,
     elp: Option<LastElp>,
+    restarted: Option<Millis>,
     life: &Option<Life>,
     row: Path,
     value: u32,
 ) -> Result<Option<Head>, NoMemory>
-    ensures written { OnOk result (IsWritten ogm.now elp life.now row value
+    ensures written { OnOk result (IsWritten ogm.now elp restarted life.now row value
         (origs.old.entries, paths.old.entries) (origs.new.entries, paths.new.entries)) }
     ensures answer { IfOk result (λ forward. IsStrictlySortedBy pair_order (keys paths.old) →
         forward ≡ sent_on_as ogm.now value (forwarded_by life.now)
@@ -42,7 +43,7 @@ pub(crate) fn write(
     paths.reserve(1)?;
     put_path(paths, near.path, ogm.pair(), life.is_none(), row)?;
     let sent = is_sent_on(origs, paths, ogm, near, life, value);
-    let life = life_after(ogm.moment, ogm.seq, life, sent);
+    let life = life_after(ogm.moment, ogm.seq, restarted, life, sent);
     let row = Orig {
         life: Some(life),
         elp,

@@ -1,4 +1,4 @@
-//! Tests of mesh_v: what is sent at ticks, a chain of links, and what counts no more.
+//! Tests of mesh_v: what is sent at ticks, a chain of links, restarts, and what counts no more.
 
 #![tactic(auto)]
 
@@ -6,5 +6,7 @@
 mod chain;
 #[cfg(test)]
 mod old;
+#[cfg(test)]
+mod restarts;
 #[cfg(test)]
 mod ticks;

@@ -1,10 +1,9 @@
 -- The alias of a commit, looked for among the earlier commits of its byte.
-use Rattle.std.proofs.Common.{◌≡◌, ◌⊎◌, inl, inr, ⊎_elim, ℕ, suc, ◌+◌, ◌-◌, ◌*◌, ◌%◌, ◌<◌, ◌==◌, ◌&&◌, Bool, true, false, not, cond, List, [], ◌∷◌, drop, length, Option, Some, None, is_none, is_some, min, option_map, IsTrue, ◌↔◌, nat_lt, nat_eq, refl, sym, ap, ap₂, ◌∙◌, subst, arith}
+use Rattle.std.proofs.Common.{◌≡◌, ◌⊎◌, inl, inr, ⊎_elim, ℕ, suc, ◌+◌, ◌-◌, ◌<◌, ◌==◌, ◌&&◌, Bool, true, false, not, cond, List, [], ◌∷◌, drop, length, Option, Some, None, is_none, is_some, min, option_map, IsTrue, ◌↔◌, nat_eq, refl, sym, ap, ap₂, ◌∙◌, subst, arith}
 use Rattle.std.specs.Bool.{Decides}
 use Rattle.std.specs.Cmp.Lexicographic.{pointwise}
 use Rattle.std.specs.Option.{option_or}
 use Rattle.std.proofs.lemmas.Bool.{and_from, and_parts, eqb-true, eq-eqb, ne_eqb, false≢true, true≢false}
-use Rattle.std.proofs.lemmas.Bool.Decides.{nat_tests}
 use Rattle.mesh_base.specs.declared.client.Entry.{Entry}
 use Rattle.mesh_model.specs.Packets.Bodies.{VlanSum}
 use Rattle.mesh_model.specs.Commits.Aliases.{alias_before, alias_of, are_aliases, commits_until, last_alias}
@@ -15,31 +14,24 @@ use Rattle.mesh_model.specs.Tables.Versions.{Version}
 use Rattle.mesh_model.specs.Routes.Addresses.{same_mac}
 use Rattle.mesh_laws.proofs.MacLemmas.{same_exact, same_self}
 use Rattle.mesh_laws.proofs.MachineInvariant.{last_numbered, number_below, numbered_kept}
-use Rattle.tt_local.specs.Journal.{AreAliasesAt, AreNumbered, HasSums, HasTable, HasTableOf, IsPassed}
+use Rattle.tt_local.specs.AliasSearch.{AreAliasesAt, HaveOneByte, IsPassed}
+use Rattle.tt_local.specs.Journal.{HasSums, HasTable, HasTableOf}
 use Rattle.tt_local.proofs.CommitLemmas.{from_same_table, same_from_equal}
 use Rattle.tt_local.proofs.NumberedLemmas.{newest_or_not, older_number}
 
 -- ---- bytes
-pub byte_at : (cs : List Version) → AreNumbered cs → (n : ℕ) (v : Version) → commit_numbered n cs ≡ Some v → v.byte ≡ n % 256
-byte_at [] numbered n v h = cc
-byte_at (c ∷ older) numbered n v h = go (byte_at older numbered.1 n v) (newest_or_not c v n older h)
-  where
-    go : (commit_numbered n older ≡ Some v → v.byte ≡ n % 256) → ((n ≡ length older) × (v ≡ c)) ⊎ ((n < length older) × (commit_numbered n older ≡ Some v)) → v.byte ≡ n % 256
-    go rest (inl p) = ap (λ (w : Version). w.byte) p.1 ∙ numbered.0 ∙ ap (λ m. m % 256) (sym p.0)
-    go rest (inr p) = rest p.1
-
-other_byte : (one other : Version) → (one.byte ≡ other.byte → ⊥) → are_aliases one other ≡ false
+pub other_byte : (one other : Version) → (one.byte ≡ other.byte → ⊥) → are_aliases one other ≡ false
 other_byte one other differ = ap (λ b. b && (is_none (first_difference (sums_of one.table) (sums_of other.table)) && not (same_table one.table other.table))) (ne_eqb one.byte other.byte differ)
 
 -- ---- the commits before a commit
 -- none of them is an alias
-none_before : (w : Version) (older : List Version) → ((n : ℕ) (v : Version) → commit_numbered n older ≡ Some v → are_aliases w v ≡ false) → alias_before w older ≡ None
+pub none_before : (w : Version) (older : List Version) → ((n : ℕ) (v : Version) → commit_numbered n older ≡ Some v → are_aliases w v ≡ false) → alias_before w older ≡ None
 none_before w [] none = refl
 none_before w (c ∷ rest) none = ap₂ (λ (o : Option ℕ) (b : Bool). option_or o (cond b (Some (length rest)) None))
     (none_before w rest (λ n v h. none n v (numbered_kept c n rest v h))) (none (length rest) c (last_numbered c rest))
 
 -- one is, and none below it
-found_before : (w : Version) (older : List Version) (e : ℕ) (v : Version) → commit_numbered e older ≡ Some v → are_aliases w v ≡ true → ((n : ℕ) (u : Version) → n < e → commit_numbered n older ≡ Some u → are_aliases w u ≡ false) → alias_before w older ≡ Some e
+pub found_before : (w : Version) (older : List Version) (e : ℕ) (v : Version) → commit_numbered e older ≡ Some v → are_aliases w v ≡ true → ((n : ℕ) (u : Version) → n < e → commit_numbered n older ≡ Some u → are_aliases w u ≡ false) → alias_before w older ≡ Some e
 found_before w [] e v h is none = cc
 found_before w (c ∷ rest) e v h is none = go (λ there. found_before w rest e v there is (λ n u below at. none n u below (numbered_kept c n rest u at))) (newest_or_not c v e rest h)
   where
@@ -86,48 +78,6 @@ pub until : (cs : List Version) (number : ℕ) (w : Version) → commit_numbered
 until [] number w h = cc
 until (c ∷ rest) number w h = ⊎_elim (λ p. until_newest c w rest number p.0 p.1) (λ p. until_more c rest number w p.0 (until rest number w p.1)) (newest_or_not c w number rest h)
 
--- ---- the search by rounds
--- no commit below a number is an alias of that of another
-abbrev pub HasNoneBelow : ℕ → ℕ → List Version → Type 0
-HasNoneBelow bound number commits = (n : ℕ) (v w : Version) → n < bound → commit_numbered n commits ≡ Some v → commit_numbered number commits ≡ Some w → are_aliases w v ≡ false
-
-off_byte : (cs : List Version) → AreNumbered cs → (n number : ℕ) (v w : Version) → (n % 256 ≡ number % 256 → ⊥) → commit_numbered n cs ≡ Some v → commit_numbered number cs ≡ Some w → are_aliases w v ≡ false
-off_byte cs numbered n number v w off at is = other_byte w v (λ e. off (sym (byte_at cs numbered n v at) ∙ sym e ∙ byte_at cs numbered number w is))
-
--- none is below the least of the byte
-pub none_at_first : (cs : List Version) → AreNumbered cs → (number : ℕ) → HasNoneBelow (number % 256) number cs
-none_at_first cs numbered number = λ n v w below at is. off_byte cs numbered n number v w (λ e. absurd (omega (arith, below, e))) at is
-
--- none is below the next of the byte
-pub none_at_next : (cs : List Version) → AreNumbered cs → (number round : ℕ) (earlier : ℕ) → earlier ≡ number % 256 + round * 256 → AreAliasesAt false number earlier cs → HasNoneBelow earlier number cs → HasNoneBelow (number % 256 + (round + 1) * 256) number cs
-none_at_next cs numbered number round earlier at none before = λ n v w below has is.
-    ⊎_elim (λ less. before n v w less has is) (⊎_elim
-    (λ same. sym (none w v is (ap (λ k. commit_numbered k cs) (sym same) ∙ has)))
-    (λ more. off_byte cs numbered n number v w (off n below more) has is)) (place n)
-  where
-    place : (n : ℕ) → (n < earlier) ⊎ ((n ≡ earlier) ⊎ (earlier < n))
-    place n = cases (nat_lt n earlier) refl (nat_eq n earlier) refl
-      where
-        cases : (b : Bool) → nat_lt n earlier ≡ b → (d : Bool) → nat_eq n earlier ≡ d → (n < earlier) ⊎ ((n ≡ earlier) ⊎ (earlier < n))
-        cases true l d e = inl (grind (arith, nat_tests, l))
-        cases false l true e = inr (inl (eqb-true n earlier e))
-        cases false l false e = inr (inr (grind (arith, nat_tests, l, e)))
-
-    off : (n : ℕ) → n < number % 256 + (round + 1) * 256 → earlier < n → n % 256 ≡ number % 256 → ⊥
-    off n below more e = absurd (omega (arith, at, below, more, e))
-
--- none was found
-pub none_found : (cs : List Version) (number : ℕ) (w : Version) → commit_numbered number cs ≡ Some w → HasNoneBelow number number cs → alias_of number cs ≡ None
-none_found cs number w is none =
-    let u = until cs number w is in
-    ap last_alias u.is ∙ none_before w u.older (λ n v h. none n v w (subst (λ k. n < k) u.count (number_below n u.older v h)) (u.kept n v h) is)
-
--- one was found
-pub one_found : (cs : List Version) (number earlier : ℕ) (w v : Version) → commit_numbered number cs ≡ Some w → commit_numbered earlier cs ≡ Some v → earlier < number → AreAliasesAt true number earlier cs → HasNoneBelow earlier number cs → alias_of number cs ≡ Some earlier
-one_found cs number earlier w v is at below are none =
-    let u = until cs number w is in
-    ap last_alias u.is ∙ found_before w u.older earlier v (u.below earlier v below at) (sym (are w v is at)) (λ n x less h. none n x w less (u.kept n x h) is)
-
 -- ---- whether two commits of a byte are aliases
 sums_are : (n : ℕ) (cs : List Version) (v : Version) (s : List VlanSum) → commit_numbered n cs ≡ Some v → HasSums n s cs → sums_of v.table ≡ s
 sums_are n cs v s is has =
@@ -139,24 +89,23 @@ table_is n cs v t is has =
     let both : Some v.table ≡ Some t = ap (option_map (λ (w : Version). w.table)) (sym is) ∙ has in
     cc
 
-same_bytes : (cs : List Version) → AreNumbered cs → (number earlier : ℕ) (one other : Version) → earlier % 256 ≡ number % 256 → commit_numbered number cs ≡ Some one → commit_numbered earlier cs ≡ Some other → (one.byte == other.byte) ≡ true
-same_bytes cs numbered number earlier one other same is at =
-    eq-eqb one.byte other.byte (byte_at cs numbered number one is ∙ sym same ∙ sym (byte_at cs numbered earlier other at))
+same_bytes : (cs : List Version) (number earlier : ℕ) (one other : Version) → HaveOneByte number earlier cs → commit_numbered number cs ≡ Some one → commit_numbered earlier cs ≡ Some other → (one.byte == other.byte) ≡ true
+same_bytes cs number earlier one other same is at = eq-eqb one.byte other.byte (same one other is at)
 
 told_sums : (number earlier : ℕ) (cs : List Version) (one other : Version) (s t : List VlanSum) (b : Bool) → commit_numbered number cs ≡ Some one → commit_numbered earlier cs ≡ Some other → HasSums number s cs → HasSums earlier t cs → is_none (first_difference s t) ≡ b → is_none (first_difference (sums_of one.table) (sums_of other.table)) ≡ b
 told_sums number earlier cs one other s t b is at has others told =
     ap₂ (λ x y. is_none (first_difference x y)) (sums_are number cs one s is has) (sums_are earlier cs other t at others) ∙ told
 
 -- they aren't where checksums differ
-pub sums_tell : (cs : List Version) → AreNumbered cs → (number earlier : ℕ) (s t : List VlanSum) → earlier % 256 ≡ number % 256 → HasSums number s cs → HasSums earlier t cs → is_none (first_difference s t) ≡ false → AreAliasesAt false number earlier cs
-sums_tell cs numbered number earlier s t same has others differ = λ one other is at.
-    sym (ap₂ (λ b d. b && (d && not (same_table one.table other.table))) (same_bytes cs numbered number earlier one other same is at)
+pub sums_tell : (cs : List Version) (number earlier : ℕ) (s t : List VlanSum) → HaveOneByte number earlier cs → HasSums number s cs → HasSums earlier t cs → is_none (first_difference s t) ≡ false → AreAliasesAt false number earlier cs
+sums_tell cs number earlier s t same has others differ = λ one other is at.
+    sym (ap₂ (λ b d. b && (d && not (same_table one.table other.table))) (same_bytes cs number earlier one other same is at)
     (told_sums number earlier cs one other s t false is at has others differ))
 
 -- else they are where the tables differ
-pub tables_tell : (cs : List Version) → AreNumbered cs → (number earlier : ℕ) (s t : List VlanSum) (a b : List Entry) (answer : Bool) → earlier % 256 ≡ number % 256 → HasSums number s cs → HasSums earlier t cs → is_none (first_difference s t) ≡ true → HasTable number a cs → HasTable earlier b cs → (IsTrue answer ↔ (a ≡ b)) → AreAliasesAt (not answer) number earlier cs
-tables_tell cs numbered number earlier s t a b answer same has others none table other_table told = λ one other is at.
-    sym (ap₂ (λ x d. x && (d && not (same_table one.table other.table))) (same_bytes cs numbered number earlier one other same is at)
+pub tables_tell : (cs : List Version) (number earlier : ℕ) (s t : List VlanSum) (a b : List Entry) (answer : Bool) → HaveOneByte number earlier cs → HasSums number s cs → HasSums earlier t cs → is_none (first_difference s t) ≡ true → HasTable number a cs → HasTable earlier b cs → (IsTrue answer ↔ (a ≡ b)) → AreAliasesAt (not answer) number earlier cs
+tables_tell cs number earlier s t a b answer same has others none table other_table told = λ one other is at.
+    sym (ap₂ (λ x d. x && (d && not (same_table one.table other.table))) (same_bytes cs number earlier one other same is at)
     (told_sums number earlier cs one other s t true is at has others none)
     ∙ ap not (ap₂ same_table (table_is number cs one a is table) (table_is earlier cs other b at other_table) ∙ by_answer answer told))
   where
@@ -170,13 +119,13 @@ tables_tell cs numbered number earlier s t a b answer same has others none table
 
 -- ---- commits that have the table of another
 -- where one of them isn't an alias, none of them is
-pub passed_by : (cs : List Version) → AreNumbered cs → (number earlier twin : ℕ) (v : Version) → commit_numbered earlier cs ≡ Some v → earlier % 256 ≡ number % 256 → HasTableOf twin earlier cs → AreAliasesAt false number earlier cs → IsPassed number (Some twin) cs
-passed_by cs numbered number earlier twin v there same twins are = λ n again twin_too one other is at.
-    let mine : HasTable twin v.table cs = twins v.table (ap (option_map (λ (w : Version). w.table)) there) in
-    let its : HasTable twin other.table cs = twin_too other.table (ap (option_map (λ (w : Version). w.table)) at) in
-    let both : Some v.table ≡ Some other.table = sym mine ∙ its in
+pub passed_by : (cs : List Version) (number earlier twin : ℕ) (v : Version) → commit_numbered earlier cs ≡ Some v → HaveOneByte number earlier cs → HasTableOf twin earlier cs → AreAliasesAt false number earlier cs → IsPassed number (Some twin) cs
+passed_by cs number earlier twin v there same twins are = λ n again twin_too one other is at.
+    let its : HasTable twin v.table cs = twins v.table (ap (option_map (λ (w : Version). w.table)) there) in
+    let others : HasTable twin other.table cs = twin_too other.table (ap (option_map (λ (w : Version). w.table)) at) in
+    let both : Some v.table ≡ Some other.table = sym its ∙ others in
     let tables : v.table ≡ other.table = cc in
-    let bytes : v.byte ≡ other.byte = byte_at cs numbered earlier v there ∙ same ∙ sym again ∙ sym (byte_at cs numbered n other at) in
+    let bytes : v.byte ≡ other.byte = sym (same one v is there) ∙ again one other is at in
     are one v is there ∙ ap₂ (λ (b : ℕ) (t : List Entry). are_aliases one (record { byte = b; table = t })) bytes tables
 
 -- the last table is that of the commit before it, if they are one

@@ -1,9 +1,7 @@
 -- How a commit leaves clients, pending keys and journal.
-use Rattle.std.proofs.Common.{◌≡◌, ◌⊎◌, inl, inr, ℕ, ◌+◌, ◌-◌, ◌%◌, ◌<◌, ◌≤◌, ◌++◌, nat_lt, Bool, true, false, not, cond, List, [], ◌∷◌, drop, length, map, slice_get, Option, Some, None, Ok, is_none, option_and_then, option_map, refl, sym, ap, ap₂, ◌∙◌, subst, arith}
+use Rattle.std.proofs.Common.{◌≡◌, ℕ, ◌-◌, ◌≤◌, ◌++◌, nat_lt, Bool, true, false, not, cond, List, [], ◌∷◌, length, map, Option, Some, None, Ok, is_none, option_and_then, option_map, refl, sym, ap, ap₂, ◌∙◌, subst, arith}
 use Rattle.std.proofs.lemmas.Bool.{false≢true, true≢false, and_parts, and_from}
 use Rattle.std.proofs.lemmas.Bool.Decides.{nat_tests}
-use Rattle.std.proofs.lemmas.List.{length-append}
-use Rattle.std.proofs.lemmas.Option.{slice_get_within}
 use Rattle.mesh_base.specs.declared.client.Entry.{Entry}
 use Rattle.mesh_base.specs.declared.client.Key.{Key}
 use Rattle.mesh_model.specs.declared.table_change.Change.{Change}
@@ -11,21 +9,18 @@ use Rattle.mesh_model.specs.declared.table_row.LocalRow.{LocalRow}
 use Rattle.mesh_model.specs.Clients.Mentions.{Mention}
 use Rattle.mesh_model.specs.Clients.Present.{sighting_age, entry_with}
 use Rattle.mesh_model.specs.Commits.History.{committed, History, present_table, with_commit}
-use Rattle.mesh_model.specs.Commits.Versions.{last_changes, last_commit, same_table}
-use Rattle.mesh_model.specs.Tables.Versions.{Version, next_byte}
+use Rattle.mesh_model.specs.Commits.Versions.{last_commit, same_table}
 use Rattle.mesh_model.specs.Tables.Changes.{IsInKeyOrder, changeset, missing_from, same_entry, deletion, addition}
 use Rattle.mesh_model.specs.Tables.Strict.{apply_strictly}
-use Rattle.mesh_model.specs.Tables.Sums.{sums_of}
 use Rattle.mesh_laws.proofs.KeyTables.{equal_entries, entry_itself}
 use Rattle.mesh_laws.proofs.TableChanges.{changeset_leads}
 use Rattle.tt_local.specs.Clients.{AreInOrder, ClientsStand, client_at, client_row, group_row, present_entries, sighted_row, sighting_row, with_sighting}
-use Rattle.tt_local.specs.Journal.{AreInKeyOrder, AreNumbered, AreTwins, HasCommitted, HasTableOf, HasTwin, JournalStands, JournalView, new_number, past_of, snapshots_of, with_snapshot}
+use Rattle.tt_local.specs.Journal.{new_number}
 use Rattle.tt_local.specs.Roster.{IsRenewed, IsSettled, IsTracked, RosterView, counting, has_key, is_aged, is_aged_sighting, kept_flags, present_flags, settled_client}
 use Rattle.tt_local.specs.declared.client.Client.{Client}
 use Rattle.tt_local.specs.declared.sighting.Sighting.{Sighting}
 use Rattle.tt_local.proofs.ChangesLemmas.{flags_of_present, missing_is}
 use Rattle.tt_local.proofs.ClientsLemmas.{rows_kept}
-use Rattle.tt_local.proofs.NumberedLemmas.{from_end, table_before, table_kept}
 use Rattle.tt_local.proofs.RosterLemmas.{none_sorted}
 
 -- ---- clients that aren't present
@@ -196,50 +191,7 @@ some_changes a b ordered some = go (same_table a b) refl
 pub same_from_equal : (a b : List Entry) → a ≡ b → same_table a b ≡ true
 same_from_equal a b is = subst (λ t. same_table a t ≡ true) is (same_table_itself a)
 
--- ---- the journal after a commit
-next_number : (byte n : ℕ) → byte ≡ n % 256 → (byte + 1) % 256 ≡ (n + 1) % 256
-next_number byte n is = omega (arith, is)
-
--- the table after a commit is that to which the changes lead
-pub table_after : (changes : List Change) (old new : JournalView) (table : List Entry) → HasCommitted changes old new → changes ≡ changeset old.table table → IsInKeyOrder old.table → IsInKeyOrder table → new.table ≡ table
-table_after changes old new table made are ordered others =
-    let led : apply_strictly old.table changes ≡ Ok table = ap (apply_strictly old.table) are ∙ changeset_leads old.table table ordered others in
-    let both : Ok new.table ≡ Ok table = sym made.table ∙ led in
-    cc
-
--- a commit keeps the table of another as commits are added
-twin_kept : (c : Version) (cs : List Version) (twin number : ℕ) → number < length cs → HasTableOf twin number cs → HasTableOf twin number (c ∷ cs)
-twin_kept c cs twin number below twins = λ table has. table_kept c twin table cs (twins table (table_before c number table cs below has))
-
-twins_more : (c : Version) (cs : List Version) (old new : List ℕ) (twin count : ℕ) → new ≡ old ++ twin ∷ [] → length old ≡ count → count < length cs → AreTwins old cs → HasTableOf twin count cs → AreTwins new (c ∷ cs)
-twins_more c cs old new twin count more long below twins is = λ n t got. go n t (from_end old twin t n (ap (λ l. slice_get l n) (sym more) ∙ got))
-  where
-    go : (n t : ℕ) → ((n ≡ length old) × (t ≡ twin)) ⊎ (slice_get old n ≡ Some t) → HasTableOf t n (c ∷ cs)
-    go n t (inl p) = twin_kept c cs t n (omega (arith, p.0, long, below)) (subst (λ m. HasTableOf t m cs) (sym (p.0 ∙ long)) (subst (λ u. HasTableOf u count cs) (sym p.1) is))
-    go n t (inr h) = let within = slice_get_within old n t h in twin_kept c cs t n (omega (arith, within, long, below)) (twins n t h)
-
-pub journal_committed : (changes : List Change) (old new : JournalView) (history : History) (table : List Entry) → HasCommitted changes old new → HasTwin old new → JournalStands old history → changes ≡ changeset old.table table → IsInKeyOrder table → JournalStands new (with_commit table history)
-journal_committed changes old new history table made twinned stands are ordered = go history.commits refl stands.count stands.table stands.numbered stands.changes stands.past stands.twins (twinned.twin_is history stands) stands.snapshots stands.ordered
-  where
-    go : (commits : List Version) → history.commits ≡ commits → length commits ≡ length old.past + 1 → old.table ≡ (last_commit commits).table → AreNumbered commits → old.changes ≡ last_changes commits → old.past ≡ past_of (drop 1 commits) → AreTwins old.twins commits → HasTableOf twinned.twin (length old.past) commits → old.snapshots ≡ snapshots_of (drop 1 commits) → AreInKeyOrder commits → JournalStands new (with_commit table history)
-    go [] is count tables numbered changed past twins twin snapshots orders = absurd (omega (arith, count))
-    go (newest ∷ older) is count tables numbered changed past twins twin snapshots orders =
-        let longer : length new.past ≡ length old.past + 1 = ap length made.past ∙ length-append old.past _ in
-        let number : length old.past ≡ length older = omega (arith, count) in
-        let became : new.table ≡ table = table_after changes old new table made are (subst IsInKeyOrder (sym tables) orders.0) ordered in
-        subst (λ (cs : List Version). JournalStands new (record { commits = record { byte = next_byte (last_commit cs).byte; table = table } ∷ cs; sent = 0 })) (sym is) (record {
-          table = became;
-          numbered = (next_number newest.byte (length older) numbered.0 ∙ ap (λ n. n % 256) (omega arith), numbered);
-          changes = made.changes_are ∙ are ∙ ap (λ t. changeset t table) tables;
-          count = omega (arith, count, longer);
-          past = made.past ∙ ap₂ (λ ps p. ps ++ p ∷ []) past (ap₂ (λ c t. record { changes = c; sums = sums_of t }) changed tables);
-          twins = twins_more _ (newest ∷ older) old.twins new.twins twinned.twin (length old.past) twinned.twins stands.twin_count (omega (arith, number)) twins twin;
-          twin_count = (let more = ap length twinned.twins ∙ length-append old.twins (twinned.twin ∷ []) in let long = stands.twin_count in omega (arith, more, long, longer));
-          snapshots = made.snapshots ∙ ap (λ n. with_snapshot n old.table old.snapshots) number ∙ ap₂ (λ t ss. with_snapshot (length older) t ss) tables snapshots;
-          sent = made.sent;
-          ordered = (ordered, orders);
-        })
-
+-- ---- what is committed
 -- the table of the present clients is that of the node
 pub present_is : (clients : List (Key × Client)) (mentions : List Mention) (since now : ℕ) → ClientsStand clients mentions since → since ≤ now → present_entries now clients ≡ present_table mentions now
 present_is clients mentions since now stands late = ap (map (λ (row : LocalRow). row.entry)) (rows_kept clients mentions since now stands late)

@@ -6,5 +6,8 @@ pub mod RosterLemmas
 pub mod ChangesLemmas
 pub mod CommitLemmas
 pub mod NumberedLemmas
+pub mod RunLemmas
+pub mod JournalLemmas
 pub mod AliasLemmas
+pub mod SearchLemmas
 pub mod CommitLawLemmas

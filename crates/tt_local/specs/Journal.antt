@@ -1,17 +1,19 @@
 -- How what a journal keeps stands for a node's history. It keeps the last commit with its changes,
 -- the changes and checksums of each commit before it, a commit that has the same table, and the
--- whole table of each 32nd of these. The main word is `JournalStands`.
-use Rattle.std.specs.Prelude.{◌≡◌, ℕ, ◌+◌, ◌%◌, ◌/◌, ◌==◌, min, List, [], ◌∷◌, ◌++◌, drop, length, slice_get, Bool, false, if◌then◌else◌, Option, None, Some, Ok, option_map}
+-- whole table of each 32nd of these. A first commit has the changes here that lead to it, and the
+-- numbers of the logs tell which commits are first ones. The main word is `JournalStands`.
+use Rattle.std.specs.Prelude.{◌≡◌, ℕ, ◌+◌, ◌-◌, ◌%◌, ◌/◌, ◌==◌, ◌≤◌, min, List, [], ◌∷◌, ◌++◌, drop, length, slice_get, if◌then◌else◌, Option, None, Some, Ok, option_map}
 use Rattle.mesh_base.specs.declared.client.Entry.{Entry}
 use Rattle.mesh_model.specs.Packets.Bodies.{VlanSum}
 use Rattle.mesh_model.specs.Tables.Changes.{IsInKeyOrder}
 use Rattle.mesh_model.specs.Tables.Strict.{apply_strictly}
 use Rattle.mesh_model.specs.Tables.Sums.{sums_of}
 use Rattle.mesh_model.specs.Tables.Versions.{Version}
-use Rattle.mesh_model.specs.Commits.Versions.{changes_from, commit_numbered, last_changes, last_commit, same_table}
-use Rattle.mesh_model.specs.Commits.Aliases.{are_aliases}
+use Rattle.mesh_model.specs.Commits.Versions.{changes_from, changes_to_last, commit_numbered, last_commit, same_table}
 use Rattle.mesh_model.specs.Commits.History.{History}
 use Rattle.mesh_model.specs.declared.table_change.Change.{Change}
+use Rattle.tt_local.specs.Runs.{AreNumbered, is_kept}
+use Rattle.tt_local.specs.declared.run.Run.{Run}
 
 -- what is kept of a commit that isn't the last
 pub record PastCommit : Type 0 where
@@ -19,15 +21,30 @@ pub record PastCommit : Type 0 where
   pub sums : List VlanSum
 
 -- what a journal keeps: the last commit's table and changes, the commits before it, oldest first,
--- of each of them a commit that has its table, each 32nd of their tables, and how many messages
--- have announced the last commit, at most three
+-- of each of them a commit that has its table, each 32nd of their tables, the number of the last
+-- first commit, the logs before it, and how many messages have announced the last commit, at most
+-- three
 pub record JournalView : Type 0 where
   pub table : List Entry
   pub changes : List Change
   pub past : List PastCommit
   pub twins : List ℕ
   pub snapshots : List (List Entry)
+  pub start : ℕ
+  pub runs : List Run
   pub sent : ℕ
+
+-- the log that goes on
+abbrev pub present_run : JournalView → Run
+present_run view = record { first = view.start; count = length view.past - view.start + 1 }
+
+-- all logs that aren't left out, and the one that goes on
+abbrev pub all_runs : JournalView → List Run
+all_runs view = view.runs ++ present_run view ∷ []
+
+-- the logs before the next one
+abbrev pub runs_before : JournalView → List Run
+runs_before view = if is_kept (present_run view) then all_runs view else view.runs
 
 -- of how many commits one keeps its whole table
 abbrev pub snapshot_interval : ℕ
@@ -54,11 +71,6 @@ abbrev pub AreInKeyOrder : List Version → Type 0
 AreInKeyOrder [] = Unit
 AreInKeyOrder (newest ∷ older) = IsInKeyOrder newest.table × AreInKeyOrder older
 
--- each commit, newest first, is under its number modulo 256
-abbrev pub AreNumbered : List Version → Type 0
-AreNumbered [] = Unit
-AreNumbered (newest ∷ older) = (newest.byte ≡ length older % 256) × AreNumbered older
-
 -- the number of the commit that a table becomes, where it differs from the last commit's
 abbrev pub new_number : List Entry → History → Option ℕ
 new_number table history = if same_table (last_commit history.commits).table table then None
@@ -82,8 +94,10 @@ AreTwins twins commits =
 -- a journal keeps what there is to keep of a history
 pub record JournalStands (view : JournalView) (history : History) : Type 0 where
   pub table : view.table ≡ (last_commit history.commits).table
-  pub numbered : AreNumbered history.commits
-  pub changes : view.changes ≡ last_changes history.commits
+  pub start : view.start ≡ history.start
+  pub begun : view.start ≤ length view.past
+  pub numbered : AreNumbered (all_runs view) history.commits
+  pub changes : view.changes ≡ changes_to_last history.commits
   pub count : length history.commits ≡ length view.past + 1
   pub past : view.past ≡ past_of (drop 1 history.commits)
   pub twins : AreTwins view.twins history.commits
@@ -100,6 +114,16 @@ pub record HasCommitted (changes : List Change) (old new : JournalView) : Type 0
       ≡ old.past ++ record { changes = old.changes; sums = sums_of old.table } ∷ []
   pub snapshots : new.snapshots ≡ with_snapshot (length old.past) old.table old.snapshots
   pub sent : new.sent ≡ 0
+
+-- a journal's log goes on
+pub record GoesOn (old new : JournalView) : Type 0 where
+  pub start : new.start ≡ old.start
+  pub runs : new.runs ≡ old.runs
+
+-- with its last commit a journal begins another log
+pub record HasRestarted (old new : JournalView) : Type 0 where
+  pub start : new.start ≡ length new.past
+  pub runs : new.runs ≡ runs_before old
 
 -- a journal has a commit more that has the table of the one that was the last
 pub record HasTwin (old new : JournalView) : Type 0 where
@@ -118,16 +142,3 @@ pub record AreSnapshots (snapshots : List (List Entry)) (commits : ℕ) : Type 0
 abbrev pub HasSums : ℕ → List VlanSum → List Version → Type 0
 HasSums number sums commits =
     option_map (λ version. sums_of version.table) (commit_numbered number commits) ≡ Some sums
-
--- whether two commits are aliases, by their numbers
-abbrev pub AreAliasesAt : Bool → ℕ → ℕ → List Version → Type 0
-AreAliasesAt answer number earlier commits = (one other : Version) →
-    commit_numbered number commits ≡ Some one → commit_numbered earlier commits ≡ Some other →
-    answer ≡ are_aliases one other
-
--- no commit that has the table of this one, if there is one, is an alias of the commit of a number
--- whose byte it has
-abbrev pub IsPassed : ℕ → Option ℕ → List Version → Type 0
-IsPassed number None commits = Unit
-IsPassed number (Some twin) commits = (earlier : ℕ) → earlier % 256 ≡ number % 256 →
-    HasTableOf twin earlier commits → AreAliasesAt false number earlier commits

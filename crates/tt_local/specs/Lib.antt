@@ -2,7 +2,9 @@
 pub mod Clients
 pub mod Roster
 pub mod Moments
+pub mod Runs
 pub mod Journal
+pub mod AliasSearch
 pub mod Locals
 pub mod Announcing
 pub mod Limits

@@ -1,30 +1,84 @@
-ghost use Rattle.std.specs.Prelude.{◌≡◌, ◌↔◌, ◌+◌, ◌%◌, ◌≤◌, ◌<◌, ℕ, List, length, IfOk, OnOk, IsTrue};
+ghost use Rattle.std.specs.Prelude.{◌≡◌, ◌↔◌, ◌+◌, ◌≤◌, ◌<◌, ℕ, List, length, IfOk, IfSome, OnOk, IsTrue};
 ghost use Rattle.mesh_model.specs.Clients.Mentions.{Mention};
 ghost use Rattle.mesh_model.specs.Commits.Aliases.{alias_of, last_alias};
 ghost use Rattle.mesh_model.specs.Commits.History.{History};
-ghost use Rattle.tt_local.specs.Journal.{AreAliasesAt, HasTable, HasTableOf, IsPassed, JournalStands};
+ghost use Rattle.tt_local.specs.AliasSearch.{AreAliasesAt, HasByte, HaveOneByte, IsLeastIn, IsPassed};
+ghost use Rattle.tt_local.specs.Journal.{all_runs, HasTable, HasTableOf, JournalStands};
 ghost use Rattle.tt_local.specs.Locals.{LocalsStand};
+ghost use Rattle.tt_local.specs.Runs.{IsAmong};
 
 use crate::journal::Journal;
 use crate::locals::Locals;
+use crate::run::{Run, run_of};
 use mesh_base::{Entry, NoMemory};
 
 /// After how many commits a byte comes again.
 const BYTES: usize = 256;
 
 impl Journal {
-    // The alias of a commit: looked for among the earlier commits of its byte.
+    // The alias of a commit: looked for among the earlier commits of its byte, log by log.
     fn alias_of(&self, number: usize) -> Result<Option<u64>, NoMemory>
         requires made { number ≤ length self.now.past }
         ensures { IfOk result (λ alias. (history : History) → JournalStands self.now history →
             alias ≡ alias_of number history.commits) }
     {
         let table = self.table_at(number)?;
+        let byte = self.byte_of(number);
         let mut passed = None;
-        for round in 0..number / BYTES {
-            let earlier = number % BYTES + round * BYTES;
-            if self.is_alias(number, table.as_slice(), earlier, &mut passed)? {
+        for run in &self.runs {
+            let found = self.alias_in(*run, number, byte, table.as_slice(), &mut passed)?;
+            if let Some(earlier) = found {
                 return Ok(Some(earlier as u64));
+            }
+        }
+        let found = self.alias_in(self.present(), number, byte, table.as_slice(), &mut passed)?;
+        Ok(found.map(|earlier| earlier as u64))
+    }
+
+    // The byte of a commit. One of no log that is kept is a first commit.
+    fn byte_of(&self, number: usize) -> usize
+        ensures byte { (history : History) → JournalStands self.now history →
+            HasByte number result history.commits }
+        ensures below { result < 256 }
+    {
+        let present = self.present();
+        if present.has(number) {
+            return (number - present.first) % BYTES;
+        }
+        match run_of(number, self.runs.as_slice()) {
+            None => 0,
+            Some(run) => (number - run.first) % BYTES,
+        }
+    }
+
+    // The least alias of a commit, by its number, its byte and its table, among the commits of a
+    // log.
+    fn alias_in(
+        &self,
+        run: Run,
+        number: usize,
+        byte: usize,
+        table: &[Entry],
+        passed: &mut Option<usize>,
+    ) -> Result<Option<usize>, NoMemory>
+        requires made { number ≤ length self.now.past }
+        requires byte { byte < 256 }
+        ensures alias { IfOk result (λ alias. (history : History) →
+            JournalStands self.now history → IsAmong run (all_runs self.now) →
+            HasByte number byte history.commits → HasTable number table.now history.commits →
+            IsPassed number passed.old history.commits →
+            IsLeastIn alias run number history.commits) }
+        ensures passed { OnOk result ((history : History) →
+            JournalStands self.now history → IsAmong run (all_runs self.now) →
+            HasByte number byte history.commits → HasTable number table.now history.commits →
+            IsPassed number passed.old history.commits →
+            IsPassed number passed.new history.commits) }
+    {
+        let count = run.count.min(number.saturating_sub(run.first));
+        for round in 0..count.saturating_sub(byte).div_ceil(BYTES) {
+            let earlier = run.first + (byte + round * BYTES);
+            if self.is_alias(number, table, earlier, passed)? {
+                return Ok(Some(earlier));
             }
         }
         Ok(None)
@@ -41,14 +95,13 @@ impl Journal {
     ) -> Result<bool, NoMemory>
         requires made { number ≤ length self.now.past }
         requires earlier { earlier < number }
-        requires byte { earlier % 256 ≡ number % 256 }
         ensures answer { IfOk result (λ answer. (history : History) →
-            JournalStands self.now history → HasTable number table.now history.commits →
-            IsPassed number passed.old history.commits →
+            JournalStands self.now history → HaveOneByte number earlier history.commits →
+            HasTable number table.now history.commits → IsPassed number passed.old history.commits →
             AreAliasesAt answer number earlier history.commits) }
         ensures passed { OnOk result ((history : History) →
-            JournalStands self.now history → HasTable number table.now history.commits →
-            IsPassed number passed.old history.commits →
+            JournalStands self.now history → HaveOneByte number earlier history.commits →
+            HasTable number table.now history.commits → IsPassed number passed.old history.commits →
             IsPassed number passed.new history.commits) }
     {
         let twin = self.twin_at(earlier);
@@ -68,9 +121,8 @@ impl Journal {
     fn are_aliases(&self, number: usize, table: &[Entry], earlier: usize) -> Result<bool, NoMemory>
         requires made { number ≤ length self.now.past }
         requires earlier { earlier < number }
-        requires byte { earlier % 256 ≡ number % 256 }
         ensures { IfOk result (λ answer. (history : History) → JournalStands self.now history →
-            HasTable number table.now history.commits →
+            HaveOneByte number earlier history.commits → HasTable number table.now history.commits →
             AreAliasesAt answer number earlier history.commits) }
     {
         let sums = self.sums_at(number);
@@ -83,14 +135,14 @@ impl Journal {
 }
 
 impl Journal {
-    /// The number of a commit that has the last one's table: that which the commit before it of its
+    /// The number of a commit that has the last one's table: that which a commit before it of its
     /// byte has, where their tables are one, else the last.
     pub(crate) fn twin(&self) -> Result<usize, NoMemory>
         ensures { IfOk result (λ twin. (history : History) → JournalStands self.now history →
             HasTableOf twin (length self.now.past) history.commits) }
     {
         let last = self.last();
-        let Some(before) = last.checked_sub(BYTES) else {
+        let Some(before) = self.before() else {
             return Ok(last);
         };
         let sums = self.sums_at(last);
@@ -102,6 +154,20 @@ impl Journal {
             return Ok(last);
         }
         Ok(self.twin_at(before))
+    }
+
+    // The commit before the last one of its byte: in its log, else at its place in the log before.
+    fn before(&self) -> Option<usize>
+        ensures { IfSome result (λ before. before < length self.now.past) }
+    {
+        let last = self.last();
+        let place = last - self.start;
+        if place >= BYTES {
+            return Some(last - BYTES);
+        }
+        let run = self.runs.last()?;
+        let before = run.first.checked_add(place)?;
+        (place < run.count && before < last).then_some(before)
     }
 
     // The number of a commit that has a commit's table.

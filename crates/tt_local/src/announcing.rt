@@ -40,11 +40,11 @@ impl Locals {
         self.journal.table()
     }
 
-    /// The changes of the last commit, where it isn't commit 0 and a message may carry them.
+    /// The changes of the last commit, where it isn't a first one and a message may carry them.
     pub fn told_changes(&self) -> Option<&Changes>
         ensures { (mentions : List Mention) (history : History) (since : ℕ) →
             LocalsStand self.now mentions history since →
-            option_map (λ changes. changes.now) result ≡ told_changes history.commits }
+            option_map (λ changes. changes.now) result ≡ told_changes history }
     {
         self.journal.told()
     }

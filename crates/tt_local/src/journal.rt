@@ -1,12 +1,15 @@
-ghost use Rattle.std.specs.Prelude.{◌≡◌, ◌+◌, ◌%◌, ◌==◌, ◌≤◌, ◌&&◌, nat_lt, nat_le, List, [], length, min, option_map, if◌then◌else◌, IfOk, None, Some, Ok, OnErr, OnOk};
+ghost use Rattle.std.specs.Prelude.{◌≡◌, ◌+◌, ◌-◌, ◌%◌, ◌==◌, ◌≤◌, List, [], length, min, option_map, if◌then◌else◌, IfOk, None, Some, Ok, OnErr, OnOk};
 ghost use Rattle.std.specs.Rc.{rc_slice_items};
 ghost use Rattle.mesh_base.specs.declared.client.Entry.{Entry};
 ghost use Rattle.mesh_model.specs.Tables.Changes.{IsInKeyOrder};
 ghost use Rattle.mesh_model.specs.Tables.Strict.{apply_strictly};
-ghost use Rattle.mesh_model.specs.Commits.Announcements.{carried_changes, carrying_messages, told_changes};
+ghost use Rattle.mesh_model.specs.Commits.Announcements.{announced_changes, told_changes};
 ghost use Rattle.mesh_model.specs.Commits.History.{History};
-ghost use Rattle.tt_local.specs.Journal.{HasCommitted, HasTwin, JournalStands, snapshot_interval};
+ghost use Rattle.mesh_model.specs.Tables.Changes.{changeset};
+ghost use Rattle.tt_local.specs.Journal.{GoesOn, HasCommitted, HasRestarted, HasTwin, JournalStands, present_run, snapshot_interval};
 
+use crate::roster::push_all;
+use crate::run::Run;
 use mesh_base::{Entry, NoMemory, Steps};
 use std::alloc::Global;
 use std::marker::Model;
@@ -31,8 +34,9 @@ pub(crate) struct Past {
     pub(crate) sums: Sums,
 }
 
-/// The commits of a node: the last one whole, the changes and checksums of each before it, and the
-/// whole table of each 32nd of these.
+/// The commits of a node in all its logs: the last one whole, the changes and checksums of each
+/// before it, and the whole table of each 32nd of these. A first commit is kept like any other, by
+/// the deletions that lead to it.
 #[derive(Drop)]
 pub(crate) struct Journal {
     pub(crate) alloc: Global,
@@ -43,11 +47,15 @@ pub(crate) struct Journal {
     pub(crate) snapshots: Vec<RcSlice<Entry>>,
     pub(crate) table: Table,
     changes: Changes,
+    /// The number of the first commit of the log that goes on.
+    pub(crate) start: usize,
+    /// The logs before it; one without a further commit is left out, unless it is the first.
+    pub(crate) runs: Vec<Run>,
     sent: u8,
 }
 
 impl Model for Journal {
-    ghost use Rattle.std.specs.Prelude.{length, map};
+    ghost use Rattle.std.specs.Prelude.{◌≤◌, length, map};
     ghost use Rattle.std.specs.Rc.{rc_slice_items};
     ghost use Rattle.tt_local.specs.Journal.{AreSnapshots, JournalView};
     ghost use Rattle.tt_table.specs.Sums.{named_sums};
@@ -60,11 +68,13 @@ impl Model for Journal {
       past = map (λ p. record { changes = p.changes; sums = named_sums p.sums }) j.past.items;
       twins = j.twins.items;
       snapshots = map rc_slice_items j.snapshots.items;
+      start = j.start;
+      runs = j.runs.items;
       sent = j.sent;
     } };
 
     ghost invariant = { λ j. AreSnapshots (map rc_slice_items j.snapshots.items)
-        (length j.past.items) };
+        (length j.past.items) × (j.start ≤ length j.past.items) };
 }
 
 impl Journal {
@@ -76,6 +86,8 @@ impl Journal {
           past = [];
           twins = [];
           snapshots = [];
+          start = 0;
+          runs = [];
           sent = 0;
         } }
     {
@@ -86,6 +98,8 @@ impl Journal {
             snapshots: Vec::new(alloc),
             table: Table::new(alloc),
             changes: Changes::new(alloc),
+            start: 0,
+            runs: Vec::new(alloc),
             sent: 0,
         }
     }
@@ -115,6 +129,7 @@ impl Journal {
             × (apply_strictly self.old.table changes ≡ Ok table) }
         ensures committed { OnOk result (HasCommitted changes self.old self.new) }
         ensures twin { OnOk result (HasTwin self.old self.new) }
+        ensures goes_on { OnOk result (GoesOn self.old self.new) }
         ensures err { OnErr result (self.new ≡ self.old) }
         ensures steps { steps.new ≤ steps.old + length changes }
     {
@@ -139,33 +154,84 @@ impl Journal {
         Ok(())
     }
 
+    /// Begins another log, by one more first commit.
+    pub(crate) fn restart(&mut self) -> Result<(), NoMemory>
+        ensures committed { OnOk result
+            (HasCommitted (changeset self.old.table []) self.old self.new) }
+        ensures twin { OnOk result (HasTwin self.old self.new) }
+        ensures restarted { OnOk result (HasRestarted self.old self.new) }
+        ensures empty { OnOk result (self.new.table ≡ []) }
+        ensures err { OnErr result (self.new ≡ self.old) }
+    {
+        let sums = self.table.sums().copy()?;
+        let snapshot = self.snapshot()?;
+        let twin = self.twin()?;
+        let mut deletions = Changes::new(self.alloc);
+        push_all(&mut deletions, self.table.as_slice(), true)?;
+        self.twins.reserve(1)?;
+        self.past.reserve(1)?;
+        self.snapshots.reserve(1)?;
+        self.runs.reserve(1)?;
+        let run = self.present();
+        if run.is_kept() {
+            self.runs.push(run).unwrap();
+        }
+        self.table = Table::new(self.alloc);
+        let changes = mem::replace(&mut self.changes, deletions);
+        self.twins.push(twin).unwrap();
+        self.past.push(Past { changes, sums }).unwrap();
+        if let Some(snapshot) = snapshot {
+            self.snapshots.push(snapshot).unwrap();
+        }
+        self.start = self.past.len();
+        self.sent = 0;
+        Ok(())
+    }
+
+    /// The log that goes on.
+    pub(crate) fn present(&self) -> Run
+        ensures { result ≡ present_run self.now }
+    {
+        Run {
+            first: self.start,
+            count: self.past.len() - self.start + 1,
+        }
+    }
+
+    /// The number of the first commit of the log that goes on.
+    pub(crate) fn first(&self) -> usize
+        ensures { result ≡ self.now.start }
+    {
+        self.start
+    }
+
     /// The byte of the last commit.
     pub(crate) fn byte(&self) -> u8
-        ensures { result ≡ length self.now.past % 256 }
+        ensures { result ≡ (length self.now.past - self.now.start) % 256 }
     {
-        (self.past.len() % 256) as u8
+        ((self.past.len() - self.start) % 256) as u8
     }
 
     /// The changes that the next message carries: the last commit's, in the first messages after
-    /// it, if they are few enough.
+    /// it, if they are few enough and it isn't a first commit.
     pub(crate) fn carried(&self) -> Result<Changes, NoMemory>
-        ensures { IfOk result (λ changes. changes
-            ≡ (if nat_lt self.now.sent carrying_messages
-            && nat_le (length self.now.changes) carried_changes
-            then self.now.changes else [])) }
+        ensures { IfOk result (λ changes. (history : History) → JournalStands self.now history →
+            changes ≡ announced_changes history) }
     {
-        if self.sent < COUNTED_MESSAGES && self.changes.len() <= CARRIED_CHANGES {
-            return self.changes.copy();
+        if self.sent < COUNTED_MESSAGES {
+            if let Some(changes) = self.told() {
+                return changes.copy();
+            }
         }
         Ok(Changes::new(self.alloc))
     }
 
-    /// The last commit's changes, where it isn't commit 0 and a message may carry them.
+    /// The last commit's changes, where it isn't a first commit and a message may carry them.
     pub(crate) fn told(&self) -> Option<&Changes>
         ensures { (history : History) → JournalStands self.now history →
-            option_map (λ changes. changes.now) result ≡ told_changes history.commits }
+            option_map (λ changes. changes.now) result ≡ told_changes history }
     {
-        if self.last() == 0 || self.changes.len() > CARRIED_CHANGES {
+        if self.last() == self.start || self.changes.len() > CARRIED_CHANGES {
             return None;
         }
         Some(&self.changes)

@@ -14,7 +14,9 @@ pub mod locals;
 mod moments;
 mod pending;
 mod rebuilding;
+mod restart;
 mod roster;
+mod run;
 mod sighting;
 mod vlans;
 

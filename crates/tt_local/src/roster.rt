@@ -208,8 +208,8 @@ fn differing(key: Key, flags: Option<u8>, others: Option<u8>) -> Option<Entry>
     (others != Some(flags)).then_some(Entry { key, flags })
 }
 
-// Adds the changes that take entries away, or that add them.
-fn push_all(changes: &mut Changes, entries: &[Entry], del: bool) -> Result<(), NoMemory>
+/// Adds the changes that take entries away, or that add them.
+pub(crate) fn push_all(changes: &mut Changes, entries: &[Entry], del: bool) -> Result<(), NoMemory>
     ensures { OnOk result (changes.new
         ≡ changes.old ++ map (λ entry. record { entry = entry; del = del }) entries.now) }
 {

@@ -52,7 +52,7 @@ fn asked_changes(locals: &Locals, full: bool, byte: u8) -> Option<&Changes>
         LocalsStand locals.now mentions history since →
         option_map (λ changes. changes.now) result
         ≡ (if not full && (byte == (last_commit history.commits).byte)
-        then told_changes history.commits else None) }
+        then told_changes history else None) }
 {
     if full || byte != locals.last_byte() {
         return None;
@@ -65,8 +65,8 @@ fn asked_changes(locals: &Locals, full: bool, byte: u8) -> Option<&Changes>
 pub fn answer_own(locals: &Locals, full: bool, byte: u8) -> Result<Reply, NoMemory>
     ensures answer { IfOk result (λ reply. (mentions : List Mention) (history : History)
         (since : ℕ) → LocalsStand locals.now mentions history since →
-        answer_in reply ≡ own_reply full byte (last_commit history.commits)
-        (told_changes history.commits)) }
+        answer_in reply
+        ≡ own_reply full byte (last_commit history.commits) (told_changes history)) }
 
     // It carries a commit; in full it is what a node takes that was told of the last commit.
     ensures commit { IfOk result (λ reply. (mentions : List Mention) (history : History)

@@ -1,4 +1,4 @@
-use Rattle.std.proofs.Common.{◌≡◌, ◌-◌, ◌&&◌, ◌∙◌, nat_lt, false, slice_get, sym, rules}
+use Rattle.std.proofs.Common.{◌≡◌, ◌-◌, ◌&&◌, nat_lt, false, slice_get, rules}
 use Rattle.mesh_algo.specs.Walk.{is_row_of}
 use Rattle.mesh_algo.proofs.WalkLemmas.{back_walk}
 use Rattle.mesh_algo.proofs.table.first_path_near.Goals as goal

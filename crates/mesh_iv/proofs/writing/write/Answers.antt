@@ -20,8 +20,8 @@ returns-clause-written c =
     = λ sorted. c.in_ok-put_path.ensures.rises (subst (λ rows. IsStrictlySortedBy pair_order (keys_of rows)) (sym same_paths) sorted) in
     let over : IsStrictlySortedBy pair_order (keys_of c.args.paths.now.entries) → c.is_over-over.result ≡ (goes_on came c.args.value (forwarded_by life) true && is_over_after came life c.put_path.new.paths.entries)
     = λ sorted. c.is_over-over.ensures (rises sorted) in
-    let row : IsStrictlySortedBy pair_order (keys_of c.args.paths.now.entries) → c.life_after-after.result ≡ life_then came life c.args.value c.put_path.new.paths.entries
-    = λ sorted. c.life_after-after.ensures ∙ ap (λ b. life_with came.moment came.seq life b) (c.goes_on-sent.ensures ∙ ap (λ b. goes_on came c.args.value (forwarded_by life) b) (over sorted) ∙ asked_goes came c.args.value (forwarded_by life) (is_over_after came life c.put_path.new.paths.entries)) in
+    let row : IsStrictlySortedBy pair_order (keys_of c.args.paths.now.entries) → c.life_after-after.result ≡ life_then came c.args.restarted life c.args.value c.put_path.new.paths.entries
+    = λ sorted. c.life_after-after.ensures ∙ ap (λ b. life_with came.moment came.seq c.args.restarted life b) (c.goes_on-sent.ensures ∙ ap (λ b. goes_on came c.args.value (forwarded_by life) b) (over sorted) ∙ asked_goes came c.args.value (forwarded_by life) (is_over_after came life c.put_path.new.paths.entries)) in
     record {
       paths_are = λ pair. c.in_ok-put_path.ensures.updated pair
           ∙ ap (λ p. cond (same_pair p pair) (Some c.args.row) (lookup (same_pair pair) (rows_kept c.is_none.result p.orig c.reserve-2.new.self.entries))) c.pair.ensures

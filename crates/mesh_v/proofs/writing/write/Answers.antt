@@ -19,8 +19,8 @@ returns-clause-written c =
     = λ sorted. c.in_ok-put_path.ensures.rises (subst (λ rows. IsStrictlySortedBy pair_order (keys_of rows)) (sym same_paths) sorted) in
     let sent : IsStrictlySortedBy pair_order (keys_of c.args.paths.now.entries) → c.is_sent_on-sent.result ≡ goes_on came c.args.value (forwarded_by life) (is_over_after came life c.args.origs.now.entries c.put_path.new.paths.entries)
     = λ sorted. c.is_sent_on-sent.ensures (rises sorted) ∙ ap (λ rows. goes_on came c.args.value (forwarded_by life) (is_over_after came life rows c.put_path.new.paths.entries)) same_origs in
-    let life_is : IsStrictlySortedBy pair_order (keys_of c.args.paths.now.entries) → c.life_after-life.result ≡ life_with came.moment came.seq life (goes_on came c.args.value (forwarded_by life) (is_over_after came life c.args.origs.now.entries c.put_path.new.paths.entries))
-    = λ sorted. c.life_after-life.ensures ∙ ap (λ b. life_with came.moment came.seq life b) (sent sorted) in
+    let life_is : IsStrictlySortedBy pair_order (keys_of c.args.paths.now.entries) → c.life_after-life.result ≡ life_with came.moment came.seq c.args.restarted life (goes_on came c.args.value (forwarded_by life) (is_over_after came life c.args.origs.now.entries c.put_path.new.paths.entries))
+    = λ sorted. c.life_after-life.ensures ∙ ap (λ b. life_with came.moment came.seq c.args.restarted life b) (sent sorted) in
     record {
       paths_are = λ pair. c.in_ok-put_path.ensures.updated pair
           ∙ ap (λ p. cond (same_pair p pair) (Some c.args.row) (lookup (same_pair pair) (rows_kept c.is_none.result p.orig c.reserve-2.new.self.entries))) c.pair.ensures

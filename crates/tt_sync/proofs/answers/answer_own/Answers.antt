@@ -10,7 +10,7 @@ use Rattle.tt_sync.proofs.answers.answer_own.Goals as goal
 pub returns-clause-answer : goal.returns-clause-answer
 returns-clause-answer c = λ mentions history since stands.
     answers_changes c.args.full c.args.byte c.last_byte-last.result (named_sums c.in_ok-sums.sums) c.in_ok-records.records c.in-Some.changes.now
-    (last_commit history.commits) (told_changes history.commits) (c.last_byte-last.ensures mentions history since stands)
+    (last_commit history.commits) (told_changes history) (c.last_byte-last.ensures mentions history since stands)
     (c.in_ok-sums.ensures.named ∙ c.last_sums.ensures mentions history since stands) c.in_ok-records.ensures
     (c.in-Some.ensures mentions history since stands)
 
@@ -25,7 +25,7 @@ returns-clause-whole c = λ mentions history since stands full.
 pub returns-in_default-clause-answer : goal.returns-in_default-clause-answer
 returns-in_default-clause-answer c = λ mentions history since stands.
     answers_whole c.args.full c.args.byte c.last_byte-last.result c.last_table.result.now.entries (answer_in c.in_ok-reply.reply)
-    (last_commit history.commits) (told_changes history.commits) (c.last_byte-last.ensures mentions history since stands)
+    (last_commit history.commits) (told_changes history) (c.last_byte-last.ensures mentions history since stands)
     (c.last_table.ensures mentions history since stands) c.in_ok-reply.ensures (c.in_default.ensures mentions history since stands)
 
 pub returns-in_default-clause-commit : goal.returns-in_default-clause-commit

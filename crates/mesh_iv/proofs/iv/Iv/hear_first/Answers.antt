@@ -13,7 +13,7 @@ use Rattle.mesh_iv.proofs.iv.Iv.hear_first.Goals as goal
 
 pub returns-clause-noted : goal.returns-clause-noted
 returns-clause-noted c =
-    λ me log tp f.
+    λ me log tp f began.
     let is = f.is in
     let came = c.args.ogm.now in
     let row = c.args.life.now in
@@ -21,10 +21,10 @@ returns-clause-noted c =
     let new : Tables = record { me = c.self.inside.me; sent = c.self.inside.sent; lives = c.write.new.lives.entries; paths = c.write.new.paths.entries } in
     let top : c.max-newest.result ≡ max (newest_by row) came.seq = c.max-newest.ensures ∙ ap (λ n. max n came.seq) c.newest_of.ensures in
     let value_is : c.value-value.result ≡ (hearing_of me log came).value = c.value-value.ensures me log row f top in
-    let written : IsWritten came row (path_with c.args.path.now came.seq c.value-value.result) c.value-value.result (old.lives, old.paths) (new.lives, new.paths)
-    = subst (λ t. IsWritten came row (path_with c.args.path.now came.seq c.value-value.result) c.value-value.result (t.lives, t.paths) (new.lives, new.paths)) c.self.view_is
-    (subst (λ r. IsWritten came row r c.value-value.result (c.self.inside.lives.entries, c.self.inside.paths.entries) (new.lives, new.paths)) c.with-row.ensures c.in_ok-forward.ensures.written) in
-    first_stands me log came f.first row c.args.path.now c.value-value.result old new is f.path_is value_is written tp (ap (λ t. t.me) c.self.view_is) (ap (λ t. t.sent) c.self.view_is)
+    let written : IsWritten came c.args.restarted row (path_with c.args.path.now came.seq c.value-value.result) c.value-value.result (old.lives, old.paths) (new.lives, new.paths)
+    = subst (λ t. IsWritten came c.args.restarted row (path_with c.args.path.now came.seq c.value-value.result) c.value-value.result (t.lives, t.paths) (new.lives, new.paths)) c.self.view_is
+    (subst (λ r. IsWritten came c.args.restarted row r c.value-value.result (c.self.inside.lives.entries, c.self.inside.paths.entries) (new.lives, new.paths)) c.with-row.ensures c.in_ok-forward.ensures.written) in
+    first_stands me log came f.first c.args.restarted row c.args.path.now c.value-value.result old new is f.path_is value_is written tp began (ap (λ t. t.me) c.self.view_is) (ap (λ t. t.sent) c.self.view_is)
 
 pub returns-clause-heard : goal.returns-clause-heard
 returns-clause-heard c =
@@ -36,9 +36,9 @@ returns-clause-heard c =
     let new : Tables = record { me = c.self.inside.me; sent = c.self.inside.sent; lives = c.write.new.lives.entries; paths = c.write.new.paths.entries } in
     let top : c.max-newest.result ≡ max (newest_by row) came.seq = c.max-newest.ensures ∙ ap (λ n. max n came.seq) c.newest_of.ensures in
     let value_is : c.value-value.result ≡ (hearing_of me log came).value = c.value-value.ensures me log row f top in
-    let written : IsWritten came row (path_with c.args.path.now came.seq c.value-value.result) c.value-value.result (old.lives, old.paths) (new.lives, new.paths)
-    = subst (λ t. IsWritten came row (path_with c.args.path.now came.seq c.value-value.result) c.value-value.result (t.lives, t.paths) (new.lives, new.paths)) c.self.view_is
-    (subst (λ r. IsWritten came row r c.value-value.result (c.self.inside.lives.entries, c.self.inside.paths.entries) (new.lives, new.paths)) c.with-row.ensures c.in_ok-forward.ensures.written) in
+    let written : IsWritten came c.args.restarted row (path_with c.args.path.now came.seq c.value-value.result) c.value-value.result (old.lives, old.paths) (new.lives, new.paths)
+    = subst (λ t. IsWritten came c.args.restarted row (path_with c.args.path.now came.seq c.value-value.result) c.value-value.result (t.lives, t.paths) (new.lives, new.paths)) c.self.view_is
+    (subst (λ r. IsWritten came c.args.restarted row r c.value-value.result (c.self.inside.lives.entries, c.self.inside.paths.entries) (new.lives, new.paths)) c.with-row.ensures c.in_ok-forward.ensures.written) in
     let sorted = subst (λ t. IsStrictlySortedBy pair_order (keys_of t.paths)) (sym c.self.view_is) is.stands.paths_stand.rise in
-    first_answer me log came f.first row c.args.path.now c.value-value.result old new is f.path_is value_is written c.is_accepted.result c.is_none.result c.in_ok-forward.forward
+    first_answer me log came f.first c.args.restarted row c.args.path.now c.value-value.result old new is f.path_is value_is written c.is_accepted.result c.is_none.result c.in_ok-forward.forward
     c.is_accepted.ensures (none_test row c.is_none.result c.is_none.ensures) (c.in_ok-forward.ensures.answer sorted)

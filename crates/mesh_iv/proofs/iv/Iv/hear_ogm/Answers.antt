@@ -7,7 +7,7 @@ use Rattle.mesh_model.specs.Routes.Ogm.{passes}
 use Rattle.mesh_model.specs.Routes.Queries.{unheard}
 use Rattle.mesh_iv.specs.Came.{ogm_in}
 use Rattle.mesh_iv.specs.Hears.{IsHeard, hearing_of, life_before, lived_at}
-use Rattle.mesh_algo.proofs.HearingLemmas.{first_from, goes_on_with, late_not_first, seen_not_first}
+use Rattle.mesh_algo.proofs.HearingLemmas.{first_from, goes_on_with, late_not_first, restarted_is, seen_not_first}
 use Rattle.mesh_iv.proofs.ValueLemmas.{is_met, touched_answer}
 use Rattle.mesh_iv.proofs.iv.Iv.hear_ogm.Goals as goal
 use Rattle.mesh_iv.proofs.iv.Iv.hear_ogm.Goals.{then-met-via-then-met, then-met-via-else-met+then-has}
@@ -80,6 +80,7 @@ returns-clause-noted c =
     let first = first_from (hearing_of me log came) (of came.orig (heard me log)) (is_met me log came) (sym (ap (λ m. m.late) met) ∙ c.if-met.false)
     (sym (ap (λ p. has came.seq p.heard) path_is) ∙ sym c.has.ensures ∙ c.if-has.false) in
     c.in_ok-hearing.ensures.noted me log tp (record { is = is; path_is = path_is; first = first })
+    (restarted_is (hearing_of me log came) (of came.orig (heard me log)) (is_met me log came) c.going_on-life.result c.meeting-met.result c.restarted_then-restarted.result is.row_is met c.restarted_then-restarted.ensures)
 
 pub returns-clause-heard : goal.returns-clause-heard
 returns-clause-heard c =

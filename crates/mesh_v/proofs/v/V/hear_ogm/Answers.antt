@@ -4,7 +4,7 @@ use Rattle.mesh_model.specs.Routes.HearingsV.{heard_v}
 use Rattle.mesh_model.specs.Routes.Life.{is_first, of}
 use Rattle.mesh_model.specs.Routes.Numbers.{has}
 use Rattle.mesh_model.specs.Routes.Queries.{unheard}
-use Rattle.mesh_algo.proofs.HearingLemmas.{first_from, late_not_first, seen_not_first}
+use Rattle.mesh_algo.proofs.HearingLemmas.{first_from, late_not_first, restarted_is, seen_not_first}
 use Rattle.mesh_v.specs.Hears.{hearing_of, life_before}
 use Rattle.mesh_v.proofs.StepLemmas.{is_heard, is_met, passed_stands, touched_answer}
 use Rattle.mesh_v.proofs.v.V.hear_ogm.Goals as goal
@@ -65,6 +65,7 @@ returns-clause-noted c =
     let first = first_from (hearing_of me log came) (of came.orig (heard_v me log)) (is_met me log came) (sym (ap (λ m. m.late) met) ∙ c.if-met.false)
     (sym (ap (λ p. has came.seq p.heard) path_is) ∙ sym c.has.ensures ∙ c.if-has.false) in
     c.in_ok-hearing.ensures.noted me log (record { is = is; path_is = path_is; first = first })
+    (restarted_is (hearing_of me log came) (of came.orig (heard_v me log)) (is_met me log came) c.going_on-life.result c.meeting-met.result c.restarted_then-restarted.result is.row_is met c.restarted_then-restarted.ensures)
 
 pub returns-clause-heard : goal.returns-clause-heard
 returns-clause-heard c =

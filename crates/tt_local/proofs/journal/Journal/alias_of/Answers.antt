@@ -1,46 +1,61 @@
-use Rattle.std.proofs.Common.{◌≡◌, ◌+◌, ◌*◌, ◌%◌, ◌<◌, refl, sym, subst, arith}
-use Rattle.tt_local.specs.Journal.{AreAliasesAt, HasTable}
-use Rattle.tt_local.proofs.AliasLemmas.{HasNoneBelow, none_at_first, none_at_next, none_found, one_found}
-use Rattle.tt_local.proofs.NumberedLemmas.{number_made}
+use Rattle.std.proofs.Common.{◌≡◌, ◌∙◌, Some, length, slice_get, get_or, ap, sym, subst, arith, rules}
+use Rattle.std.proofs.lemmas.Option.{slice_get-get_or, slice_get_within}
+use Rattle.tt_local.specs.AliasSearch.{IsFoundIn, IsLeastIn}
+use Rattle.tt_local.specs.Journal.{HasTable, JournalView, all_runs, present_run}
+use Rattle.tt_local.specs.Runs.{IsAmong}
+use Rattle.tt_local.specs.declared.run.Run.{Run}
+use Rattle.tt_local.proofs.SearchLemmas.{found_at_last, found_before_last, none_more}
+use Rattle.tt_local.proofs.RunLemmas.{last_there, place_still}
 use Rattle.tt_local.proofs.journal.Journal.alias_of.Goals as goal
 
-pub loop-round-init : goal.loop-round-init
-loop-round-init c = record {
-  none = λ history stands. subst (λ n. HasNoneBelow n c.args.number history.commits) (omega arith) (none_at_first history.commits stands.numbered c.args.number);
-  passed = λ history stands. tt;
-}
+pub returns-in-Some : goal.returns-in-Some
+returns-in-Some c = λ history stands.
+    let view = c.args.self.now in
+    let index = c.loop-run.run-index in
+    let run : Run = get_or c.deref-run-items.result.now index (record { first = 0; count = 0 }) in
+    let runs = c.deref-run-items.ensures.value ∙ ap (λ (v : JournalView). v.runs) c.self.view_is in
+    let at : slice_get view.runs index ≡ Some run = ap (λ rs. slice_get rs index) (sym runs) ∙ slice_get-get_or c.deref-run-items.result.now index (record { first = 0; count = 0 }) c.loop-run-test.true in
+    let table = subst (λ t. HasTable c.args.number t history.commits) (sym c.as_slice.ensures.value) (c.in_ok-table.ensures history stands) in
+    let there : IsAmong run (all_runs view) = (index, place_still view.runs (present_run view) run index at) in
+    let least = c.in_ok-found.ensures.alias history stands there (c.byte_of-byte.ensures.byte history stands) table (c.loop-run.invariant.passed history stands) in
+    let found : IsFoundIn c.in-Some.earlier run c.args.number history.commits = subst (λ o. IsLeastIn o run c.args.number history.commits) c.in-Some.is least in
+    sym (found_before_last view history stands index run at c.args.number c.in-Some.earlier c.requires.made found (c.loop-run.invariant.none history stands))
 
-pub returns-then-branch : goal.returns-then-branch
-returns-then-branch c = λ history stands.
-    let number = c.args.number in
-    let earlier = number % 256 + c.loop-round.round * 256 in
-    let test = c.loop-round-test.true in
-    let made = c.requires.made in
-    let below : earlier < number = omega (arith, test) in
-    let one = number_made c.args.self.now history stands number made in
-    let other = number_made c.args.self.now history stands earlier (omega (arith, below, made)) in
-    let table = subst (λ t. HasTable number t history.commits) (sym c.as_slice.ensures.value) (c.in_ok-table.ensures history stands) in
-    let are = subst (λ b. AreAliasesAt b number earlier history.commits) c.if-branch.true (c.in_ok-is_alias.ensures.answer history stands table (c.loop-round.invariant.passed history stands)) in
-    sym (one_found history.commits number earlier one.0 other.0 one.1 other.1 below are (c.loop-round.invariant.none history stands))
-
-pub loop-round-preserved : goal.loop-round-preserved
-loop-round-preserved c = record {
+pub loop-run-preserved : goal.loop-run-preserved
+loop-run-preserved c = record {
   none = λ history stands.
-      let number = c.args.number in
-      let earlier = number % 256 + c.loop-round.round * 256 in
-      let table = subst (λ t. HasTable number t history.commits) (sym c.as_slice.ensures.value) (c.in_ok-table.ensures history stands) in
-      let are = subst (λ b. AreAliasesAt b number earlier history.commits) c.if-branch.false (c.in_ok-is_alias.ensures.answer history stands table (c.loop-round.invariant.passed history stands)) in
-      none_at_next history.commits stands.numbered number c.loop-round.round earlier refl are (c.loop-round.invariant.none history stands);
-  passed = λ history stands.
+      let view = c.args.self.now in
+      let index = c.loop-run.run-index in
+      let run : Run = get_or c.deref-run-items.result.now index (record { first = 0; count = 0 }) in
+      let runs = c.deref-run-items.ensures.value ∙ ap (λ (v : JournalView). v.runs) c.self.view_is in
+      let at : slice_get view.runs index ≡ Some run = ap (λ rs. slice_get rs index) (sym runs) ∙ slice_get-get_or c.deref-run-items.result.now index (record { first = 0; count = 0 }) c.loop-run-test.true in
       let table = subst (λ t. HasTable c.args.number t history.commits) (sym c.as_slice.ensures.value) (c.in_ok-table.ensures history stands) in
-      c.in_ok-is_alias.ensures.passed history stands table (c.loop-round.invariant.passed history stands);
+      let there : IsAmong run (all_runs view) = (index, place_still view.runs (present_run view) run index at) in
+      let least = c.in_ok-found.ensures.alias history stands there (c.byte_of-byte.ensures.byte history stands) table (c.loop-run.invariant.passed history stands) in
+      none_more view.runs history.commits c.args.number index run at (subst (λ o. IsLeastIn o run c.args.number history.commits) c.in_default.is least) (c.loop-run.invariant.none history stands);
+  passed = λ history stands.
+      let view = c.args.self.now in
+      let index = c.loop-run.run-index in
+      let run : Run = get_or c.deref-run-items.result.now index (record { first = 0; count = 0 }) in
+      let runs = c.deref-run-items.ensures.value ∙ ap (λ (v : JournalView). v.runs) c.self.view_is in
+      let at : slice_get view.runs index ≡ Some run = ap (λ rs. slice_get rs index) (sym runs) ∙ slice_get-get_or c.deref-run-items.result.now index (record { first = 0; count = 0 }) c.loop-run-test.true in
+      let table = subst (λ t. HasTable c.args.number t history.commits) (sym c.as_slice.ensures.value) (c.in_ok-table.ensures history stands) in
+      let there : IsAmong run (all_runs view) = (index, place_still view.runs (present_run view) run index at) in
+      c.in_ok-found.ensures.passed history stands there (c.byte_of-byte.ensures.byte history stands) table (c.loop-run.invariant.passed history stands);
 }
 
 pub returns : goal.returns
 returns c = λ history stands.
-    let number = c.args.number in
-    let upto = c.loop-round.auto.round-end in
-    let test = c.loop-round-test.false in
-    let all : number % 256 + c.loop-round.round * 256 ≡ number = omega (arith, upto, test) in
-    let one = number_made c.args.self.now history stands number c.requires.made in
-    sym (none_found history.commits number one.0 one.1 (subst (λ n. HasNoneBelow n number history.commits) all (c.loop-round.invariant.none history stands)))
+    let view = c.args.self.now in
+    let runs = c.deref-run-items.ensures.value ∙ ap (λ (v : JournalView). v.runs) c.self.view_is in
+    let test = c.loop-run-test.false in
+    let table = subst (λ t. HasTable c.args.number t history.commits) (sym c.as_slice-2.ensures.value) (c.in_ok-table.ensures history stands) in
+    let there : IsAmong c.present.result (all_runs view) = subst (λ (r : Run). IsAmong r (all_runs view)) (sym c.present.ensures) (length view.runs, last_there view.runs (present_run view)) in
+    let least = c.in_ok-found-2.ensures.alias history stands there (c.byte_of-byte.ensures.byte history stands) table (c.loop-run.invariant.passed history stands) in
+    let found = subst (λ (r : Run). IsLeastIn c.in_ok-found-2.found r c.args.number history.commits) c.present.ensures least in
+    let same : c.map.result ≡ c.in_ok-found-2.found = search rules in
+    same ∙ sym (found_at_last view history stands c.args.number c.in_ok-found-2.found c.requires.made found
+    (λ place run at.
+    let within = slice_get_within view.runs place run at in
+    let long = ap length runs in
+    c.loop-run.invariant.none history stands place run (omega (arith, within, long, test)) at))

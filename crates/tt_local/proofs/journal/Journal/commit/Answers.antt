@@ -1,4 +1,4 @@
-use Rattle.std.proofs.Common.{rules, ◌≡◌, ◌∙◌, ◌+◌, ◌%◌, ◌==◌, ◌++◌, [], ◌∷◌, None, length, map, option_map, sym, ap, subst}
+use Rattle.std.proofs.Common.{rules, ◌≡◌, ◌∙◌, ◌+◌, ◌%◌, ◌==◌, ◌≤◌, ◌++◌, [], ◌∷◌, None, length, map, option_map, sym, ap, subst, arith}
 use Rattle.std.specs.Rc.{rc_slice_items}
 use Rattle.std.proofs.lemmas.List.{length-map, map-append}
 use Rattle.tt_local.specs.Journal.{AreSnapshots, JournalView, PastCommit, with_snapshot}
@@ -31,8 +31,12 @@ invariant_of-self-2 g c =
     ] in
     let snapshots : map rc_slice_items after.snapshots.items ≡ with_snapshot number table (map rc_slice_items before.snapshots.items) =
     pushed ∙ option_kept (number % 32 == 0) table (option_map rc_slice_items c.in_ok-snapshot.snapshot) (map rc_slice_items before.snapshots.items) c.in_ok-snapshot.ensures.kept in
-    snapshots_kept (map rc_slice_items before.snapshots.items) (map rc_slice_items after.snapshots.items) table number (length after.past.items)
-    (subst (AreSnapshots (map rc_slice_items before.snapshots.items)) counted c.self.invariant) c.in_ok-snapshot.ensures.ordered snapshots (more ∙ ap (λ n. n + 1) counted)
+    let begun : before.start ≤ length before.past.items = c.self.invariant.1 in
+    let same : after.start ≡ before.start = search rules in (
+      snapshots_kept (map rc_slice_items before.snapshots.items) (map rc_slice_items after.snapshots.items) table number (length after.past.items)
+          (subst (AreSnapshots (map rc_slice_items before.snapshots.items)) counted c.self.invariant.0) c.in_ok-snapshot.ensures.ordered snapshots (more ∙ ap (λ n. n + 1) counted),
+      omega (arith, begun, same, more),
+    )
 
 pub returns-clause-twin : goal.returns-clause-twin
 returns-clause-twin g c = record { twin = c.in_ok-twin.twin; twins = search rules; twin_is = c.in_ok-twin.ensures }

@@ -9,7 +9,8 @@ use Rattle.tt_local.specs.Journal.{JournalStands}
 use Rattle.tt_local.specs.Locals.{LocalsView, LocalsStand}
 use Rattle.tt_local.specs.Roster.{IsTracked}
 use Rattle.tt_local.proofs.ChangesLemmas.{present_ordered}
-use Rattle.tt_local.proofs.CommitLemmas.{committed_new, committed_same, journal_committed, number_new, number_same, present_is, same_without, settled_stands, settled_tracked, table_after}
+use Rattle.tt_local.proofs.CommitLemmas.{committed_new, committed_same, number_new, number_same, present_is, same_without, settled_stands, settled_tracked}
+use Rattle.tt_local.proofs.JournalLemmas.{journal_committed, table_after}
 use Rattle.tt_local.proofs.locals.Locals.commit.Goals as goal
 
 pub invariant_of-self-then-len-eq0 : goal.invariant_of-self-then-len-eq0
@@ -109,7 +110,7 @@ returns-clause-committed g c = λ mentions history since stands late.
     let no = c.if-len-eq0.false in
     let counted = c.len.ensures in
     absurd (omega (arith, no, counted, zero)) in
-    let new = journal_committed c.in_ok-changes.changes c.self.inside.journal c.commit.new.self history present c.in_ok-commit.ensures.committed c.in_ok-commit.ensures.twin was.journal are others in
+    let new = journal_committed c.in_ok-changes.changes c.self.inside.journal c.commit.new.self history present c.in_ok-commit.ensures.committed c.in_ok-commit.ensures.twin c.in_ok-commit.ensures.goes_on was.journal are others in
     record {
       clients = settled_stands c.args.now c.renew.new.self.pending clients c.settle-2.new.self.clients mentions since c.settle-2.ensures.settled c.settle-2.ensures.order then late;
       journal = subst (JournalStands c.commit.new.self) (ap (λ t. with_commit t history) told ∙ sym (committed_new history (present_table mentions c.args.now) (subst IsInKeyOrder (sym last) ordered) some)) new;
