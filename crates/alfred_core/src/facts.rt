@@ -1,6 +1,6 @@
 //! The facts that a node keeps.
 
-ghost use Rattle.std.specs.Prelude.{◌≡◌, ◌↔◌, ◌≤◌, List, [], ◌∷◌, length, not, slice_get, IfOk, IsNone, OnErr, OnOk, option_map};
+ghost use Rattle.std.specs.Prelude.{◌≡◌, ◌↔◌, ◌≤◌, List, [], ◌∷◌, length, map, not, slice_get, IfOk, IsNone, OnErr, OnOk, option_map};
 ghost use Rattle.mesh_base.specs.declared.address.Mac.{Mac};
 ghost use Rattle.mesh_model.specs.Services.Facts.{CameFrom, FactCall, WasPut, facts_at, is_live_fact, kept_fact, key_of_fact, mark_from, outweighs, stays_kept};
 ghost use Rattle.alfred_core.specs.Facts.{FactsStand, IsKeptBy};
@@ -105,6 +105,21 @@ impl Facts {
     {
         let kept = self.live_at(now, i)?;
         Some(kept.mark)
+    }
+
+    /// The live facts as they are kept, by source, then by type, in one walk.
+    pub fn live(&self, now: Millis) -> Result<Vec<&KeptFact>, NoMemory>
+        ensures { IfOk result (λ rows. (me : Mac) (calls : List FactCall) →
+            FactsStand self.now me calls →
+            map (λ kept. kept.now) rows.items ≡ facts_at calls now) }
+    {
+        let mut rows = Vec::new(self.alloc);
+        for kept in self.kept.values() {
+            if is_live(now, kept) {
+                rows.push(kept)?;
+            }
+        }
+        Ok(rows)
     }
 
     // The live fact at this place as it is kept.

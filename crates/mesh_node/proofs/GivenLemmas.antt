@@ -4,10 +4,10 @@ use Rattle.std.specs.Prelude.{filter_map, if◌then◌else◌}
 use Rattle.mesh_base.specs.declared.address.Mac.{Mac}
 use Rattle.mesh_base.specs.declared.client.Key.{Key}
 use Rattle.mesh_model.specs.Clients.Limits.{clients_limit, limit_of_mention, limit_of_mentions}
-use Rattle.mesh_model.specs.Clients.Log.{Log, Tick, LinkFrame, Line, Attach, Gone, Join, Leave, Sets}
+use Rattle.mesh_model.specs.Clients.Log.{Log, Tick, LinkFrame, Line, Attach, Gone, Join, Leave, Sets, Put, Get, Reboot}
 use Rattle.mesh_model.specs.Clients.Settings.{Setting}
 use Rattle.mesh_model.specs.Clients.Mentions.{Mention, is_wifi_on, Departed, Joined, Left, mentions, roamed, roamed_by}
-use Rattle.mesh_model.specs.Commits.History.{History, after_tick, with_message, committed, first_history, history, is_commit_tick, present_table}
+use Rattle.mesh_model.specs.Commits.History.{History, after_tick, with_message, committed, first_history, history, is_commit_tick, present_table, restarted}
 use Rattle.mesh_model.specs.Commits.Versions.{last_commit}
 use Rattle.mesh_model.specs.Packets.FirstPacket.{Packet}
 use Rattle.mesh_model.specs.Packets.LinkFrame.{link_frame}
@@ -144,6 +144,26 @@ has_set q locals me log now setting has late = record {
   few = few_later (mentions me log) (history me log) (newest_moment log) now has.few late;
 }
 
+-- after a fact was put
+pub has_put : (q : Queries) (locals : LocalsView) (me : Mac) (log : Log) (now type_no version : ℕ) (text : List ℕ) → HasClients locals me log → newest_moment log ≤ now
+    → HasClients locals me (with_input q me log now (Line (Put type_no version text)))
+has_put q locals me log now type_no version text has late = record {
+  since = has.since;
+  stand = has.stand;
+  settled = (let settled = has.settled in omega (arith, settled, late));
+  few = few_later (mentions me log) (history me log) (newest_moment log) now has.few late;
+}
+
+-- after facts were asked for
+pub has_got : (q : Queries) (locals : LocalsView) (me : Mac) (log : Log) (now type_no : ℕ) → HasClients locals me log → newest_moment log ≤ now
+    → HasClients locals me (with_input q me log now (Line (Get type_no)))
+has_got q locals me log now type_no has late = record {
+  since = has.since;
+  stand = has.stand;
+  settled = (let settled = has.settled in omega (arith, settled, late));
+  few = few_later (mentions me log) (history me log) (newest_moment log) now has.few late;
+}
+
 -- after a LAN was joined
 pub has_attached : (q : Queries) (locals : LocalsView) (me : Mac) (log : Log) (now lan : ℕ) (gateways : List Mac) → HasClients locals me log → newest_moment log ≤ now
     → HasClients locals me (with_input q me log now (Line (Attach lan gateways)))
@@ -152,6 +172,18 @@ has_attached q locals me log now lan gateways has late = record {
   stand = has.stand;
   settled = (let settled = has.settled in omega (arith, settled, late));
   few = few_later (mentions me log) (history me log) (newest_moment log) now has.few late;
+}
+
+-- after a reboot
+pub has_rebooted : (q : Queries) (old new : LocalsView) (me : Mac) (log : Log) (now : ℕ) → HasClients old me log → LocalsStand new [] (restarted (history me log)) 0 → HasClients new me (with_input q me log now (Line Reboot))
+has_rebooted q old new me log now has stand = record {
+  since = 0;
+  stand = stand;
+  settled = omega arith;
+  few = record {
+    present = λ at late. omega arith;
+    committed = omega arith;
+  };
 }
 
 -- after a ping or a traceroute began
@@ -179,7 +211,7 @@ wifi_is stands queries node me log is = ap (λ s. s.wifi) (is.kept.services.sett
 
 -- what is kept after a setting
 pub set_stands : {A : Type 0} (stands : A → Mac → RouteLog → Type 0) (kept : NodeKnowledge A) (services : Services) (me : Mac) (setting : Setting) (known : Knowledge) → KnowledgeStands stands kept me known
-    → ServicesStand services (after_set setting known.services) → KnowledgeStands stands (record kept { services = services }) me (with_set setting known)
+    → ServicesStand services me (after_set setting known.services) → KnowledgeStands stands (record kept { services = services }) me (with_set setting known)
 set_stands stands kept services me setting known is set = record {
   routes = is.routes;
   tables = is.tables;

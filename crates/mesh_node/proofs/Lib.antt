@@ -1,4 +1,5 @@
 -- What the functions of a node rest on.
+pub mod StoreMoments
 pub mod Underway
 pub mod OgmRow
 pub mod GivenLemmas

@@ -22,6 +22,7 @@ session_began stands queries node kept me log now target true is late noted = re
   kept = noted;
   clients = has_session (queries me) node.locals me log now target true is.clients late;
   bridge = is.bridge;
+  rising = (late, is.rising);
   alive = is.alive;
 }
 session_began stands queries node kept me log now target false is late noted = record {
@@ -29,5 +30,6 @@ session_began stands queries node kept me log now target false is late noted = r
   kept = noted;
   clients = has_session (queries me) node.locals me log now target false is.clients late;
   bridge = is.bridge;
+  rising = (late, is.rising);
   alive = is.alive;
 }

@@ -1,8 +1,8 @@
--- What a node stands for: the log of the node of an address. What it keeps of the others stands
--- for what it knows by that log, its local clients for the mentions and the commits there, its
--- bridge for the LAN and the claims there, and it has refused nothing. `stands` is the algorithm's
--- own word. The main word is `NodeStands`.
-use Rattle.std.specs.Prelude.{◌≡◌, ◌≤◌, ℕ, Bool, true, false, ⊤}
+-- What a node stands for: the log of the node of an address. What it keeps of the others stands for
+-- what it knows by that log, its local clients for the mentions and the commits there, its bridge for
+-- the LAN and the claims there, whose moments never fall, and it has refused nothing. `stands` is the
+-- algorithm's own word. The main word is `NodeStands`.
+use Rattle.std.specs.Prelude.{◌≡◌, ◌≤◌, ℕ, Bool, true, false, List, [], ◌∷◌, ⊤}
 use Rattle.mesh_base.specs.declared.address.Mac.{Mac}
 use Rattle.mesh_model.specs.declared.service.GroupRow.{GroupRow}
 use Rattle.mesh_model.specs.Clients.Lans.{bridge}
@@ -17,8 +17,13 @@ use Rattle.node_ground.specs.KnowledgeStands.{KnowledgeStands}
 use Rattle.node_ground.specs.OwnStands.{HasClients, newest_moment}
 use Rattle.node_lans.specs.BridgeStands.{BridgeStands}
 use Rattle.mesh_node.specs.declared.input.Input.{Input}
-use Rattle.mesh_node.specs.declared.input.Input.TheVariants.{Tick, Link, Lan, Attach, Frame, Gone, Join, Leave, Arp, Dhcp, Wifi, GwOff, GwServer, GwClient, Mcast, Dat, Ping, Trace}
+use Rattle.mesh_node.specs.declared.input.Input.TheVariants.{Tick, Link, Lan, Attach, Frame, Gone, Join, Leave, Arp, Dhcp, Wifi, GwOff, GwServer, GwClient, Mcast, Dat, Alfred, Put, Get, Ping, Trace, Reboot}
 use Rattle.mesh_node.specs.declared.node.Node.{Node}
+
+-- moments never fall from input to input
+abbrev pub IsRising : Log → Type 0
+IsRising [] = ⊤
+IsRising (entry ∷ older) = (newest_moment older ≤ entry.moment) × IsRising older
 
 -- the node stands for this log of the node of an address
 pub record NodeStands {A : Type 0} (stands : A → Mac → RouteLog → Type 0)
@@ -27,6 +32,7 @@ pub record NodeStands {A : Type 0} (stands : A → Mac → RouteLog → Type 0)
   pub kept : KnowledgeStands stands node.kept me (knowledge (queries me) me log)
   pub clients : HasClients node.locals me log
   pub bridge : BridgeStands node.bridge me (bridge log)
+  pub rising : IsRising log
   pub alive : node.dead ≡ false
 
 -- what an input gives a node, where a link frame has this number
@@ -49,8 +55,12 @@ given_by number (GwClient policy) =
     log.Line (log.Sets (settings.Gateway (settings.Chooses policy)))
 given_by number (Mcast flags) = log.Line (log.Sets (settings.Multicast flags))
 given_by number (Dat on) = log.Line (log.Sets (settings.ArpTable on))
+given_by number (Alfred mode) = log.Line (log.Sets (settings.FactStore mode))
+given_by number (Put type_no version text) = log.Line (log.Put type_no version text.now)
+given_by number (Get type_no) = log.Line (log.Get type_no)
 given_by number (Ping target) = log.Line (log.Ping target)
 given_by number (Trace target) = log.Line (log.Trace target)
+given_by number Reboot = log.Line log.Reboot
 
 -- a ping or, for `trace`, a traceroute begins
 abbrev pub given_session : Mac → Bool → Given
@@ -83,8 +93,12 @@ MayFollow known (GwServer down up) = ⊤
 MayFollow known (GwClient policy) = ⊤
 MayFollow known (Mcast flags) = ⊤
 MayFollow known (Dat on) = ⊤
+MayFollow known (Alfred mode) = ⊤
+MayFollow known (Put type_no version text) = ⊤
+MayFollow known (Get type_no) = ⊤
 MayFollow known (Ping target) = ⊤
 MayFollow known (Trace target) = ⊤
+MayFollow known Reboot = ⊤
 
 -- an input may come to a node at a moment: the node stands for some log, and no input of it is
 -- later

@@ -1,5 +1,5 @@
 use mesh_base::{Key, Mac, Vid};
-use mesh_model::Policy;
+use mesh_model::{AlfredMode, Policy};
 
 /// What a node is given: a tick, a link frame, a frame of its LAN, or what a line of a scenario
 /// gives it.
@@ -71,6 +71,18 @@ pub enum Input<'a> {
     Mcast(u8),
     /// Whether this node takes part in the distributed ARP table.
     Dat(bool),
+    /// The part of this node in the fact store.
+    Alfred(AlfredMode),
+    /// This node puts a fact of its own.
+    Put {
+        type_no: u8,
+        version: u8,
+        text: &'a [u8],
+    },
+    /// This node asks for the facts of a type.
+    Get {
+        type_no: u8,
+    },
     /// A ping of this node to another one begins.
     Ping {
         target: Mac,
@@ -79,4 +91,6 @@ pub enum Input<'a> {
     Trace {
         target: Mac,
     },
+    /// This node reboots.
+    Reboot,
 }

@@ -3,10 +3,13 @@
 #![tactic(auto)]
 
 mod asking;
+mod carrying;
 pub mod input;
 pub mod node;
+mod rebooting;
 mod rows;
 mod serving;
+mod storing;
 mod taking;
 
 pub use input::Input;

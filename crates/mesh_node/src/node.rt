@@ -43,7 +43,7 @@ impl<A: Algo> Node<A> {
         Node {
             me,
             locals: Locals::new(alloc),
-            kept: NodeKnowledge::new(alloc, algo),
+            kept: NodeKnowledge::new(alloc, me, algo),
             bridge: Bridge::new(alloc, me),
             dead: false,
         }

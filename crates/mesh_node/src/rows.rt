@@ -1,6 +1,7 @@
 //! The rows of ticks and packets, one function each.
 
 ghost use Rattle.std.specs.Prelude.{ℕ, OnOk};
+ghost use Rattle.alfred_store.specs.StoreStands.{IsBefore, store_in};
 ghost use Rattle.mesh_codec.specs.Frames.{seen};
 ghost use Rattle.mesh_model.specs.Acts.Rows.{Own, packet_acts, packets_acts};
 ghost use Rattle.mesh_model.specs.Knowledge.Known.{Knowledge};
@@ -12,12 +13,13 @@ ghost use Rattle.node_ground.specs.OwnStands.{OwnStands};
 ghost use Rattle.node_ground.specs.Puts.{Puts};
 ghost use Rattle.node_lans.specs.BridgeStands.{BridgeStands};
 
+use crate::carrying::{broadcast_came, unicast_came};
 use mesh_algo::Algo;
 use mesh_base::Mac;
 use mesh_codec::{Head, LinkFrame, Packet};
 use node_arp::Unicast4;
 use node_arp::passing::packet_with_sender;
-use node_clients::carried::{broadcast, here, passed};
+use node_clients::carried::passed;
 use node_ground::{Coming, NodeErr, NodeKnowledge, Place, Port};
 use node_lans::Bridge;
 use node_probes::echoes::icmp;
@@ -43,13 +45,13 @@ fn packet<A: Algo, P: Port>(
     requires owns { (own : Own) × OwnStands locals.now own came.now }
     requires written { HasSpelling packet.now.head packet.now.tail.now }
     ensures puts { (known : Knowledge) (own : Own) (number : ℕ) →
-        KnowledgeStands A.stands kept.old me known → OwnStands locals.now own came.now →
-        BridgeStands bridge.now me own.bridge →
+        KnowledgeStands A.stands kept.old me known → IsBefore (store_in known) came.now →
+        OwnStands locals.now own came.now → BridgeStands bridge.now me own.bridge →
         Puts P.takes P.same P.over port.old
         (packet_acts (A.queries me) me own (coming came number) known (seen packet.now))
         result port.new }
     ensures noted { (known : Knowledge) (number : ℕ) →
-        KnowledgeStands A.stands kept.old me known →
+        KnowledgeStands A.stands kept.old me known → IsBefore (store_in known) came.now →
         OnOk result (KnowledgeStands A.stands kept.new me
         (after_packet (A.queries me) me (coming came number) known (seen packet.now))) }
 {
@@ -59,9 +61,11 @@ fn packet<A: Algo, P: Port>(
         Head::IvOgm { orig, .. } | Head::Ogm2 { orig, .. } => {
             ogm(kept, port, me, came, orig, packet)?;
         }
-        Head::Bcast { ttl, seq, orig } => broadcast(kept, port, bridge, at, ttl, seq, orig, tail)?,
+        Head::Bcast { ttl, seq, orig } => {
+            broadcast_came(kept, port, bridge, at, ttl, seq, orig, tail)?;
+        }
         Head::Unicast { ttl, dst, .. } if dst == me => {
-            here(kept, port, locals, bridge, at, ttl, tail)?;
+            unicast_came(kept, port, locals, bridge, at, ttl, tail)?;
         }
         Head::Unicast { ttl, ttvn, dst } => passed(kept, port, at, ttl, ttvn, dst, tail)?,
         Head::Icmp {
@@ -118,16 +122,17 @@ pub(crate) fn link<A: Algo, P: Port>(
     came: Coming,
     bytes: &[u8],
 ) -> Result<(), NodeErr>
-    requires stands { (known : Knowledge) × KnowledgeStands A.stands kept.old me known }
+    requires stands { (known : Knowledge) × KnowledgeStands A.stands kept.old me known
+        × IsBefore (store_in known) came.now }
     requires owns { (own : Own) × OwnStands locals.now own came.now }
     ensures puts { (known : Knowledge) (own : Own) (number : ℕ) →
-        KnowledgeStands A.stands kept.old me known → OwnStands locals.now own came.now →
-        BridgeStands bridge.now me own.bridge →
+        KnowledgeStands A.stands kept.old me known → IsBefore (store_in known) came.now →
+        OwnStands locals.now own came.now → BridgeStands bridge.now me own.bridge →
         Puts P.takes P.same P.over port.old
         (packets_acts (A.queries me) me own (coming came number) known
         (link_frame bytes.now).packets) result port.new }
     ensures noted { (known : Knowledge) (number : ℕ) →
-        KnowledgeStands A.stands kept.old me known →
+        KnowledgeStands A.stands kept.old me known → IsBefore (store_in known) came.now →
         OnOk result (KnowledgeStands A.stands kept.new me
         (after_packets (A.queries me) me (coming came number) known
         (link_frame bytes.now).packets)) }

@@ -29,6 +29,7 @@ use node_arp::Question;
 use node_clients::client_frames::frame;
 use node_clients::lan_frames::lan_frame;
 use node_clients::roaming::note_roamed;
+use node_facts::rounds::round;
 use node_ground::{Coming, GatewayPart, NodeErr, Place, Port, Setting};
 use node_probes::probes::session;
 use node_tables::ticks::tick;
@@ -106,8 +107,16 @@ impl<A: Algo> Node<A> {
             }
             Input::Mcast(flags) => self.set(now, Setting::Multicast(flags)),
             Input::Dat(on) => self.set(now, Setting::ArpTable(on)),
+            Input::Alfred(mode) => self.set(now, Setting::FactStore(mode)),
+            Input::Put {
+                type_no,
+                version,
+                text,
+            } => self.put_fact(now, type_no, version, text)?,
+            Input::Get { type_no } => self.get_facts(port, now, type_no)?,
             Input::Ping { target } => self.take_session(port, now, target, false)?,
             Input::Trace { target } => self.take_session(port, now, target, true)?,
+            Input::Reboot => self.take_reboot(port, now)?,
         }
         Ok(())
     }
@@ -136,6 +145,7 @@ impl<A: Algo> Node<A> {
             at,
             index,
         )?;
+        round(&mut self.kept, port, at, index)?;
         Ok(())
     }
 

@@ -5,6 +5,7 @@ ghost use Rattle.mesh_node.specs.NodeStands.{is_dead};
 
 use mesh_base::{Key, Mac, Vid};
 use mesh_iv::Iv;
+use mesh_model::{AlfredMode, Policy};
 use mesh_node::{Act, Input, Node, NodeErr, Port, PortErr};
 use std::alloc::Global;
 
@@ -87,8 +88,21 @@ fn no_input_is_taken_after_a_refusal(rt: HostRuntime) {
         Input::Join { key },
         Input::Leave { key },
         Input::Wifi(true),
+        Input::GwOff,
+        Input::GwServer { down: 100, up: 20 },
+        Input::GwClient(Policy::Best),
+        Input::Mcast(1),
+        Input::Dat(false),
+        Input::Alfred(AlfredMode::Primary),
+        Input::Put {
+            type_no: 64,
+            version: 1,
+            text: b"hi",
+        },
+        Input::Get { type_no: 64 },
         Input::Ping { target: CLIENT },
         Input::Trace { target: CLIENT },
+        Input::Reboot,
     ];
     for input in inputs {
         let mut port = FullPort { asked: 0 };

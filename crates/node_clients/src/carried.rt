@@ -45,12 +45,12 @@ pub fn broadcast<A: Algo, P: Port>(
     ensures noted { (known : Knowledge) → KnowledgeStands A.stands kept.old at.me known →
         let broadcast : Broadcast = record { orig = orig; number = seq } in
         OnOk result (KnowledgeStands A.stands kept.new at.me
-        (after_broadcast at.me broadcast known)) }
+        (after_broadcast at.me at.now broadcast known)) }
 {
     if orig == at.me {
         return Ok(());
     }
-    if !kept.broadcasts.take(orig, seq)? {
+    if !kept.broadcasts.take(at.now, orig, seq)? {
         return Ok(());
     }
     out_carried(kept.alloc, port, bridge, at, orig, tail)?;

@@ -1,7 +1,7 @@
 -- How what a node keeps of the others stands for what it knows of them: the algorithm for what it
 -- was given, the tables for what came for each, the marks for the calls on them, the sessions
 -- for the calls of probes, the windows for the broadcasts that were taken, the count of those that
--- were sent, modulo 2^32, and the services for what was offered and chosen. `stands` is the
+-- were sent, modulo 2^32, and the services for what was offered, chosen and kept of the fact store. `stands` is the
 -- algorithm's own word. The main word is `KnowledgeStands`.
 use Rattle.std.specs.Prelude.{◌≡◌, ◌%◌, ◌^◌, ℕ}
 use Rattle.mesh_base.specs.declared.address.Mac.{Mac}
@@ -27,7 +27,7 @@ pub record KnowledgeStands {A : Type 0} (stands : A → Mac → RouteLog → Typ
   pub probes : SessionsStand kept.sessions known.probes
   pub taken : BroadcastsStand kept.broadcasts known.taken
   pub sent : kept.sent ≡ known.sent % 2 ^ 32
-  pub services : ServicesStand kept.services known.services
+  pub services : ServicesStand kept.services me known.services
 
 -- how a packet came, in the link frame of a number
 abbrev pub coming : arrived.Coming → ℕ → Coming

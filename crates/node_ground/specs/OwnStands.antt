@@ -46,5 +46,5 @@ pub record OwnStands (locals : LocalsView) (own : Own) (now : ℕ) : Type 0 wher
   pub stand : LocalsStand locals own.mentions history since
   pub settled : since ≤ now
   pub last : own.last ≡ last_commit history.commits
-  pub told : own.told ≡ told_changes history.commits
+  pub told : own.told ≡ told_changes history
   pub few : length own.last.table ≤ clients_limit

@@ -1,31 +1,30 @@
-ghost use Rattle.std.specs.Prelude.{◌≡◌, List, [], ◌∷◌, if◌then◌else◌, IfOk, OnErr};
+ghost use Rattle.std.specs.Prelude.{◌≡◌, List, [], ◌∷◌, None, if◌then◌else◌, IfOk, OnErr};
 ghost use Rattle.std.specs.Map.{lookup};
-ghost use Rattle.mesh_model.specs.Knowledge.Known.{Broadcast, is_new_number, broadcast_numbers};
+ghost use Rattle.mesh_model.specs.Knowledge.Known.{Broadcast, TakenBroadcast, is_new_number, round, taken_at};
 ghost use Rattle.mesh_model.specs.Routes.Addresses.{same_mac};
-ghost use Rattle.node_ground.specs.BroadcastsStand.{BroadcastsStand, window_in};
+ghost use Rattle.node_ground.specs.BroadcastsStand.{BroadcastsStand, kept_round};
 
+use crate::broadcast_round::Round;
 use indexmap::IndexMap;
-use mesh_algo::SeqWindow;
-use mesh_base::{Mac, NoMemory};
+use mesh_base::{Mac, Millis, NoMemory};
 use std::alloc::Global;
 use std::marker::Model;
 
-/// How many numbers below the greatest one is too old.
-const TOO_OLD: u32 = 64;
-
-/// The broadcasts that were taken, by originator. One is found in one step, whatever came before.
+/// The broadcasts that were taken, in the last round of each originator. One is found in one step,
+/// whatever came before.
 #[derive(Debug, Drop)]
 pub struct Broadcasts {
-    windows: IndexMap<Mac, SeqWindow>,
+    rounds: IndexMap<Mac, Round>,
 }
 
 impl Model for Broadcasts {
-    ghost use Rattle.std.specs.Prelude.{ℕ, List};
+    ghost use Rattle.std.specs.Prelude.{List};
     ghost use Rattle.mesh_base.specs.declared.address.Mac.{Mac};
+    ghost use Rattle.node_ground.specs.declared.broadcast_round.Round.{Round};
 
-    ghost Value = { List (Mac × List ℕ) };
+    ghost Value = { List (Mac × Round) };
 
-    ghost view = { λ b. b.windows.entries };
+    ghost view = { λ b. b.rounds.entries };
 }
 
 impl Broadcasts {
@@ -34,43 +33,46 @@ impl Broadcasts {
         ensures { BroadcastsStand result [] }
     {
         Broadcasts {
-            windows: IndexMap::new(alloc),
+            rounds: IndexMap::new(alloc),
         }
     }
 
-    /// Takes a broadcast where its number is new for its originator, and answers whether it is.
-    pub fn take(&mut self, orig: Mac, number: u32) -> Result<bool, NoMemory>
-        ensures new { (taken : List Broadcast) → BroadcastsStand self.old taken →
-            IfOk result (λ new. new ≡ is_new_number number (broadcast_numbers orig taken)) }
-        ensures noted { (taken : List Broadcast) → BroadcastsStand self.old taken →
+    /// Whether a broadcast of an originator is taken at a moment.
+    pub fn is_new(&self, now: Millis, orig: Mac, number: u32) -> bool
+        ensures { (taken : List TakenBroadcast) → BroadcastsStand self.now taken →
+            result ≡ is_new_number now number (round orig taken) }
+    {
+        self.next(now, orig, number).is_some()
+    }
+
+    /// Takes a broadcast of an originator at a moment where it may be taken, and answers whether
+    /// it may.
+    pub fn take(&mut self, now: Millis, orig: Mac, number: u32) -> Result<bool, NoMemory>
+        ensures new { (taken : List TakenBroadcast) → BroadcastsStand self.old taken →
+            IfOk result (λ new. new ≡ is_new_number now number (round orig taken)) }
+        ensures noted { (taken : List TakenBroadcast) → BroadcastsStand self.old taken →
             let broadcast : Broadcast = record { orig = orig; number = number } in
             IfOk result (λ new. BroadcastsStand self.new
-            (if new then broadcast ∷ taken else taken)) }
+            (if new then taken_at now broadcast taken ∷ taken else taken)) }
         ensures err { OnErr result (self.new ≡ self.old) }
     {
-        let mut window = self.window(orig);
-        if !is_new(&window, number) {
+        let Some(next) = self.next(now, orig, number) else {
             return Ok(false);
-        }
-        window.see(number);
-        self.windows.insert(orig, window)?;
+        };
+        self.rounds.insert(orig, next)?;
         Ok(true)
     }
 
-    // The window of an originator's numbers.
-    fn window(&self, orig: Mac) -> SeqWindow
-        ensures { result ≡ window_in (lookup (same_mac orig) self.now) }
+    // The last round of an originator with a broadcast that is taken; none where it isn't taken.
+    fn next(&self, now: Millis, orig: Mac, number: u32) -> Option<Round>
+        ensures { (taken : List TakenBroadcast) → BroadcastsStand self.now taken →
+            let broadcast : Broadcast = record { orig = orig; number = number } in
+            result ≡ (if is_new_number now number (round orig taken)
+            then kept_round (round orig (taken_at now broadcast taken ∷ taken)) else None) }
     {
-        match self.windows.get(&orig) {
-            Some(window) => *window,
-            None => SeqWindow::new(),
+        match self.rounds.get(&orig) {
+            Some(round) => round.with(now, number),
+            None => Some(Round::new(number, None)),
         }
     }
-}
-
-// Whether a number is new beside those of a window.
-fn is_new(window: &SeqWindow, number: u32) -> bool
-    ensures { result ≡ is_new_number number window.now }
-{
-    !window.has(number) && window.greatest().saturating_sub(number) < TOO_OLD
 }

@@ -1,6 +1,6 @@
 //! The gateways that a node knows, and the one that it chooses.
 
-ghost use Rattle.std.specs.Prelude.{◌≡◌, ◌↔◌, ◌≤◌, length, slice_get, IfOk, IsNone, OnOk, option_map};
+ghost use Rattle.std.specs.Prelude.{◌≡◌, ◌↔◌, ◌≤◌, length, slice_get, IfOk, IsNone, OnErr, OnOk, option_map};
 ghost use Rattle.mesh_base.specs.declared.address.Mac.{Mac};
 ghost use Rattle.mesh_model.specs.Knowledge.Known.{Knowledge};
 ghost use Rattle.mesh_model.specs.Knowledge.Offers.{choice_by, choosable_rows, gateway_rows, gateway_way};
@@ -97,9 +97,9 @@ impl<A: Algo> NodeKnowledge<A> {
         Ok(choose(policy, self.services.choice, rows.as_slice()))
     }
 
-    /// Chooses a gateway by the node's part as one.
+    /// Chooses a gateway by the node's part as one. Refused, all is as before.
     pub fn choose_gateway(&mut self, now: Millis) -> Result<(), NoMemory>
-        ensures { OnOk result ((me : Mac) (known : Knowledge) →
+        ensures ok { OnOk result ((me : Mac) (known : Knowledge) →
             KnowledgeStands A.stands self.old me known →
             KnowledgeStands A.stands self.new me (record known {
               services =
@@ -107,6 +107,7 @@ impl<A: Algo> NodeKnowledge<A> {
                     choice = choice_by known.services.settings.gateway (A.queries me) known now;
                   };
             })) }
+        ensures err { OnErr result (self.new ≡ self.old) }
     {
         self.services.choice = self.choice_by(now, self.services.settings.gateway)?;
         Ok(())

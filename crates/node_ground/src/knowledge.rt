@@ -3,6 +3,7 @@
 ghost use Rattle.std.specs.Prelude.{◌≡◌, []};
 ghost use Rattle.mesh_base.specs.declared.address.Mac.{Mac};
 ghost use Rattle.mesh_model.specs.Knowledge.Known.{Knowledge, no_knowledge, told_at};
+ghost use Rattle.mesh_model.specs.Knowledge.Steps.{after_reboot};
 ghost use Rattle.node_ground.specs.KnowledgeStands.{KnowledgeStands};
 
 use crate::broadcasts::Broadcasts;
@@ -29,10 +30,9 @@ pub struct NodeKnowledge<A: Algo> {
 }
 
 impl<A: Algo> NodeKnowledge<A> {
-    /// Nothing is known, by an algorithm that was given nothing.
-    pub fn new(alloc: Global, algo: A) -> NodeKnowledge<A>
-        ensures { (me : Mac) → A.stands algo me [] →
-            KnowledgeStands A.stands result me no_knowledge }
+    /// Nothing is known at the node of an address, by an algorithm that was given nothing.
+    pub fn new(alloc: Global, me: Mac, algo: A) -> NodeKnowledge<A>
+        ensures { A.stands algo me [] → KnowledgeStands A.stands result me no_knowledge }
     {
         NodeKnowledge {
             alloc,
@@ -42,8 +42,23 @@ impl<A: Algo> NodeKnowledge<A> {
             sessions: Sessions::new(alloc),
             broadcasts: Broadcasts::new(alloc),
             sent: 0,
-            services: Services::new(alloc),
+            services: Services::new(alloc, me),
         }
+    }
+
+    /// All that is known at the node of an address is forgotten but its settings, and the algorithm
+    /// was given nothing.
+    pub fn restart(&mut self, me: Mac)
+        ensures { (known : Knowledge) → KnowledgeStands A.stands self.old me known →
+            KnowledgeStands A.stands self.new me (after_reboot known) }
+    {
+        self.algo.restart();
+        self.globals = Globals::new(self.alloc);
+        self.sync = Sync::new(self.alloc);
+        self.sessions = Sessions::new(self.alloc);
+        self.broadcasts = Broadcasts::new(self.alloc);
+        self.sent = 0;
+        self.services.restart(self.alloc, me);
     }
 
     /// The byte that an originator was told to have, while it is live.

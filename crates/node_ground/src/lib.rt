@@ -6,6 +6,7 @@
 
 pub mod addressee;
 pub mod asks;
+mod broadcast_round;
 pub mod broadcasts;
 pub mod coming;
 pub mod deliveries;

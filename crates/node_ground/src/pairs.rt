@@ -1,7 +1,7 @@
 //! What a node keeps of the distributed ARP table: the pairs that it learned, those for which it
 //! asked others, and which nodes keep a pair.
 
-ghost use Rattle.std.specs.Prelude.{◌≡◌, ◌↔◌, ◌≤◌, ◌++◌, [], filter_map, length, slice_get, IfOk, IsNone, OnOk};
+ghost use Rattle.std.specs.Prelude.{◌≡◌, ◌↔◌, ◌≤◌, ◌++◌, [], filter_map, length, slice_get, IfOk, IsNone, OnErr, OnOk};
 ghost use Rattle.std.specs.List.{cons_option};
 ghost use Rattle.mesh_base.specs.declared.address.Mac.{Mac};
 ghost use Rattle.mesh_model.specs.Knowledge.Known.{Knowledge};
@@ -95,11 +95,12 @@ impl<A: Algo> NodeKnowledge<A> {
         others(self.alloc, me, keepers)
     }
 
-    /// Learns the address of a pair.
+    /// Learns the address of a pair. Refused, all is as before.
     pub fn learn(&mut self, now: Millis, ip: u32, vid: Vid, mac: Mac) -> Result<(), NoMemory>
-        ensures { OnOk result ((me : Mac) (known : Knowledge) →
+        ensures ok { OnOk result ((me : Mac) (known : Knowledge) →
             KnowledgeStands A.stands self.old me known →
             KnowledgeStands A.stands self.new me (with_learned now ip vid mac known)) }
+        ensures err { OnErr result (self.new ≡ self.old) }
     {
         self.services.cache.learn(now, ip, vid, mac)?;
         Ok(())
@@ -125,11 +126,12 @@ impl<A: Algo> NodeKnowledge<A> {
         self.services.cache.row_at(now, i)
     }
 
-    /// Notes that others are asked for a pair.
+    /// Notes that others are asked for a pair. Refused, all is as before.
     pub fn ask(&mut self, ip: u32, vid: Vid) -> Result<(), NoMemory>
-        ensures { OnOk result ((me : Mac) (known : Knowledge) →
+        ensures ok { OnOk result ((me : Mac) (known : Knowledge) →
             KnowledgeStands A.stands self.old me known →
             KnowledgeStands A.stands self.new me (with_ask (AskedFor ip vid) known)) }
+        ensures err { OnErr result (self.new ≡ self.old) }
     {
         self.services.asks.ask(Pair { ip, vid })?;
         Ok(())

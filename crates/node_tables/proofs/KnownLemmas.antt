@@ -95,6 +95,7 @@ offer_noted stands kept offers me orig tail known is noted = record {
     choice = is.services.choice;
     cache = is.services.cache;
     asks = is.services.asks;
+    store = is.services.store;
   };
 }
 

@@ -1,5 +1,5 @@
--- What a tick tells of its commit: an alias, if the commit is new and has one, and an announcement
--- that fits a packet.
+-- What a tick, and a reboot, tells of its commit: an alias, if the commit is new and has one, and an
+-- announcement that fits a packet.
 use Rattle.std.proofs.Common.{◌≡◌, ◌≤◌, ◌+◌, ◌*◌, ◌%◌, ℕ, suc, Bool, true, false, List, [], ◌∷◌, ◌++◌, length, map, refl, sym, ap, subst, ◌∙◌, arith, append_assoc, Option, Some, None}
 use Rattle.std.specs.Prelude.{◌==◌, ◌&&◌, nat_lt, nat_le, if◌then◌else◌}
 use Rattle.std.proofs.lemmas.Bool.{and_parts, leb-true}
@@ -12,15 +12,15 @@ use Rattle.mesh_model.specs.declared.table_row.LocalRow.{LocalRow}
 use Rattle.mesh_model.specs.Acts.BridgeRows.{round_acts}
 use Rattle.mesh_model.specs.declared.act.Act.{Act}
 use Rattle.mesh_model.specs.Clients.Lans.{Bridge}
-use Rattle.mesh_model.specs.Acts.Rows.{alias_acts, alias_event, commit_acts, elp_acts, tick_acts}
+use Rattle.mesh_model.specs.Acts.Rows.{alias_acts, alias_event, commit_acts, elp_acts, reboot_acts, tick_acts}
 use Rattle.mesh_model.specs.Clients.Limits.{clients_limit}
 use Rattle.mesh_model.specs.Clients.Mentions.{Mention}
 use Rattle.mesh_model.specs.Clients.Settings.{Settings}
 use Rattle.mesh_model.specs.Clients.Present.{present_clients}
 use Rattle.mesh_model.specs.Commits.Aliases.{last_alias}
 use Rattle.mesh_model.specs.Commits.Announcements.{announced_changes, announcement, carried_changes, carrying_messages, record_of_change}
-use Rattle.mesh_model.specs.Commits.History.{History, after_tick, with_message, committed, is_commit_tick, present_table, with_commit}
-use Rattle.mesh_model.specs.Commits.Versions.{last_changes, last_commit, same_table}
+use Rattle.mesh_model.specs.Commits.History.{History, after_tick, with_message, committed, is_commit_tick, last_changes, present_table, restarted, with_commit}
+use Rattle.mesh_model.specs.Commits.Versions.{last_commit, same_table}
 use Rattle.mesh_model.specs.Knowledge.Known.{Knowledge}
 use Rattle.mesh_model.specs.Knowledge.Offers.{choice_by}
 use Rattle.mesh_model.specs.Knowledge.Steps as steps
@@ -57,20 +57,33 @@ no_alias me table history none = by_table (same_table (last_commit history.commi
     by_table false is = absurd cc
 
 -- where a commit is new, its alias is told
-pub alias_told : (me : Mac) (table : List Entry) (history : History) (number : ℕ) (alias : Option ℕ) → Some number ≡ new_number table history
-    → (number + 1 ≡ length (committed table history).commits → alias ≡ last_alias (committed table history).commits)
-    → alias_event me number alias ≡ alias_acts me history.commits (committed table history).commits
-alias_told me table history number alias some told = by_table (same_table (last_commit history.commits).table table) (sym some) told
+pub alias_told : (me : Mac) (table : List Entry) (history : History) (number : ℕ) → Some number ≡ new_number table history
+    → alias_event me number (last_alias (committed table history).commits) ≡ alias_acts me history.commits (committed table history).commits
+alias_told me table history number some = by_table (same_table (last_commit history.commits).table table) (sym some)
   where
     by_table : (same : Bool) → (if same then None else Some (length history.commits)) ≡ Some number
-        → (number + 1 ≡ length (if same then history else with_commit table history).commits → alias ≡ last_alias (if same then history else with_commit table history).commits)
-        → alias_event me number alias ≡ alias_acts me history.commits (if same then history else with_commit table history).commits
-    by_table true is told = absurd cc
-    by_table false is told =
+        → alias_event me number (last_alias (if same then history else with_commit table history).commits) ≡ alias_acts me history.commits (if same then history else with_commit table history).commits
+    by_table true is = absurd cc
+    by_table false is =
         let all : number ≡ length history.commits = sym (one_number (length history.commits) number is) in
-        let found : alias ≡ last_alias (with_commit table history).commits = told (omega (arith, all)) in
-        ap (λ n. alias_event me n alias) all ∙ ap (alias_event me (length history.commits)) found
+        ap (λ n. alias_event me n (last_alias (with_commit table history).commits)) all
         ∙ sym (ap (λ b. if b then [] else alias_event me (length history.commits) (last_alias (with_commit table history).commits)) (longer (length history.commits)))
+
+-- it is the last commit
+pub is_last : (table : List Entry) (history : History) (number : ℕ) → Some number ≡ new_number table history → number + 1 ≡ length (committed table history).commits
+is_last table history number some = by_table (same_table (last_commit history.commits).table table) (sym some)
+  where
+    by_table : (same : Bool) → (if same then None else Some (length history.commits)) ≡ Some number → number + 1 ≡ length (if same then history else with_commit table history).commits
+    by_table true is = absurd cc
+    by_table false is =
+        let all : number ≡ length history.commits = sym (one_number (length history.commits) number is) in
+        omega (arith, all)
+
+-- so is the first commit of a reboot, whose alias is told
+pub reboot_told : (me : Mac) (history : History) (number : ℕ) → number ≡ length history.commits → alias_event me number (last_alias (restarted history).commits) ≡ reboot_acts me history
+reboot_told me history number all =
+    ap (λ n. alias_event me n (last_alias (restarted history).commits)) all
+    ∙ sym (ap (λ b. if b then [] else alias_event me (length history.commits) (last_alias (restarted history).commits)) (longer (length history.commits)))
 
 -- ---- an announcement
 
@@ -79,11 +92,11 @@ pub announced_is : (history : History) (told : Announcement) → IsAnnouncement 
 announced_is history told is = λ i. record { flags = ogm_diff_flag; ttvn = is.byte i; vlans = is.sums i; changes = map record_of_change (is.changes i) }
 
 few_carried : (history : History) → length (announced_changes history) ≤ carried_changes
-few_carried history = by_tests (nat_lt history.sent carrying_messages && nat_le (length (last_changes history.commits)) carried_changes) refl
+few_carried history = by_tests (nat_lt history.sent carrying_messages && nat_le (length (last_changes history)) carried_changes) refl
   where
-    by_tests : (b : Bool) → (nat_lt history.sent carrying_messages && nat_le (length (last_changes history.commits)) carried_changes) ≡ b
-        → length (if b then last_changes history.commits else []) ≤ carried_changes
-    by_tests true is = leb-true (length (last_changes history.commits)) carried_changes (and_parts _ _ is).1
+    by_tests : (b : Bool) → (nat_lt history.sent carrying_messages && nat_le (length (last_changes history)) carried_changes) ≡ b
+        → length (if b then last_changes history else []) ≤ carried_changes
+    by_tests true is = leb-true (length (last_changes history)) carried_changes (and_parts _ _ is).1
     by_tests false is = omega arith
 
 -- what is announced of few clients fits a packet
@@ -166,12 +179,12 @@ known_by q now index known even =
 
 -- an odd tick chooses no gateway
 pub odd_known : {A : Type 0} (stands : A → Mac → RouteLog → Type 0) (kept : NodeKnowledge A) (q : Queries) (me : Mac) (now index : ℕ) (known : Knowledge)
-    → KnowledgeStands stands kept me (record known { routes = OwnTick now index ∷ known.routes }) → (index % 2 ≡ 0 → ⊥) → KnowledgeStands stands kept me (steps.after_tick q now index known)
+    → KnowledgeStands stands kept me (record known { routes = OwnTick now index ∷ known.routes }) → (index % 2 ≡ 0 → ⊥) → KnowledgeStands stands kept me (steps.before_round q now index known)
 odd_known stands kept q me now index known is odd = subst (λ even. KnowledgeStands stands kept me (known_by q now index known even)) (sym (is_odd index odd)) is
 
 -- an even one chooses by what is then known
 pub even_known : {A : Type 0} (stands : A → Mac → RouteLog → Type 0) (kept : NodeKnowledge A) (q : Queries) (me : Mac) (now index : ℕ) (known : Knowledge)
-    → KnowledgeStands stands kept me (known_by q now index known true) → index % 2 ≡ 0 → KnowledgeStands stands kept me (steps.after_tick q now index known)
+    → KnowledgeStands stands kept me (known_by q now index known true) → index % 2 ≡ 0 → KnowledgeStands stands kept me (steps.before_round q now index known)
 even_known stands kept q me now index known is even = subst (λ b. KnowledgeStands stands kept me (known_by q now index known b)) (sym (is_even index even)) is
 
 -- ---- clients at a later moment

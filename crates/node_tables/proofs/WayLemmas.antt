@@ -17,7 +17,8 @@ use Rattle.mesh_model.specs.Acts.Rows.{Own}
 use Rattle.mesh_model.specs.Acts.TableRows.{held_within, is_within_limits, own_answer}
 use Rattle.mesh_model.specs.Clients.Limits.{clients_limit}
 use Rattle.mesh_model.specs.Commits.Announcements.{carried_changes, if_few, told_changes}
-use Rattle.mesh_model.specs.Commits.Versions.{last_changes, last_commit}
+use Rattle.mesh_model.specs.Commits.History.{History, is_first, last_changes}
+use Rattle.mesh_model.specs.Commits.Versions.{last_commit}
 use Rattle.mesh_model.specs.Knowledge.Known.{Knowledge, known_at}
 use Rattle.mesh_model.specs.Knowledge.Told.{Asks}
 use Rattle.mesh_model.specs.Packets.Bodies.{VlanSum}
@@ -129,17 +130,19 @@ few_only xs changes is = by_count (nat_le (length xs) carried_changes) refl is
     by_count true few is = subst (λ (ys : List Change). length ys ≤ carried_changes) (some_one is) (leb-true (length xs) carried_changes few)
     by_count false few is = absurd cc
 
-told_few : (commits : List Version) (changes : List Change) → told_changes commits ≡ Some changes → length changes ≤ carried_changes
-told_few [] changes is = absurd cc
-told_few (first ∷ []) changes is = absurd cc
-told_few (last ∷ before ∷ older) changes is = few_only (last_changes (last ∷ before ∷ older)) changes is
+told_few : (history : History) (changes : List Change) → told_changes history ≡ Some changes → length changes ≤ carried_changes
+told_few history changes is = by_last (is_first history) is
+  where
+    by_last : (first : Bool) → (if first then None else if_few (last_changes history)) ≡ Some changes → length changes ≤ carried_changes
+    by_last true is = absurd cc
+    by_last false is = few_only (last_changes history) changes is
 
-pub own_fits : (full : Bool) (byte : ℕ) (commits : List Version) → length (last_commit commits).table ≤ clients_limit
-    → FitsPacket (own_reply full byte (last_commit commits) (told_changes commits))
-own_fits full byte commits few = by_told (told_changes commits) refl
+pub own_fits : (full : Bool) (byte : ℕ) (history : History) → length (last_commit history.commits).table ≤ clients_limit
+    → FitsPacket (own_reply full byte (last_commit history.commits) (told_changes history))
+own_fits full byte history few = by_told (told_changes history) refl
   where
     last : Version
-    last = last_commit commits
+    last = last_commit history.commits
 
     by_wish : (b : Bool) (changes : List Change) → length changes ≤ carried_changes → FitsPacket (if b then changes_reply last changes else full_reply last)
     by_wish true changes short =
@@ -148,20 +151,20 @@ own_fits full byte commits few = by_told (told_changes commits) refl
         fits
     by_wish false changes short = full_fits last few
 
-    by_told : (told : Option (List Change)) → told_changes commits ≡ told → FitsPacket (own_reply full byte last told)
+    by_told : (told : Option (List Change)) → told_changes history ≡ told → FitsPacket (own_reply full byte last told)
     by_told None is = full_fits last few
-    by_told (Some changes) is = by_wish (not full && (byte == last.byte)) changes (told_few commits changes is)
+    by_told (Some changes) is = by_wish (not full && (byte == last.byte)) changes (told_few history changes is)
 
 -- ---- what is put for a request for the own table
 
-pub own_acts : (q : Queries) (me : Mac) (known : Knowledge) (now : ℕ) (own : Own) (commits : List Version) (asker : Mac) (full whole : Bool) (stamp : Stamp) (byte : ℕ)
+pub own_acts : (q : Queries) (me : Mac) (known : Knowledge) (now : ℕ) (own : Own) (history : History) (asker : Mac) (full whole : Bool) (stamp : Stamp) (byte : ℕ)
     (next : Option Mac) (bytes : List ℕ) (reply : Reply) → next ≡ q.route known.routes now asker → bytes ≡ reply_containers reply
-    → reply ≡ own_reply whole byte (last_commit commits) (told_changes commits) → whole ≡ full → byte ≡ stamp.byte → own.last ≡ last_commit commits
-    → own.told ≡ told_changes commits → sent_over next (Utvlv first_ttl asker me) bytes ≡ own_answer q me known now own.last own.told asker (Asks full stamp)
+    → reply ≡ own_reply whole byte (last_commit history.commits) (told_changes history) → whole ≡ full → byte ≡ stamp.byte → own.last ≡ last_commit history.commits
+    → own.told ≡ told_changes history → sent_over next (Utvlv first_ttl asker me) bytes ≡ own_answer q me known now own.last own.told asker (Asks full stamp)
 unfolding own_answer
-own_acts q me known now own commits asker full whole stamp byte next bytes reply way spelled is asks under last told =
+own_acts q me known now own history asker full whole stamp byte next bytes reply way spelled is asks under last told =
     let head = Utvlv first_ttl asker me in
     let reply_is : reply ≡ own_reply full stamp.byte own.last own.told =
-    is ∙ ap (λ f. own_reply f byte (last_commit commits) (told_changes commits)) asks ∙ ap (λ b. own_reply full b (last_commit commits) (told_changes commits)) under
-    ∙ ap (λ v. own_reply full stamp.byte v (told_changes commits)) (sym last) ∙ ap (own_reply full stamp.byte own.last) (sym told) in
+    is ∙ ap (λ f. own_reply f byte (last_commit history.commits) (told_changes history)) asks ∙ ap (λ b. own_reply full b (last_commit history.commits) (told_changes history)) under
+    ∙ ap (λ v. own_reply full stamp.byte v (told_changes history)) (sym last) ∙ ap (own_reply full stamp.byte own.last) (sym told) in
     ap (λ n. sent_over n head bytes) way ∙ ap (sent_over (q.route known.routes now asker) head) (spelled ∙ ap reply_containers reply_is)

@@ -1,5 +1,5 @@
 //! The rows of a node for tables: originator messages, requests and answers, here and on the way,
-//! and ticks with their commits.
+//! and ticks and reboots with their commits.
 
 #![tactic(auto)]
 
@@ -9,4 +9,5 @@ pub mod containers;
 pub mod elps;
 pub mod ogms;
 pub mod on_the_way;
+pub mod reboots;
 pub mod ticks;

@@ -22,10 +22,10 @@ ghost use Rattle.node_lans.specs.BridgeStands.{BridgeStands};
 ghost use Rattle.tt_local.specs.Journal.{new_number};
 ghost use Rattle.tt_local.specs.Locals.{LocalsStand};
 
+use crate::reboots::tell_alias;
 use mesh_algo::Algo;
-use mesh_base::{Event, Millis, NoMemory, Steps};
+use mesh_base::{Millis, NoMemory, Steps};
 use mesh_codec::Head;
-use mesh_model::Act;
 use node_ground::messages::{send_elp, send_message};
 use node_ground::packing::own_containers;
 use node_ground::{NodeErr, NodeKnowledge, Place, Port, Settings};
@@ -73,14 +73,7 @@ fn commit<P: Port>(port: &mut P, locals: &mut Locals, at: Place) -> Result<(), N
     let Some(commit) = new_commit::<Brand>(locals, at.now, Blank::new(1))? else {
         return Ok(());
     };
-    let Some(earlier) = locals.alias_of(commit)? else {
-        return Ok(());
-    };
-    port.put(Act::Print(Event::Alias {
-        node: at.me,
-        commit,
-        earlier,
-    }))?;
+    tell_alias(port, locals, at, commit)?;
     Ok(())
 }
 
@@ -188,7 +181,7 @@ fn beat<A: Algo, P: Port>(
         history after else [])) result port.new }
     ensures ticked { (known : Knowledge) → KnowledgeStands A.stands kept.old at.me known →
         OnOk result (KnowledgeStands A.stands kept.new at.me
-        (steps.after_tick (A.queries at.me) at.now index known)) }
+        (steps.before_round (A.queries at.me) at.now index known)) }
     ensures committed { (mentions : List Mention) (history : History) (since : ℕ) →
         LocalsStand locals.old mentions history since → since ≤ at.now →
         OnOk result (LocalsStand locals.new mentions
@@ -234,7 +227,7 @@ pub fn tick<A: Algo, P: Port>(
         gateway at.now index) result port.new }
     ensures ticked { (known : Knowledge) → KnowledgeStands A.stands kept.old at.me known →
         OnOk result (KnowledgeStands A.stands kept.new at.me
-        (steps.after_tick (A.queries at.me) at.now index known)) }
+        (steps.before_round (A.queries at.me) at.now index known)) }
     ensures committed { (mentions : List Mention) (history : History) (since : ℕ) →
         LocalsStand locals.old mentions history since → since ≤ at.now →
         OnOk result (LocalsStand locals.new mentions

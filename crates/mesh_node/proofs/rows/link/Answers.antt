@@ -42,5 +42,5 @@ returns-clause-noted g c =
 
 pub packet-requires-clause-stands : goal.packet-requires-clause-stands
 packet-requires-clause-stands g c =
-    let at = c.loop-next.invariant.each c.requires.stands.0 0 c.requires.stands.1 in
+    let at = c.loop-next.invariant.each c.requires.stands.0 0 c.requires.stands.1 c.requires.stands.2 in
     (at.0, at.1)

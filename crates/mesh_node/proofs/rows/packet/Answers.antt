@@ -9,13 +9,13 @@ use Rattle.mesh_node.proofs.OgmRow.{ogm_row}
 use Rattle.mesh_node.proofs.rows.packet.Goals as goal
 
 pub returns-in_err-ogm-in-IvOgm-clause-puts : goal.returns-in_err-ogm-in-IvOgm-clause-puts
-returns-in_err-ogm-in-IvOgm-clause-puts g c = λ known own number stands owns bridged.
+returns-in_err-ogm-in-IvOgm-clause-puts g c = λ known own number stands before owns bridged.
     let p = err_from_is_err_and c.from_residual-in_err-ogm-in-IvOgm.result c.from_residual-in_err-ogm-in-IvOgm.ensures.1 in
     rw (p.1, p.2) (ogm_row g.P.Port.takes g.P.Port.same g.P.Port.over (g.A.Algo.queries c.args.me) c.args.me own (coming c.args.came number) known (seen c.args.packet.now) c.in-IvOgm.orig
     (Err c.in_err-ogm-in-IvOgm.field-0.0) c.args.port.now c.ogm.new.port c.in-IvOgm.is (c.in_err-ogm-in-IvOgm.ensures.puts known number stands))
 
 pub returns-in_ok-elp-in-Elp-clause-noted : goal.returns-in_ok-elp-in-Elp-clause-noted
-returns-in_ok-elp-in-Elp-clause-noted g c = λ known number stands.
+returns-in_ok-elp-in-Elp-clause-noted g c = λ known number stands before.
     let came = coming c.args.came number in
     let packet = seen c.args.packet.now in
     subst (λ (head : Head). KnowledgeStands g.A.Algo.stands c.elp.new.kept c.args.me (after_head (g.A.Algo.queries c.args.me) c.args.me came (message_of packet) packet.tail head known)) (sym c.in-Elp.is)

@@ -23,7 +23,7 @@ returns-in_err-put_pair-clause-puts g c = λ known stands.
     let on : known.services.settings.arp_table ≡ true = sym (ap (λ (s : Settings). s.arp_table) stands.services.settings) ∙ c.if-not-kept.false in
     let learned = with_learned c.args.at.now asked.own_ip asked.vid asked.mac known in
     rw (p.1, p.2) (question_stops g.P.Port.takes g.P.Port.same g.P.Port.over (g.A.Algo.queries c.args.at.me) known (place c.args.at) asked.mac asked.own_ip asked.asked_ip asked.vid
-    c.in_err-put_pair.field-0.0 c.args.port.now c.put_pair.new.port on (c.in_err-put_pair.ensures learned (c.in_ok-learn.ensures c.args.at.me known stands)))
+    c.in_err-put_pair.field-0.0 c.args.port.now c.put_pair.new.port on (c.in_err-put_pair.ensures learned (c.in_ok-learn.ensures.ok c.args.at.me known stands)))
 
 pub returns-in_err-ask_pair-clause-puts : goal.returns-in_err-ask_pair-clause-puts
 returns-in_err-ask_pair-clause-puts g c = λ known stands.
@@ -31,7 +31,7 @@ returns-in_err-ask_pair-clause-puts g c = λ known stands.
     let asked = c.args.asked in
     let on : known.services.settings.arp_table ≡ true = sym (ap (λ (s : Settings). s.arp_table) stands.services.settings) ∙ c.if-not-kept.false in
     let learned = with_learned c.args.at.now asked.own_ip asked.vid asked.mac known in
-    let stand = c.in_ok-learn.ensures c.args.at.me known stands in
+    let stand = c.in_ok-learn.ensures.ok c.args.at.me known stands in
     rw (p.1, p.2) (question_puts g.P.Port.takes g.P.Port.same g.P.Port.over (g.A.Algo.queries c.args.at.me) known (place c.args.at) asked.mac asked.own_ip asked.asked_ip asked.vid
     c.args.port.now c.put_pair.new.port c.ask_pair.new.port (Err c.in_err-ask_pair.field-0.0) on (c.in_ok-put_pair.ensures learned stand) (c.in_err-ask_pair.ensures.puts learned stand))
 
@@ -40,7 +40,7 @@ returns-clause-puts g c = λ known stands.
     let asked = c.args.asked in
     let on : known.services.settings.arp_table ≡ true = sym (ap (λ (s : Settings). s.arp_table) stands.services.settings) ∙ c.if-not-kept.false in
     let learned = with_learned c.args.at.now asked.own_ip asked.vid asked.mac known in
-    let stand = c.in_ok-learn.ensures c.args.at.me known stands in
+    let stand = c.in_ok-learn.ensures.ok c.args.at.me known stands in
     question_puts g.P.Port.takes g.P.Port.same g.P.Port.over (g.A.Algo.queries c.args.at.me) known (place c.args.at) asked.mac asked.own_ip asked.asked_ip asked.vid
     c.args.port.now c.put_pair.new.port c.ask_pair.new.port (Ok tt) on (c.in_ok-put_pair.ensures learned stand) (c.in_ok-ask_pair.ensures.puts learned stand)
 
@@ -52,4 +52,4 @@ returns-clause-noted g c = λ known stands.
     let on : known.services.settings.arp_table ≡ true = sym (ap (λ (s : Settings). s.arp_table) stands.services.settings) ∙ c.if-not-kept.false in
     let learned = with_learned c.args.at.now asked.own_ip asked.vid asked.mac known in
     subst (λ (b : Bool). KnowledgeStands g.A.Algo.stands c.ask_pair.new.kept me (if b then after_asking q me c.args.at.now asked.asked_ip asked.vid learned else known)) (sym on)
-    (c.in_ok-ask_pair.ensures.noted learned (c.in_ok-learn.ensures me known stands))
+    (c.in_ok-ask_pair.ensures.noted learned (c.in_ok-learn.ensures.ok me known stands))

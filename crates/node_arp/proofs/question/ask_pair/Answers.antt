@@ -23,7 +23,7 @@ returns-in_err-send_message-clause-puts g c = λ known stands.
     let unknown : known_address known c.args.at.now asked.asked_ip asked.vid ≡ None = sym (c.known_address.ensures c.args.at.me known stands) ∙ search rules in
     let full = eqb-false nodes.len 0 (sym c.is_empty.ensures ∙ c.if-is_empty.false) in
     let some : length nodes.items ≡ 0 → ⊥ = λ none. full (omega (arith, nodes.ok.0, none)) in
-    let put = c.in_err-send_message.ensures (with_ask (AskedFor asked.asked_ip asked.vid) known) (c.in_ok-ask.ensures c.args.at.me known stands) in
+    let put = c.in_err-send_message.ensures (with_ask (AskedFor asked.asked_ip asked.vid) known) (c.in_ok-ask.ensures.ok c.args.at.me known stands) in
     let S : ArpMessage → List Mac → Type 0 = λ m ns. Puts g.P.Port.takes g.P.Port.same g.P.Port.over c.args.port.now (table_packets q known at dht_get_subtype m ns)
     (Err c.in_err-send_message.field-0.0) c.send_message.new.port in
     rw (p.1, p.2) (asked_puts g.P.Port.takes g.P.Port.same g.P.Port.over q known at asked.mac asked.own_ip asked.asked_ip asked.vid nodes.items c.args.port.now c.send_message.new.port
@@ -39,7 +39,7 @@ returns-clause-puts g c = λ known stands.
     let unknown : known_address known c.args.at.now asked.asked_ip asked.vid ≡ None = sym (c.known_address.ensures c.args.at.me known stands) ∙ search rules in
     let full = eqb-false nodes.len 0 (sym c.is_empty.ensures ∙ c.if-is_empty.false) in
     let some : length nodes.items ≡ 0 → ⊥ = λ none. full (omega (arith, nodes.ok.0, none)) in
-    let put = c.in_ok-send_message.ensures (with_ask (AskedFor asked.asked_ip asked.vid) known) (c.in_ok-ask.ensures c.args.at.me known stands) in
+    let put = c.in_ok-send_message.ensures (with_ask (AskedFor asked.asked_ip asked.vid) known) (c.in_ok-ask.ensures.ok c.args.at.me known stands) in
     let S : ArpMessage → List Mac → Type 0 = λ m ns. Puts g.P.Port.takes g.P.Port.same g.P.Port.over c.args.port.now (table_packets q known at dht_get_subtype m ns)
     (Ok tt) c.send_message.new.port in
     asked_puts g.P.Port.takes g.P.Port.same g.P.Port.over q known at asked.mac asked.own_ip asked.asked_ip asked.vid nodes.items c.args.port.now c.send_message.new.port

@@ -18,12 +18,12 @@ reply_containers-requires g c =
     let owns = c.requires.1 in
     let few = subst (λ (v : Version). length v.table ≤ clients_limit) owns.last owns.few in
     subst FitsPacket (sym (c.in_ok-reply.ensures.answer own.mentions owns.history owns.since owns.stand))
-    (own_fits c.has_flag-full.result c.ttvn.result owns.history.commits few)
+    (own_fits c.has_flag-full.result c.ttvn.result owns.history few)
 
 pub returns-in_err-send_over : goal.returns-in_err-send_over
 returns-in_err-send_over g c = λ known own stands owns.
     let p = err_from_is_err_and c.from_residual-in_err-send_over.result c.from_residual-in_err-send_over.ensures.1 in
-    let acts = own_acts (g.A.Algo.queries c.args.at.me) c.args.at.me known c.args.at.now own owns.history.commits c.args.asker
+    let acts = own_acts (g.A.Algo.queries c.args.at.me) c.args.at.me known c.args.at.now own owns.history c.args.asker
     (has_flag full_table_flag c.args.table.now.flags) c.has_flag-full.result (stamp_told c.args.table.now) c.ttvn.result c.route-next.result c.as_slice.result.now
     (answer_in c.in_ok-reply.reply) (c.route-next.ensures c.args.at.me known.routes stands.routes) (c.as_slice.ensures.value ∙ c.in_ok-containers.ensures.ok)
     (c.in_ok-reply.ensures.answer own.mentions owns.history owns.since owns.stand) (c.has_flag-full.ensures ∙ ap (has_flag full_table_flag) c.flags.ensures) c.ttvn.ensures
@@ -33,7 +33,7 @@ returns-in_err-send_over g c = λ known own stands owns.
 
 pub returns : goal.returns
 returns g c = λ known own stands owns.
-    let acts = own_acts (g.A.Algo.queries c.args.at.me) c.args.at.me known c.args.at.now own owns.history.commits c.args.asker
+    let acts = own_acts (g.A.Algo.queries c.args.at.me) c.args.at.me known c.args.at.now own owns.history c.args.asker
     (has_flag full_table_flag c.args.table.now.flags) c.has_flag-full.result (stamp_told c.args.table.now) c.ttvn.result c.route-next.result c.as_slice.result.now
     (answer_in c.in_ok-reply.reply) (c.route-next.ensures c.args.at.me known.routes stands.routes) (c.as_slice.ensures.value ∙ c.in_ok-containers.ensures.ok)
     (c.in_ok-reply.ensures.answer own.mentions owns.history owns.since owns.stand) (c.has_flag-full.ensures ∙ ap (has_flag full_table_flag) c.flags.ensures) c.ttvn.ensures

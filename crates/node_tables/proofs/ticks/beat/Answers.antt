@@ -102,5 +102,5 @@ returns-then-index-ne0-clause-ticked g c = λ known is.
 pub returns-clause-ticked : goal.returns-clause-ticked
 returns-clause-ticked g c = λ known is.
     even_known g.A.Algo.stands _ (g.A.Algo.queries c.args.at.me) c.args.at.me c.args.at.now c.args.index known
-    (c.in_ok-choose_gateway.ensures c.args.at.me (record known { routes = OwnTick c.args.at.now c.args.index ∷ known.routes })
+    (c.in_ok-choose_gateway.ensures.ok c.args.at.me (record known { routes = OwnTick c.args.at.now c.args.index ∷ known.routes })
     (ticked g.A.Algo.stands c.args.kept.now c.tick-beats.new.self c.args.at.me c.args.at.now c.args.index known is (c.tick-beats.ensures.ticked c.args.at.me known.routes is.routes))) c.if-index-ne0.false

@@ -8,5 +8,6 @@ returns-clause-noted g c = λ me log is late. record {
   kept = is.kept;
   clients = has_attached (g.A.Algo.queries me) c.args.self.now.locals me log c.args.now c.args.lan c.args.gateways.now is.clients late;
   bridge = c.in_ok-attach.ensures.attached me (bridge log) is.bridge;
+  rising = (late, is.rising);
   alive = is.alive;
 }

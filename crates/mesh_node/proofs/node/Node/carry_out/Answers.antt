@@ -172,3 +172,45 @@ returns-in_ok-take_session-in-Trace-clause-puts g c = λ me log number is late.
 pub returns-in_ok-take_session-in-Trace-clause-noted : goal.returns-in_ok-take_session-in-Trace-clause-noted
 returns-in_ok-take_session-in-Trace-clause-noted g c = λ me log number is late.
     rw c.in-Trace.is (c.in_ok-take_session-in-Trace.ensures.noted me log is late)
+
+-- ---- facts
+
+pub returns-in_err-put_fact-in-Put-clause-puts : goal.returns-in_err-put_fact-in-Put-clause-puts
+returns-in_err-put_fact-in-Put-clause-puts g c = λ me log number is late.
+    let p = err_from_is_err_and c.from_residual-in_err-put_fact-in-Put.result c.from_residual-in_err-put_fact-in-Put.ensures.1 in
+    rw (p.1, p.2, c.in-Put.is, c.in_err-put_fact-in-Put.ensures.memory) (g.met.P.Port.same_refl c.args.port.now, tt)
+
+pub returns-in_ok-put_fact-in-Put-clause-puts : goal.returns-in_ok-put_fact-in-Put-clause-puts
+returns-in_ok-put_fact-in-Put-clause-puts g c = λ me log number is late. rw c.in-Put.is refl
+
+pub returns-in_ok-put_fact-in-Put-clause-noted : goal.returns-in_ok-put_fact-in-Put-clause-noted
+returns-in_ok-put_fact-in-Put-clause-noted g c = λ me log number is late.
+    rw c.in-Put.is (c.in_ok-put_fact-in-Put.ensures.noted me log is late)
+
+pub returns-in_err-get_facts-in-Get-clause-puts : goal.returns-in_err-get_facts-in-Get-clause-puts
+returns-in_err-get_facts-in-Get-clause-puts g c = λ me log number is late.
+    let p = err_from_is_err_and c.from_residual-in_err-get_facts-in-Get.result c.from_residual-in_err-get_facts-in-Get.ensures.1 in
+    rw (p.1, p.2, c.in-Get.is) (c.in_err-get_facts-in-Get.ensures.puts me log is)
+
+pub returns-in_ok-get_facts-in-Get-clause-puts : goal.returns-in_ok-get_facts-in-Get-clause-puts
+returns-in_ok-get_facts-in-Get-clause-puts g c = λ me log number is late.
+    rw c.in-Get.is (c.in_ok-get_facts-in-Get.ensures.puts me log is)
+
+pub returns-in_ok-get_facts-in-Get-clause-noted : goal.returns-in_ok-get_facts-in-Get-clause-noted
+returns-in_ok-get_facts-in-Get-clause-noted g c = λ me log number is late.
+    rw c.in-Get.is (c.in_ok-get_facts-in-Get.ensures.noted me log is late)
+
+-- ---- reboots
+
+pub returns-in_err-take_reboot-in-Reboot-clause-puts : goal.returns-in_err-take_reboot-in-Reboot-clause-puts
+returns-in_err-take_reboot-in-Reboot-clause-puts g c = λ me log number is late.
+    let p = err_from_is_err_and c.from_residual-in_err-take_reboot-in-Reboot.result c.from_residual-in_err-take_reboot-in-Reboot.ensures.1 in
+    rw (p.1, p.2, c.in-Reboot.is) (c.in_err-take_reboot-in-Reboot.ensures.puts me log is)
+
+pub returns-in_ok-take_reboot-in-Reboot-clause-puts : goal.returns-in_ok-take_reboot-in-Reboot-clause-puts
+returns-in_ok-take_reboot-in-Reboot-clause-puts g c = λ me log number is late.
+    rw c.in-Reboot.is (c.in_ok-take_reboot-in-Reboot.ensures.puts me log is)
+
+pub returns-in_ok-take_reboot-in-Reboot-clause-noted : goal.returns-in_ok-take_reboot-in-Reboot-clause-noted
+returns-in_ok-take_reboot-in-Reboot-clause-noted g c = λ me log number is late.
+    rw c.in-Reboot.is (c.in_ok-take_reboot-in-Reboot.ensures.noted me log is late)

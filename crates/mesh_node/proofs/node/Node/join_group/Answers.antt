@@ -30,5 +30,6 @@ returns-clause-noted g c = λ me log is late. record {
       (before_now c.args.self.now.locals me log c.args.now is.clients late))
       (c.in_ok-join.ensures.noted (mentions me log) (history me log) is.clients.since is.clients.stand);
   bridge = is.bridge;
+  rising = (late, is.rising);
   alive = is.alive;
 }

@@ -10,5 +10,6 @@ returns-clause-noted g c = λ me log is late. record {
   clients = has_left (g.A.Algo.queries me) c.args.self.now.locals c.leave.new.self me log c.args.now c.args.key is.clients late
       (c.leave.ensures.noted (mentions me log) (history me log) is.clients.since c.args.now is.clients.stand);
   bridge = is.bridge;
+  rising = (late, is.rising);
   alive = is.alive;
 }

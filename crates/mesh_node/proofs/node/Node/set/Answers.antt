@@ -9,8 +9,9 @@ returns-clause-noted g c = λ me log is late.
     let setting = setting_seen c.args.setting in
     record {
       mac = is.mac;
-      kept = set_stands g.A.Algo.stands c.args.self.now.kept c.set.new.self me setting known is.kept (c.set.ensures known.services is.kept.services);
+      kept = set_stands g.A.Algo.stands c.args.self.now.kept c.set.new.self me setting known is.kept (c.set.ensures me known.services is.kept.services);
       clients = has_set (g.A.Algo.queries me) c.args.self.now.locals me log c.args.now setting is.clients late;
       bridge = is.bridge;
+      rising = (late, is.rising);
       alive = is.alive;
     }

@@ -55,5 +55,6 @@ returns-clause-noted g c = λ me log is late.
       clients = subst (λ m. HasClients c.call.new.locals m (with_input (g.A.Algo.queries m) m log c.args.now given)) is.mac
           (c.in_ok-call.ensures.sighted log before flags);
       bridge = is.bridge;
+      rising = (late, is.rising);
       alive = is.alive;
     }

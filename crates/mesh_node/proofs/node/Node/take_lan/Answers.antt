@@ -59,5 +59,6 @@ returns-clause-noted g c = λ me log is late.
           (c.in_ok-lan_frame.ensures.mentioned log before (subst (λ m. BridgeStands c.args.self.now.bridge m (bridge log)) (sym is.mac) is.bridge) flags);
       bridge = subst (λ m. BridgeStands c.lan_frame.new.bridge m (next_bridge (bridge log) c.args.now given)) is.mac
           (c.in_ok-lan_frame.ensures.bridged log (subst (λ m. BridgeStands c.args.self.now.bridge m (bridge log)) (sym is.mac) is.bridge));
+      rising = (late, is.rising);
       alive = is.alive;
     }

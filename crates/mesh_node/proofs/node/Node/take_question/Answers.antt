@@ -47,5 +47,6 @@ returns-clause-noted g c = λ me log is late.
       clients = subst (λ m. HasClients c.ask_sighted.new.locals m (with_input (g.A.Algo.queries m) m log c.args.now given)) is.mac
           (c.in_ok-ask_sighted.ensures.sighted log before flags);
       bridge = is.bridge;
+      rising = (late, is.rising);
       alive = is.alive;
     }

@@ -1,7 +1,7 @@
 use Rattle.node_ground.proofs.knowledge.NodeKnowledge.learn.Goals as goal
 
-pub returns : goal.returns
-returns g c = λ me known stands. record {
+pub returns-clause-ok : goal.returns-clause-ok
+returns-clause-ok g c = λ me known stands. record {
   routes = stands.routes;
   tables = stands.tables;
   marks = stands.marks;
@@ -14,5 +14,6 @@ returns g c = λ me known stands. record {
     choice = stands.services.choice;
     cache = c.in_ok-learn.ensures.ok known.services.learned stands.services.cache;
     asks = stands.services.asks;
+    store = stands.services.store;
   };
 }

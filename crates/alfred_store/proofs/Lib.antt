@@ -1,0 +1,4 @@
+-- What the kept store rests on.
+pub mod PrimaryLemmas
+pub mod RequestLemmas
+pub mod StoreLemmas

@@ -1,0 +1,5 @@
+use Rattle.std.proofs.Common.{length}
+use Rattle.node_facts.proofs.rounds.+push_to.Given as goal
+
+abbrev pub decreases-push_to : goal.decreases-push_to
+decreases-push_to g l = length l.nodes.now
