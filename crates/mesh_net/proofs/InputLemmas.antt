@@ -13,7 +13,7 @@ use Rattle.mesh_model.specs.Net.Runs.{delivered, frame_given, frame_over, tick_g
 use Rattle.mesh_model.specs.Routes.Queries.{Queries}
 use Rattle.mesh_model.specs.Routes.RouteLog.{RouteLog, MayTick}
 use Rattle.mesh_node.specs.declared.input.Input.{Input}
-use Rattle.mesh_node.specs.declared.input.Input.TheVariants.{Tick, Link, Lan, Attach, Frame, Gone, Join, Leave, Arp, Dhcp, Wifi, GwOff, GwServer, GwClient, Mcast, Dat, Ping, Trace}
+use Rattle.mesh_node.specs.declared.input.Input.TheVariants.{Tick, Link, Lan, Attach, Frame, Gone, Join, Leave, Arp, Dhcp, Wifi, GwOff, GwServer, GwClient, Mcast, Dat, Alfred, Put, Get, Ping, Trace, Reboot}
 use Rattle.mesh_node.specs.NodeStands.{MayTake, MayFollow, given_by}
 use Rattle.mesh_post.specs.declared.row.Arrival.{Arrival}
 use Rattle.mesh_post.specs.declared.row.Sending.{Sending}
@@ -45,8 +45,12 @@ line_counts ticks number (GwServer down up) line = tt
 line_counts ticks number (GwClient policy) line = tt
 line_counts ticks number (Mcast flags) line = tt
 line_counts ticks number (Dat on) line = tt
+line_counts ticks number (Alfred mode) line = tt
+line_counts ticks number (Put type_no version text) line = tt
+line_counts ticks number (Get type_no) line = tt
 line_counts ticks number (Ping target) line = tt
 line_counts ticks number (Trace target) line = tt
+line_counts ticks number Reboot line = tt
 
 line_follows : (before : Knowledge) (number : ℕ) (input : Input) → IsOfLine (given_by number input) → MayFollow before input
 line_follows before number (Tick index) line = absurd line
@@ -65,8 +69,12 @@ line_follows before number (GwServer down up) line = tt
 line_follows before number (GwClient policy) line = tt
 line_follows before number (Mcast flags) line = tt
 line_follows before number (Dat on) line = tt
+line_follows before number (Alfred mode) line = tt
+line_follows before number (Put type_no version text) line = tt
+line_follows before number (Get type_no) line = tt
 line_follows before number (Ping target) line = tt
 line_follows before number (Trace target) line = tt
+line_follows before number Reboot line = tt
 
 -- so it may come to any node at any time
 pub line_tickless : (number : ℕ) (input : Input) → IsOfLine (given_by number input) → IsTickless input

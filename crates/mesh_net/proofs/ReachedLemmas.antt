@@ -2,7 +2,7 @@
 use Rattle.std.proofs.Common.{◌≡◌, ℕ, ◌≤◌, inl, inr, List, [], Ok, refl, sym, ap, ◌∙◌, subst, arith}
 use Rattle.mesh_base.specs.declared.address.Mac.{Mac}
 use Rattle.mesh_model.specs.declared.happening.Happening.{Happening}
-use Rattle.mesh_model.specs.Clients.Log.{Given, Tick, LinkFrame, LanFrame, Line, LineGiven, Attach, Frame, Gone, Join, Leave, Arp, Dhcp, Sets, Put, Get, Ping, Trace}
+use Rattle.mesh_model.specs.Clients.Log.{Given, Tick, LinkFrame, LanFrame, Line, LineGiven, Attach, Frame, Gone, Join, Leave, Arp, Dhcp, Sets, Put, Get, Ping, Trace, Reboot}
 use Rattle.mesh_model.specs.Net.Due.{ticks_by}
 use Rattle.mesh_model.specs.Net.Inputs.{given_to}
 use Rattle.mesh_model.specs.Net.Limits.{clock_limit, scenario_setup}
@@ -54,6 +54,7 @@ no_lan (Put type_no version text) l = λ lan gateways e. cc
 no_lan (Get type_no) l = λ lan gateways e. cc
 no_lan (Ping target) l = λ lan gateways e. cc
 no_lan (Trace target) l = λ lan gateways e. cc
+no_lan Reboot l = λ lan gateways e. cc
 
 input_lans : (queries : Mac → Queries) (place clock : ℕ) (given : Given) (mesh after : Mesh) → IsOfLine given → LansStand mesh → given_to (scenario_setup queries) place clock 0 given mesh ≡ Ok after → LansStand after
 input_lans queries place clock (Tick index) mesh after l stand e = absurd l

@@ -10,14 +10,15 @@ use Rattle.mesh_model.specs.declared.happening.Class.TheVariants.{LinkDelivery, 
 use Rattle.mesh_model.specs.declared.happening.Happening.{Happening}
 use Rattle.mesh_model.specs.declared.packet.Head.{Head}
 use Rattle.mesh_model.specs.declared.packet.Head.TheVariants.{IvOgm, Bcast, Elp, Ogm2, Unicast, Frag, Unicast4, Icmp, Utvlv}
-use Rattle.mesh_model.specs.Clients.Log.{Given, Tick, LinkFrame, LanFrame, Line, LineGiven, Attach, Frame, Gone, Join, Leave, Arp, Dhcp, Sets, Put, Get, Ping, Trace, Log, LogEntry}
+use Rattle.mesh_model.specs.Clients.Log.{Given, Tick, LinkFrame, LanFrame, Line, LineGiven, Attach, Frame, Gone, Join, Leave, Arp, Dhcp, Sets, Put, Get, Ping, Trace, Reboot, Log, LogEntry, is_reboot, line_reboots}
 use Rattle.mesh_model.specs.Clients.Lans.{bridge}
 use Rattle.mesh_model.specs.Clients.Mentions.{Mention, key_of, mentions, next_mentions, passed_from_lan}
 use Rattle.mesh_model.specs.Commits.History.{is_commit_tick}
-use Rattle.mesh_model.specs.Knowledge.Known.{Broadcast, Knowledge, agreed_byte, is_new_broadcast}
+use Rattle.mesh_model.specs.Knowledge.FactStore.{after_fact_message}
+use Rattle.mesh_model.specs.Knowledge.Known.{Broadcast, Knowledge, agreed_byte, is_new_broadcast, taken_at}
 use Rattle.mesh_model.specs.Knowledge.Offers.{after_choice, gateway_way}
 use Rattle.mesh_model.specs.Knowledge.Pairs.{after_arp, after_asking, after_came, after_question, is_asked, with_ask, with_learned}
-use Rattle.mesh_model.specs.Knowledge.Steps.{Coming, stays_on_lan, knowledge, next_knowledge, after_announcement, after_answer, after_broadcast, after_call, after_containers, after_frame, after_head, after_message, after_reply, after_packet, after_packets, after_passed, after_roaming, after_sent, after_sighting, after_taken, before_announcement, is_flooded, released_under, with_head, with_offered, line_knowledge}
+use Rattle.mesh_model.specs.Knowledge.Steps.{Coming, announced_by, before_round, stays_on_lan, knowledge, next_knowledge, after_announcement, after_answer, after_broadcast, after_call, after_containers, after_frame, after_head, after_message, after_reply, after_packet, after_packets, after_passed, after_roaming, after_sent, after_sighting, after_taken, before_announcement, is_flooded, released_under, with_head, with_offered, line_knowledge}
 use Rattle.mesh_model.specs.Knowledge.Told.{Message, TableMessage, Asks, Answers, Neither, message_in, message_of}
 use Rattle.mesh_model.specs.Marks.Calls.{Forgotten}
 use Rattle.mesh_model.specs.Net.Due.{ticks_by, ticks_in}
@@ -32,6 +33,7 @@ use Rattle.mesh_model.specs.Net.Sending.{Actor, after_acts}
 use Rattle.mesh_model.specs.Packets.ArpMessages.{ArpCame, Puts, Asks as AsksPair, Tells, arp_came}
 use Rattle.mesh_model.specs.Packets.Containers.{containers_of}
 use Rattle.mesh_model.specs.Packets.Contents.{first_roaming, first_table}
+use Rattle.mesh_model.specs.Packets.FactMessages.{fact_message_of}
 use Rattle.mesh_model.specs.Packets.FirstPacket.{Packet}
 use Rattle.mesh_model.specs.Packets.LanFrames.{client_frame_in, lan_message_of}
 use Rattle.mesh_model.specs.Packets.LinkFrame.{link_frame}
@@ -39,13 +41,14 @@ use Rattle.mesh_model.specs.Packets.Payload.{ClientFrame}
 use Rattle.mesh_model.specs.Probes.OpenProbes.{is_answer}
 use Rattle.mesh_model.specs.Routes.Addresses.{same_mac}
 use Rattle.mesh_model.specs.Routes.Queries.{Queries}
-use Rattle.mesh_model.specs.Routes.RouteLog.{FollowsIndex, MayTick, OwnTick, last_index, own_ticks}
+use Rattle.mesh_model.specs.Routes.RouteLog.{FollowsIndex, MayTick, OwnTick, RouteLog, last_index, own_ticks}
 use Rattle.mesh_model.specs.Run.Steps.{new_node}
 use Rattle.mesh_model.specs.Services.ArpTable.{AskedFor}
 use Rattle.mesh_model.specs.Tables.Known.{Answered, Dropped, known_by}
 use Rattle.mesh_laws.proofs.Schedule.Added.{added}
 use Rattle.mesh_laws.proofs.Schedule.Members.{get_last}
 use Rattle.mesh_laws.proofs.Schedule.Order.{moments}
+use Rattle.mesh_laws.proofs.StoreLemmas.{Rest, get_rest, message_rest, round_at_rest}
 use Rattle.mesh_laws.proofs.LanLemmas.{effect_later, joined_later}
 use Rattle.mesh_laws.proofs.Schedule.Sends.{ok_one, on_ok_ok, acts_send, sends_put}
 use Rattle.mesh_laws.proofs.Schedule.Steps.{all_effect, delivered_effect, no_ticks, not_passed, put_joins, step_is, tickless}
@@ -57,8 +60,14 @@ use Rattle.mesh_net.proofs.ReachedLemmas.{reached, of_line}
 
 -- ---- what a node knows of its ticks
 -- how many ticks an algorithm had, and the index of the last
+abbrev counted_in : RouteLog → ℕ × Option ℕ
+counted_in routes = (own_ticks routes, last_index routes)
+
 abbrev counted : Knowledge → ℕ × Option ℕ
-counted known = (own_ticks known.routes, last_index known.routes)
+counted known = counted_in known.routes
+
+abbrev counted_left : Rest → ℕ × Option ℕ
+counted_left rest = counted_in rest.routes
 
 either_counted : (b : Bool) (x y known : Knowledge) → counted x ≡ counted known → counted y ≡ counted known → counted (if b then x else y) ≡ counted known
 either_counted true x y known e f = e
@@ -99,8 +108,8 @@ containers_counted q now src tail known =
     let message = message_in (first_table (containers_of tail)) in
     roaming_counted q now src (first_roaming (containers_of tail)) (after_answer q now src message known) ∙ answer_counted q now src message known
 
-broadcast_counted : (me : Mac) (broadcast : Broadcast) (known : Knowledge) → counted (after_broadcast me broadcast known) ≡ counted known
-broadcast_counted me broadcast known = either_counted (is_new_broadcast me broadcast known.taken) (record known { taken = broadcast ∷ known.taken }) known known refl refl
+broadcast_counted : (me : Mac) (now : ℕ) (broadcast : Broadcast) (known : Knowledge) → counted (after_broadcast me now broadcast known) ≡ counted known
+broadcast_counted me now broadcast known = either_counted (is_new_broadcast me now broadcast known.taken) (record known { taken = taken_at now broadcast known.taken ∷ known.taken }) known known refl refl
 
 -- nor does a packet of the ARP table
 came_counted : (now : ℕ) (came : Option ArpCame) (known : Knowledge) → counted (after_came now came known) ≡ counted known
@@ -114,10 +123,13 @@ arp_counted now came known = either_counted known.services.settings.arp_table (a
 
 head_counted : (q : Queries) (me : Mac) (came : Coming) (message : Option Message) (tail : List ℕ) (head : Head) (known : Knowledge) → counted (after_head q me came message tail head known) ≡ counted known
 head_counted q me came message tail (IvOgm ttl flags seq orig prev tq) known = taken_counted q came (IvOgm ttl flags seq orig prev tq) message tail known
-head_counted q me came message tail (Bcast ttl seq orig) known = broadcast_counted me (record { orig = orig; number = seq }) known
+head_counted q me came message tail (Bcast ttl seq orig) known =
+    let broadcast : Broadcast = record { orig = orig; number = seq } in
+    ap counted_left (message_rest came.now (announced_by me came.now broadcast tail known) (after_broadcast me came.now broadcast known)) ∙ broadcast_counted me came.now broadcast known
 head_counted q me came message tail (Elp orig seq interval) known = refl
 head_counted q me came message tail (Ogm2 ttl flags seq orig throughput) known = taken_counted q came (Ogm2 ttl flags seq orig throughput) message tail known
-head_counted q me came message tail (Unicast ttl ttvn dst) known = refl
+head_counted q me came message tail (Unicast ttl ttvn dst) known =
+    either_counted (same_mac dst me) (after_fact_message came.now (fact_message_of tail) known) known known (ap counted_left (message_rest came.now (fact_message_of tail) known)) refl
 head_counted q me came message tail (Frag ttl number priority dst orig seq total) known = refl
 head_counted q me came message tail (Unicast4 ttl ttvn dst src subtype) known =
     either_counted (same_mac dst me) (after_arp came.now (arp_came subtype tail) known) known known (arp_counted came.now (arp_came subtype tail) known) refl
@@ -158,16 +170,20 @@ index_by (LinkFrame number from throughput bytes) last = last
 index_by (LanFrame bytes) last = last
 index_by (Line line) last = last
 
--- the index of a node's last tick
-abbrev pub index_in : Log → Option ℕ
-index_in [] = None
-index_in (entry ∷ older) = index_by entry.given (index_in older)
+-- how many ticks there were after an input, and the index of the last: none after a reboot
+abbrev counts_after : (reboots : Bool) → Given → ℕ × Option ℕ → ℕ × Option ℕ
+counts_after reboots given before = if reboots then (0, None) else (ticks_by given + before.0, index_by given before.1)
+
+-- how many ticks a node had since its last reboot, and the index of the last of these
+abbrev pub since_reboot : Log → ℕ × Option ℕ
+since_reboot [] = (0, None)
+since_reboot (entry ∷ older) = counts_after (is_reboot entry.given) entry.given (since_reboot older)
 
 no_more : (known : Knowledge) → counted known ≡ (0 + own_ticks known.routes, last_index known.routes)
 no_more known = ap (λ n. (n, last_index known.routes)) (omega arith)
 
--- a line adds no tick
-line_counted : (q : Queries) (me : Mac) (older : Log) (known : Knowledge) (now : ℕ) (line : LineGiven) → counted (line_knowledge q me older known now line) ≡ counted known
+-- a line adds no tick, and a reboot forgets all
+line_counted : (q : Queries) (me : Mac) (older : Log) (known : Knowledge) (now : ℕ) (line : LineGiven) → counted (line_knowledge q me older known now line) ≡ (if line_reboots line then (0, None) else counted known)
 line_counted q me older known now (Attach lan gateways) = refl
 line_counted q me older known now (Frame src dst vid text) = frame_counted q now (key_of dst vid) (after_sighting q me older now (key_of src vid) known)
 line_counted q me older known now (Gone key) = refl
@@ -178,36 +194,37 @@ line_counted q me older known now (Arp mac own_ip asked_ip vid) =
 line_counted q me older known now (Dhcp key text) = call_counted q now (after_sighting q me older now key known)
 line_counted q me older known now (Sets setting) = refl
 line_counted q me older known now (Put type_no version text) = refl
-line_counted q me older known now (Get type_no) = refl
+line_counted q me older known now (Get type_no) = ap counted_left (get_rest q now type_no known.services.settings.fact_store known)
 line_counted q me older known now (Ping target) = refl
 line_counted q me older known now (Trace target) = refl
+line_counted q me older known now Reboot = refl
 
 -- nor does a choice
 choice_counted : (q : Queries) (now index : ℕ) (known : Knowledge) → counted (after_choice q now index known) ≡ counted known
 choice_counted q now index known = either_counted (is_commit_tick index) _ known known refl refl
 
 -- an input adds its tick, and no other
-next_counted : (q : Queries) (me : Mac) (older : Log) (known : Knowledge) (now : ℕ) (given : Given) → counted (next_knowledge q me older known now given) ≡ (ticks_by given + own_ticks known.routes, index_by given (last_index known.routes))
+next_counted : (q : Queries) (me : Mac) (older : Log) (known : Knowledge) (now : ℕ) (given : Given) → counted (next_knowledge q me older known now given) ≡ counts_after (is_reboot given) given (counted known)
 next_counted q me older known now (Tick index) =
     let ticked : Knowledge = record known { routes = OwnTick now index ∷ known.routes } in
     let n : own_ticks ticked.routes ≡ suc (own_ticks known.routes) = refl in
-    choice_counted q now index ticked ∙ ap (λ m. (m, Some index)) (omega (arith, n))
+    ap counted_left (round_at_rest q now index (before_round q now index known)) ∙ choice_counted q now index ticked ∙ ap (λ m. (m, Some index)) (omega (arith, n))
 next_counted q me older known now (LinkFrame number from throughput bytes) =
     packets_counted q me (record { now = now; from = from; throughput = throughput; number = number }) known (link_frame bytes).packets ∙ no_more known
 next_counted q me older known now (LanFrame bytes) =
     passed_counted q me older known now (next_mentions me older (mentions me older) now (LanFrame bytes)) (passed_from_lan me older now (client_frame_in (lan_message_of bytes))) ∙ no_more known
-next_counted q me older known now (Line line) = line_counted q me older known now line ∙ no_more known
+next_counted q me older known now (Line line) = line_counted q me older known now line ∙ ap (λ (c : ℕ × Option ℕ). if line_reboots line then (0, None) else c) (no_more known)
 
--- an algorithm has the ticks of its node
-log_counted : (q : Queries) (me : Mac) (log : Log) → counted (knowledge q me log) ≡ (ticks_in log, index_in log)
+-- an algorithm has the ticks of its node since its last reboot
+log_counted : (q : Queries) (me : Mac) (log : Log) → counted (knowledge q me log) ≡ since_reboot log
 log_counted q me [] = refl
 log_counted q me (entry ∷ older) =
-    next_counted q me older (knowledge q me older) entry.moment entry.given ∙ ap (λ (c : ℕ × Option ℕ). (ticks_by entry.given + c.0, index_by entry.given c.1)) (log_counted q me older)
+    next_counted q me older (knowledge q me older) entry.moment entry.given ∙ ap (counts_after (is_reboot entry.given) entry.given) (log_counted q me older)
 
 -- ---- numbers
--- the next tick has the number that follows
+-- the next tick has the number that follows, and no more ticks count since a reboot than there were
 abbrev pub Numbered : Log → Type 0
-Numbered log = FollowsIndex (index_in log) (suc (ticks_in log))
+Numbered log = FollowsIndex (since_reboot log).1 (suc (ticks_in log)) × ((since_reboot log).0 ≤ ticks_in log)
 
 -- an input that isn't a tick, or is the next
 abbrev pub IsInOrder : Log → Given → Type 0
@@ -223,15 +240,21 @@ index_of (LanFrame bytes) = 0
 index_of (Line line) = 0
 
 -- an input that isn't a tick leaves the number of the next
-same_number : (index : Option ℕ) (ticks : ℕ) → FollowsIndex index (suc ticks) → FollowsIndex index (suc (0 + ticks))
-same_number index ticks n = subst (λ k. FollowsIndex index (suc k)) (omega arith) n
+same_number : (before : ℕ × Option ℕ) (ticks : ℕ) → FollowsIndex before.1 (suc ticks) × (before.0 ≤ ticks) → FollowsIndex before.1 (suc (0 + ticks)) × (0 + before.0 ≤ 0 + ticks)
+same_number before ticks n = (subst (λ k. FollowsIndex before.1 (suc k)) (omega arith) n.0, (let few = n.1 in omega (arith, few)))
+
+-- so does a line, and behind a reboot each number follows
+line_number : (reboots : Bool) (line : LineGiven) (before : ℕ × Option ℕ) (ticks : ℕ) → FollowsIndex before.1 (suc ticks) × (before.0 ≤ ticks)
+    → FollowsIndex (counts_after reboots (Line line) before).1 (suc (0 + ticks)) × ((counts_after reboots (Line line) before).0 ≤ 0 + ticks)
+line_number true line before ticks n = (omega arith, omega arith)
+line_number false line before ticks n = same_number before ticks n
 
 numbered_next : (log : Log) (now : ℕ) (given : Given) (acts : List Act) → IsInOrder log given → Numbered log → Numbered (record { moment = now; given = given; acts = acts } ∷ log)
 numbered_next log now (Tick index) acts (inl e) n = absurd (omega (arith, e))
-numbered_next log now (Tick index) acts (inr e) n = let i : index ≡ suc (ticks_in log) = ap index_of e in omega (arith, i)
-numbered_next log now (LinkFrame number from throughput bytes) acts o n = same_number (index_in log) (ticks_in log) n
-numbered_next log now (LanFrame bytes) acts o n = same_number (index_in log) (ticks_in log) n
-numbered_next log now (Line line) acts o n = same_number (index_in log) (ticks_in log) n
+numbered_next log now (Tick index) acts (inr e) n = (let i : index ≡ suc (ticks_in log) = ap index_of e in omega (arith, i), (let few = n.1 in omega (arith, few)))
+numbered_next log now (LinkFrame number from throughput bytes) acts o n = same_number (since_reboot log) (ticks_in log) n
+numbered_next log now (LanFrame bytes) acts o n = same_number (since_reboot log) (ticks_in log) n
+numbered_next log now (Line line) acts o n = line_number (line_reboots line) line (since_reboot log) (ticks_in log) n
 
 abbrev pub AllNumbered : List NodeLog → Type 0
 AllNumbered nodes = (place : ℕ) (node : NodeLog) → slice_get nodes place ≡ Some node → Numbered node.log
@@ -301,7 +324,7 @@ pub all_numbered : (queries : Mac → Queries) (clock : ℕ) (mesh : Mesh) → I
 all_numbered queries _ _ begins = λ place node e. cc
 all_numbered queries _ _ (joins clock mesh name mac way few) = λ place node e. elim (get_last mesh.nodes (new_node name mac clock) place node e) as (λ _. Numbered node.log) [
   | inl old ↦ all_numbered queries clock mesh way place node old
-  | inr new ↦ subst (λ (n : NodeLog). Numbered n.log) (sym new) (omega arith)
+  | inr new ↦ subst (λ (n : NodeLog). Numbered n.log) (sym new) (omega arith, omega arith)
 ]
 all_numbered queries _ _ (links clock mesh link way few new) = all_numbered queries clock mesh way
 all_numbered queries _ _ (lan_joins clock mesh after name gateways way few new e) =
@@ -318,10 +341,12 @@ all_numbered queries _ _ (passes clock later mesh way l low quiet) = all_numbere
 pub may_tick : (queries : Mac → Queries) (clock : ℕ) (mesh : Mesh) (place : ℕ) (node : NodeLog) → IsReached (scenario_setup queries) clock mesh → slice_get mesh.nodes place ≡ Some node → ticks_in node.log < 4294967295 → MayTick (knowledge (queries node.mac) node.mac node.log).routes (suc (ticks_in node.log))
 may_tick queries clock mesh place node way found few =
     let c = log_counted (queries node.mac) node.mac node.log in
-    let t : own_ticks (knowledge (queries node.mac) node.mac node.log).routes ≡ ticks_in node.log = ap (λ (p : ℕ × Option ℕ). p.0) c in
+    let n = all_numbered queries clock mesh way place node found in
+    let t : own_ticks (knowledge (queries node.mac) node.mac node.log).routes ≡ (since_reboot node.log).0 = ap (λ (p : ℕ × Option ℕ). p.0) c in
+    let no_more = n.1 in
     record {
-      follows = subst (λ (p : ℕ × Option ℕ). FollowsIndex p.1 (suc (ticks_in node.log))) (sym c) (all_numbered queries clock mesh way place node found);
-      few = omega (arith, t, few);
+      follows = subst (λ (p : ℕ × Option ℕ). FollowsIndex p.1 (suc (ticks_in node.log))) (sym c) n.0;
+      few = omega (arith, t, no_more, few);
     }
 
 -- ---- what is to come

@@ -5,7 +5,7 @@
 use Rattle.std.specs.Prelude.{◌≡◌, ℕ, ◌<◌, ◌≤◌, List, length, Ok, Some, None}
 use Rattle.mesh_base.specs.declared.address.Mac.{Mac}
 use Rattle.mesh_model.specs.declared.happening.Happening.{Happening}
-use Rattle.mesh_model.specs.Clients.Log.{Given, Tick, LinkFrame, LanFrame, Line, LineGiven, Attach, Frame, Gone, Join, Leave, Arp, Dhcp, Sets, Put, Get, Ping, Trace}
+use Rattle.mesh_model.specs.Clients.Log.{Given, Tick, LinkFrame, LanFrame, Line, LineGiven, Attach, Frame, Gone, Join, Leave, Arp, Dhcp, Sets, Put, Get, Ping, Trace, Reboot}
 use Rattle.mesh_model.specs.Net.Mesh.{NetLink, LanPut, Mesh, Setup, empty_mesh}
 use Rattle.mesh_model.specs.Net.Inputs.{all_given, given_to}
 use Rattle.mesh_model.specs.Net.Lans.{joins_lan}
@@ -46,6 +46,7 @@ LeavesPlace (Put type_no version text) = Unit
 LeavesPlace (Get type_no) = Unit
 LeavesPlace (Ping target) = Unit
 LeavesPlace (Trace target) = Unit
+LeavesPlace Reboot = Unit
 
 -- what a line of a scenario gives a node, where it stands
 abbrev pub IsOfLine : Given → Type 0

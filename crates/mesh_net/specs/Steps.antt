@@ -24,7 +24,7 @@ use Rattle.mesh_model.specs.Routes.RouteLog.{RouteLog, MayTick}
 use Rattle.node_ground.specs.declared.failure.NodeErr.{NodeErr}
 use Rattle.node_ground.specs.declared.failure.NodeErr.TheVariants as node_errors
 use Rattle.mesh_node.specs.declared.input.Input.{Input}
-use Rattle.mesh_node.specs.declared.input.Input.TheVariants.{Tick, Link, Lan, Attach, Frame, Gone, Join, Leave, Arp, Dhcp, Wifi, GwOff, GwServer, GwClient, Mcast, Dat, Ping, Trace}
+use Rattle.mesh_node.specs.declared.input.Input.TheVariants.{Tick, Link, Lan, Attach, Frame, Gone, Join, Leave, Arp, Dhcp, Wifi, GwOff, GwServer, GwClient, Mcast, Dat, Alfred, Put, Get, Ping, Trace, Reboot}
 use Rattle.node_ground.specs.OwnStands.{newest_moment}
 use Rattle.mesh_node.specs.NodeStands.{MayFollow}
 use Rattle.mesh_net.specs.declared.failure.NetErr.{NetErr}
@@ -56,8 +56,12 @@ ticks_with ticks (GwServer down up) = ticks
 ticks_with ticks (GwClient policy) = ticks
 ticks_with ticks (Mcast flags) = ticks
 ticks_with ticks (Dat on) = ticks
+ticks_with ticks (Alfred mode) = ticks
+ticks_with ticks (Put type_no version text) = ticks
+ticks_with ticks (Get type_no) = ticks
 ticks_with ticks (Ping target) = ticks
 ticks_with ticks (Trace target) = ticks
+ticks_with ticks Reboot = ticks
 
 -- an input's index, where it is a tick, is that of the next tick after so many
 abbrev pub Counts : ℕ → Input → Type 0
@@ -77,8 +81,12 @@ Counts ticks (GwServer down up) = ⊤
 Counts ticks (GwClient policy) = ⊤
 Counts ticks (Mcast flags) = ⊤
 Counts ticks (Dat on) = ⊤
+Counts ticks (Alfred mode) = ⊤
+Counts ticks (Put type_no version text) = ⊤
+Counts ticks (Get type_no) = ⊤
 Counts ticks (Ping target) = ⊤
 Counts ticks (Trace target) = ⊤
+Counts ticks Reboot = ⊤
 
 -- the newest input of each node is not after a moment
 abbrev pub ArePast : ℕ → List NodeLog → Type 0

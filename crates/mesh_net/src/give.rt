@@ -118,7 +118,11 @@ fn ticks_with(ticks: u64, input: &Input<'_>) -> u64
         | Input::GwClient(_)
         | Input::Mcast(_)
         | Input::Dat(_)
+        | Input::Alfred(_)
+        | Input::Put { .. }
+        | Input::Get { .. }
         | Input::Ping { .. }
-        | Input::Trace { .. } => ticks,
+        | Input::Trace { .. }
+        | Input::Reboot => ticks,
     }
 }

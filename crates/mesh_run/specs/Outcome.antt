@@ -18,6 +18,7 @@ use Rattle.mesh_model.specs.Run.Generated.{generated_input, generated_text}
 use Rattle.mesh_model.specs.Run.Halting.{GoesOn, halting_byte}
 use Rattle.mesh_model.specs.Run.PlainRun.{start, after_lines, plain_run, output}
 use Rattle.mesh_model.specs.Run.Statuses.{finished_status, limited_status, memory_status, read_fault_status, refused_status, stop_status, usage_status, write_fault_status}
+use Rattle.mesh_lines.specs.AliasText.{AliasLinesAreRight}
 use Rattle.mesh_lines.specs.FrameText.{TableFramesAreRight}
 use Rattle.mesh_lines.specs.TableText.{OkLinesAreCommitted}
 use Rattle.mesh_lines.specs.TextLaws.{AreFirst, IsFrontOf}
@@ -159,11 +160,11 @@ pub record TellsStatus (choice : FrameChoice) (status : ℕ) (named old new : Op
   pub memory : status ≡ memory_status → Appends old new memory_text
   pub limited : status ≡ limited_status → TellsHalt choice status named old new
 
--- ---- tables and frames
+-- ---- tables, frames and aliases
 
 -- whatever the status: what out took since the call is what the first lines of the input print, or
--- a front of that; and each whole line in it of an originator in agreement, and of a link frame
--- that was sent by table, is right
+-- a front of that; each whole line in it of an originator in agreement, of a link frame that was
+-- sent by table, and of an alias is right; and each commit that has an alias has its line
 pub record PrintsRightly (choice : FrameChoice) (old new : Option (List ℕ)) (input : List ℕ)
     : Type 0 where
   pub lines : List (List ℕ)
@@ -173,3 +174,4 @@ pub record PrintsRightly (choice : FrameChoice) (old new : Option (List ℕ)) (i
   pub front : IsFrontOf (after_lines (start choice) lines) text
   pub tables : OkLinesAreCommitted choice lines text
   pub frames : TableFramesAreRight choice lines text
+  pub aliases : AliasLinesAreRight choice lines text

@@ -220,7 +220,10 @@ pub fn batmesh<I: Intake, K: Sink, E: Sink>(
     // last, and the lines of its entries follow, as far as they were taken. A whole line of a link
     // frame with `by=table` is of bytes that the node of that name sent then, for a client that the
     // addressed node's commit names, as the sender was told last. Each of these unless a line
-    // before it tells of an alias of that node.
+    // before it tells of an alias of that node. A whole line `alias NAME K J` stands exactly where
+    // the node of that name made commit K, whose alias is J. Where a tick made it, that is behind
+    // the lines of the tick's ELP, where there is one, and before those of its originator message;
+    // where a reboot did, it tells the only event of the input's line that reboots the node.
     ensures right { IfSome (read_input (I.named intake.old) (words_of (texts words.now)))
         (PrintsRightly (choice_of (texts words.now)) (K.taken out.old) (K.taken out.new)) }
 {

@@ -23,7 +23,6 @@ fn refusal_words(refusal: Refusal) -> &'static [u8]
         Refusal::BadNumber => b"bad number",
         Refusal::OutOfRange => b"out of range",
         Refusal::ExtraWord => b"extra word",
-        Refusal::NotBuilt => b"not built",
         Refusal::UnknownName => b"unknown name",
         Refusal::WrongKind => b"wrong kind",
         Refusal::NameTaken => b"name taken",

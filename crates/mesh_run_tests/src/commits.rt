@@ -109,3 +109,54 @@ fn commit_257_has_the_alias_1(rt: HostRuntime) -> Result<(), Fail> {
     let lines = alias_lines(rt.alloc())?;
     carry_out(&rt, rt.alloc(), lines.as_str(), "alias A 257 1\n")
 }
+
+/// Three clients are there, and a fourth comes 128 times and goes 127 times: commit 256 is under
+/// byte 0, and the sums of the four are 0.
+fn first_commit_lines(alloc: Global) -> Result<String, Fail> {
+    let mut lines = String::from_str(
+        alloc,
+        "node A 02:00:00:00:00:0a\nframe A 02:00:00:00:01:01 ff:ff:ff:ff:ff:ff - x\n\
+        frame A 02:00:00:00:01:02 ff:ff:ff:ff:ff:ff - x\n\
+        frame A 02:00:00:00:01:05 ff:ff:ff:ff:ff:ff - x\nrun 1000\n",
+    )?;
+    for turn in 0..128 {
+        if turn > 0 {
+            lines.push_str("gone A 02:00:00:00:01:06 -\nrun 1000\n")?;
+        }
+        lines.push_str("frame A 02:00:00:00:01:06 ff:ff:ff:ff:ff:ff - x\nrun 1000\n")?;
+    }
+    lines.push_str("reboot A\n")?;
+    Ok(lines)
+}
+
+#[test]
+fn a_first_commit_has_an_alias(rt: HostRuntime) -> Result<(), Fail> {
+    let lines = first_commit_lines(rt.alloc())?;
+    carry_out(&rt, rt.alloc(), lines.as_str(), "alias A 256 0\nalias A 257 256\n")
+}
+
+/// Commit 2 is under byte 2; behind it there are 260 first commits, under byte 0, and commit 263,
+/// which is under byte 1 and has the sums 0, as commit 1 hasn't.
+fn many_reboots(alloc: Global) -> Result<String, Fail> {
+    let mut lines = String::from_str(
+        alloc,
+        "node A 02:00:00:00:00:0a\nframe A 02:00:00:00:01:09 ff:ff:ff:ff:ff:ff - x\nrun 1000\n\
+        frame A 02:00:00:00:01:03 ff:ff:ff:ff:ff:ff - x\nrun 1000\n",
+    )?;
+    for _turn in 0..260 {
+        lines.push_str("reboot A\n")?;
+    }
+    lines.push_str(
+        "frame A 02:00:00:00:01:01 ff:ff:ff:ff:ff:ff - x\n\
+        frame A 02:00:00:00:01:02 ff:ff:ff:ff:ff:ff - x\n\
+        frame A 02:00:00:00:01:05 ff:ff:ff:ff:ff:ff - x\n\
+        frame A 02:00:00:00:01:06 ff:ff:ff:ff:ff:ff - x\nrun 1000\n",
+    )?;
+    Ok(lines)
+}
+
+#[test]
+fn many_first_commits_have_no_alias(rt: HostRuntime) -> Result<(), Fail> {
+    let lines = many_reboots(rt.alloc())?;
+    carry_out(&rt, rt.alloc(), lines.as_str(), "")
+}

@@ -15,6 +15,8 @@ mod commits;
 #[cfg(test)]
 mod ended;
 #[cfg(test)]
+mod facts;
+#[cfg(test)]
 mod faults;
 #[cfg(test)]
 mod lans;
@@ -22,6 +24,8 @@ mod lans;
 mod links;
 #[cfg(test)]
 mod order;
+#[cfg(test)]
+mod reboots;
 #[cfg(test)]
 mod rows;
 #[cfg(test)]

@@ -113,10 +113,10 @@ fn lines_against_the_rules_are_refused(rt: HostRuntime) -> Result<(), Fail> {
             b"batmesh: line 2: address taken\n",
         ),
         (
-            b"node A 02:00:00:00:00:0a\nnode B 02:00:00:00:00:0b\nalfred A get 64\n",
+            b"node A 02:00:00:00:00:0a\nnode B 02:00:00:00:00:0b\nalfred A get 63\n",
             REFUSED,
             b"",
-            b"batmesh: line 3: not built\n",
+            b"batmesh: line 3: out of range\n",
         ),
     ];
     carry_out(&rt, rt.alloc(), &rows)

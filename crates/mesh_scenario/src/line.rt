@@ -73,6 +73,8 @@ fn read_form(alloc: Global, word: &[u8], words: &mut Words<'_>) -> Result<Comman
         net_forms::read_ping(alloc, words)
     } else if word == b"traceroute".as_slice() {
         net_forms::read_traceroute(alloc, words)
+    } else if word == b"reboot".as_slice() {
+        net_forms::read_reboot(alloc, words)
     } else if word == b"run".as_slice() {
         net_forms::read_run(alloc, words)
     } else if word == b"deliver".as_slice() {

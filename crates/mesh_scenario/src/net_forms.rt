@@ -1,7 +1,7 @@
 //! The forms of lines that make the net, let time pass, and print.
 
 ghost use Rattle.std.specs.Prelude.{◌≡◌, Ok, IfOk, IfErr};
-ghost use Rattle.mesh_model.specs.Scenario.NetForms.{read_algo, read_node, read_link, read_lan, read_ping, read_traceroute, read_run, read_deliver, read_show, read_decode};
+ghost use Rattle.mesh_model.specs.Scenario.NetForms.{read_algo, read_node, read_link, read_lan, read_ping, read_traceroute, read_reboot, read_run, read_deliver, read_show, read_decode};
 ghost use Rattle.mesh_scenario.specs.LineErr.{Refuses};
 
 use crate::line_err::LineErr;
@@ -96,6 +96,17 @@ pub fn read_traceroute(alloc: Global, words: &mut Words<'_>) -> Result<Command, 
     let node = Bytes::from_slice(alloc, node)?;
     let target = Bytes::from_slice(alloc, target)?;
     Ok(Command::Trace { node, target })
+}
+
+/// `reboot NODE`
+pub fn read_reboot(alloc: Global, words: &mut Words<'_>) -> Result<Command, LineErr>
+    ensures ok { IfOk result (λ command. read_reboot words.old ≡ Ok command) }
+    ensures refused { IfErr result (Refuses (read_reboot words.old)) }
+{
+    let node = words.name()?;
+    words.end()?;
+    let node = Bytes::from_slice(alloc, node)?;
+    Ok(Command::Reboot { node })
 }
 
 /// `run MS`

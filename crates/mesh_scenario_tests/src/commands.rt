@@ -2,7 +2,7 @@ use mesh_scenario::read_line;
 use std::test::Fail;
 
 /// Lines of the forms of which no worked row has one, and the command that each gives.
-const ROWS: [(&str, &str); 26] = [
+const ROWS: [(&str, &str); 27] = [
     ("", "Nothing"),
     (" \t #node A", "Nothing"),
     (
@@ -75,6 +75,7 @@ const ROWS: [(&str, &str); 26] = [
         "alfred A get 255",
         "Get { node: Bytes { bytes: [65] }, type_no: 255 }",
     ),
+    ("reboot A", "Reboot { node: Bytes { bytes: [65] } }"),
     ("run 0001000", "Run { time: 1000 }"),
     (
         "deliver 18446744073709551616",

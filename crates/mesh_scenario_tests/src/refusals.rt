@@ -4,7 +4,7 @@ use mesh_scenario::LineErr::{
 use mesh_scenario::read_line;
 
 /// Lines that no worked row has, each taken, or refused for the first of its faults.
-const ROWS: [(&str, Option<LineErr>); 60] = [
+const ROWS: [(&str, Option<LineErr>); 62] = [
     ("Node A 02:00:00:00:00:0a", Some(UnknownCommand)),
     ("run\r", Some(UnknownCommand)),
     ("algo", Some(MissingWord)),
@@ -73,6 +73,8 @@ const ROWS: [(&str, Option<LineErr>); 60] = [
     ("alfred A put 64 -1 x", Some(BadNumber)),
     ("alfred A get 256", Some(OutOfRange)),
     ("traceroute A B x", Some(ExtraWord)),
+    ("reboot", Some(MissingWord)),
+    ("reboot A b", Some(ExtraWord)),
     ("run 1099511627777", Some(OutOfRange)),
     ("run 0", Some(OutOfRange)),
     ("run 1e3", Some(BadNumber)),

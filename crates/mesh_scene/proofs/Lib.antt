@@ -9,6 +9,7 @@ pub mod TableLemmas
 pub mod SessionLemmas
 pub mod CallLemmas
 pub mod QuestionLemmas
+pub mod RebootLemmas
 pub mod PassLemmas
 pub mod CountLemmas
 pub mod LanLemmas

@@ -6,12 +6,12 @@ ghost use Rattle.mesh_scene.specs.CarriesOut.{CarriesFrom, FailsFrom, HasGateway
 ghost use Rattle.mesh_scene.specs.Inner.AtNodes.{given_of};
 ghost use Rattle.mesh_scene.specs.SceneStands.{IsSomewhere, SceneStands};
 
-use crate::fault::{LineFault, refused};
+use crate::fault::LineFault;
 use crate::given::given_of;
 use crate::scene::Scene;
 use batctl_text::decode_text;
 use mesh_codec::ClientFrame;
-use mesh_model::{Command, Refusal};
+use mesh_model::Command;
 use mesh_net::Link;
 use mesh_show::Choosable;
 
@@ -97,6 +97,7 @@ impl<A: Choosable + Drop> Scene<A> {
             Command::Trace { node, target } => {
                 self.trace(node.as_slice(), target.as_slice(), text)?;
             }
+            Command::Reboot { node } => self.reboot(node.as_slice(), text)?,
             Command::Deliver { number } => self.deliver(number, text)?,
             Command::Show { node, table } => self.show(node.as_slice(), table, text)?,
             Command::Decode { bytes } => decode_text(text, bytes.as_slice())?,
@@ -108,12 +109,12 @@ impl<A: Choosable + Drop> Scene<A> {
             | Command::GwServer { .. }
             | Command::GwClient { .. }
             | Command::Mcast { .. }
-            | Command::Dat { .. } => unreachable!(),
+            | Command::Dat { .. }
+            | Command::Alfred { .. }
+            | Command::Put { .. }
+            | Command::Get { .. } => unreachable!(),
             // These change more than the scene.
             Command::Algo(_) | Command::Run { .. } => unreachable!(),
-            Command::Alfred { .. } | Command::Put { .. } | Command::Get { .. } => return Err(
-                refused(Refusal::NotBuilt),
-            ),
         }
         Ok(())
     }

@@ -38,6 +38,23 @@ pub fn given_of(command: &Command) -> Option<(&[u8], Input<'_>)>
         Command::GwClient { node, policy } => Some((node.as_slice(), Input::GwClient(*policy))),
         Command::Mcast { node, flags } => Some((node.as_slice(), Input::Mcast(*flags))),
         Command::Dat { node, on } => Some((node.as_slice(), Input::Dat(*on))),
+        Command::Alfred { node, mode } => Some((node.as_slice(), Input::Alfred(*mode))),
+        Command::Put {
+            node,
+            type_no,
+            version,
+            text,
+        } => {
+            let input = Input::Put {
+                type_no: *type_no,
+                version: *version,
+                text: text.as_slice(),
+            };
+            Some((node.as_slice(), input))
+        }
+        Command::Get { node, type_no } => {
+            Some((node.as_slice(), Input::Get { type_no: *type_no }))
+        }
         Command::Nothing
         | Command::Algo(_)
         | Command::Node { .. }
@@ -47,11 +64,9 @@ pub fn given_of(command: &Command) -> Option<(&[u8], Input<'_>)>
         | Command::Gone { .. }
         | Command::Arp { .. }
         | Command::Dhcp { .. }
-        | Command::Alfred { .. }
-        | Command::Put { .. }
-        | Command::Get { .. }
         | Command::Ping { .. }
         | Command::Trace { .. }
+        | Command::Reboot { .. }
         | Command::Run { .. }
         | Command::Deliver { .. }
         | Command::Show { .. }

@@ -11,6 +11,7 @@ mod lans;
 mod link_ends;
 mod places;
 mod questions;
+mod reboots;
 mod scene;
 mod sessions;
 mod slice;

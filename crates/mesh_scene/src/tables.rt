@@ -8,11 +8,11 @@ ghost use Rattle.mesh_scene.specs.CarriesOut.{CarriesFrom, FailsFrom, outcome_un
 ghost use Rattle.mesh_scene.specs.Inner.AtNodes.{IsNameFault, IsNodeOf};
 ghost use Rattle.mesh_scene.specs.SceneStands.{IsSomewhere, SceneStands};
 
-use crate::fault::{LineFault, refused};
+use crate::fault::LineFault;
 use crate::scene::Scene;
-use mesh_model::{Refusal, Table};
+use mesh_model::Table;
 use mesh_node::Node;
-use mesh_show::{Choosable, is_built, show_table};
+use mesh_show::{Choosable, show_table};
 
 impl<A: Choosable + Drop> Scene<A> {
     /// `show NODE T`
@@ -24,9 +24,6 @@ impl<A: Choosable + Drop> Scene<A> {
         ensures refused { FailsFrom (SceneStands A.algorithm A.queries A.stands) self.now
             (outcome_under A.queries (command.Show name.now table)) result }
     {
-        if !is_built(table) {
-            return Err(refused(Refusal::NotBuilt));
-        }
         let node = self.node_of(name)?;
         let now = self.net.now();
         show_table(self.alloc, node, &self.names, name, table, now, text)?;

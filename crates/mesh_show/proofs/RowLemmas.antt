@@ -28,6 +28,14 @@ texts-next line old mid new xs i x found is more =
     more ∙ ap (λ front. front ++ line x) is ∙ append_assoc old (flat_map line (take i xs)) (line x)
     ∙ ap (λ rest. old ++ rest) (ap (λ last. flat_map line (take i xs) ++ last) (sym (append-nil (line x))) ∙ sym (flat_map-append line (take i xs) (x ∷ [])) ∙ ap (flat_map line) (sym (take-next xs i x found)) ∙ ap (λ n. flat_map line (take n xs)) (sym next))
 
+-- a first line that tells something and how many rows follow, and then a line for each row
+pub header_then_rows : {T R : Type 0} (header : T → ℕ → List ℕ) (line : R → List ℕ) (said told : T) (count : ℕ) (lent rows : List R) (old mid new : List ℕ) → said ≡ told → count ≡ length rows → lent ≡ rows
+    → mid ≡ old ++ header said count → new ≡ mid ++ flat_map line lent → new ≡ old ++ (header told (length rows) ++ flat_map line rows)
+header_then_rows header line said told count lent rows old mid new says counts lends is more =
+    more ∙ ap (λ front. front ++ flat_map line lent) is ∙ append_assoc old (header said count) (flat_map line lent)
+    ∙ ap (λ t. old ++ (header t count ++ flat_map line lent)) says ∙ ap (λ n. old ++ (header told n ++ flat_map line lent)) counts
+    ∙ ap (λ rs. old ++ (header told (length rows) ++ flat_map line rs)) lends
+
 -- a VLAN and its sum
 abbrev pub vlan_pair : VlanSum → Vid × ℕ
 vlan_pair named = (named.vid, named.sum)

@@ -1,5 +1,5 @@
 -- Tables in a state, and a table that is appended by way of a text of its own.
-use Rattle.std.proofs.Common.{◌≡◌, ℕ, List, [], ◌++◌, Option, Some, None, IfSome, sym, ap, ◌∙◌}
+use Rattle.std.proofs.Common.{◌≡◌, ℕ, List, [], ◌++◌, sym, ap, ◌∙◌}
 use Rattle.mesh_base.specs.Names.{NamesGiven}
 use Rattle.mesh_model.specs.declared.line_form.Algorithm.{Algorithm}
 use Rattle.mesh_model.specs.declared.line_form.Table.{Table}
@@ -35,14 +35,8 @@ claims_shown algorithm names now state row old new seen is =
 
 -- ---- a text of its own
 
--- what is said of a value that may be there, said otherwise
-if_some : {A : Type 0} (P Q : A → Type 0) (o : Option A) → ((a : A) → P a → Q a) → IfSome o P → IfSome o Q
-if_some P Q (Some a) goes is = goes a is
-if_some P Q None goes is = tt
-
 -- a table that a text without anything gains, and that is appended from there
 pub table-behind : (state : State) (table : Table) (row : NodeLog) (empty text lent old new : List ℕ) → empty ≡ [] → lent ≡ text
     → AppendsTable state table row empty text → new ≡ old ++ lent → AppendsTable state table row old new
-table-behind state table row empty text lent old new none same appends is =
-    if_some (λ print. text ≡ empty ++ printed_text state.choice (print state row)) (λ print. new ≡ old ++ printed_text state.choice (print state row)) (shown table)
-    (λ print gains. is ∙ ap (λ end. old ++ end) (same ∙ gains ∙ ap (λ front. front ++ printed_text state.choice (print state row)) none)) appends
+table-behind state table row empty text lent old new none same gains is =
+    is ∙ ap (λ end. old ++ end) (same ∙ gains ∙ ap (λ front. front ++ printed_text state.choice (shown table state row)) none)

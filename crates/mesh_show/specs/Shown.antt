@@ -1,6 +1,6 @@
 -- A node that is shown, its tables as text, and what a refusal leaves of the lines of events. The
 -- main words are `IsNodeAt`, `IsSeenAt` and `AppendsTable`.
-use Rattle.std.specs.Prelude.{◌≡◌, ℕ, ◌<◌, ◌≤◌, List, ◌++◌, IfSome, flat_map, length, take}
+use Rattle.std.specs.Prelude.{◌≡◌, ℕ, ◌<◌, ◌≤◌, List, ◌++◌, flat_map, length, take}
 use Rattle.mesh_base.specs.declared.address.Mac.{Mac}
 use Rattle.mesh_base.specs.declared.event.Event.{Event}
 use Rattle.mesh_base.specs.Names.{NamesGiven}
@@ -30,10 +30,10 @@ pub record IsSeenAt (algorithm : Algorithm) (names : NamesGiven) (now : ℕ) (st
     pub names_are : names_of state.mesh ≡ names
     pub clock_is : state.clock ≡ now
 
--- a text gains a table of a node in a state, where that table is built
+-- a text gains a table of a node in a state
 abbrev pub AppendsTable : State → Table → NodeLog → (old new : List ℕ) → Type 0
 AppendsTable state table row old new =
-    IfSome (shown table) (λ print. new ≡ old ++ printed_text state.choice (print state row))
+    new ≡ old ++ printed_text state.choice (shown table state row)
 
 -- a text gains the lines of the first events, whole lines, and not those of all events
 pub record AppendsFirst (names : NamesGiven) (events : List Event) (old new : List ℕ) : Type 0 where

@@ -1,8 +1,7 @@
-//! A table of a node, whichever of those that are built.
+//! A table of a node, whichever it is.
 
-ghost use Rattle.std.specs.Prelude.{◌≡◌, is_some, true, OnOk, OnErr};
+ghost use Rattle.std.specs.Prelude.{◌≡◌, OnOk, OnErr};
 ghost use Rattle.mesh_model.specs.Net.Mesh.{NodeLog};
-ghost use Rattle.mesh_model.specs.Run.Shown.{shown};
 ghost use Rattle.mesh_model.specs.Run.State.{State};
 ghost use Rattle.mesh_show.specs.Shown.{AppendsTable, IsNodeAt, IsSeenAt};
 
@@ -10,6 +9,7 @@ use crate::addresses::show_addresses;
 use crate::choosable::Choosable;
 use crate::claims::show_claims;
 use crate::clients::show_locals;
+use crate::facts::show_facts;
 use crate::gateways::show_gateways;
 use crate::groups::show_groups;
 use crate::known::show_globals;
@@ -18,23 +18,6 @@ use mesh_base::{Millis, Names, NoMemory};
 use mesh_model::Table;
 use mesh_node::Node;
 use std::alloc::Global;
-
-/// Whether a table is built: that of facts isn't.
-pub fn is_built(table: Table) -> bool
-    ensures { result ≡ is_some (shown table) }
-{
-    match table {
-        Table::Locals
-        | Table::Globals
-        | Table::Originators
-        | Table::Neighbors
-        | Table::Claims
-        | Table::Gateways
-        | Table::Groups
-        | Table::Addresses => true,
-        Table::Facts => false,
-    }
-}
 
 /// Appends a table of a node of this name, line by line. LANs have their names of `names`.
 fn put_shown<A: Choosable>(
@@ -46,7 +29,6 @@ fn put_shown<A: Choosable>(
     now: Millis,
     out: &mut Vec<u8>,
 ) -> Result<(), NoMemory>
-    requires built { is_some (shown table) ≡ true }
     ensures ok { (state : State) (row : NodeLog) → IsSeenAt A.algorithm names.now now state →
         IsNodeAt A.queries A.stands node.now name.now now row →
         OnOk result (AppendsTable state table row out.old.items out.new.items) }
@@ -60,7 +42,7 @@ fn put_shown<A: Choosable>(
         Table::Gateways => show_gateways(alloc, node, name, now, out)?,
         Table::Groups => show_groups(alloc, node, name, now, out)?,
         Table::Addresses => show_addresses(alloc, node, name, now, out)?,
-        Table::Facts => unreachable!(),
+        Table::Facts => show_facts(node, name, now, out)?,
     }
     Ok(())
 }
@@ -76,7 +58,6 @@ pub fn show_table<A: Choosable>(
     now: Millis,
     out: &mut Vec<u8>,
 ) -> Result<(), NoMemory>
-    requires built { is_some (shown table) ≡ true }
     ensures ok { (state : State) (row : NodeLog) → IsSeenAt A.algorithm names.now now state →
         IsNodeAt A.queries A.stands node.now name.now now row →
         OnOk result (AppendsTable state table row out.old.items out.new.items) }

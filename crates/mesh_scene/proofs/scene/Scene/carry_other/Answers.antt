@@ -2,7 +2,7 @@ use Rattle.std.proofs.Common.{ℕ, List, subst, sym}
 use Rattle.std.proofs.lemmas.Result.{err_from_is_err_and}
 use Rattle.mesh_model.specs.Net.Limits.{scenario_setup}
 use Rattle.mesh_model.specs.declared.line_form.Command.{Command}
-use Rattle.mesh_model.specs.declared.line_form.Command.TheVariants.{Node, Link, Lan, Frame, Gone, Arp, Dhcp, Ping, Trace, Show}
+use Rattle.mesh_model.specs.declared.line_form.Command.TheVariants.{Node, Link, Lan, Frame, Gone, Arp, Dhcp, Ping, Trace, Reboot, Show}
 use Rattle.mesh_model.specs.Run.Rules.{carried_out}
 use Rattle.mesh_scene.specs.SceneStands.{SceneStands}
 use Rattle.mesh_scene.specs.CarriesOut.{Carries, HasLineCause}
@@ -74,6 +74,23 @@ returns-in_ok-trace-in-Trace-clause-ok g c = λ state stands.
     subst C (sym line.is)
     (subst (L line.node) c.as_slice-in-Trace-2.ensures.value
     (subst (λ node. L node c.as_slice-in-Trace-2.result.now) c.as_slice-in-Trace.ensures.value (c.in_ok-trace-in-Trace.ensures.ok state stands)))
+
+pub returns-in_err-reboot-in-Reboot-clause-refused : goal.returns-in_err-reboot-in-Reboot-clause-refused
+returns-in_err-reboot-in-Reboot-clause-refused g c = λ state stands.
+    let p = err_from_is_err_and c.from_residual-in_err-reboot-in-Reboot.result c.from_residual-in_err-reboot-in-Reboot.ensures.1 in
+    let reboot = c.in-Reboot in
+    let fault = c.in_err-reboot-in-Reboot.field-0.0 in
+    let F : List ℕ → Type 0 = λ node. HasLineCause state (carried_out (scenario_setup g.A.Algo.queries) state (Reboot node)) fault in
+    let C : Command → Type 0 = λ command. HasLineCause state (carried_out (scenario_setup g.A.Algo.queries) state command) fault in
+    rw (p.1, p.2)
+    (subst C (sym reboot.is) (subst F c.as_slice-in-Reboot.ensures.value (c.in_err-reboot-in-Reboot.ensures.refused state stands)))
+
+pub returns-in_ok-reboot-in-Reboot-clause-ok : goal.returns-in_ok-reboot-in-Reboot-clause-ok
+returns-in_ok-reboot-in-Reboot-clause-ok g c = λ state stands.
+    let reboot = c.in-Reboot in
+    let F : List ℕ → Type 0 = λ node. Carries (SceneStands g.A.Choosable.algorithm g.A.Algo.queries g.A.Algo.stands) (carried_out (scenario_setup g.A.Algo.queries) state (Reboot node)) state c.reboot.new.self c.reboot.new.text.items in
+    let C : Command → Type 0 = λ command. Carries (SceneStands g.A.Choosable.algorithm g.A.Algo.queries g.A.Algo.stands) (carried_out (scenario_setup g.A.Algo.queries) state command) state c.reboot.new.self c.reboot.new.text.items in
+    (subst C (sym reboot.is) (subst F c.as_slice-in-Reboot.ensures.value (c.in_ok-reboot-in-Reboot.ensures.ok state stands)))
 
 pub returns-in_err-show-in-Show-clause-refused : goal.returns-in_err-show-in-Show-clause-refused
 returns-in_err-show-in-Show-clause-refused g c = λ state stands.

@@ -1,4 +1,4 @@
-use Rattle.std.proofs.Common.{ℕ, sym, subst, ◌∙◌}
+use Rattle.std.proofs.Common.{ℕ, sym, subst}
 use Rattle.std.proofs.lemmas.Result.{err_from_is_err_and}
 use Rattle.mesh_model.specs.Net.Limits.{scenario_setup}
 use Rattle.mesh_show.specs.Shown.{IsNodeAt}
@@ -8,7 +8,7 @@ use Rattle.mesh_scene.proofs.scene.Scene.show.Goals as goal
 pub returns-in_err-node-clause-refused : goal.returns-in_err-node-clause-refused
 returns-in_err-node-clause-refused g c = λ state stands.
     let p = err_from_is_err_and c.from_residual.result c.from_residual.ensures.1 in
-    rw (p.1, p.2) (show_fails (scenario_setup g.A.Algo.queries) state c.args.name.now c.args.table c.in_err-node.field-0.0 (sym c.is_built.ensures ∙ c.if-not-is_built.false) (c.in_err-node.ensures.unknown state stands))
+    rw (p.1, p.2) (show_fails (scenario_setup g.A.Algo.queries) state c.args.name.now c.args.table c.in_err-node.field-0.0 (c.in_err-node.ensures.unknown state stands))
 
 pub returns-clause-ok : goal.returns-clause-ok
 returns-clause-ok g c = λ state stands.
@@ -18,4 +18,4 @@ returns-clause-ok g c = λ state stands.
     let new = c.show_table.new.out.items in
     let kept = subst (λ (at : ℕ). IsNodeAt g.A.Algo.queries g.A.Algo.stands c.in_ok-node.node.now c.args.name.now at of.row) (sym now) of.kept in
     let gains = c.in_ok-show_table.ensures.ok state of.row (record { algorithm_is = stands.algorithm_is; names_are = sym stands.names_are; clock_is = sym now }) kept in
-    show_carries g.A.Choosable.algorithm g.A.Algo.queries g.A.Algo.stands state c.args.self.now c.args.name.now c.args.table of.place of.row old new stands (sym c.is_built.ensures ∙ c.if-not-is_built.false) of.allowed of.at of.found c.requires.empty gains
+    show_carries g.A.Choosable.algorithm g.A.Algo.queries g.A.Algo.stands state c.args.self.now c.args.name.now c.args.table of.place of.row old new stands of.allowed of.at of.found c.requires.empty gains
