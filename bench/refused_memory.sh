@@ -57,8 +57,9 @@ void *realloc(void *old, size_t size) {
 END
 cc -O1 -shared -fPIC -o "$work/refuse.so" "$work/refuse.c" -ldl || exit 2
 
-# One line of each form, and each table.
-cat > "$work/each_form" << 'END'
+# One line of each form, and each table. The texts of three facts are too long for one message.
+text=$(printf '%0600d' 0)
+cat > "$work/each_form" << END
 # each form
 algo iv
 node A 02:00:00:00:00:0a
@@ -70,6 +71,13 @@ set A mcast 2
 set B gw server 100 20
 set A gw client late 20
 set B dat off
+alfred A mode secondary
+alfred B mode primary
+alfred A put 64 1 $text
+alfred A put 65 1 $text
+alfred A put 66 1 $text
+alfred B put 64 1 a fact
+alfred A get 64
 frame A 02:00:00:00:01:01 ff:ff:ff:ff:ff:ff - to all
 join A 01:00:5e:00:00:fb 7
 run 6500
@@ -104,6 +112,11 @@ leave A 01:00:5e:00:00:fb 7
 gone B 02:00:00:00:01:01 -
 run 1000
 show B tg
+run 10400
+alfred B get 64
+alfred A get 64
+run 10
+show B alf
 decode 000f32000000000102000000000a02000000000a00ff000c020100000401000401000000
 END
 

@@ -150,6 +150,37 @@ class Many(unittest.TestCase):
         self.assertEqual(run_lines(lines), finished(printed))
 
 
+class Reboots(unittest.TestCase):
+    """Reboots in a row, and numbers far ahead."""
+
+    @needs_program
+    def test_10_000_reboots_in_a_row(self):
+        """Each makes a first commit, and none has an alias. Behind them commit 10,002 is the first
+        under byte 1 since commit 1, and has its table."""
+        lines = [f"node A {A}", frame("A", 1), "run 1000", *["reboot A"] * 10_000]
+        shown = ["show A tl", frame("A", 1), "run 1000", "show A tl"]
+        printed = [
+            "tl A version=0 clients=0", "tl A version=1 clients=1", "vlan - sum=81a0d314",
+            f"c {client(1)} - -- age=1000",
+        ]
+        self.assertEqual(run_lines(lines + shown), finished(printed))
+
+    def newest_behind(self, *numbers):
+        """The newest number that A knows of B behind these of its messages, which came at once."""
+        lines = [*DUO[:2], "link B A pattern=h", "run 65537000"]
+        lines += [f"deliver {number}" for number in numbers]
+        status, printed, told = run_lines([*lines, "show A o"])
+        self.assertEqual((status, told), (0, ""))
+        return printed.splitlines()[1].split()[2]
+
+    @needs_program
+    def test_a_number_65_536_ahead_begins_a_life(self):
+        """In the new life number 1 is far below and comes too early for another. A number 65,535
+        ahead is none of a new life, so there number 1 begins one."""
+        self.assertEqual(self.newest_behind(1, 65_537, 1), "seq=65537")
+        self.assertEqual(self.newest_behind(1, 65_536, 1), "seq=1")
+
+
 class Gateways(unittest.TestCase):
     """A gateway that falls silent."""
 
@@ -204,3 +235,89 @@ class Groups(unittest.TestCase):
     def test_seventeen_receivers_get_a_broadcast(self):
         """It goes over each of A's links."""
         self.assertEqual(self.sent_to_receivers(17), [["bcast"]] * 17)
+
+
+class Facts(unittest.TestCase):
+    """How far facts go: in parts, over the ages, and where messages are lost."""
+
+    # A is a secondary, and hears at 10001 that B is a primary; it pushes to B at 20000.
+    TOLD = ["algo v", *DUO, "alfred A mode secondary", "alfred B mode primary"]
+
+    def parts_pushed(self, sizes):
+        """The lengths behind the kinds of the messages that A pushes of facts of these texts."""
+        put = [f"alfred A put {64 + place} 1 {'x' * size}" for place, size in enumerate(sizes)]
+        status, printed, told = run_lines([*self.TOLD, *put, "run 20000"], "--frames", "client")
+        self.assertEqual((status, told), (0, ""))
+        words = [line.split() for line in printed.splitlines()]
+        sent = [bytes.fromhex(line[-1])[24:] for line in words if line[4:5] == ["by=alfred"]]
+        return [(message[0], int.from_bytes(message[2:4], "big")) for message in sent]
+
+    @needs_program
+    def test_as_many_facts_as_fit_go_into_a_part(self):
+        """Two facts of 1,000 and 376 bytes have 1,396 with their heads of 10, and with the four of
+        the part the 1,400 that fit. One byte more, and the second is in a part of its own. An end
+        has four bytes."""
+        self.assertEqual(self.parts_pushed([1000, 376]), [(0, 1400), (3, 4)])
+        self.assertEqual(self.parts_pushed([1000, 377]), [(0, 1014), (0, 391), (3, 4)])
+        parts = [(0, 391), (0, 1014), (0, 1014), (3, 4)]
+        self.assertEqual(self.parts_pushed([377, 1000, 1000]), parts)
+
+    @needs_program
+    def test_all_types_of_two_nodes_come_whole(self):
+        """A pushes 192 facts of 1,000 bytes, a part each, and B has as many of its own. B's answer has
+        one of either."""
+        types = range(64, 256)
+        put = [f"alfred {node} put {kind} 9 {kind:01000d}" for kind in types for node in "AB"]
+        rows = [f"a {mac} {kind} 9 {mark} age={age} {kind:01000d}"
+                for mac, mark, age in ((A, "first", 0), (B, "local", 20_001)) for kind in types]
+        lines = [*self.TOLD, *put, "run 20001", "show B alf", "alfred A get 255", "run 2"]
+        answer = [f"alfred A get 255 {mac} 9 {255:01000d}" for mac in (A, B)]
+        printed = ["alfred B mode=primary facts=384", *rows, *answer]
+        self.assertEqual(run_lines(lines), finished(printed))
+
+    @needs_program
+    def test_a_fact_that_is_put_once_lives_for_half_an_hour(self):
+        """A's own fact is live up to 599,999, so A pushes it last at 590000, and B has it up to
+        1190000. B pushes it to C at that moment too, and C has it up to 1790000."""
+        lines = [*self.TOLD, "node C 02:00:00:00:00:0c", "link B C", "link C B"]
+        lines += ["alfred C mode primary", "alfred A put 64 1 once"]
+        printed = []
+        now = 0
+        for node, mark, last in (("A", "local", 599_999), ("B", "first", 1_190_000),
+                                 ("C", "synced", 1_790_000)):
+            mode = "secondary" if node == "A" else "primary"
+            lines += [f"run {last - now}", f"show {node} alf", "run 1", f"show {node} alf"]
+            printed += [f"alfred {node} mode={mode} facts=1", f"a {A} 64 1 {mark} age=599999 once"]
+            printed += [f"alfred {node} mode={mode} facts=0"]
+            now = last + 1
+        self.assertEqual(run_lines(lines), finished(printed))
+
+    def kept_of_held(self, *more):
+        """The head of B's table behind these lines, where A's push of two parts was held.
+
+        Before 20000 two link probes were sent 20 times, two more with A's message, B's and the copy
+        of B's 19 times, and B's announcement twice: 20 * 2 + 19 * 5 + 2 = 137 frames. Then come A's
+        probe and message, the parts of its push, 140 and 141, and the end, 142.
+        """
+        lines = [line + " pattern=h" if line == "link A B" else line for line in self.TOLD]
+        lines += [f"alfred A put {kind} 1 {kind:01000d}" for kind in (64, 65)]
+        status, printed, told = run_lines([*lines, "run 20000", *more, "show B alf"])
+        self.assertEqual((status, told), (0, ""))
+        return printed.splitlines()[0]
+
+    NONE, BOTH = "alfred B mode=primary facts=0", "alfred B mode=primary facts=2"
+
+    @needs_program
+    def test_a_push_counts_once_it_is_whole(self):
+        first, second, end = "deliver 140", "deliver 141", "deliver 142"
+        self.assertEqual(self.kept_of_held(first, second), self.NONE)
+        self.assertEqual(self.kept_of_held(first, end), self.NONE)
+        self.assertEqual(self.kept_of_held(end, second, second, end), self.NONE)
+        self.assertEqual(self.kept_of_held(end, second, second, first), self.BOTH)
+
+    @needs_program
+    def test_a_push_that_is_open_for_a_minute_is_forgotten(self):
+        first, rest = "deliver 140", ["deliver 141", "deliver 142"]
+        self.assertEqual(self.kept_of_held(first, "run 59999", *rest), self.BOTH)
+        self.assertEqual(self.kept_of_held(first, "run 60000", *rest), self.NONE)
+        self.assertEqual(self.kept_of_held(first, "run 60000", *rest, first), self.BOTH)

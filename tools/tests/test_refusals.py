@@ -24,7 +24,6 @@ REFUSED = [
     ("out of range", NODE, "show A local"),
     ("extra word", [], "run 1 x"),
     ("extra word", DUO[:2], "link A B tp=1 delay=1 pattern=. x"),
-    ("not built", NODE, "alfred A get 64"),
     ("unknown name", [], "show A tl"),
     ("unknown name", NODE, "ping A B"),
     ("name taken", NODE, f"node A {B}"),
@@ -55,6 +54,30 @@ REFUSED = [
     ("out of range", NODE, "arp A 01:00:5e:00:00:fb 10.0.0.1 10.0.0.2 -"),
     ("attached", [*DUO[:2], "lan L A"], "dhcp A 02:00:00:00:01:01 - x"),
     ("wrong kind", [*DUO[:2], "lan L A"], "dhcp L 02:00:00:00:01:01 - x"),
+    ("out of range", NODE, "alfred A mode server"),
+    ("out of range", NODE, "alfred A put 63 1 x"),
+    ("out of range", NODE, "alfred A put 256 1 x"),
+    ("out of range", NODE, "alfred A put 64 256 x"),
+    ("out of range", NODE, "alfred A put 64 1 " + "x" * 1_001),
+    ("out of range", NODE, "alfred A put 64 1 " + "x" * 1_000 + " "),
+    ("out of range", NODE, "alfred A put 64 1 " + "\u00e9" * 500 + "x"),
+    ("out of range", NODE, "alfred A get 63"),
+    ("out of range", NODE, "alfred A get 256"),
+    ("out of range", NODE, "alfred A push 64 1 x"),
+    ("bad number", NODE, "alfred A put 64 x"),
+    ("missing word", NODE, "alfred A put 64 1"),
+    ("missing word", NODE, "alfred A put 64 1 \t"),
+    ("extra word", NODE, "alfred A get 64 1"),
+    ("extra word", NODE, "alfred A mode off x"),
+    ("unknown name", NODE, "alfred B get 64"),
+    ("wrong kind", [*DUO[:2], "lan L A"], "alfred L get 64"),
+    ("unknown command", NODE, "Reboot A"),
+    ("missing word", NODE, "reboot"),
+    ("extra word", NODE, "reboot A b"),
+    ("bad name", NODE, "reboot 1"),
+    ("unknown name", NODE, "reboot X"),
+    ("wrong kind", [*DUO[:2], "lan L A"], "reboot L"),
+    ("attached", [*DUO[:2], "lan L A"], "reboot A"),
     ("no such frame", [], "deliver 0"),
     ("no such frame", [], "deliver 1"),
     ("no such frame", [*DUO, frame("A", 1)], "deliver 2"),
@@ -100,6 +123,30 @@ class Lines(unittest.TestCase):
     def test_a_frame_that_was_sent_comes_again(self):
         lines = [*DUO, frame("A", 1), "deliver 1"]
         self.assertEqual(run_lines(lines), finished([f"recv 0 B - 02:00:00:00:01:01 {ALL} x"]))
+
+
+class Facts(unittest.TestCase):
+    """What is at the end of a range is taken; the refusals above have what is one past it."""
+
+    @needs_program
+    def test_types_and_versions(self):
+        lines = [*NODE, "alfred A put 255 255 last", "alfred A put 64 0 first", "show A alf"]
+        lines += ["alfred A get 64", "alfred A get 255"]
+        printed = [
+            "alfred A mode=off facts=2",
+            f"a {A} 64 0 local age=0 first",
+            f"a {A} 255 255 local age=0 last",
+            "alfred A get 64 off",
+            "alfred A get 255 off",
+        ]
+        self.assertEqual(run_lines(lines), finished(printed))
+
+    @needs_program
+    def test_texts(self):
+        for text in ("x", "x" * 1_000, "x" * 999 + " ", "\u00e9" * 500):
+            lines = [*NODE, "alfred A mode primary", f"alfred A put 64 1 {text}", "alfred A get 64"]
+            with self.subTest(bytes=len(text.encode())):
+                self.assertEqual(run_lines(lines), finished([f"alfred A get 64 {A} 1 {text}"]))
 
 
 class Words(unittest.TestCase):

@@ -101,6 +101,19 @@ class Reading(unittest.TestCase):
         ):
             self.assertEqual(vectors.event_of(printed), event)
 
+    def test_a_fact_keeps_the_blanks_of_its_text(self):
+        line = batmesh_run.scenario_lines("alfred A put  64 007 a  fact off ")[0]
+        self.assertEqual(vectors.step_of(line), {
+            "node": "A", "deed": "put", "type": 64, "version": 7, "text": "a  fact off ",
+        })
+        told = "alfred B get 64 02:00:00:00:00:0a 7 a  fact off "
+        fact = {"source": "02:00:00:00:00:0a", "type": 64, "version": 7, "text": "a  fact off "}
+        self.assertEqual(vectors.event_of(told), {"event": "alfred", "node": "B", **fact})
+        row = "a 02:00:00:00:00:0a 64 7 synced age=5 a  fact off "
+        self.assertEqual(vectors.table_of(["alfred B mode=primary facts=1", row]), {
+            "mode": "primary", "facts": 1, "rows": [{**fact, "mark": "synced", "age": 5}],
+        })
+
     def test_a_refusal_of_decode_keeps_its_cause_and_numbers(self):
         for printed, bad in (
             ("bad short have=23 need=24", {"cause": "short", "have": 23, "need": 24}),
