@@ -77,7 +77,7 @@ one_loop lines a b node has_a has_b origs among_a among_b =
     let at_b = is_at lines made_b.pair b made_b.is in
     let same_orig : made_a.pair.orig ≡ made_b.pair.orig = sym (ap (λ (l : Loop). l.orig) at_a.is) ∙ origs ∙ ap (λ (l : Loop). l.orig) at_b.is in
     let same_head = one_head (next_of lines made_a.pair.orig) node made_a.pair.node made_b.pair.node (head_of lines made_a.pair a at_a node among_a)
-      (subst (λ orig. HasHead (next_of lines orig) node made_b.pair.node) (sym same_orig) (head_of lines made_b.pair b at_b node among_b)) in
+    (subst (λ orig. HasHead (next_of lines orig) node made_b.pair.node) (sym same_orig) (head_of lines made_b.pair b at_b node among_b)) in
     let same_pairs : made_a.pair ≡ made_b.pair = (λ i. record { orig = same_orig i; node = same_head i }) in
     let found : Some a ≡ Some b = sym made_a.is ∙ ap (loop_at lines) same_pairs ∙ made_b.is in
     cc

@@ -132,7 +132,12 @@ fn first_commit_lines(alloc: Global) -> Result<String, Fail> {
 #[test]
 fn a_first_commit_has_an_alias(rt: HostRuntime) -> Result<(), Fail> {
     let lines = first_commit_lines(rt.alloc())?;
-    carry_out(&rt, rt.alloc(), lines.as_str(), "alias A 256 0\nalias A 257 256\n")
+    carry_out(
+        &rt,
+        rt.alloc(),
+        lines.as_str(),
+        "alias A 256 0\nalias A 257 256\n",
+    )
 }
 
 /// Commit 2 is under byte 2; behind it there are 260 first commits, under byte 0, and commit 263,

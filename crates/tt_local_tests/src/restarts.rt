@@ -50,7 +50,10 @@ fn over_a_restart<L: Ledger>(
 fn an_alias_is_found_over_a_restart(rt: HostRuntime) -> Result<(), LocalErr> {
     let (numbers, locals) = over_a_restart::<Brand>(rt.alloc(), Blank::new(1))?;
     assert_eq!(rt; numbers, [Some(1), Some(2), Some(3)]);
-    assert_eq!(rt; (locals.first(), locals.last(), locals.last_byte()), (2, 3, 1));
+    assert_eq!(rt;
+        (locals.first(), locals.last(), locals.last_byte()),
+        (2, 3, 1)
+    );
     assert_eq!(rt; locals.alias_of(3)?, Some(1));
     assert_eq!(rt; (locals.alias_of(1)?, locals.alias_of(2)?), (None, None));
     assert_eq!(rt; locals.told_changes().map(|changes| changes.len()), Some(2));
@@ -93,7 +96,10 @@ fn after_a_restart_no_client_is_left(rt: HostRuntime) -> Result<(), LocalErr> {
     let mut locals = Locals::new(rt.alloc());
     locals.see(0, client(1), 4)?;
     assert_eq!(rt; locals.restart()?, 1);
-    assert_eq!(rt; (locals.present(0, client(1)), locals.row_at(0, 0)), (None, None));
+    assert_eq!(rt;
+        (locals.present(0, client(1)), locals.row_at(0, 0)),
+        (None, None)
+    );
     let told = locals.announcement()?;
     assert_eq!(rt; (told.byte, told.changes.len()), (0, 0));
     assert_eq!(rt; (locals.first(), locals.alias_of(1)?), (1, None));
