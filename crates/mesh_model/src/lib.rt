@@ -37,7 +37,7 @@ pub use packet::Head;
 pub use probe::{OpenProbe, Probe, Told};
 pub use roaming_mark::RoamingMark;
 pub use route::{Beats, Hearing, LinkRow, Meeting, OrigRow};
-pub use route_line::{RouteLine, RoutePair};
+pub use route_line::{RouteLine, RoutePair, RouteReading};
 pub use route_loop::{Loop, NodeList};
 pub use service::{ArpRow, Fact, FactKey, Fan, GwRow, KeptFact, Mark, Pair, PrimaryRow};
 pub use table_change::Change;

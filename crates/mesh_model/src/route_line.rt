@@ -17,3 +17,13 @@ pub struct RoutePair {
     pub orig: Mac,
     pub node: Mac,
 }
+
+/// What a line of an input of routes says.
+#[derive(Clone, Copy, Debug, PartialEq, Eq)]
+pub enum RouteReading {
+    /// No route: its first word isn't `route`, and the line is passed over.
+    Other,
+    Route(RouteLine),
+    /// Its first word is `route`, and the words behind it are no route.
+    Bad,
+}
