@@ -5,7 +5,8 @@ use lib.Utf8.{encode}
 use Rattle.std.specs.Fmt.{digits}
 use Rattle.hex.specs.Hex.{encode_with}
 use Rattle.mesh_model.specs.Loops.Reports.{clear_line, loop_line}
+use Rattle.mesh_model.specs.Loops.RouteLines.{route_text}
 
 unfoldable pub loops_on_literals : ⊤
-unfolding encode digits encode_with clear_line loop_line
+unfolding encode digits encode_with clear_line loop_line route_text
 loops_on_literals = tt

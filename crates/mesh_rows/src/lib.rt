@@ -6,6 +6,7 @@
 
 pub mod address_rows;
 pub mod algorithm_rows;
+pub mod bisect_rows;
 pub mod bridge_rows;
 pub mod client_rows;
 pub mod commit_rows;
