@@ -8,3 +8,4 @@ pub mod SetLemmas
 pub mod FollowLemmas
 pub mod PassedLemmas
 pub mod RingLemmas
+pub mod ReadLemmas

@@ -1,7 +1,6 @@
 -- The loops of lines are rings: what leads from a node back to it, over different nodes.
-use Rattle.std.proofs.Common.{◌≡◌, ◌↔◌, Bool, true, false, ◌||◌, List, [], ◌∷◌, Option, Some, refl, sym, ap, ◌∙◌, subst}
+use Rattle.std.proofs.Common.{◌≡◌, true, false, ◌||◌, List, [], ◌∷◌, Option, Some, sym, ap, ◌∙◌, subst}
 use Rattle.std.specs.List.{AllByRecursion, IsDistinct, list_any}
-use Rattle.std.proofs.lemmas.Bool.{false≢true, true≢false}
 use Rattle.mesh_base.specs.declared.address.Mac.{Mac}
 use Rattle.mesh_model.specs.declared.route_line.RouteLine.{RouteLine}
 use Rattle.mesh_model.specs.declared.route_line.RoutePair.{RoutePair}
