@@ -15,6 +15,7 @@ mod line_err;
 mod listed;
 mod net_forms;
 mod options;
+mod route_line;
 mod setting_forms;
 mod taking;
 mod terms;
@@ -22,3 +23,4 @@ mod words;
 
 pub use line::read_line;
 pub use line_err::LineErr;
+pub use route_line::read_route;
