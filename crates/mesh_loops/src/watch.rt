@@ -56,6 +56,15 @@ impl Watch {
         }
     }
 
+    /// Whether the pair of a node and an originator would be one too many.
+    pub fn is_full_for(&self, node: Mac, orig: Mac) -> bool
+        ensures { (calls : List WatchCall) → WatchStands self.now calls → IsTrue result
+            ↔ PassesPairs (lines_set calls) (record { orig = orig; node = node }) }
+    {
+        let pair = RoutePair { orig, node };
+        !self.routes.contains_key(&pair) && self.routes.len() >= PAIRS_LIMIT
+    }
+
     /// Sets the next node on the way from a node to an originator, or that there is none.
     pub fn set(&mut self, node: Mac, orig: Mac, next: Option<Mac>) -> Result<(), WatchErr>
         ensures ok { (calls : List WatchCall) (moment : ℕ) → WatchStands self.old calls →
@@ -69,11 +78,10 @@ impl Watch {
             ↔ PassesPairs (lines_set calls) (record { orig = orig; node = node }) }
         ensures err { OnErr result (self.new ≡ self.old) }
     {
-        let pair = RoutePair { orig, node };
-        if self.is_full_for(pair) {
+        if self.is_full_for(node, orig) {
             return Err(WatchErr::Pairs);
         }
-        self.note(pair, next)?;
+        self.note(RoutePair { orig, node }, next)?;
         Ok(())
     }
 
@@ -89,14 +97,6 @@ impl Watch {
         let fresh = self.changed_loops(When::Now)?;
         self.before = IndexMap::new(self.alloc);
         Ok(LoopReport { gone, fresh })
-    }
-
-    // Whether a pair would be one too many.
-    fn is_full_for(&self, pair: RoutePair) -> bool
-        ensures { (calls : List WatchCall) → WatchStands self.now calls →
-            IsTrue result ↔ PassesPairs (lines_set calls) pair }
-    {
-        !self.routes.contains_key(&pair) && self.routes.len() >= PAIRS_LIMIT
     }
 
     // Sets the next node of a pair.
