@@ -52,4 +52,11 @@ impl LoopList {
     {
         self.loops.get(place)
     }
+
+    /// All the loops.
+    pub fn as_slice(&self) -> &[Loop]
+        ensures { result.now ≡ self.now }
+    {
+        self.loops.as_slice()
+    }
 }
