@@ -2,7 +2,8 @@
 -- `IsPacket`, the grammar of packets, in Layout, `first_packet`, the same computed, in FirstPacket,
 -- `containers_of`, in Containers, `content_of`, in Contents, `link_frame`, in LinkFrame, and, of
 -- what packets and LANs carry, `client_frame_of`, in Payload, `arp_message_of`, in ArpMessages,
--- `fact_message_of`, in FactMessages, and `lan_message_of`, in LanFrames.
+-- `fact_message_of`, in FactMessages, `picture_of_bytes`, in Pictures, and `lan_message_of`, in
+-- LanFrames.
 pub mod Numbers
 pub mod Ethernet
 pub mod Payload
@@ -16,4 +17,5 @@ pub mod Contents
 pub mod LinkFrame
 pub mod ArpMessages
 pub mod FactMessages
+pub mod Pictures
 pub mod LanFrames

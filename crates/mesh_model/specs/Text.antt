@@ -1,8 +1,8 @@
 -- What is printed: tables, packets, the lines of `decode` and of events, and the messages of a run
 -- that halts. It stands on the rooms Scenario, Packets and Clients. The main words are
 -- `table_text`, `orig_table_text` and `link_table_text`, in Tables, `global_table_text`, in
--- GlobalTables, `claim_table_text`, in Claims, `service_table_text`, in Services, `decode_text`, in
--- Decode, `event_text`, in Events, and `halt_text`, in Messages.
+-- GlobalTables, `claim_table_text`, in Claims, `service_table_text`, in Services, `network_text`, in
+-- Pictures, `decode_text`, in Decode, `event_text`, in Events, and `halt_text`, in Messages.
 pub mod PacketLines
 pub mod Tables
 pub mod GlobalTables
@@ -11,4 +11,5 @@ pub mod ContainerLines
 pub mod Decode
 pub mod Events
 pub mod Services
+pub mod Pictures
 pub mod Messages
