@@ -16,12 +16,12 @@ use Rattle.mesh_tvlv.specs.Laws.{FitsKey, FitsVlan, FitsTable, RecordIsReadBack,
 use Rattle.mesh_tvlv.proofs.SpellingLemmas.{All-tail}
 
 -- items that are spelled in so many bytes each, and read back from them
-record IsCodec {X : Type 0} (size : ℕ) (text : X → List ℕ) (read : List ℕ → X) (Fits : X → Type 0) : Type 0 where
-  long : (x : X) → Fits x → length (text x) ≡ size
-  back : (x : X) → Fits x → read (text x) ≡ x
+pub record IsCodec {X : Type 0} (size : ℕ) (text : X → List ℕ) (read : List ℕ → X) (Fits : X → Type 0) : Type 0 where
+  pub long : (x : X) → Fits x → length (text x) ≡ size
+  pub back : (x : X) → Fits x → read (text x) ≡ x
 
 -- the bytes of items that are spelled in so many bytes each
-length-items : {X : Type 0} (size : ℕ) (text : X → List ℕ) (read : List ℕ → X) (Fits : X → Type 0)
+pub length-items : {X : Type 0} (size : ℕ) (text : X → List ℕ) (read : List ℕ → X) (Fits : X → Type 0)
     → IsCodec size text read Fits → (xs : List X) → All Fits xs → length (flat_map text xs) ≡ size * length xs
 length-items size text read Fits codec [] fits = omega arith
 length-items size text read Fits codec (x ∷ xs) fits =
@@ -54,7 +54,7 @@ vlan_back = record {
 }
 
 -- a client is read back
-key_back : (key : Key) → FitsKey key → key_of_bytes (key_spelling key) ≡ key
+pub key_back : (key : Key) → FitsKey key → key_of_bytes (key_spelling key) ≡ key
 key_back key fits = ap₂ (λ (bytes : List ℕ) (n : ℕ). let k : Key = record { mac = record { 0 = bytes }; vid = record { 0 = n } } in k)
     (take_at key.mac.0 (big_bytes 2 key.vid.0) 6 fits.address)
     (ap (big_number 2) (drop_at key.mac.0 (big_bytes 2 key.vid.0) 6 fits.address)
@@ -69,7 +69,7 @@ change_back = record {
 }
 
 -- the whole pieces of spelled items are read back
-whole_back : {X : Type 0} (size : ℕ) (text : X → List ℕ) (read : List ℕ → X) (Fits : X → Type 0)
+pub whole_back : {X : Type 0} (size : ℕ) (text : X → List ℕ) (read : List ℕ → X) (Fits : X → Type 0)
     → IsCodec size text read Fits → (xs : List X) → All Fits xs → length (flat_map text xs) / size ≡ length xs
     → map read (whole_pieces size (flat_map text xs)) ≡ xs
 whole_back size text read Fits codec xs fits count =

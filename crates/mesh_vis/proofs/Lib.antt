@@ -1,0 +1,4 @@
+-- Proofs about pictures.
+pub mod Spelled
+pub mod Rows
+pub mod Written

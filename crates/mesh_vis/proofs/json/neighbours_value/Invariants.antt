@@ -1,0 +1,7 @@
+use Rattle.std.proofs.Common.{◌≡◌, map, take}
+use Rattle.serde_json.specs.View.{view}
+use Rattle.mesh_model.specs.Text.Pictures.{neighbour_data}
+use Rattle.mesh_vis.proofs.json.neighbours_value.Given as goal
+
+abbrev pub invariant-loop-i : goal.invariant-loop-i
+invariant-loop-i l = map view l.items.items ≡ map neighbour_data (take l.i l.picture.neighbours)

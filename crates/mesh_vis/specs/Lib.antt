@@ -1,0 +1,2 @@
+-- What the contracts cite: the laws of pictures.
+pub mod Laws
