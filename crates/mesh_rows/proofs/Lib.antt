@@ -5,6 +5,7 @@ pub mod DecodeOnLiterals
 pub mod NetOnLiterals
 pub mod TablesOnLiterals
 pub mod ServicesOnLiterals
+pub mod PicturesOnLiterals
 pub mod FragmentsOnLiterals
 pub mod LoopsOnLiterals
 pub mod LineOnLiterals

@@ -22,6 +22,7 @@ pub mod EventRows
 pub mod WordRows
 -- Claims, services, and the frames that tell of them.
 pub mod ServiceRows
+pub mod PictureRows
 -- A packet that is cut, and its parts as they come.
 pub mod FragmentRows
 -- Routes that lines tell of.
