@@ -1,4 +1,5 @@
-//! Laws of the lines of routes and of their loops, each proved as the contract of a function that does nothing.
+//! Laws of the lines of routes and of their loops, each proved as the contract of a function that
+//! does nothing.
 
 ghost use Rattle.mesh_loops.specs.Laws.{LoopsAreRings, OneLoop, RoutesComeBack};
 

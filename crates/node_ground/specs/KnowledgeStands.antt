@@ -1,8 +1,8 @@
 -- How what a node keeps of the others stands for what it knows of them: the algorithm for what it
 -- was given, the tables for what came for each, the marks for the calls on them, the sessions
 -- for the calls of probes, the windows for the broadcasts that were taken, the count of those that
--- were sent, modulo 2^32, and the services for what was offered, chosen and kept of the fact store. `stands` is the
--- algorithm's own word. The main word is `KnowledgeStands`.
+-- were sent, modulo 2^32, and the services for what was offered, chosen and kept of the fact store.
+-- `stands` is the algorithm's own word. The main word is `KnowledgeStands`.
 use Rattle.std.specs.Prelude.{◌≡◌, ◌%◌, ◌^◌, ℕ}
 use Rattle.mesh_base.specs.declared.address.Mac.{Mac}
 use Rattle.mesh_model.specs.Acts.BridgeRows.{Place}
