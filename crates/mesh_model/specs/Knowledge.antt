@@ -1,8 +1,8 @@
 -- What a node knows of the others: what its routing algorithm was given, what came for the tables
--- of originators, the calls on its marks, its probes, the broadcasts that it took, and what was
--- offered to it, each a list of what came, newest first. It is a fold of the node's log, packet by
--- packet. The main words are `knowledge`, in Steps, `addressee`, in Addressee, and `receivers`, in
--- Offers.
+-- of originators, the calls on its marks, its probes, the broadcasts that it took, the parts of
+-- packets that were cut, and what was offered to it, each a list of what came, newest first. It is
+-- a fold of the node's log, packet by packet. The main words are `knowledge`, in Steps,
+-- `addressee`, in Addressee, and `receivers`, in Offers.
 pub mod Told
 pub mod Served
 pub mod Known
@@ -10,4 +10,5 @@ pub mod Addressee
 pub mod Offers
 pub mod Pairs
 pub mod FactStore
+pub mod PutTogether
 pub mod Steps

@@ -56,6 +56,8 @@ pub enum LimitName {
     Clients,
     /// `vlans`: 16 VLANs with clients present at a node.
     Vlans,
+    /// `cuts`: 65,535 packets that a node cut.
+    Cuts,
     /// `frames`: 4,194,304 frames sent.
     Frames,
     /// `frame-bytes`: 536,870,912 bytes of frames sent.

@@ -99,6 +99,12 @@ pub enum Command {
         node: Bytes,
         on: bool,
     },
+    /// `set NODE frag N`: packets for one node go whole up to N bytes, 300 to 65,535, and all do
+    /// where N is 0.
+    Frag {
+        node: Bytes,
+        longest: u16,
+    },
     /// `alfred NODE mode M`: the node's part in the fact store.
     Alfred {
         node: Bytes,

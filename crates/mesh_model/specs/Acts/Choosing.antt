@@ -1,14 +1,16 @@
--- What a node puts when it is given something: the row of the input, by what the node knows. A
+-- What a node puts when it is given something: the row of the input, by what the node knows, of
+-- whose packets those are cut that are too long. A node's cuts are counted over its log. A
 -- sighting comes first, with its advertisement; before the sighting of a client on a LAN comes its
 -- claim. A LAN that is joined, a setting, a joining, a leaving, a departure and a fact that is put
 -- put nothing. The main word is `acts_of`.
-use Rattle.std.specs.Prelude.{ℕ, Bool, true, false, List, [], ◌++◌, Option, Some, None, if◌then◌else◌}
+use Rattle.std.specs.Prelude.{ℕ, ◌+◌, ◌==◌, Bool, true, false, List, [], ◌∷◌, ◌++◌, Option, Some, None, if◌then◌else◌}
 use Rattle.mesh_base.specs.declared.address.Mac.{Mac}
 use Rattle.mesh_base.specs.declared.client.Key.{Key}
 use Rattle.mesh_base.specs.declared.client.Vid.{Vid}
 use Rattle.mesh_model.specs.declared.act.Act.{Act}
 use Rattle.mesh_model.specs.Acts.ArpRows.{question_acts}
 use Rattle.mesh_model.specs.Acts.BridgeRows.{claim_acts}
+use Rattle.mesh_model.specs.Acts.Cuts.{Cutter, cut_acts, cuts_among}
 use Rattle.mesh_model.specs.Acts.FactRows.{fact_round_acts, get_acts}
 use Rattle.mesh_model.specs.Acts.FrameRows.{advert_acts, frame_acts}
 use Rattle.mesh_model.specs.Acts.GroupRows.{call_acts}

@@ -11,8 +11,8 @@ use Rattle.mesh_model.specs.declared.packet.Head.TheVariants.{IvOgm, Bcast, Elp,
 use Rattle.mesh_model.specs.declared.table_change.Change.{Change}
 use Rattle.mesh_model.specs.Acts.ArpRows.{arp_here, passed_unicast4}
 use Rattle.mesh_model.specs.Acts.BridgeRows.{Place, round_acts, unclaim_acts}
-use Rattle.mesh_model.specs.Acts.FactRows.{fact_acts}
-use Rattle.mesh_model.specs.Acts.FrameRows.{broadcast_acts, here_acts, passed_frame}
+use Rattle.mesh_model.specs.Acts.FragmentRows.{carried_here, passed_fragment, unicast_here}
+use Rattle.mesh_model.specs.Acts.FrameRows.{broadcast_acts, passed_frame}
 use Rattle.mesh_model.specs.Acts.OwnContainers.{own_containers}
 use Rattle.mesh_model.specs.Acts.Packing.{sent_to_all}
 use Rattle.mesh_model.specs.Acts.ProbeRows.{IcmpMessage, icmp_here, passed_icmp}
@@ -142,10 +142,14 @@ head_acts q me own came known message tail (Elp orig seq interval) = []
 head_acts q me own came known message tail (Ogm2 ttl flags seq orig throughput) =
     taken_acts q me came (Ogm2 ttl flags seq orig throughput) message tail known
 head_acts q me own came known message tail (Unicast ttl ttvn dst) = if same_mac dst me
-    then here_acts q known own.mentions own.bridge (place_at me came) ttl tail
-    ++ fact_acts q known (place_at me came) (fact_message_of tail)
+    then unicast_here q known own.mentions own.bridge (place_at me came) ttl tail
     else passed_frame q known (place_at me came) ttl ttvn dst tail
-head_acts q me own came known message tail (Frag ttl number priority dst orig seq total) = []
+head_acts q me own came known message tail (Frag ttl number priority dst orig seq total) =
+    if same_mac dst me
+    then carried_here q known own.mentions own.bridge (place_at me came)
+    (put_together (part_of came.now orig seq total number tail) known.parts)
+    else passed_fragment q known came.now ttl dst
+    (Frag (ttl - 1) number priority dst orig seq total) tail
 head_acts q me own came known message tail (Unicast4 ttl ttvn dst src subtype) =
     if same_mac dst me then arp_here q known (place_at me came) src (arp_came subtype tail)
     else passed_unicast4 q known came.now ttl ttvn dst src subtype tail

@@ -20,6 +20,17 @@ pub record PartCall : Type 0 where
   pub place : ℕ
   pub tail : List ℕ
 
+-- the part that a fragment is at a moment, by what its head tells and its tail
+abbrev pub part_of : ℕ → Mac → ℕ → ℕ → ℕ → List ℕ → PartCall
+part_of now orig seq total place tail = record {
+  moment = now;
+  orig = orig;
+  seq = seq;
+  total = total;
+  place = place;
+  tail = tail;
+}
+
 -- an open assembly: when it was opened, and the tails by place, in the order in which they came
 pub record Assembly : Type 0 where
   pub opened : ℕ

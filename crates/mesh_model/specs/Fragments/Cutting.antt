@@ -12,6 +12,7 @@ use Rattle.mesh_model.specs.declared.packet.Head.TheVariants.{IvOgm, Bcast, Elp,
 use Rattle.mesh_model.specs.Packets.Bodies.{pieces}
 use Rattle.mesh_model.specs.Packets.FirstPacket.{Front, first_packet}
 use Rattle.mesh_model.specs.Packets.Shapes.{frag, header_size}
+use Rattle.mesh_model.specs.Scenario.SettingForms.{least_longest}
 
 -- the bytes of a fragment's header
 abbrev pub frag_head_size : ℕ
@@ -19,7 +20,7 @@ frag_head_size = header_size frag
 
 -- the least that the greatest length of a packet may be
 abbrev pub least_most : ℕ
-least_most = 300
+least_most = least_longest
 
 -- how many fragments a packet has at most
 abbrev pub most_fragments : ℕ

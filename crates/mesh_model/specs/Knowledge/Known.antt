@@ -46,6 +46,7 @@ no_knowledge = record {
   marks = [];
   probes = [];
   taken = [];
+  parts = [];
   sent = 0;
   services = no_services;
 }

@@ -100,3 +100,4 @@ after_set (Gateway part) before = record (with_setting (Gateway part) before) { 
 after_set (Multicast flags) before = with_setting (Multicast flags) before
 after_set (ArpTable on) before = with_setting (ArpTable on) before
 after_set (FactStore mode) before = with_setting (FactStore mode) before
+after_set (LongestWhole size) before = with_setting (LongestWhole size) before

@@ -233,7 +233,9 @@ after_head q me came message tail (Ogm2 ttl flags seq orig throughput) known =
     after_taken q came (Ogm2 ttl flags seq orig throughput) message tail known
 after_head q me came message tail (Unicast ttl ttvn dst) known =
     if same_mac dst me then after_fact_message came.now (fact_message_of tail) known else known
-after_head q me came message tail (Frag ttl number priority dst orig seq total) known = known
+after_head q me came message tail (Frag ttl number priority dst orig seq total) known =
+    if same_mac dst me
+    then after_part (part_of came.now orig seq total number tail) known else known
 after_head q me came message tail (Unicast4 ttl ttvn dst src subtype) known =
     if same_mac dst me then after_arp came.now (arp_came subtype tail) known else known
 after_head q me came message tail (Icmp ttl msg dst orig uid seq) known =

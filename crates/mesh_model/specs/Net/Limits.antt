@@ -37,7 +37,7 @@ clock_limit = time_limit
 abbrev pub scenario_setup : (Mac → Queries) → Setup
 scenario_setup queries = record {
   acts = λ me. acts_of (queries me) me;
-  node_limit = node_limit;
+  node_limit = λ me. node_limit (queries me) me;
   frames_limit = frames_limit;
   bytes_limit = frame_bytes_limit;
 }

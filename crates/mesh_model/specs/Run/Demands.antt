@@ -47,6 +47,7 @@ demand_of (GwServer node down up) = NoDemand
 demand_of (GwClient node policy) = NoDemand
 demand_of (Mcast node flags) = NoDemand
 demand_of (Dat node on) = NoDemand
+demand_of (Frag node longest) = NoDemand
 demand_of (Alfred node mode) = NoDemand
 demand_of (Put node type_no version text) = NoDemand
 demand_of (Get node type_no) = NoDemand

@@ -4,7 +4,7 @@
 -- carried out and no limit is passed. The main words are `halting_byte` and `GoesOn`.
 use Rattle.std.specs.Prelude.{◌≡◌, ℕ, ◌+◌, ◌-◌, ◌≤◌, not, List, [], length, filter, slice_index_or, None}
 use Rattle.std.specs.List.{concat}
-use Rattle.mesh_model.specs.declared.ending.LimitName.TheVariants.{Line, Input, Nodes, Links, Lans, Clients, Vlans, Frames, FrameBytes, Clock}
+use Rattle.mesh_model.specs.declared.ending.LimitName.TheVariants.{Line, Input, Nodes, Links, Lans, Clients, Vlans, Cuts, Frames, FrameBytes, Clock}
 use Rattle.mesh_model.specs.declared.ending.Stop.{Stop}
 use Rattle.mesh_model.specs.declared.ending.Stop.TheVariants.{Refused, Limit}
 use Rattle.mesh_model.specs.declared.frame_choice.FrameChoice.{FrameChoice}
@@ -22,6 +22,7 @@ halting_place before line (Limit Links) = before + length line
 halting_place before line (Limit Lans) = before + length line
 halting_place before line (Limit Clients) = before + length line
 halting_place before line (Limit Vlans) = before + length line
+halting_place before line (Limit Cuts) = before + length line
 halting_place before line (Limit Frames) = before + length line
 halting_place before line (Limit FrameBytes) = before + length line
 halting_place before line (Limit Clock) = before + length line

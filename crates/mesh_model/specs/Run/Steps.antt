@@ -178,6 +178,7 @@ step_of setup (GwClient node policy) =
     setting_step setup node (SetsGateway (Chooses policy))
 step_of setup (Mcast node flags) = setting_step setup node (SetsMulticast flags)
 step_of setup (Dat node on) = setting_step setup node (SetsArpTable on)
+step_of setup (Frag node longest) = setting_step setup node (SetsLongestWhole longest)
 step_of setup (Alfred node mode) = setting_step setup node (SetsFactStore mode)
 step_of setup (Put node type_no version text) =
     at_node node (input_step setup (GivenPut type_no version text))

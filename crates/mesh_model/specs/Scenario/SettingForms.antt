@@ -1,11 +1,12 @@
 -- The forms of `set` lines, which set how a node behaves. What is set is named by a word of its
 -- own, which is refused by `out of range` where it isn't one of those below; so are the mode of a
 -- gateway and a client's policy. The main word is `read_set`.
-use Rattle.std.specs.Prelude.{ℕ, List, [], ◌∷◌, codes}
+use Rattle.std.specs.Prelude.{ℕ, ◌==◌, ◌||◌, nat_le, List, [], ◌∷◌, codes, Result}
+use Rattle.mesh_model.specs.declared.ending.Refusal.{Refusal}
 use Rattle.mesh_model.specs.declared.ending.Refusal.TheVariants.{OutOfRange}
-use Rattle.mesh_model.specs.declared.line_form.Command.TheVariants.{Wifi, GwOff, GwServer, GwClient, Mcast, Dat}
+use Rattle.mesh_model.specs.declared.line_form.Command.TheVariants.{Wifi, GwOff, GwServer, GwClient, Mcast, Dat, Frag}
 use Rattle.mesh_model.specs.declared.line_form.Policy.TheVariants.{Best, Stable, Late}
-use Rattle.mesh_model.specs.Scenario.Fields.{word_field, name_field, number_field, number_up_to, switch_field}
+use Rattle.mesh_model.specs.Scenario.Fields.{word_field, name_field, number_field, number_up_to, passing, switch_field}
 use Rattle.mesh_model.specs.Scenario.Readings.{Reading, a_field, listed_form, the_end}
 use Rattle.mesh_model.specs.Scenario.Words.{Word}
 
@@ -61,11 +62,29 @@ read_mcast node =
 abbrev pub read_dat : List ℕ → List Word → Reading
 read_dat node = a_field switch_field (λ on. the_end (Dat node on))
 
+-- the least length that the greatest length of a packet that goes whole may be
+abbrev pub least_longest : ℕ
+least_longest = 300
+
+-- the greatest of these lengths: all that 16 bits hold
+abbrev pub longest_limit : ℕ
+longest_limit = 65535
+
+-- the greatest length of a packet that goes whole, or 0 where all do
+abbrev pub longest_field : List ℕ → Result ℕ Refusal
+longest_field word = passing (λ size. (size == 0) || nat_le least_longest size)
+    (number_up_to longest_limit word)
+
+-- set NODE frag N
+abbrev pub read_frag : List ℕ → List Word → Reading
+read_frag node = a_field longest_field (λ longest. the_end (Frag node longest))
+
 -- what is set at a node
 abbrev pub read_setting : List ℕ → List ℕ → List Word → Reading
 read_setting node = listed_form (
     (codes "wifi", read_wifi node) ∷ (codes "gw", a_field word_field (read_gateway node))
-    ∷ (codes "mcast", read_mcast node) ∷ (codes "dat", read_dat node) ∷ []) OutOfRange
+    ∷ (codes "mcast", read_mcast node) ∷ (codes "dat", read_dat node)
+    ∷ (codes "frag", read_frag node) ∷ []) OutOfRange
 
 -- set NODE ..
 abbrev pub read_set : List Word → Reading

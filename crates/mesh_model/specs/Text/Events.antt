@@ -7,8 +7,8 @@
 -- `ping A B seq=S` and what came of it is a ping, `trace A B` and what came of it a probe of a
 -- traceroute; `arp NODE IP` and what came of it a question for an IP address, `alfred NODE get
 -- TYPE` and what came of it one for facts. An address that no node has is printed itself. A choice
--- hides link frames by their kind: `ogm` shows iv_ogm, ogm2 and elp, `client` unicast, unicast4 and
--- bcast; `all` alone shows LAN frames. The main word is `event_text`.
+-- hides link frames by their kind: `ogm` shows iv_ogm, ogm2 and elp, `client` unicast, frag,
+-- unicast4 and bcast; `all` alone shows LAN frames. The main word is `event_text`.
 use Rattle.std.specs.Prelude.{ℕ, ◌/◌, ◌%◌, ◌==◌, Bool, true, false, List, [], ◌∷◌, ◌++◌, codes, decimal, slice_index_or, Option, Some, None, if◌then◌else◌}
 use Rattle.std.specs.List.{list_any}
 use Rattle.std.specs.Option.{option_map_or, unwrap_or}
@@ -34,7 +34,7 @@ use Rattle.mesh_base.specs.declared.event.TraceResult.TheVariants as traces
 use Rattle.mesh_model.specs.declared.frame_choice.FrameChoice.{FrameChoice}
 use Rattle.mesh_model.specs.declared.frame_choice.FrameChoice.TheVariants.{Hidden, All, Client, Ogm}
 use Rattle.mesh_model.specs.Packets.LanFrames.{claim_type, is_of_gateway, unclaim_type}
-use Rattle.mesh_model.specs.Packets.Numbers.{iv_ogm_type, bcast_type, elp_type, ogm2_type, unicast_type, unicast4_type}
+use Rattle.mesh_model.specs.Packets.Numbers.{iv_ogm_type, bcast_type, elp_type, frag_type, ogm2_type, unicast_type, unicast4_type}
 use Rattle.mesh_model.specs.Packets.Shapes.{Shape, shape_of_type}
 use Rattle.mesh_model.specs.Text.PacketLines.{line_of, named_number, named_address}
 use Rattle.mesh_model.specs.Text.Tables.{vid_text}
@@ -74,7 +74,8 @@ lan_kind_word bytes =
 abbrev pub shows : FrameChoice → List ℕ → Bool
 shows Hidden bytes = false
 shows All bytes = true
-shows Client bytes = is_of_type (bcast_type ∷ unicast_type ∷ unicast4_type ∷ []) bytes
+shows Client bytes =
+    is_of_type (bcast_type ∷ unicast_type ∷ frag_type ∷ unicast4_type ∷ []) bytes
 shows Ogm bytes = is_of_type (iv_ogm_type ∷ elp_type ∷ ogm2_type ∷ []) bytes
 
 -- whether LAN frames are printed

@@ -4,7 +4,7 @@
 -- `halt_text`.
 use Rattle.std.specs.Prelude.{ℕ, List, [], ◌∷◌, ◌++◌, codes, decimal}
 use Rattle.mesh_model.specs.declared.ending.LimitName.{LimitName}
-use Rattle.mesh_model.specs.declared.ending.LimitName.TheVariants.{Line, Input, Nodes, Links, Lans, Clients, Vlans, Frames, FrameBytes, Clock}
+use Rattle.mesh_model.specs.declared.ending.LimitName.TheVariants.{Line, Input, Nodes, Links, Lans, Clients, Vlans, Cuts, Frames, FrameBytes, Clock}
 use Rattle.mesh_model.specs.declared.ending.Refusal.{Refusal}
 use Rattle.mesh_model.specs.declared.ending.Refusal.TheVariants.{BadUtf8, UnknownCommand, MissingWord, BadName, BadMac, BadNumber, OutOfRange, ExtraWord, UnknownName, WrongKind, NameTaken, AddressTaken, SameNode, LinkTaken, AlgoAfterNode, NoSuchFrame, Attached}
 use Rattle.mesh_model.specs.declared.ending.Stop.{Stop}
@@ -41,6 +41,7 @@ limit_words Links = codes "links"
 limit_words Lans = codes "lans"
 limit_words Clients = codes "clients"
 limit_words Vlans = codes "vlans"
+limit_words Cuts = codes "cuts"
 limit_words Frames = codes "frames"
 limit_words FrameBytes = codes "frame-bytes"
 limit_words Clock = codes "clock"
