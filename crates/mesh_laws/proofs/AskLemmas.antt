@@ -19,7 +19,7 @@ use Rattle.mesh_model.specs.Packets.LinkFrame.{link_frame}
 use Rattle.mesh_model.specs.Routes.Queries.{Queries}
 use Rattle.mesh_model.specs.Services.ArpTable.{PairCall, AskedFor}
 use Rattle.mesh_laws.specs.AddressLaws.{AwaitedByLines, WasAskedByLine}
-use Rattle.mesh_laws.proofs.KeptLemmas.{HasCome, Kept, brings, call_kept, frame_kept, get_kept, head_comes, kept_of, leaves, passed_kept, stores, tick_kept}
+use Rattle.mesh_laws.proofs.KeptLemmas.{HasCome, Kept, brings, call_kept, frame_kept, get_kept, head_comes, joins, kept_of, leaves, passed_kept, stores, tick_kept}
 use Rattle.mesh_laws.proofs.StoreLemmas.{Rest, message_rest}
 use Rattle.mesh_laws.proofs.Schedule.Members.{has_right}
 
@@ -44,6 +44,9 @@ step_asks : (ip : ℕ) (vid : Vid) (now : ℕ) (head : Head) (tail : List ℕ) (
 step_asks ip vid now head tail known _ (leaves after same) asked = kept_asks ip vid known after same asked
 step_asks ip vid now head tail known _ (stores told before payload of same) asked =
     kept_asks ip vid known before same (subst (λ (r : Rest). Has r.asks (AskedFor ip vid)) (message_rest now told before) asked)
+step_asks ip vid now head tail known _ (joins call is) asked =
+    let carried = fact_carried (put_together call known.parts) in
+    subst (λ (r : Rest). Has r.asks (AskedFor ip vid)) (message_rest call.moment carried (with_part call known)) asked
 step_asks ip vid now head tail known _ (brings came) asked = go known.services.settings.arp_table asked
   where
     go : (b : Bool) → Asked (cond b (after_came now came known) known) ip vid → Asked known ip vid
@@ -91,6 +94,7 @@ set_asks ip vid (Gateway part) known asked = asked
 set_asks ip vid (Multicast flags) known asked = asked
 set_asks ip vid (ArpTable on) known asked = asked
 set_asks ip vid (FactStore mode) known asked = asked
+set_asks ip vid (LongestWhole size) known asked = asked
 
 line_asks : (ip : ℕ) (vid : Vid) (q : Queries) (me : Mac) (older : Log) (known : Knowledge) (now : ℕ) (line : LineGiven) → Asked (line_knowledge q me older known now line) ip vid → AsksFor line ip vid ⊎ Asked known ip vid
 line_asks ip vid q me older known now (Attach lan gateways) asked = inr asked

@@ -14,6 +14,8 @@ use Rattle.mesh_model.specs.Clients.Settings.{Settings}
 use Rattle.mesh_model.specs.Knowledge.FactStore.{after_asking_for, after_fact_message, after_get, after_round, announcing, chosen_primary, if_announces}
 use Rattle.mesh_model.specs.Knowledge.Known.{Broadcast, Knowledge, is_new_broadcast}
 use Rattle.mesh_model.specs.Knowledge.Offers.{gateway_way}
+use Rattle.mesh_model.specs.Fragments.Assembly.{PartCall, part_of}
+use Rattle.mesh_model.specs.Knowledge.PutTogether.{after_part}
 use Rattle.mesh_model.specs.Knowledge.Pairs.{after_arp}
 use Rattle.mesh_model.specs.Knowledge.Served.{PrimaryCall}
 use Rattle.mesh_model.specs.Knowledge.Steps.{Coming, after_announcement, after_answer, after_bridged, after_broadcast, after_reply, after_call, after_containers, after_frame, after_head, after_message, after_passed, after_roaming, after_sighting, after_sent, after_taken, after_tick, announced_by, before_announcement, before_round, is_flooded, stays_on_lan, with_head, with_life, with_offered}
@@ -111,13 +113,26 @@ has_payload (Unicast4 ttl ttvn dst src subtype) = false
 has_payload (Icmp ttl msg dst orig uid seq) = false
 has_payload (Utvlv ttl dst src) = false
 
+-- the part that a packet with a head and a tail is at a moment, where it is a fragment
+abbrev pub head_part : ℕ → Head → List ℕ → Option PartCall
+head_part now (IvOgm ttl flags seq orig prev tq) tail = None
+head_part now (Bcast ttl seq orig) tail = None
+head_part now (Elp orig seq interval) tail = None
+head_part now (Ogm2 ttl flags seq orig throughput) tail = None
+head_part now (Unicast ttl ttvn dst) tail = None
+head_part now (Frag ttl number priority dst orig seq total) tail = Some (part_of now orig seq total number tail)
+head_part now (Unicast4 ttl ttvn dst src subtype) tail = None
+head_part now (Icmp ttl msg dst orig uid seq) tail = None
+head_part now (Utvlv ttl dst src) tail = None
+
 -- what a packet with a head and a tail makes of what is known: these stay, or it is one of the ARP table or of
--- the fact store
+-- the fact store, or a part of a packet that was cut
 pub data HasCome (now : ℕ) (head : Head) (tail : List ℕ) (known : Knowledge) : Knowledge → Type 0 where
   leaves : (after : Knowledge) → kept_of after ≡ kept_of known → HasCome now head tail known after
   brings : (came : Option ArpCame) → HasCome now head tail known (after_arp now came known)
   stores : (told : Option CameFact) (before : Knowledge) → has_payload head ≡ true → ((came : CameFact) → told ≡ Some came → fact_message_of tail ≡ Some came)
       → kept_of before ≡ kept_of known → HasCome now head tail known (after_fact_message now told before)
+  joins : (call : PartCall) → head_part now head tail ≡ Some call → HasCome now head tail known (after_part call known)
 
 -- what announces a primary is a message
 announces : (o : Option CameFact) (came : CameFact) → option_and_then if_announces o ≡ Some came → o ≡ Some came
@@ -151,7 +166,14 @@ head_comes q me came message tail (Unicast ttl ttvn dst) known = go (same_mac ds
     go : (b : Bool) → HasCome came.now (Unicast ttl ttvn dst) tail known (cond b (after_fact_message came.now (fact_message_of tail) known) known)
     go true = stores (fact_message_of tail) known refl (λ one is. is) refl
     go false = leaves known refl
-head_comes q me came message tail (Frag ttl number priority dst orig seq total) known = leaves known refl
+head_comes q me came message tail (Frag ttl number priority dst orig seq total) known = go (same_mac dst me)
+  where
+    call : PartCall
+    call = part_of came.now orig seq total number tail
+
+    go : (b : Bool) → HasCome came.now (Frag ttl number priority dst orig seq total) tail known (cond b (after_part call known) known)
+    go true = joins call refl
+    go false = leaves known refl
 head_comes q me came message tail (Unicast4 ttl ttvn dst src subtype) known = go (same_mac dst me)
   where
     go : (b : Bool) → HasCome came.now (Unicast4 ttl ttvn dst src subtype) tail known (cond b (after_arp came.now (arp_came subtype tail) known) known)

@@ -16,7 +16,7 @@ use Rattle.mesh_model.specs.Packets.LanFrames.{client_frame_in, lan_message_of}
 use Rattle.mesh_model.specs.Packets.LinkFrame.{link_frame}
 use Rattle.mesh_model.specs.Routes.Queries.{Queries}
 use Rattle.mesh_model.specs.Services.ArpTable.{AskedFor}
-use Rattle.mesh_laws.proofs.KeptLemmas.{HasCome, Kept, brings, call_kept, frame_kept, get_kept, head_comes, leaves, passed_kept, stores, tick_kept}
+use Rattle.mesh_laws.proofs.KeptLemmas.{HasCome, Kept, brings, call_kept, frame_kept, get_kept, head_comes, joins, leaves, passed_kept, stores, tick_kept}
 use Rattle.mesh_laws.proofs.StoreLemmas.{Rest, message_rest}
 
 -- the settings that are known
@@ -43,6 +43,7 @@ came_set now (Some (Tells m)) known = refl
 step_set : (now : ℕ) (head : Head) (tail : List ℕ) (known after : Knowledge) → HasCome now head tail known after → set_of after ≡ set_of known
 step_set now head tail known _ (leaves after same) = ap settings_in same
 step_set now head tail known _ (stores told before payload of same) = ap (λ (r : Rest). r.settings) (message_rest now told before) ∙ ap settings_in same
+step_set now head tail known _ (joins call is) = ap (λ (r : Rest). r.settings) (message_rest call.moment (fact_carried (put_together call known.parts)) (with_part call known))
 step_set now head tail known _ (brings came) =
     either known.services.settings.arp_table (after_came now came known) known (set_of known) (came_set now came known) refl
 
@@ -68,6 +69,7 @@ setting_set (Gateway part) known = refl
 setting_set (Multicast flags) known = refl
 setting_set (ArpTable on) known = refl
 setting_set (FactStore mode) known = refl
+setting_set (LongestWhole size) known = refl
 
 -- what a line leaves of the settings
 line_set : (q : Queries) (me : Mac) (older : Log) (known : Knowledge) (now : ℕ) (line : LineGiven)

@@ -46,6 +46,7 @@ InRange (GwServer node down up) = ⊤
 InRange (GwClient node policy) = ⊤
 InRange (Mcast node flags) = ⊤
 InRange (Dat node on) = ⊤
+InRange (Frag node longest) = ⊤
 InRange (Alfred node mode) = ⊤
 InRange (Put node type_no version text) = ⊤
 InRange (Get node type_no) = ⊤
@@ -270,8 +271,9 @@ gateway-modes node word =
 
 setting : (node word : List ℕ) → FormInRange (read_setting node word)
 setting node word =
-    listed ((codes "wifi", read_wifi node) ∷ (codes "gw", a_field word_field (read_gateway node)) ∷ (codes "mcast", read_mcast node) ∷ (codes "dat", read_dat node) ∷ []) OutOfRange word
-    (field _ _ (λ on. end _ tt), (field word_field (read_gateway node) (λ w. gateway-modes node w), (field _ _ (λ n. end _ tt), (field _ _ (λ on. end _ tt), tt))))
+    listed ((codes "wifi", read_wifi node) ∷ (codes "gw", a_field word_field (read_gateway node)) ∷ (codes "mcast", read_mcast node) ∷ (codes "dat", read_dat node)
+    ∷ (codes "frag", read_frag node) ∷ []) OutOfRange word
+    (field _ _ (λ on. end _ tt), (field word_field (read_gateway node) (λ w. gateway-modes node w), (field _ _ (λ n. end _ tt), (field _ _ (λ on. end _ tt), (field _ _ (λ size. end _ tt), tt)))))
 
 settings : FormInRange read_set
 settings = field _ _ (λ node. field word_field (read_setting node) (λ word. setting node word))
