@@ -7,6 +7,7 @@ pub mod TablesOnLiterals
 pub mod ServicesOnLiterals
 pub mod PicturesOnLiterals
 pub mod FragmentsOnLiterals
+pub mod CutsOnLiterals
 pub mod LoopsOnLiterals
 pub mod LineOnLiterals
 pub mod WordsOnLiterals

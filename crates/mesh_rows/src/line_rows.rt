@@ -7,9 +7,9 @@ ghost use Rattle.mesh_model.specs.Scenario.Lines.{carriage_return, newline};
 ghost use Rattle.mesh_model.specs.Scenario.Terms.{lost_mark};
 ghost use Rattle.mesh_model.specs.Scenario.Words.{space};
 ghost use Rattle.mesh_model.specs.declared.ending.LimitName.TheVariants.{Line};
-ghost use Rattle.mesh_model.specs.declared.ending.Refusal.TheVariants.{BadNumber, BadUtf8, ExtraWord, OutOfRange};
+ghost use Rattle.mesh_model.specs.declared.ending.Refusal.TheVariants.{BadNumber, BadUtf8, ExtraWord, MissingWord, OutOfRange};
 ghost use Rattle.mesh_model.specs.declared.ending.Stop.TheVariants.{Limit};
-ghost use Rattle.mesh_model.specs.declared.line_form.Command.TheVariants.{Arp, Decode, Frame, Link, Put, Show};
+ghost use Rattle.mesh_model.specs.declared.line_form.Command.TheVariants.{Arp, Decode, Frag, Frame, Link, Put, Show};
 ghost use Rattle.mesh_model.specs.declared.line_form.Table.TheVariants.{Locals};
 ghost use Rattle.mesh_rows.specs.LineRows.{Gives, IsRefusedFor, client, everyone, vlan};
 
@@ -80,4 +80,15 @@ pub fn a_return_is_dropped_before_a_newline()
     ensures dropped { Gives (codes "show A tl" ++ carriage_return ∷ newline ∷ [])
         (Show (codes "A") Locals) }
     ensures stands { IsRefusedFor (codes "show A tl" ++ carriage_return ∷ []) OutOfRange }
+{}
+
+/// Packets are cut from 300 bytes on, or not at all.
+pub fn a_length_of_fragments_is_0_or_300_at_least()
+    ensures off { Gives (codes "set A frag 0") (Frag (codes "A") 0) }
+    ensures least { Gives (codes "set A frag 300") (Frag (codes "A") 300) }
+    ensures greatest { Gives (codes "set A frag 65535") (Frag (codes "A") 65535) }
+    ensures below { IsRefusedFor (codes "set A frag 299") OutOfRange }
+    ensures past { IsRefusedFor (codes "set A frag 65536") OutOfRange }
+    ensures no_number { IsRefusedFor (codes "set A frag x") BadNumber }
+    ensures missing { IsRefusedFor (codes "set A frag") MissingWord }
 {}
