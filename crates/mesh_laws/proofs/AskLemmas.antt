@@ -44,7 +44,7 @@ step_asks : (ip : ℕ) (vid : Vid) (now : ℕ) (head : Head) (tail : List ℕ) (
 step_asks ip vid now head tail known _ (leaves after same) asked = kept_asks ip vid known after same asked
 step_asks ip vid now head tail known _ (stores told before payload of same) asked =
     kept_asks ip vid known before same (subst (λ (r : Rest). Has r.asks (AskedFor ip vid)) (message_rest now told before) asked)
-step_asks ip vid now head tail known _ (joins call is) asked =
+step_asks ip vid now head tail known _ (joins call payload is) asked =
     let carried = fact_carried (put_together call known.parts) in
     subst (λ (r : Rest). Has r.asks (AskedFor ip vid)) (message_rest call.moment carried (with_part call known)) asked
 step_asks ip vid now head tail known _ (brings came) asked = go known.services.settings.arp_table asked

@@ -1,6 +1,7 @@
 -- Facts are taken of a push once it is whole, at a primary; and of all other inputs a line alone puts
 -- one.
-use Rattle.std.proofs.Common.{◌≡◌, ◌⊎◌, inl, inr, ℕ, Bool, true, false, cond, List, [], ◌∷◌, ◌++◌, fold, Option, Some, None, option_and_then, refl, sym, ap, subst, ◌∙◌}
+use Rattle.std.proofs.Common.{◌≡◌, ◌⊎◌, inl, inr, ℕ, Bool, true, false, cond, List, [], ◌∷◌, ◌++◌, fold, Option, Some, None, option_and_then, option_map, refl, sym, ap, subst, ◌∙◌}
+use Rattle.std.proofs.lemmas.Option.{same_Some}
 use Rattle.mesh_base.specs.declared.address.Mac.{Mac}
 use Rattle.mesh_base.specs.declared.client.Vid.{Vid}
 use Rattle.mesh_model.specs.declared.line_form.AlfredMode.{AlfredMode}
@@ -137,54 +138,103 @@ broadcast_stays me now broadcast tail known = go (is_new_broadcast me now broadc
 abbrev StaysOrTakes : Mac → ℕ → Packet → Knowledge → Knowledge → Type 0
 StaysOrTakes me now packet known after = Stays known after ⊎ TakesPush me now packet known after
 
+-- the facts stay, or a message of a push makes it whole and they are taken
+record TakesBy (payload : List ℕ) (now : ℕ) (known after : Knowledge) : Type 0 where
+  call : TxnCall
+  facts : List Fact
+  at_primary : known.services.settings.fact_store ≡ IsPrimary
+  read : fact_message_of payload ≡ Some (record { sender = call.sender; message = push_message call.id call.brought })
+  moment_is : call.moment ≡ now
+  whole : made_whole call known.services.pushes ≡ Some facts
+  taken : facts_of after ≡ facts_with call facts (facts_of known)
+
 -- a payload for this node
-here_whole : (me : Mac) (now : ℕ) (packet : Packet) (known : Knowledge) (ttl ttvn : ℕ) (dst : Mac) → packet.head ≡ Unicast ttl ttvn dst → same_mac dst me ≡ true → (o : Option CameFact) → fact_message_of packet.tail ≡ o
-    → StaysOrTakes me now packet known (after_fact_message now o known)
-here_whole me now packet known ttl ttvn dst head for_me None read = inl refl
-here_whole me now packet known ttl ttvn dst head for_me (Some came) read = go came.message refl
+here_whole : (now : ℕ) (payload : List ℕ) (known : Knowledge) (o : Option CameFact) → fact_message_of payload ≡ o → Stays known (after_fact_message now o known) ⊎ TakesBy payload now known (after_fact_message now o known)
+here_whole now payload known None read = inl refl
+here_whole now payload known (Some came) read = go came.message refl
   where
     mode : AlfredMode
     mode = known.services.settings.fact_store
 
+    Does : Knowledge → Type 0
+    Does after = Stays known after ⊎ TakesBy payload now known after
+
     by_push : (id : ℕ) (brought : Brought) → came.message ≡ push_message id brought → Takes known (after_brought mode true (txn_call now came.sender id brought) known) (txn_call now came.sender id brought)
-        → StaysOrTakes me now packet known (after_brought mode true (txn_call now came.sender id brought) known)
+        → Does (after_brought mode true (txn_call now came.sender id brought) known)
     by_push id brought is (inl stays) = inl stays
     by_push id brought is (inr (facts, primary, whole, taken)) = inr (record {
       call = txn_call now came.sender id brought;
       facts = facts;
-      makes_whole = record {
-        at_primary = primary;
-        brings = record {
-          ttl = ttl;
-          ttvn = ttvn;
-          dst = dst;
-          head_is = head;
-          for_me = for_me;
-          read = read ∙ ap (λ (m : FactMessage). Some (record { sender = came.sender; message = m })) is;
-          moment_is = refl;
-        };
-        whole = whole;
-      };
+      at_primary = primary;
+      read = read ∙ ap (λ (m : FactMessage). Some (record { sender = came.sender; message = m })) is;
+      moment_is = refl;
+      whole = whole;
       taken = taken;
     })
 
-    by : (push : Bool) (id : ℕ) (brought : Brought) → (push ≡ true → came.message ≡ push_message id brought) → StaysOrTakes me now packet known (after_brought mode push (txn_call now came.sender id brought) known)
+    by : (push : Bool) (id : ℕ) (brought : Brought) → (push ≡ true → came.message ≡ push_message id brought) → Does (after_brought mode push (txn_call now came.sender id brought) known)
     by true id brought is = by_push id brought (is refl) (push_takes mode (txn_call now came.sender id brought) known refl)
     by false id brought is = inl (answer_stays mode (txn_call now came.sender id brought) known)
 
-    go : (message : FactMessage) → came.message ≡ message → StaysOrTakes me now packet known (after_store_message mode now came.sender message known)
+    go : (message : FactMessage) → came.message ≡ message → Does (after_store_message mode now came.sender message known)
     go (HasPart push id number facts) is = by push id (APart number facts) (λ so. is ∙ ap (λ p. HasPart p id number facts) so)
     go Primary is = inl (primary_stays mode now came.sender known)
     go (Requests id type_no) is = inl refl
     go (HasEnd push id count) is = by push id (AnEnd count) (λ so. is ∙ ap (λ p. HasEnd p id count) so)
 
-unicast_whole : (me : Mac) (now : ℕ) (packet : Packet) (known : Knowledge) (ttl ttvn : ℕ) (dst : Mac) → packet.head ≡ Unicast ttl ttvn dst
-    → StaysOrTakes me now packet known (cond (same_mac dst me) (after_fact_message now (fact_message_of packet.tail) known) known)
-unicast_whole me now packet known ttl ttvn dst head = go (same_mac dst me) refl
-  where
-    go : (b : Bool) → same_mac dst me ≡ b → StaysOrTakes me now packet known (cond b (after_fact_message now (fact_message_of packet.tail) known) known)
-    go true for_me = here_whole me now packet known ttl ttvn dst head for_me (fact_message_of packet.tail) refl
-    go false other = inl refl
+-- a part more changes nothing of that
+with_part_too : (payload : List ℕ) (now : ℕ) (part : PartCall) (known after : Knowledge) → Stays (with_part part known) after ⊎ TakesBy payload now (with_part part known) after → Stays known after ⊎ TakesBy payload now known after
+with_part_too payload now part known after (inl stays) = inl stays
+with_part_too payload now part known after (inr takes) = inr (record {
+  call = takes.call;
+  facts = takes.facts;
+  at_primary = takes.at_primary;
+  read = takes.read;
+  moment_is = takes.moment_is;
+  whole = takes.whole;
+  taken = takes.taken;
+})
+
+module _ (me : Mac) (now : ℕ) (packet : Packet) (known : Knowledge) where
+  -- so it is of what a packet brings
+  by_packet : (payload : List ℕ) (after : Knowledge) → payload_by me now known.parts packet.tail packet.head ≡ Some payload → Stays known after ⊎ TakesBy payload now known after → StaysOrTakes me now packet known after
+  by_packet payload after brought (inl stays) = inl stays
+  by_packet payload after brought (inr takes) = inr (record {
+    call = takes.call;
+    facts = takes.facts;
+    makes_whole = record {
+      at_primary = takes.at_primary;
+      brings = record { payload = payload; brought = brought; read = takes.read; moment_is = takes.moment_is };
+      whole = takes.whole;
+    };
+    taken = takes.taken;
+  })
+
+  unicast_whole : (ttl ttvn : ℕ) (dst : Mac) → packet.head ≡ Unicast ttl ttvn dst → StaysOrTakes me now packet known (cond (same_mac dst me) (after_fact_message now (fact_message_of packet.tail) known) known)
+  unicast_whole ttl ttvn dst head = go (same_mac dst me) refl
+    where
+      go : (b : Bool) → same_mac dst me ≡ b → StaysOrTakes me now packet known (cond b (after_fact_message now (fact_message_of packet.tail) known) known)
+      go true for_me = by_packet packet.tail (after_fact_message now (fact_message_of packet.tail) known) (ap (payload_by me now known.parts packet.tail) head ∙ ap (λ b. cond b (Some packet.tail) None) for_me)
+          (here_whole now packet.tail known (fact_message_of packet.tail) refl)
+      go false other = inl refl
+
+  fragment_whole : (ttl number priority : ℕ) (dst orig : Mac) (seq total : ℕ) → packet.head ≡ Frag ttl number priority dst orig seq total
+      → StaysOrTakes me now packet known (cond (same_mac dst me) (after_part (part_of now orig seq total number packet.tail) known) known)
+  fragment_whole ttl number priority dst orig seq total head = go (same_mac dst me) refl
+    where
+      call : PartCall
+      call = part_of now orig seq total number packet.tail
+
+      by : (carried : Option Carried) → put_together call known.parts ≡ carried → same_mac dst me ≡ true → StaysOrTakes me now packet known (after_fact_message now (fact_carried carried) (with_part call known))
+      by None none for_me = inl refl
+      by (Some carried) whole for_me = by_packet carried.payload (after_fact_message now (fact_message_of carried.payload) (with_part call known))
+          (ap (payload_by me now known.parts packet.tail) head ∙ ap (λ b. cond b (whole_payload call known.parts) None) for_me ∙ ap (option_map (λ (one : Carried). one.payload)) whole)
+          (with_part_too carried.payload now call known (after_fact_message now (fact_message_of carried.payload) (with_part call known))
+          (here_whole now carried.payload (with_part call known) (fact_message_of carried.payload) refl))
+
+      go : (b : Bool) → same_mac dst me ≡ b → StaysOrTakes me now packet known (cond b (after_part call known) known)
+      go true for_me = by (put_together call known.parts) refl for_me
+      go false other = inl refl
 
 pub facts_come_whole : FactsComeWhole
 facts_come_whole q me came known packet = go packet.head refl
@@ -198,7 +248,7 @@ facts_come_whole q me came known packet = go packet.head refl
     go (Elp orig seq interval) is = bare (Elp orig seq interval) refl
     go (Ogm2 ttl flags seq orig throughput) is = bare (Ogm2 ttl flags seq orig throughput) refl
     go (Unicast ttl ttvn dst) is = unicast_whole me came.now packet known ttl ttvn dst is
-    go (Frag ttl number priority dst orig seq total) is = bare (Frag ttl number priority dst orig seq total) refl
+    go (Frag ttl number priority dst orig seq total) is = fragment_whole me came.now packet known ttl number priority dst orig seq total is
     go (Unicast4 ttl ttvn dst src subtype) is = bare (Unicast4 ttl ttvn dst src subtype) refl
     go (Icmp ttl msg dst orig uid seq) is = bare (Icmp ttl msg dst orig uid seq) refl
     go (Utvlv ttl dst src) is = bare (Utvlv ttl dst src) refl
@@ -223,13 +273,44 @@ brought_taken now call known facts mode primary at whole =
     go (APart number some) is = by (APart number some) is
     go (AnEnd count) is = by (AnEnd count) is
 
+-- where a payload is read as such a message, its facts are taken
+read_taken : (now : ℕ) (call : TxnCall) (known : Knowledge) (facts : List Fact) (o : Option CameFact) → o ≡ Some (record { sender = call.sender; message = push_message call.id call.brought })
+    → known.services.settings.fact_store ≡ IsPrimary → call.moment ≡ now → made_whole call known.services.pushes ≡ Some facts → facts_of (after_fact_message now o known) ≡ facts_with call facts (facts_of known)
+read_taken now call known facts o read primary at whole =
+    subst (λ o. facts_of (after_fact_message now o known) ≡ facts_with call facts (facts_of known)) (sym read)
+    (brought_taken now call known facts known.services.settings.fact_store primary at whole)
+
 pub whole_push_is_taken : WholePushIsTaken
-whole_push_is_taken q me came known packet call facts makes =
-    let b = makes.brings in
-    subst (λ head. facts_of (after_head q me came (message_of packet) packet.tail head known) ≡ facts_with call facts (facts_of known)) (sym b.head_is)
-    (subst (λ here. facts_of (cond here (after_fact_message came.now (fact_message_of packet.tail) known) known) ≡ facts_with call facts (facts_of known)) (sym b.for_me)
-    (subst (λ o. facts_of (after_fact_message came.now o known) ≡ facts_with call facts (facts_of known)) (sym b.read)
-    (brought_taken came.now call known facts known.services.settings.fact_store makes.at_primary b.moment_is makes.whole)))
+whole_push_is_taken q me came known packet call facts makes = go packet.head makes.brings.brought
+  where
+    Taken : Knowledge → Type 0
+    Taken after = facts_of after ≡ facts_with call facts (facts_of known)
+
+    reads : (payload : List ℕ) → Some payload ≡ Some makes.brings.payload → fact_message_of payload ≡ Some (record { sender = call.sender; message = push_message call.id call.brought })
+    reads payload is = ap fact_message_of (same_Some payload makes.brings.payload is) ∙ makes.brings.read
+
+    direct : (b : Bool) → cond b (Some packet.tail) None ≡ Some makes.brings.payload → Taken (cond b (after_fact_message came.now (fact_message_of packet.tail) known) known)
+    direct true is = read_taken came.now call known facts (fact_message_of packet.tail) (reads packet.tail is) makes.at_primary makes.brings.moment_is makes.whole
+    direct false is = cc
+
+    joined : (part : PartCall) → (carried : Option Carried) → option_map (λ (one : Carried). one.payload) carried ≡ Some makes.brings.payload → Taken (after_fact_message came.now (fact_carried carried) (with_part part known))
+    joined part None is = cc
+    joined part (Some carried) is = read_taken came.now call (with_part part known) facts (fact_message_of carried.payload) (reads carried.payload is) makes.at_primary makes.brings.moment_is makes.whole
+
+    part_taken : (b : Bool) (part : PartCall) → part.moment ≡ came.now → cond b (whole_payload part known.parts) None ≡ Some makes.brings.payload → Taken (cond b (after_fact_message came.now (fact_carried (put_together part known.parts)) (with_part part known)) known)
+    part_taken true part at is = joined part (put_together part known.parts) is
+    part_taken false part at is = cc
+
+    go : (head : Head) → payload_by me came.now known.parts packet.tail head ≡ Some makes.brings.payload → Taken (after_head q me came (message_of packet) packet.tail head known)
+    go (IvOgm ttl flags seq orig prev tq) is = cc
+    go (Bcast ttl seq orig) is = cc
+    go (Elp orig seq interval) is = cc
+    go (Ogm2 ttl flags seq orig throughput) is = cc
+    go (Unicast ttl ttvn dst) is = direct (same_mac dst me) is
+    go (Frag ttl number priority dst orig seq total) is = part_taken (same_mac dst me) (part_of came.now orig seq total number packet.tail) refl is
+    go (Unicast4 ttl ttvn dst src subtype) is = cc
+    go (Icmp ttl msg dst orig uid seq) is = cc
+    go (Utvlv ttl dst src) is = cc
 
 -- ---- other inputs
 question_stays : (q : Queries) (me : Mac) (now : ℕ) (mac : Mac) (own_ip asked_ip : ℕ) (vid : Vid) (known : Knowledge) → Stays known (after_question q me now mac own_ip asked_ip vid known)

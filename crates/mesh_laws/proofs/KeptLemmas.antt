@@ -101,14 +101,14 @@ containers_kept q now src tail known =
     let message = message_in (first_table (containers_of tail)) in
     roaming_kept q now src (first_roaming (containers_of tail)) (after_answer q now src message known) ∙ answer_kept q now src message known
 
--- whether a packet carries a payload
+-- whether a packet may bring a payload
 abbrev pub has_payload : Head → Bool
 has_payload (IvOgm ttl flags seq orig prev tq) = false
 has_payload (Bcast ttl seq orig) = true
 has_payload (Elp orig seq interval) = false
 has_payload (Ogm2 ttl flags seq orig throughput) = false
 has_payload (Unicast ttl ttvn dst) = true
-has_payload (Frag ttl number priority dst orig seq total) = false
+has_payload (Frag ttl number priority dst orig seq total) = true
 has_payload (Unicast4 ttl ttvn dst src subtype) = false
 has_payload (Icmp ttl msg dst orig uid seq) = false
 has_payload (Utvlv ttl dst src) = false
@@ -132,7 +132,7 @@ pub data HasCome (now : ℕ) (head : Head) (tail : List ℕ) (known : Knowledge)
   brings : (came : Option ArpCame) → HasCome now head tail known (after_arp now came known)
   stores : (told : Option CameFact) (before : Knowledge) → has_payload head ≡ true → ((came : CameFact) → told ≡ Some came → fact_message_of tail ≡ Some came)
       → kept_of before ≡ kept_of known → HasCome now head tail known (after_fact_message now told before)
-  joins : (call : PartCall) → head_part now head tail ≡ Some call → HasCome now head tail known (after_part call known)
+  joins : (call : PartCall) → has_payload head ≡ true → head_part now head tail ≡ Some call → HasCome now head tail known (after_part call known)
 
 -- what announces a primary is a message
 announces : (o : Option CameFact) (came : CameFact) → option_and_then if_announces o ≡ Some came → o ≡ Some came
@@ -172,7 +172,7 @@ head_comes q me came message tail (Frag ttl number priority dst orig seq total) 
     call = part_of came.now orig seq total number tail
 
     go : (b : Bool) → HasCome came.now (Frag ttl number priority dst orig seq total) tail known (cond b (after_part call known) known)
-    go true = joins call refl
+    go true = joins call refl refl
     go false = leaves known refl
 head_comes q me came message tail (Unicast4 ttl ttvn dst src subtype) known = go (same_mac dst me)
   where

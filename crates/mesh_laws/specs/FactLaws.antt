@@ -24,14 +24,30 @@ abbrev pub push_message : ℕ → Brought → FactMessage
 push_message id (APart number facts) = HasPart true id number facts
 push_message id (AnEnd count) = HasEnd true id count
 
--- a packet for the node of an address brings this of a push, at a moment
-pub record BringsPush (me : Mac) (now : ℕ) (packet : Packet) (call : TxnCall) : Type 0 where
-  pub ttl : ℕ
-  pub ttvn : ℕ
-  pub dst : Mac
-  pub head_is : packet.head ≡ Unicast ttl ttvn dst
-  pub for_me : same_mac dst me ≡ true
-  pub read : fact_message_of packet.tail
+-- the payload of the packet that a part makes whole, after others
+abbrev pub whole_payload : PartCall → List PartCall → Option (List ℕ)
+whole_payload call older = option_map (λ (one : Carried). one.payload) (put_together call older)
+
+-- the payload that a packet with a head and a tail brings to the node of an address, after parts of
+-- packets that were cut: a fragment brings that of the packet that it makes whole
+abbrev pub payload_by : Mac → ℕ → List PartCall → List ℕ → Head → Option (List ℕ)
+payload_by me now parts tail (IvOgm ttl flags seq orig prev tq) = None
+payload_by me now parts tail (Bcast ttl seq orig) = None
+payload_by me now parts tail (Elp orig seq interval) = None
+payload_by me now parts tail (Ogm2 ttl flags seq orig throughput) = None
+payload_by me now parts tail (Unicast ttl ttvn dst) = if same_mac dst me then Some tail else None
+payload_by me now parts tail (Frag ttl number priority dst orig seq total) = if same_mac dst me
+    then whole_payload (part_of now orig seq total number tail) parts else None
+payload_by me now parts tail (Unicast4 ttl ttvn dst src subtype) = None
+payload_by me now parts tail (Icmp ttl msg dst orig uid seq) = None
+payload_by me now parts tail (Utvlv ttl dst src) = None
+
+-- a packet that comes to the node of an address at a moment brings this of a push
+pub record BringsPush (me : Mac) (now : ℕ) (packet : Packet) (parts : List PartCall)
+    (call : TxnCall) : Type 0 where
+  pub payload : List ℕ
+  pub brought : payload_by me now parts packet.tail packet.head ≡ Some payload
+  pub read : fact_message_of payload
       ≡ Some (record { sender = call.sender; message = push_message call.id call.brought })
   pub moment_is : call.moment ≡ now
 
@@ -39,7 +55,7 @@ pub record BringsPush (me : Mac) (now : ℕ) (packet : Packet) (call : TxnCall) 
 pub record MakesWhole (me : Mac) (now : ℕ) (packet : Packet) (known : Knowledge) (call : TxnCall)
     (facts : List Fact) : Type 0 where
   pub at_primary : known.services.settings.fact_store ≡ IsPrimary
-  pub brings : BringsPush me now packet call
+  pub brings : BringsPush me now packet known.parts call
   pub whole : made_whole call known.services.pushes ≡ Some facts
 
 -- what came for facts, newest first, once these came from a sender too, one after another
