@@ -50,3 +50,4 @@ pub mod FoundLemmas
 pub mod FrameLemmas
 pub mod BadLineLemmas
 pub mod CauseLemmas
+pub mod PacketCuts

@@ -21,3 +21,4 @@ pub mod MarkLaws
 pub mod ServiceLaws
 pub mod AddressLaws
 pub mod FactLaws
+pub mod CutLaws

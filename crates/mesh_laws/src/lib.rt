@@ -5,6 +5,7 @@
 #![tactic(auto)]
 
 pub mod address_laws;
+pub mod cut_laws;
 pub mod fact_laws;
 pub mod happening_laws;
 pub mod held_laws;
