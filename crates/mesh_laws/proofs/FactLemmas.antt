@@ -11,10 +11,12 @@ use Rattle.mesh_model.specs.declared.packet.Head.TheVariants.{IvOgm, Bcast, Elp,
 use Rattle.mesh_model.specs.declared.service.Fact.{Fact}
 use Rattle.mesh_model.specs.Clients.Log.{Tick, LinkFrame, LanFrame, Line, LineGiven, Attach, Frame, Gone, Join, Leave, Arp, Dhcp, Sets, Put, Get, Ping, Trace, Reboot, Log}
 use Rattle.mesh_model.specs.Clients.Mentions.{key_of, mentions, next_mentions, passed_from_lan}
-use Rattle.mesh_model.specs.Clients.Settings.{Setting, Wifi, Gateway, Multicast, ArpTable, FactStore}
+use Rattle.mesh_model.specs.Clients.Settings.{Setting, Wifi, Gateway, Multicast, ArpTable, FactStore, LongestWhole}
 use Rattle.mesh_model.specs.Knowledge.FactStore.{after_answering, after_brought, after_closing, after_fact_message, after_push, after_store_message, after_whole_push, announcing, closed_by, if_announces, txn_call, with_fact, with_facts}
 use Rattle.mesh_model.specs.Knowledge.Known.{Broadcast, Knowledge, is_new_broadcast, taken_at}
 use Rattle.mesh_model.specs.Knowledge.Pairs.{after_asking, after_came, after_question, is_asked, with_ask, with_learned}
+use Rattle.mesh_model.specs.Fragments.Assembly.{PartCall, part_of}
+use Rattle.mesh_model.specs.Knowledge.PutTogether.{Carried, after_part, fact_carried, put_together, with_part}
 use Rattle.mesh_model.specs.Knowledge.Served.{FactRequest}
 use Rattle.mesh_model.specs.Knowledge.Steps.{after_broadcast, after_head, after_sighting, announced_by, line_knowledge, with_set}
 use Rattle.mesh_model.specs.Knowledge.Told.{message_of}
@@ -27,8 +29,8 @@ use Rattle.mesh_model.specs.Routes.Queries.{Queries}
 use Rattle.mesh_model.specs.Services.ArpTable.{AskedFor}
 use Rattle.mesh_model.specs.Services.Facts.{FactCall, CameFrom}
 use Rattle.mesh_model.specs.Services.Transactions.{Brought, APart, AnEnd, TxnCall, made_whole}
-use Rattle.mesh_laws.specs.FactLaws.{FactsComeWhole, LinesPutFacts, TakesPush, WholePushIsTaken, facts_with, left_by_line, push_message, put_by_line}
-use Rattle.mesh_laws.proofs.KeptLemmas.{HasCome, Kept, brings, call_kept, frame_kept, get_kept, has_payload, head_comes, leaves, passed_kept, stores, tick_kept}
+use Rattle.mesh_laws.specs.FactLaws.{FactsComeWhole, LinesPutFacts, TakesPush, WholePushIsTaken, facts_with, left_by_line, payload_by, push_message, put_by_line, whole_payload}
+use Rattle.mesh_laws.proofs.KeptLemmas.{HasCome, Kept, brings, call_kept, frame_kept, get_kept, has_payload, head_comes, joins, leaves, passed_kept, stores, tick_kept}
 
 -- what came for the facts that are known
 abbrev facts_of : Knowledge → List FactCall
@@ -123,6 +125,7 @@ bare_stays : (now : ℕ) (head : Head) (tail : List ℕ) (known after : Knowledg
 bare_stays now head tail known _ bare (leaves after same) = ap facts_in same
 bare_stays now head tail known _ bare (brings came) = either known.services.settings.arp_table (after_came now came known) known known (arp_stays now came known) refl
 bare_stays now head tail known _ bare (stores told before payload of same) = let never : true ≡ false = sym payload ∙ bare in cc
+bare_stays now head tail known _ bare (joins call payload is) = let never : true ≡ false = sym payload ∙ bare in cc
 
 broadcast_stays : (me : Mac) (now : ℕ) (broadcast : Broadcast) (tail : List ℕ) (known : Knowledge) → Stays known (after_fact_message now (announced_by me now broadcast tail known) (after_broadcast me now broadcast known))
 broadcast_stays me now broadcast tail known = go (is_new_broadcast me now broadcast known.taken)
@@ -325,6 +328,7 @@ set_stays (Gateway part) known = refl
 set_stays (Multicast flags) known = refl
 set_stays (ArpTable on) known = refl
 set_stays (FactStore mode) known = refl
+set_stays (LongestWhole size) known = refl
 
 line_puts : (q : Queries) (me : Mac) (older : Log) (known : Knowledge) (now : ℕ) (line : LineGiven) → facts_of (line_knowledge q me older known now line) ≡ put_by_line me now line ++ left_by_line line (facts_of known)
 line_puts q me older known now (Attach lan gateways) = refl

@@ -1,14 +1,17 @@
 -- Laws of the fact store: when a node takes facts. Those of a push are taken once it is whole, all
 -- in that step, and at a primary alone; no other packet changes which facts a node has. Of all other
--- inputs a line that puts a fact does, and a reboot, which leaves none. The main words are
--- `FactsComeWhole`, `WholePushIsTaken` and `LinesPutFacts`.
-use Rattle.std.specs.Prelude.{◌≡◌, ◌⊎◌, ℕ, true, List, [], ◌∷◌, ◌++◌, fold, Some, ⊤, if◌then◌else◌}
+-- inputs a line that puts a fact does, and a reboot, which leaves none. The main words are `FactsComeWhole`,
+-- `WholePushIsTaken` and `LinesPutFacts`.
+use Rattle.std.specs.Prelude.{◌≡◌, ◌⊎◌, ℕ, true, List, [], ◌∷◌, ◌++◌, fold, Option, Some, None, option_map, if◌then◌else◌, ⊤}
 use Rattle.mesh_base.specs.declared.address.Mac.{Mac}
 use Rattle.mesh_model.specs.declared.line_form.AlfredMode.TheVariants.{Primary as IsPrimary}
-use Rattle.mesh_model.specs.declared.packet.Head.TheVariants.{Unicast}
+use Rattle.mesh_model.specs.declared.packet.Head.{Head}
+use Rattle.mesh_model.specs.declared.packet.Head.TheVariants.{IvOgm, Bcast, Elp, Ogm2, Unicast, Frag, Unicast4, Icmp, Utvlv}
 use Rattle.mesh_model.specs.declared.service.Fact.{Fact}
 use Rattle.mesh_model.specs.Clients.Log.{Given, Tick, LinkFrame, LanFrame, Line, LineGiven, Attach, Frame, Gone, Join, Leave, Arp, Dhcp, Sets, Put, Get, Ping, Trace, Reboot, Log, line_reboots}
+use Rattle.mesh_model.specs.Fragments.Assembly.{PartCall, part_of}
 use Rattle.mesh_model.specs.Knowledge.Known.{Knowledge}
+use Rattle.mesh_model.specs.Knowledge.PutTogether.{Carried, put_together}
 use Rattle.mesh_model.specs.Knowledge.Steps.{Coming, after_packet, next_knowledge}
 use Rattle.mesh_model.specs.Packets.FactMessages.{FactMessage, HasPart, HasEnd, fact_message_of}
 use Rattle.mesh_model.specs.Packets.FirstPacket.{Packet}

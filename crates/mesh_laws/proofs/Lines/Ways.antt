@@ -11,11 +11,11 @@ use Rattle.mesh_model.specs.declared.ending.Stop.TheVariants.{Refused, Limit}
 use Rattle.mesh_base.specs.declared.address.Mac.{Mac}
 use Rattle.mesh_model.specs.declared.line_form.Algorithm.{Algorithm}
 use Rattle.mesh_model.specs.declared.line_form.Command.{Command}
-use Rattle.mesh_model.specs.declared.line_form.Command.TheVariants.{Nothing, Algo, Node, Link, Lan, Frame, Gone, Join, Leave, Arp, Dhcp, Wifi, GwOff, GwServer, GwClient, Mcast, Dat, Alfred, Put, Get, Ping, Trace, Reboot, Run, Deliver, Show, Decode}
+use Rattle.mesh_model.specs.declared.line_form.Command.TheVariants.{Nothing, Algo, Node, Link, Lan, Frame, Gone, Join, Leave, Arp, Dhcp, Wifi, GwOff, GwServer, GwClient, Mcast, Dat, Frag, Alfred, Put, Get, Ping, Trace, Reboot, Run, Deliver, Show, Decode}
 use Rattle.mesh_model.specs.Clients.Log.{LineGiven, Line, Sets, line_reboots}
 use Rattle.mesh_model.specs.Clients.Log.{Frame as FrameGiven, Gone as GoneGiven, Join as JoinGiven, Leave as LeaveGiven, Arp as ArpGiven, Dhcp as DhcpGiven, Put as PutGiven, Get as GetGiven, Ping as PingGiven, Trace as TraceGiven, Reboot as RebootGiven}
 use Rattle.mesh_model.specs.Clients.Settings.{NoPart, Serves, Chooses}
-use Rattle.mesh_model.specs.Clients.Settings.{ArpTable as ArpTableSet, FactStore as FactStoreSet, Gateway as GatewaySet, Multicast as MulticastSet, Wifi as WifiSet}
+use Rattle.mesh_model.specs.Clients.Settings.{ArpTable as ArpTableSet, FactStore as FactStoreSet, Gateway as GatewaySet, LongestWhole as LongestWholeSet, Multicast as MulticastSet, Wifi as WifiSet}
 use Rattle.mesh_model.specs.Net.Mesh.{NodeLog, NetLan, NetLink, LanPut, Mesh, Setup, address_at}
 use Rattle.mesh_model.specs.Net.Lans.{joins_lan}
 use Rattle.mesh_model.specs.Net.Sending.{Attempt, with_put}
@@ -183,6 +183,7 @@ command_led setup state (GwServer node down up) = line_led setup state (GwServer
 command_led setup state (GwClient node policy) = line_led setup state (GwClient node policy) node (Sets (GatewaySet (Chooses policy))) (λ lan gateways is. cc) refl
 command_led setup state (Mcast node flags) = line_led setup state (Mcast node flags) node (Sets (MulticastSet flags)) (λ lan gateways is. cc) refl
 command_led setup state (Dat node on) = line_led setup state (Dat node on) node (Sets (ArpTableSet on)) (λ lan gateways is. cc) refl
+command_led setup state (Frag node longest) = line_led setup state (Frag node longest) node (Sets (LongestWholeSet longest)) (λ lan gateways is. cc) refl
 command_led setup state (Alfred node mode) = line_led setup state (Alfred node mode) node (Sets (FactStoreSet mode)) (λ lan gateways is. cc) refl
 command_led setup state (Put node type_no version text) = line_led setup state (Put node type_no version text) node (PutGiven type_no version text) (λ lan gateways is. cc) refl
 command_led setup state (Get node type_no) = line_led setup state (Get node type_no) node (GetGiven type_no) (λ lan gateways is. cc) refl

@@ -18,7 +18,7 @@ use Rattle.mesh_model.specs.Acts.ProbeRows.{session_acts}
 use Rattle.mesh_model.specs.Acts.Rows.{own_by, packets_acts, reboot_acts, tick_acts}
 use Rattle.mesh_model.specs.Bridges.Verdicts.{verdict_from_lan}
 use Rattle.mesh_model.specs.Clients.Lans.{LanOf, bridge}
-use Rattle.mesh_model.specs.Clients.Log.{Given, Tick, LinkFrame, LanFrame, Line, LineGiven, Attach, Frame, Gone, Join, Leave, Arp, Dhcp, Sets, Put, Get, Ping, Trace, Reboot, Log}
+use Rattle.mesh_model.specs.Clients.Log.{Given, Tick, LinkFrame, LanFrame, Line, LineGiven, Attach, Frame, Gone, Join, Leave, Arp, Dhcp, Sets, Put, Get, Ping, Trace, Reboot, Log, settings}
 use Rattle.mesh_model.specs.Clients.Mentions.{Mention, key_of, mentions, next_mentions, passed_from_lan}
 use Rattle.mesh_model.specs.Commits.History.{history}
 use Rattle.mesh_model.specs.Knowledge.Known.{Knowledge}
@@ -124,15 +124,37 @@ line_acts q me log now (Trace target) = probing_acts q me log now target true
 line_acts q me log now Reboot = reboot_acts me (history me log)
 
 -- the acts, in order, of a node with this algorithm, address and log that is given something at a
--- moment
-abbrev pub acts_of : Queries → Mac → Log → ℕ → Given → List Act
-acts_of q me log now (Tick index) = tick_acts q me (knowledge q me log).services.settings
+-- moment, with whole packets
+abbrev pub whole_acts : Queries → Mac → Log → ℕ → Given → List Act
+whole_acts q me log now (Tick index) = tick_acts q me (knowledge q me log).services.settings
     (knowledge q me log).routes (mentions me log) (history me log) (bridge log) now index
     ++ fact_round_acts q (before_round q now index (knowledge q me log))
     (record { me = me; now = now }) index
-acts_of q me log now (LinkFrame number from throughput bytes) =
+whole_acts q me log now (LinkFrame number from throughput bytes) =
     packets_acts q me (own_by me log)
     (record { now = now; from = from; throughput = throughput; number = number })
     (knowledge q me log) (link_frame bytes).packets
-acts_of q me log now (LanFrame bytes) = lan_acts q me log now bytes
-acts_of q me log now (Line line) = line_acts q me log now line
+whole_acts q me log now (LanFrame bytes) = lan_acts q me log now bytes
+whole_acts q me log now (Line line) = line_acts q me log now line
+
+-- ---- long packets
+
+-- how many of the acts of an entry are cut, by the settings before it
+abbrev pub cuts_of : Queries → Mac → Log → ℕ → Given → ℕ
+cuts_of q me log now given = if (settings log).longest_whole == 0 then 0
+    else cuts_among (settings log).longest_whole (whole_acts q me log now given)
+
+-- how many cuts a node made by its log, over all its reboots
+abbrev pub cuts_by : Queries → Mac → Log → ℕ
+cuts_by q me [] = 0
+cuts_by q me (entry ∷ older) =
+    cuts_by q me older + cuts_of q me older entry.moment entry.given
+
+-- how a node cuts by its log
+abbrev pub cutter_by : Queries → Mac → Log → Cutter
+cutter_by q me log =
+    record { me = me; most = (settings log).longest_whole; cuts = cuts_by q me log }
+
+-- the acts, in order, with long packets cut
+abbrev pub acts_of : Queries → Mac → Log → ℕ → Given → List Act
+acts_of q me log now given = cut_acts (cutter_by q me log) (whole_acts q me log now given)

@@ -1,7 +1,7 @@
 -- The rows of the acts: what a node puts at a moment for a tick, at a reboot, and for each kind of
--- packet. In this version a fragment puts nothing. The main words are `tick_acts`, `reboot_acts` and
--- `packet_acts`.
-use Rattle.std.specs.Prelude.{ℕ, ◌==◌, List, [], ◌∷◌, ◌++◌, length, Option, Some, None, if◌then◌else◌}
+-- packet. The packets are whole ones, however long. The main words are `tick_acts`, `reboot_acts`
+-- and `packet_acts`.
+use Rattle.std.specs.Prelude.{ℕ, ◌-◌, ◌==◌, List, [], ◌∷◌, ◌++◌, length, Option, Some, None, if◌then◌else◌}
 use Rattle.mesh_base.specs.declared.address.Mac.{Mac}
 use Rattle.mesh_base.specs.declared.event.Event.TheVariants.{Alias}
 use Rattle.mesh_model.specs.declared.act.Act.{Act}
@@ -25,13 +25,14 @@ use Rattle.mesh_model.specs.Commits.Aliases.{last_alias}
 use Rattle.mesh_model.specs.Commits.Announcements.{announcement, told_changes}
 use Rattle.mesh_model.specs.Commits.History.{History, committed, history, is_commit_tick, present_table, restarted}
 use Rattle.mesh_model.specs.Commits.Versions.{last_commit}
+use Rattle.mesh_model.specs.Fragments.Assembly.{part_of}
 use Rattle.mesh_model.specs.Knowledge.Known.{Knowledge}
+use Rattle.mesh_model.specs.Knowledge.PutTogether.{put_together}
 use Rattle.mesh_model.specs.Knowledge.Steps.{Coming, after_packet, before_announcement, request_out}
 use Rattle.mesh_model.specs.Knowledge.Told.{Message, message_in, message_of}
 use Rattle.mesh_model.specs.Packets.ArpMessages.{arp_came}
 use Rattle.mesh_model.specs.Packets.Containers.{containers_of, containers_spelling}
 use Rattle.mesh_model.specs.Packets.Contents.{first_roaming, first_table}
-use Rattle.mesh_model.specs.Packets.FactMessages.{fact_message_of}
 use Rattle.mesh_model.specs.Packets.FirstPacket.{Packet}
 use Rattle.mesh_model.specs.Routes.Addresses.{same_mac}
 use Rattle.mesh_model.specs.Routes.Queries.{Queries}

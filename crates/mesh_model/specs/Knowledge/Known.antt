@@ -6,6 +6,7 @@
 -- `Knowledge`, `known_at`, `round` and `is_new_broadcast`.
 use Rattle.std.specs.Prelude.{ℕ, nat_lt, ◌&&◌, Bool, not, List, [], ◌∷◌, find, length, map, Option, None, option_map, if◌then◌else◌}
 use Rattle.mesh_base.specs.declared.address.Mac.{Mac}
+use Rattle.mesh_model.specs.Fragments.Assembly.{PartCall}
 use Rattle.mesh_model.specs.Knowledge.Served.{Services, no_services}
 use Rattle.mesh_model.specs.Marks.Calls.{Calls}
 use Rattle.mesh_model.specs.Probes.OpenProbes.{ProbeCall}
@@ -27,14 +28,15 @@ pub record TakenBroadcast : Type 0 where
   pub wild : Bool
 
 -- all that came, each list newest first: for the routing algorithm, for the tables of originators,
--- on marks, for the node's probes, and the broadcasts that were taken; how many broadcasts were
--- sent; and what is kept for services
+-- on marks, for the node's probes, the broadcasts that were taken, and the parts of packets that
+-- were cut; how many broadcasts were sent; and what is kept for services
 pub record Knowledge : Type 0 where
   pub routes : RouteLog
   pub tables : TableCalls
   pub marks : Calls
   pub probes : List ProbeCall
   pub taken : List TakenBroadcast
+  pub parts : List PartCall
   pub sent : ℕ
   pub services : Services
 

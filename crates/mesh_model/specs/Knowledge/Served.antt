@@ -5,7 +5,7 @@
 -- as a gateway gives up the choice. The main words are `Services` and `offer_of`.
 use Rattle.std.specs.Prelude.{ℕ, Bool, List, [], ◌∷◌, find, Option, None, option_map, if◌then◌else◌}
 use Rattle.mesh_base.specs.declared.address.Mac.{Mac}
-use Rattle.mesh_model.specs.Clients.Settings.{Setting, Wifi, Gateway, Multicast, ArpTable, FactStore, Settings, first_settings, set_to}
+use Rattle.mesh_model.specs.Clients.Settings.{Setting, Wifi, Gateway, Multicast, ArpTable, FactStore, LongestWhole, Settings, first_settings, set_to}
 use Rattle.mesh_model.specs.Packets.Bodies.{Bandwidth}
 use Rattle.mesh_model.specs.Packets.Containers.{Container}
 use Rattle.mesh_model.specs.Packets.Contents.{first_gateway, first_multicast, has_dat}

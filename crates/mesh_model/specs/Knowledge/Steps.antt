@@ -8,8 +8,8 @@
 -- gateway passes is a sighting, and it goes on unless its client is at the gateway or behind
 -- another gateway of the LAN. What an accepted message offers is noted; a gateway is chosen at each
 -- second tick, and given up where the node's part as one is set. A probe of a ping or a traceroute
--- waits for its answer where it was sent. At a reboot all is forgotten but the settings. The main
--- word is `knowledge`.
+-- waits for its answer where it was sent. A fragment for the node is noted, and its packet is taken
+-- once it is whole. At a reboot all is forgotten but the settings. The main word is `knowledge`.
 use Rattle.std.specs.Prelude.{ℕ, suc, ◌&&◌, ◌||◌, Bool, true, false, List, [], ◌∷◌, fold, length, Option, Some, None, is_none, is_some, option_and_then, if◌then◌else◌}
 use Rattle.std.specs.List.{list_any}
 use Rattle.mesh_base.specs.Address.{is_broadcast, is_group}
@@ -26,11 +26,13 @@ use Rattle.mesh_model.specs.Clients.Lans.{LanOf, bridge}
 use Rattle.mesh_model.specs.Clients.Mentions.{Mention, key_of, mentions, next_mentions, passed_from_lan}
 use Rattle.mesh_model.specs.Clients.Present.{present_row}
 use Rattle.mesh_model.specs.Clients.Settings.{Setting}
+use Rattle.mesh_model.specs.Fragments.Assembly.{part_of}
 use Rattle.mesh_model.specs.Knowledge.Addressee.{Way, addressee}
 use Rattle.mesh_model.specs.Knowledge.FactStore.{after_fact_message, after_get, after_put, after_round, if_announces}
 use Rattle.mesh_model.specs.Knowledge.Known.{Broadcast, Knowledge, agreed_byte, is_new_broadcast, no_knowledge, taken_at, told_at}
 use Rattle.mesh_model.specs.Knowledge.Offers.{after_choice, gateway_way, receivers}
 use Rattle.mesh_model.specs.Knowledge.Pairs.{after_arp, after_question}
+use Rattle.mesh_model.specs.Knowledge.PutTogether.{after_part}
 use Rattle.mesh_model.specs.Knowledge.Served.{after_set, no_services, with_offer}
 use Rattle.mesh_model.specs.Knowledge.Told.{Message, TableMessage, Asks, Answers, Neither, message_changes, message_in, message_of, stamp_told}
 use Rattle.mesh_model.specs.Marks.Advertisements.{too_many}

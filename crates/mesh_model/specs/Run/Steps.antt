@@ -14,11 +14,11 @@ use Rattle.mesh_model.specs.declared.ending.LimitName.TheVariants.{Nodes, Links,
 use Rattle.mesh_model.specs.declared.ending.Stop.TheVariants.{Limit}
 use Rattle.mesh_model.specs.declared.line_form.Algorithm.{Algorithm}
 use Rattle.mesh_model.specs.declared.line_form.Command.{Command}
-use Rattle.mesh_model.specs.declared.line_form.Command.TheVariants.{Nothing, Algo, Node, Link, Lan, Frame, Gone, Join, Leave, Arp, Dhcp, Wifi, GwOff, GwServer, GwClient, Mcast, Dat, Alfred, Put, Get, Ping, Trace, Reboot, Run, Deliver, Show, Decode}
+use Rattle.mesh_model.specs.declared.line_form.Command.TheVariants.{Nothing, Algo, Node, Link, Lan, Frame, Gone, Join, Leave, Arp, Dhcp, Wifi, GwOff, GwServer, GwClient, Mcast, Dat, Frag, Alfred, Put, Get, Ping, Trace, Reboot, Run, Deliver, Show, Decode}
 use Rattle.mesh_model.specs.Clients.Log.{LineGiven, Line, Sets}
 use Rattle.mesh_model.specs.Clients.Log.{Frame as GivenFrame, Gone as GivenGone, Join as GivenJoin, Leave as GivenLeave, Arp as GivenArp, Dhcp as GivenDhcp, Put as GivenPut, Get as GivenGet, Ping as GivenPing, Trace as GivenTrace, Reboot as GivenReboot}
 use Rattle.mesh_model.specs.Clients.Settings.{Setting, NoPart, Serves, Chooses}
-use Rattle.mesh_model.specs.Clients.Settings.{ArpTable as SetsArpTable, FactStore as SetsFactStore, Gateway as SetsGateway, Multicast as SetsMulticast, Wifi as SetsWifi}
+use Rattle.mesh_model.specs.Clients.Settings.{ArpTable as SetsArpTable, FactStore as SetsFactStore, Gateway as SetsGateway, LongestWhole as SetsLongestWhole, Multicast as SetsMulticast, Wifi as SetsWifi}
 use Rattle.mesh_model.specs.Net.Mesh.{NodeLog, NetLan, NetLink, Setup, address_at}
 use Rattle.mesh_model.specs.Net.Inputs.{all_given, given_to}
 use Rattle.mesh_model.specs.Net.Lans.{joins_lan}
