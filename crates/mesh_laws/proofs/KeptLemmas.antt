@@ -34,7 +34,8 @@ use Rattle.mesh_model.specs.Services.ArpTable.{PairCall}
 use Rattle.mesh_model.specs.Services.Facts.{FactCall}
 use Rattle.mesh_model.specs.Services.Transactions.{TxnCall}
 
--- the settings of a node, what it asked for, and what it keeps of the fact store
+-- the settings of a node, what it asked for, what it keeps of the fact store, and the parts of packets
+-- that were cut
 pub record Kept : Type 0 where
   pub settings : Settings
   pub asks : List PairCall
@@ -42,6 +43,7 @@ pub record Kept : Type 0 where
   pub facts : List FactCall
   pub pushes : List TxnCall
   pub answers : List TxnCall
+  pub parts : List PartCall
 
 -- those that are known
 abbrev pub kept_of : Knowledge → Kept
@@ -52,6 +54,7 @@ kept_of known = record {
   facts = known.services.facts;
   pushes = known.services.pushes;
   answers = known.services.answers;
+  parts = known.parts;
 }
 
 -- of two, each with these, one has them

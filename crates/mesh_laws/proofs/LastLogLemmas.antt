@@ -8,7 +8,7 @@ use Rattle.mesh_model.specs.Clients.LastLog.{last_log, moved_to, settings_in}
 use Rattle.mesh_model.specs.Clients.Log.{Given, Tick, LinkFrame, LanFrame, Line, LineGiven, Attach, Frame, Gone, Join, Leave, Arp, Dhcp, Sets, Put, Get, Ping, Trace, Reboot, Log, LogEntry, after_setting, is_reboot, line_reboots, setting_of, settings}
 use Rattle.mesh_model.specs.Clients.Mentions.{Mention, News, Sighted, key_of, line_mentions, mentions, mentions_by, next_mentions, passed_from_lan, passed_mentions}
 use Rattle.mesh_model.specs.Clients.Present.{present_row}
-use Rattle.mesh_model.specs.Clients.Settings.{Setting, Wifi, Gateway, Multicast, ArpTable, FactStore, Settings, set_to}
+use Rattle.mesh_model.specs.Clients.Settings.{Setting, Wifi, Gateway, Multicast, ArpTable, FactStore, LongestWhole, Settings, set_to}
 use Rattle.mesh_model.specs.Knowledge.Addressee.{addressee}
 use Rattle.mesh_model.specs.Knowledge.Known.{Knowledge, no_knowledge}
 use Rattle.mesh_model.specs.Knowledge.Pairs.{after_question}
@@ -57,6 +57,7 @@ only_set_with (Gateway part) set = refl
 only_set_with (Multicast flags) set = refl
 only_set_with (ArpTable on) set = refl
 only_set_with (FactStore mode) set = refl
+only_set_with (LongestWhole size) set = refl
 
 -- nothing but settings is in a log
 record OnlySets (log : Log) (set : Settings) : Type 0 where

@@ -1,15 +1,15 @@
 -- What is put of acts that are cut, and how cuts are numbered.
-use Rattle.std.proofs.Common.{◌≡◌, ◌⊎◌, ◌+◌, ◌&&◌, inl, inr, ℕ, zero, suc, Bool, true, false, cond, nat_le, nat_eq, filter, List, [], ◌∷◌, ◌++◌, length, map, slice_get, Option, Some, None, refl, sym, ap, ap₂, ◌∙◌, subst, arith, length-append}
-use Rattle.std.proofs.lemmas.Bool.{eqb-true, false≢true}
+use Rattle.std.proofs.Common.{◌≡◌, ◌⊎◌, ◌+◌, ◌*◌, ◌^◌, ◌&&◌, inl, inr, ℕ, zero, suc, Bool, true, false, cond, nat_le, nat_lt, nat_eq, filter, List, [], ◌∷◌, ◌++◌, length, map, slice_get, Option, Some, None, is_some, refl, sym, ap, ap₂, ◌∙◌, subst, arith, length-append}
+use Rattle.std.proofs.lemmas.Bool.{and_parts, eqb-true, false≢true, leb-false, leb-true, ltb-true}
 use Rattle.std.proofs.lemmas.Option.{same_Some}
 use Rattle.mesh_base.specs.declared.address.Mac.{Mac}
 use Rattle.mesh_model.specs.declared.act.Act.{Act}
 use Rattle.mesh_model.specs.declared.act.Act.TheVariants.{Link, Lan, Print}
 use Rattle.mesh_model.specs.declared.packet.Head.{Head}
 use Rattle.mesh_model.specs.Acts.Choosing.{cutter_by, cuts_by, whole_acts}
-use Rattle.mesh_model.specs.Acts.Cuts.{Cutter, after_act, cut_acts, cuts_among, fragment_act, fragment_acts, is_cut, next_cut}
+use Rattle.mesh_model.specs.Acts.Cuts.{Cutter, after_act, cut_acts, cuts_among, fragment_act, fragment_acts, is_cut, is_too_long, next_cut}
 use Rattle.mesh_model.specs.Clients.Log.{Log, settings}
-use Rattle.mesh_model.specs.Fragments.Cutting.{Cut, fragments}
+use Rattle.mesh_model.specs.Fragments.Cutting.{CanBeMade, Cut, fragments, reach_of, tail_size}
 use Rattle.mesh_model.specs.Net.Next.{Has}
 use Rattle.mesh_model.specs.Routes.Queries.{Queries}
 use Rattle.mesh_laws.specs.CutLaws.{CutsAreNumbered, IsPutForCut, NothingIsCut, PutsAreOfActs, cut_of_act, cuts_made, cuts_of_log}
@@ -65,48 +65,83 @@ among to [] act has = absurd has
 among to (fragment ∷ list) act (inl is) = record { fragment = fragment; there = inl refl; is = is }
 among to (fragment ∷ list) act (inr has) = let a = among to list act has in record { fragment = a.fragment; there = inr a.there; is = a.is }
 
-put_for : (cutter : Cutter) (one act : Act) (acts : List Act) → Has (fragment_acts cutter one) act → (rest : List Cut) → cuts_made cutter acts ≡ cut_of_act cutter one ++ rest → IsPutForCut cutter acts act
-put_for cutter (Link to reason bytes) act acts has rest made =
+-- ---- cuts that are made
+can_be : (cutter : Cutter) (bytes : List ℕ) → (is_too_long cutter.most (length bytes) && is_some (reach_of bytes)) ≡ true → CanBeMade (next_cut cutter bytes)
+can_be cutter bytes is =
+    let most = cutter.most in
+    let size = length bytes in
+    let both = and_parts (is_too_long most size) (is_some (reach_of bytes)) is in
+    let one = and_parts (nat_le 300 most && nat_lt most size && nat_le size (16 * tail_size most)) (nat_lt size (2 ^ 16)) both.0 in
+    let two = and_parts (nat_le 300 most && nat_lt most size) (nat_le size (16 * tail_size most)) one.0 in
+    let three = and_parts (nat_le 300 most) (nat_lt most size) two.0 in
+    record {
+      wide = leb-true 300 most three.0;
+      long = ltb-true most size three.1;
+      held = leb-true size (16 * tail_size most) two.1;
+      told = ltb-true size (2 ^ 16) one.1;
+      unicast = both.1;
+    }
+
+put_for : (cutter : Cutter) (one act : Act) (acts : List Act) → is_cut cutter.most one ≡ true → nat_le 65535 cutter.cuts ≡ false → Has (fragment_acts cutter one) act → (rest : List Cut) → cuts_made cutter (one ∷ acts) ≡ cut_of_act cutter one ++ rest
+    → IsPutForCut cutter (one ∷ acts) act
+put_for cutter (Link to reason bytes) act acts is low has rest made =
     let a = among to (fragments (next_cut cutter bytes)) act has in
     record {
       cut = next_cut cutter bytes;
       made = subst (λ cuts. Has cuts (next_cut cutter bytes)) (sym made) (inl refl);
+      can_be_made = can_be cutter bytes is;
+      own = refl;
+      few = leb-false 65535 cutter.cuts low;
+      to = to;
+      reason = reason;
+      whole = inl refl;
       fragment = a.fragment;
       is_of_cut = a.there;
-      to = to;
       is = a.is;
     }
-put_for cutter (Lan bytes) act acts has rest made = absurd has
-put_for cutter (Print event) act acts has rest made = absurd has
+put_for cutter (Lan bytes) act acts is low has rest made = absurd has
+put_for cutter (Print event) act acts is low has rest made = absurd has
+
+same_me : (cutter : Cutter) (act : Act) → (after_act cutter act).me ≡ cutter.me
+same_me cutter act = go (is_cut cutter.most act)
+  where
+    go : (b : Bool) → (cond b (record cutter { cuts = suc cutter.cuts }) cutter).me ≡ cutter.me
+    go true = refl
+    go false = refl
 
 pub puts_are_of_acts : PutsAreOfActs
 puts_are_of_acts cutter [] act has = absurd has
 puts_are_of_acts cutter (one ∷ acts) act has =
-    go (is_cut cutter.most one) (nat_le 65535 cutter.cuts) refl has (puts_are_of_acts (after_act cutter one) acts act)
+    go (is_cut cutter.most one) (nat_le 65535 cutter.cuts) refl refl has (puts_are_of_acts (after_act cutter one) acts act)
   where
     behind : Has acts act ⊎ IsPutForCut (after_act cutter one) acts act → Has (one ∷ acts) act ⊎ IsPutForCut cutter (one ∷ acts) act
     behind (inl there) = inl (inr there)
     behind (inr put) = inr (record {
       cut = put.cut;
       made = has_right (cond (is_cut cutter.most one) (cut_of_act cutter one) []) (cuts_made (after_act cutter one) acts) put.cut put.made;
+      can_be_made = put.can_be_made;
+      own = put.own ∙ same_me cutter one;
+      few = put.few;
+      to = put.to;
+      reason = put.reason;
+      whole = inr put.whole;
       fragment = put.fragment;
       is_of_cut = put.is_of_cut;
-      to = put.to;
       is = put.is;
     })
 
-    go : (cuts full : Bool) → is_cut cutter.most one ≡ cuts
+    go : (cuts full : Bool) → is_cut cutter.most one ≡ cuts → nat_le 65535 cutter.cuts ≡ full
         → Has (cond (cuts && full) [] (cond cuts (fragment_acts cutter one) (one ∷ []) ++ cut_acts (after_act cutter one) acts)) act
         → (Has (cut_acts (after_act cutter one) acts) act → Has acts act ⊎ IsPutForCut (after_act cutter one) acts act)
         → Has (one ∷ acts) act ⊎ IsPutForCut cutter (one ∷ acts) act
-    go true true is has rest = absurd has
-    go true false is has rest = by (has_append (fragment_acts cutter one) (cut_acts (after_act cutter one) acts) act has)
+    go true true is low has rest = absurd has
+    go true false is low has rest = by (has_append (fragment_acts cutter one) (cut_acts (after_act cutter one) acts) act has)
       where
         by : Has (fragment_acts cutter one) act ⊎ Has (cut_acts (after_act cutter one) acts) act → Has (one ∷ acts) act ⊎ IsPutForCut cutter (one ∷ acts) act
-        by (inl here) = inr (put_for cutter one act (one ∷ acts) here (cuts_made (after_act cutter one) acts) (ap (λ b. cond b (cut_of_act cutter one) [] ++ cuts_made (after_act cutter one) acts) is))
+        by (inl here) = inr (put_for cutter one act acts is low here (cuts_made (after_act cutter one) acts) (ap (λ b. cond b (cut_of_act cutter one) [] ++ cuts_made (after_act cutter one) acts) is))
         by (inr there) = behind (rest there)
-    go false full is (inl here) rest = inl (inl here)
-    go false full is (inr there) rest = behind (rest there)
+    go false full is low (inl here) rest = inl (inl here)
+    go false full is low (inr there) rest = behind (rest there)
 
 -- ---- numbers
 -- an act that is cut has a cut

@@ -5,6 +5,7 @@ use Rattle.mesh_model.specs.declared.line_form.AlfredMode.{AlfredMode}
 use Rattle.mesh_model.specs.declared.line_form.AlfredMode.TheVariants.{Off, Primary as IsPrimary, Secondary}
 use Rattle.mesh_model.specs.declared.service.Fact.{Fact}
 use Rattle.mesh_model.specs.Clients.Settings.{Settings}
+use Rattle.mesh_model.specs.Fragments.Assembly.{PartCall}
 use Rattle.mesh_model.specs.Knowledge.FactStore.{after_answering, after_asking_for, after_brought, after_closing, after_fact_message, after_get, after_push, after_round, after_store_message, after_whole_push, chosen_primary, closed_by, txn_call, with_fact, with_facts}
 use Rattle.mesh_model.specs.Knowledge.Known.{Knowledge}
 use Rattle.mesh_model.specs.Knowledge.Served.{FactRequest, Offered}
@@ -28,6 +29,7 @@ pub record Rest : Type 0 where
   pub choice : Option Mac
   pub learned : List Learned
   pub asks : List PairCall
+  pub parts : List PartCall
 
 abbrev pub rest_of : Knowledge → Rest
 rest_of known = record {
@@ -39,6 +41,7 @@ rest_of known = record {
   choice = known.services.choice;
   learned = known.services.learned;
   asks = known.services.asks;
+  parts = known.parts;
 }
 
 -- the store leaves it

@@ -2,15 +2,16 @@
 -- that it had to put, or fragments of its cuts; and its cuts have the numbers from 1 on, in order,
 -- so that no two have one number. The main words are `NothingIsCut`, `PutsAreOfActs` and
 -- `CutsAreNumbered`.
-use Rattle.std.specs.Prelude.{◌≡◌, ◌⊎◌, ℕ, suc, List, [], ◌∷◌, ◌++◌, length, slice_get, Option, Some, if◌then◌else◌}
+use Rattle.std.specs.Prelude.{◌≡◌, ◌≤◌, ◌⊎◌, ℕ, suc, List, [], ◌∷◌, ◌++◌, length, slice_get, Option, Some, if◌then◌else◌}
 use Rattle.mesh_base.specs.declared.address.Mac.{Mac}
+use Rattle.mesh_base.specs.declared.event.Reason.{Reason}
 use Rattle.mesh_model.specs.declared.act.Act.{Act}
 use Rattle.mesh_model.specs.declared.act.Act.TheVariants.{Link, Lan, Print}
 use Rattle.mesh_model.specs.declared.packet.Head.{Head}
 use Rattle.mesh_model.specs.Acts.Choosing.{cutter_by, cuts_by, whole_acts}
 use Rattle.mesh_model.specs.Acts.Cuts.{Cutter, after_act, cut_acts, fragment_act, is_cut, next_cut}
 use Rattle.mesh_model.specs.Clients.Log.{Log}
-use Rattle.mesh_model.specs.Fragments.Cutting.{Cut, fragments}
+use Rattle.mesh_model.specs.Fragments.Cutting.{CanBeMade, Cut, cuts_limit, fragments}
 use Rattle.mesh_model.specs.Net.Next.{Has}
 use Rattle.mesh_model.specs.Routes.Queries.{Queries}
 
@@ -36,13 +37,19 @@ cuts_of_log q me (entry ∷ older) = cuts_of_log q me older
 abbrev pub NothingIsCut : Type 0
 NothingIsCut = (cutter : Cutter) (acts : List Act) → cutter.most ≡ 0 → cut_acts cutter acts ≡ acts
 
--- an act is a fragment of a cut that is made of acts
+-- an act is a fragment of a cut that is made of acts: of the packet of one of them, which can be
+-- cut, in the name of the node, with a number that two bytes tell
 pub record IsPutForCut (cutter : Cutter) (acts : List Act) (act : Act) : Type 0 where
   pub cut : Cut
   pub made : Has (cuts_made cutter acts) cut
+  pub can_be_made : CanBeMade cut
+  pub own : cut.me ≡ cutter.me
+  pub few : cut.number ≤ cuts_limit
+  pub to : Option Mac
+  pub reason : Option Reason
+  pub whole : Has acts (Link to reason cut.packet)
   pub fragment : Head × List ℕ
   pub is_of_cut : Has (fragments cut) fragment
-  pub to : Option Mac
   pub is : act ≡ fragment_act to fragment
 
 -- each act that is put is one of the acts, or a fragment of a cut that is made of them

@@ -1,7 +1,7 @@
 -- Laws of the fact store: when a node takes facts. Those of a push are taken once it is whole, all
 -- in that step, and at a primary alone; no other packet changes which facts a node has. Of all other
--- inputs a line that puts a fact does, and a reboot, which leaves none. The main words are `FactsComeWhole`,
--- `WholePushIsTaken` and `LinesPutFacts`.
+-- inputs a line that puts a fact does, and a reboot, which leaves none. The main words are
+-- `FactsComeWhole`, `WholePushIsTaken` and `LinesPutFacts`.
 use Rattle.std.specs.Prelude.{◌≡◌, ◌⊎◌, ℕ, true, List, [], ◌∷◌, ◌++◌, fold, Option, Some, None, option_map, if◌then◌else◌, ⊤}
 use Rattle.mesh_base.specs.declared.address.Mac.{Mac}
 use Rattle.mesh_model.specs.declared.line_form.AlfredMode.TheVariants.{Primary as IsPrimary}

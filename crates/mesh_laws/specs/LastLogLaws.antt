@@ -1,6 +1,6 @@
 -- Laws of reboots: what is asked of a node is the same of its log and of its log since the last
--- reboot, the commits apart, where each reboot came to a node that was no gateway; and so it is in
--- every plain run. The main word is `LastLogAnswers`.
+-- reboot, its commits and its cuts apart, where each reboot came to a node that was no gateway; and
+-- so it is in every plain run. The main word is `LastLogAnswers`.
 use Rattle.std.specs.Prelude.{◌≡◌, ℕ, true, List, [], ◌∷◌, slice_get, Some, ⊤}
 use Rattle.mesh_base.specs.declared.address.Mac.{Mac}
 use Rattle.mesh_model.specs.declared.frame_choice.FrameChoice.{FrameChoice}
