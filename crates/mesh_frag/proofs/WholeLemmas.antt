@@ -7,7 +7,7 @@ use Rattle.std.proofs.lemmas.List.{length-take}
 use Rattle.std.proofs.lemmas.Option.{same_Some, slice_get_past}
 use Rattle.mesh_model.specs.Fragments.Assembly.{Assembly, PartCall, assembly, bytes_below, goes_to, if_not_whole, if_so_many, made_whole, new_assembly, whole_at, whole_of, whole_within, with_part}
 use Rattle.mesh_model.specs.Fragments.Cutting.{Cut, Reach, fragment_count, fragments_within, reach_of, tail_size}
-use Rattle.mesh_frag.specs.Frags.{part_of}
+use Rattle.mesh_frag.specs.Frags.{part_of_head}
 use Rattle.mesh_frag.specs.Laws.{AreFragments, IsFragment, OnlyWhole, is_of_cut}
 use Rattle.mesh_frag.proofs.CutLemmas.{count_is, fragment_at, piece_at}
 
@@ -31,14 +31,14 @@ part_at cut now place = record {
 pub fragment_is : (cut : Cut) (call : PartCall) → IsFragment cut call → (call.place < fragment_count cut.most cut.packet) × (part_at cut call.moment call.place ≡ call)
 fragment_is cut call = go (reach_of cut.packet)
   where
-    go : (reach : Option Reach) → IsSomeAnd (slice_get (fragments_within cut reach) call.place) (λ fragment. part_of call.moment fragment.0 fragment.1 ≡ Some call)
+    go : (reach : Option Reach) → IsSomeAnd (slice_get (fragments_within cut reach) call.place) (λ fragment. part_of_head call.moment fragment.0 fragment.1 ≡ Some call)
         → (call.place < fragment_count cut.most cut.packet) × (part_at cut call.moment call.place ≡ call)
     go None is = absurd is
     go (Some reach) is = here (cases_lt call.place (fragment_count cut.most cut.packet))
       where
         here : (call.place < fragment_count cut.most cut.packet) ⊎ (fragment_count cut.most cut.packet ≤ call.place) → (call.place < fragment_count cut.most cut.packet) × (part_at cut call.moment call.place ≡ call)
-        here (inl lt) = (lt, same_Some _ _ (subst (λ o. IsSomeAnd o (λ fragment. part_of call.moment fragment.0 fragment.1 ≡ Some call)) (fragment_at cut reach call.place lt) is))
-        here (inr ge) = absurd (subst (λ o. IsSomeAnd o (λ fragment. part_of call.moment fragment.0 fragment.1 ≡ Some call)) (slice_get_past (fragments_within cut (Some reach)) call.place (omega (arith, ge, count_is cut reach))) is)
+        here (inl lt) = (lt, same_Some _ _ (subst (λ o. IsSomeAnd o (λ fragment. part_of_head call.moment fragment.0 fragment.1 ≡ Some call)) (fragment_at cut reach call.place lt) is))
+        here (inr ge) = absurd (subst (λ o. IsSomeAnd o (λ fragment. part_of_head call.moment fragment.0 fragment.1 ≡ Some call)) (slice_get_past (fragments_within cut (Some reach)) call.place (omega (arith, ge, count_is cut reach))) is)
 
 -- ---- parts
 -- the parts that came, by place

@@ -7,7 +7,7 @@ use Rattle.std.specs.Map.{keys_of, lookup}
 use Rattle.mesh_model.specs.declared.packet.Head.{Head}
 use Rattle.mesh_model.specs.declared.packet.Head.TheVariants.{IvOgm, Bcast, Elp, Ogm2, Unicast, Frag, Unicast4, Icmp, Utvlv}
 use Rattle.mesh_model.specs.Packets.Layout.{FitsFragmentByte}
-use Rattle.mesh_model.specs.Fragments.Assembly.{Assembly, PartCall, assembly, made_whole, standing}
+use Rattle.mesh_model.specs.Fragments.Assembly.{Assembly, PartCall, assembly, made_whole, part_of, standing}
 use Rattle.mesh_model.specs.Routes.Addresses.{same_mac}
 use Rattle.mesh_frag.specs.declared.frag.Frag.{Frag as FragTold}
 use Rattle.mesh_frag.specs.declared.frag.Frag.TheVariants.{Open, Whole}
@@ -26,23 +26,17 @@ HeadsFragment (Icmp ttl msg dst orig uid seq) = ⊥
 HeadsFragment (Utvlv ttl dst src) = ⊥
 
 -- the part that a packet with this head and tail is at a moment, where it is a fragment
-abbrev pub part_of : ℕ → Head → List ℕ → Option PartCall
-part_of now (IvOgm ttl flags seq orig prev tq) tail = None
-part_of now (Bcast ttl seq orig) tail = None
-part_of now (Elp orig seq interval) tail = None
-part_of now (Ogm2 ttl flags seq orig throughput) tail = None
-part_of now (Unicast ttl ttvn dst) tail = None
-part_of now (Frag ttl number priority dst orig seq total) tail = Some (record {
-  moment = now;
-  orig = orig;
-  seq = seq;
-  total = total;
-  place = number;
-  tail = tail;
-})
-part_of now (Unicast4 ttl ttvn dst src subtype) tail = None
-part_of now (Icmp ttl msg dst orig uid seq) tail = None
-part_of now (Utvlv ttl dst src) tail = None
+abbrev pub part_of_head : ℕ → Head → List ℕ → Option PartCall
+part_of_head now (IvOgm ttl flags seq orig prev tq) tail = None
+part_of_head now (Bcast ttl seq orig) tail = None
+part_of_head now (Elp orig seq interval) tail = None
+part_of_head now (Ogm2 ttl flags seq orig throughput) tail = None
+part_of_head now (Unicast ttl ttvn dst) tail = None
+part_of_head now (Frag ttl number priority dst orig seq total) tail =
+    Some (part_of now orig seq total number tail)
+part_of_head now (Unicast4 ttl ttvn dst src subtype) tail = None
+part_of_head now (Icmp ttl msg dst orig uid seq) tail = None
+part_of_head now (Utvlv ttl dst src) tail = None
 
 -- the assemblies that are kept, each by what it is known by
 abbrev pub Rows : Type 0

@@ -2,21 +2,14 @@
 -- this file.
 use Rattle.std.specs.Prelude.{◌<◌, ◌^◌, ◌-◌, Bool, false, ℕ, nat_eq, nat_lt, length, List, Option, None, Some, IsSome}
 use Rattle.std.specs.Map.{lookup}
-use Rattle.mesh_model.specs.Fragments.Assembly.{Assembly, PartCall, assembly_age, whole_of}
+use Rattle.mesh_model.specs.Fragments.Assembly.{Assembly, PartCall, assembly_age, part_of, whole_of}
 use Rattle.mesh_frag.specs.declared.frag.Frag.{Frag}
 use Rattle.mesh_frag.specs.declared.frag.Frag.TheVariants.{Open, Whole}
 use Rattle.mesh_frag.specs.declared.frags.AssemblyKey.{AssemblyKey}
 
 -- a part of an assembly
 abbrev pub call_of : ℕ → AssemblyKey → ℕ → List ℕ → PartCall
-call_of now key place tail = record {
-  moment = now;
-  orig = key.orig;
-  seq = key.seq;
-  total = key.total;
-  place = place;
-  tail = tail;
-}
+call_of now key place tail = part_of now key.orig key.seq key.total place tail
 
 -- places have one byte
 abbrev pub ArePlaces : List (ℕ × List ℕ) → Type 0

@@ -5,7 +5,7 @@ use Rattle.std.specs.Prelude.{◌≡◌, ◌⊎◌, ℕ, ◌+◌, ◌<◌, ◌�
 use Rattle.std.specs.List.{AllByRecursion, list_any}
 use Rattle.mesh_model.specs.Fragments.Assembly.{PartCall, assembly, assembly_age, is_part_of, made_whole, standing}
 use Rattle.mesh_model.specs.Fragments.Cutting.{CanBeMade, Cut, fragments}
-use Rattle.mesh_frag.specs.Frags.{part_of}
+use Rattle.mesh_frag.specs.Frags.{part_of_head}
 
 -- whether a part is of an assembly of this cut
 abbrev pub is_of_cut : Cut → PartCall → Bool
@@ -14,7 +14,7 @@ is_of_cut cut call = is_part_of cut.me cut.number (length cut.packet) call
 -- a part is the fragment of a cut at its place, however many hops that has left
 abbrev pub IsFragment : Cut → PartCall → Type 0
 IsFragment cut call = IsSomeAnd (slice_get (fragments cut) call.place)
-    (λ fragment. part_of call.moment fragment.0 fragment.1 ≡ Some call)
+    (λ fragment. part_of_head call.moment fragment.0 fragment.1 ≡ Some call)
 
 -- of these parts those of the cut are fragments of it
 abbrev pub AreFragments : Cut → List PartCall → Type 0

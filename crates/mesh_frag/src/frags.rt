@@ -4,7 +4,7 @@ ghost use Rattle.std.specs.Prelude.{◌≡◌, ◌≤◌, ℕ, List, [], ◌∷�
 ghost use Rattle.std.specs.Map.{lookup};
 ghost use Rattle.indexmap.specs.IndexMap.{spare};
 ghost use Rattle.mesh_model.specs.Fragments.Assembly.{PartCall};
-ghost use Rattle.mesh_frag.specs.Frags.{Answers, FragsStand, RiseWithin, newest_moment, opened_moments, part_of, same_assembly};
+ghost use Rattle.mesh_frag.specs.Frags.{Answers, FragsStand, RiseWithin, newest_moment, opened_moments, part_of_head, same_assembly};
 ghost use Rattle.mesh_frag.specs.Kept.{call_of, is_kept_young, is_young};
 
 use crate::assembly::OpenAssembly;
@@ -53,13 +53,13 @@ impl Frags {
     /// 10,000 ms ago or more are dropped. The first two clauses hold where moments don't fall from
     /// call to call.
     pub fn part(&mut self, now: Millis, head: &Head, tail: &[u8]) -> Result<Frag, NoMemory>
-        requires { IsSome (part_of now head.now tail.now) }
+        requires { IsSome (part_of_head now head.now tail.now) }
         ensures ok { (calls : List PartCall) → FragsStand self.old calls →
-            newest_moment calls ≤ now → OnOk result (IfSome (part_of now head.now tail.now)
+            newest_moment calls ≤ now → OnOk result (IfSome (part_of_head now head.now tail.now)
             (λ call. FragsStand self.new (call ∷ calls))) }
         ensures answered { (calls : List PartCall) → FragsStand self.old calls →
             newest_moment calls ≤ now → IfOk result (λ frag.
-            IfSome (part_of now head.now tail.now) (λ call. Answers call calls frag)) }
+            IfSome (part_of_head now head.now tail.now) (λ call. Answers call calls frag)) }
         ensures err { OnErr result (self.new ≡ self.old) }
     {
         let Head::Frag {
