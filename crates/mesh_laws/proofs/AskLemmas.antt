@@ -43,7 +43,7 @@ came_asks ip vid now (Some (Tells m)) known (inr asked) = asked
 
 step_asks : (ip : ℕ) (vid : Vid) (now : ℕ) (head : Head) (tail : List ℕ) (known after : Knowledge) → HasCome now head tail known after → Asked after ip vid → Asked known ip vid
 step_asks ip vid now head tail known _ (leaves after same) asked = kept_asks ip vid known after same asked
-step_asks ip vid now head tail known _ (stores told before payload of same) asked =
+step_asks ip vid now head tail known _ (stores told before payload uncut of same) asked =
     kept_asks ip vid known before same (subst (λ (r : Rest). Has r.asks (AskedFor ip vid)) (message_rest now told before) asked)
 step_asks ip vid now head tail known _ (joins call payload is) asked =
     let carried = fact_carried (put_together call known.parts) in

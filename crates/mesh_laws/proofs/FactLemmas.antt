@@ -124,7 +124,7 @@ arp_stays now (Some (Tells m)) known = refl
 bare_stays : (now : ℕ) (head : Head) (tail : List ℕ) (known after : Knowledge) → has_payload head ≡ false → HasCome now head tail known after → Stays known after
 bare_stays now head tail known _ bare (leaves after same) = ap facts_in same
 bare_stays now head tail known _ bare (brings came) = either known.services.settings.arp_table (after_came now came known) known known (arp_stays now came known) refl
-bare_stays now head tail known _ bare (stores told before payload of same) = let never : true ≡ false = sym payload ∙ bare in cc
+bare_stays now head tail known _ bare (stores told before payload uncut of same) = let never : true ≡ false = sym payload ∙ bare in cc
 bare_stays now head tail known _ bare (joins call payload is) = let never : true ≡ false = sym payload ∙ bare in cc
 
 broadcast_stays : (me : Mac) (now : ℕ) (broadcast : Broadcast) (tail : List ℕ) (known : Knowledge) → Stays known (after_fact_message now (announced_by me now broadcast tail known) (after_broadcast me now broadcast known))

@@ -133,7 +133,7 @@ head_part now (Utvlv ttl dst src) tail = None
 pub data HasCome (now : ℕ) (head : Head) (tail : List ℕ) (known : Knowledge) : Knowledge → Type 0 where
   leaves : (after : Knowledge) → kept_of after ≡ kept_of known → HasCome now head tail known after
   brings : (came : Option ArpCame) → HasCome now head tail known (after_arp now came known)
-  stores : (told : Option CameFact) (before : Knowledge) → has_payload head ≡ true → ((came : CameFact) → told ≡ Some came → fact_message_of tail ≡ Some came)
+  stores : (told : Option CameFact) (before : Knowledge) → has_payload head ≡ true → head_part now head tail ≡ None → ((came : CameFact) → told ≡ Some came → fact_message_of tail ≡ Some came)
       → kept_of before ≡ kept_of known → HasCome now head tail known (after_fact_message now told before)
   joins : (call : PartCall) → has_payload head ≡ true → head_part now head tail ≡ Some call → HasCome now head tail known (after_part call known)
 
@@ -158,7 +158,7 @@ head_comes q me came message tail (IvOgm ttl flags seq orig prev tq) known =
     leaves (after_taken q came (IvOgm ttl flags seq orig prev tq) message tail known) (taken_kept q came (IvOgm ttl flags seq orig prev tq) message tail known)
 head_comes q me came message tail (Bcast ttl seq orig) known =
     let broadcast : Broadcast = record { orig = orig; number = seq } in
-    stores (announced_by me came.now broadcast tail known) (after_broadcast me came.now broadcast known) refl
+    stores (announced_by me came.now broadcast tail known) (after_broadcast me came.now broadcast known) refl refl
     (announces_if (is_new_broadcast me came.now broadcast known.taken) (fact_message_of tail))
     (either (is_new_broadcast me came.now broadcast known.taken) _ known (kept_of known) refl refl)
 head_comes q me came message tail (Elp orig seq interval) known = leaves (with_head came (Elp orig seq interval) known) refl
@@ -167,7 +167,7 @@ head_comes q me came message tail (Ogm2 ttl flags seq orig throughput) known =
 head_comes q me came message tail (Unicast ttl ttvn dst) known = go (same_mac dst me)
   where
     go : (b : Bool) → HasCome came.now (Unicast ttl ttvn dst) tail known (cond b (after_fact_message came.now (fact_message_of tail) known) known)
-    go true = stores (fact_message_of tail) known refl (λ one is. is) refl
+    go true = stores (fact_message_of tail) known refl refl (λ one is. is) refl
     go false = leaves known refl
 head_comes q me came message tail (Frag ttl number priority dst orig seq total) known = go (same_mac dst me)
   where

@@ -43,7 +43,7 @@ came_set now (Some (Tells m)) known = refl
 
 step_set : (now : ℕ) (head : Head) (tail : List ℕ) (known after : Knowledge) → HasCome now head tail known after → set_of after ≡ set_of known
 step_set now head tail known _ (leaves after same) = ap settings_in same
-step_set now head tail known _ (stores told before payload of same) = ap (λ (r : Rest). r.settings) (message_rest now told before) ∙ ap settings_in same
+step_set now head tail known _ (stores told before payload uncut of same) = ap (λ (r : Rest). r.settings) (message_rest now told before) ∙ ap settings_in same
 step_set now head tail known _ (joins call payload is) = ap (λ (r : Rest). r.settings) (message_rest call.moment (fact_carried (put_together call known.parts)) (with_part call known))
 step_set now head tail known _ (brings came) =
     either known.services.settings.arp_table (after_came now came known) known (set_of known) (came_set now came known) refl
