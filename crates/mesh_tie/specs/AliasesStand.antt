@@ -32,6 +32,7 @@ use Rattle.mesh_model.specs.Run.State.{Printed, ClaimsShown, Decoded, GlobalsSho
 use Rattle.mesh_model.specs.Tables.Versions.{Version}
 use Rattle.mesh_tie.specs.Originators.{log_of}
 use Rattle.mesh_tie.specs.Steps.{IsReachable}
+use Rattle.mesh_tie.specs.TieLaws.{AllKeep}
 
 -- ---- the acts of a tick
 
@@ -136,10 +137,10 @@ pub record StandsInStep (queries : Mac → Queries) (log : Log) (before : List E
   pub at_reboot : is_of_reboot orig number log ≡ true →
       StandsAtReboot queries before orig number earlier
 
--- so does each in each mesh that is reached
+-- so does each in each mesh that is reached, whose originator messages stay their originators'
 abbrev pub AliasesStandInSteps : Type 0
-AliasesStandInSteps = (queries : Mac → Queries) (mesh : Mesh) → IsReachable queries mesh →
-    (before after : List Event) (orig : Mac) (number earlier : ℕ) →
+AliasesStandInSteps = (queries : Mac → Queries) → AllKeep queries → (mesh : Mesh) →
+    IsReachable queries mesh → (before after : List Event) (orig : Mac) (number earlier : ℕ) →
     mesh.events ≡ before ++ Alias orig number earlier ∷ after →
     StandsInStep queries (log_of orig mesh.nodes) before orig number earlier after
 

@@ -1,7 +1,8 @@
 -- Client frames that a node sends by table. What such a frame carries is for a client that is named
 -- by the commit which the last message announced that the node had accepted when it sent the frame:
 -- before the step of its input or, of a packet of a link frame, behind the packets in front of it.
--- The main words are `HadCome` and `FramesByTable`.
+-- A frame that is cut goes as fragments, which have no reason; this isn't said of them. The main
+-- words are `HadCome` and `FramesByTable`.
 use Rattle.std.specs.Prelude.{◌≡◌, ◌≤◌, ◌⊎◌, ◌-◌, ◌++◌, ◌∷◌, ℕ, List, slice_get, Option, Some, IsTrue}
 use Rattle.mesh_base.specs.declared.address.Mac.{Mac}
 use Rattle.mesh_base.specs.declared.event.Reason.TheVariants.{Table}

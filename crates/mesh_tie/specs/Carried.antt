@@ -1,11 +1,11 @@
 -- What frames carry for clients: the payloads of broadcasts and of packets for one node, and client
 -- frames on LANs. A payload is a message of the fact store, or it is passed on as it came, whoever
--- addresses it anew or bridges it. So what holds of payloads and goes on to hold with each step
--- holds of all others that were ever sent, if it holds of those that are begun: the client frames
--- that lines give. That each is one of these, as it was spelled, is such a thing, and that each
--- client frame in them is from a client that records can tell. The facts that nodes keep and print
--- are those that lines put. The main words are `Carries`, `CarriesGivenFrames`, `CarriesClients`
--- and `TellsPutFacts`.
+-- addresses it anew or bridges it; so it is of a packet that was cut, where it is put together. So
+-- what holds of payloads and goes on to hold with each step holds of all others that were ever
+-- sent, if it holds of those that are begun: the client frames that lines give. That each is one of
+-- these, as it was spelled, is such a thing, and that each client frame in them is from a client
+-- that records can tell. The facts that nodes keep and print are those that lines put. The main
+-- words are `Carries`, `CarriesGivenFrames`, `CarriesClients` and `TellsPutFacts`.
 use Rattle.std.specs.Prelude.{◌≡◌, ◌⊎◌, ℕ, List, slice_get, Option, Some, None, ⊤}
 use Rattle.mesh_base.specs.declared.address.Mac.{Mac}
 use Rattle.mesh_base.specs.declared.client.Vid.{Vid}
