@@ -1,5 +1,5 @@
 -- Which acts tell of an alias: those of a tick that commits one, or of a reboot, and no others.
-use Rattle.std.proofs.Common.{◌≡◌, ◌⊎◌, inl, inr, ◌==◌, ℕ, suc, Bool, true, false, cond, List, [], ◌∷◌, ◌++◌, length, Option, Some, None, refl, sym, ap, subst, append-nil, ◌∙◌, arith}
+use Rattle.std.proofs.Common.{◌≡◌, ◌⊎◌, inl, inr, ◌-◌, ◌==◌, ℕ, suc, Bool, true, false, cond, List, [], ◌∷◌, ◌++◌, length, Option, Some, None, refl, sym, ap, subst, append-nil, ◌∙◌, arith}
 use Rattle.std.specs.List.{AllByRecursion}
 use Rattle.std.proofs.lemmas.Bool.{ne_eqb}
 use Rattle.mesh_base.specs.declared.address.Mac.{Mac}
@@ -8,10 +8,12 @@ use Rattle.mesh_model.specs.declared.act.Act.{Act}
 use Rattle.mesh_model.specs.declared.act.Act.TheVariants.{Link, Lan, Print}
 use Rattle.mesh_model.specs.declared.packet.Head.{Head}
 use Rattle.mesh_model.specs.declared.packet.Head.TheVariants.{IvOgm, Bcast, Elp, Ogm2, Unicast, Frag, Unicast4, Icmp, Utvlv}
-use Rattle.mesh_model.specs.Acts.Choosing.{acts_of, asking_acts, call_frame, calling_acts, claimed_first, client_acts, from_lan_acts, on_from_lan, probing_acts, sighting_acts}
+use Rattle.mesh_model.specs.Acts.Choosing.{acts_of, asking_acts, call_frame, calling_acts, claimed_first, client_acts, cutter_by, from_lan_acts, on_from_lan, probing_acts, sighting_acts, whole_acts}
+use Rattle.mesh_model.specs.Acts.Cuts.{Cutter, cut_acts, passes_cuts}
 use Rattle.mesh_model.specs.Acts.BridgeRows.{Place, round_acts, unclaim_acts}
-use Rattle.mesh_model.specs.Acts.FactRows.{fact_acts, fact_round_acts, get_acts}
-use Rattle.mesh_model.specs.Acts.FrameRows.{broadcast_acts, here_acts, passed_frame}
+use Rattle.mesh_model.specs.Acts.FactRows.{fact_round_acts, get_acts}
+use Rattle.mesh_model.specs.Acts.FragmentRows.{carried_here, passed_fragment, unicast_here}
+use Rattle.mesh_model.specs.Acts.FrameRows.{broadcast_acts, passed_frame}
 use Rattle.mesh_model.specs.Acts.OwnContainers.{own_containers}
 use Rattle.mesh_model.specs.Acts.ProbeRows.{IcmpMessage}
 use Rattle.mesh_model.specs.Acts.Rows.{Own, alias_acts, alias_event, commit_acts, elp_acts, head_acts, icmp_acts, message_acts, own_by, packet_acts, packets_acts, place_at, reboot_acts, taken_acts, tick_acts}
@@ -25,12 +27,13 @@ use Rattle.mesh_model.specs.Commits.Announcements.{announcement}
 use Rattle.mesh_model.specs.Commits.History.{History, with_message, commits, committed, history, is_commit_tick, present_table, restarted}
 use Rattle.mesh_model.specs.Commits.Versions.{first_commit}
 use Rattle.mesh_model.specs.Knowledge.Known.{Knowledge}
+use Rattle.mesh_model.specs.Fragments.Assembly.{part_of}
+use Rattle.mesh_model.specs.Knowledge.PutTogether.{put_together}
 use Rattle.mesh_model.specs.Knowledge.Steps.{Coming, advertised, after_packet, after_sighting, knowledge}
 use Rattle.mesh_model.specs.Knowledge.Told.{Message, message_in, message_of, message_with}
 use Rattle.mesh_model.specs.Net.Next.{Has}
 use Rattle.mesh_model.specs.Packets.Containers.{containers_of, containers_spelling}
 use Rattle.mesh_model.specs.Packets.Contents.{first_roaming, first_table}
-use Rattle.mesh_model.specs.Packets.FactMessages.{fact_message_of}
 use Rattle.mesh_model.specs.Packets.FirstPacket.{Packet}
 use Rattle.mesh_model.specs.Packets.LanFrames.{client_frame_in, lan_message_of}
 use Rattle.mesh_model.specs.Packets.LinkFrame.{link_frame}
@@ -44,11 +47,12 @@ use Rattle.mesh_laws.proofs.Schedule.Members.{has_either, has_left, has_right}
 use Rattle.mesh_tie.proofs.ArpActs.{unicast4_acts}
 use Rattle.mesh_tie.proofs.BridgeActs.{claimed_puts}
 use Rattle.mesh_tie.proofs.LanSteps.{lan_on}
-use Rattle.mesh_tie.proofs.CalmRows.{calm_call, calm_frame, calm_here, calm_session}
+use Rattle.mesh_tie.proofs.CalmRows.{calm_call, calm_carried, calm_frame, calm_session, calm_unicast_here}
+use Rattle.mesh_tie.proofs.CutActs.{cut_any, print_came, print_stays}
 use Rattle.mesh_tie.proofs.CommitLemmas.{Committed, as_before, committed_is, one_more}
 use Rattle.mesh_tie.proofs.EntryLemmas.{each_appended}
-use Rattle.mesh_tie.proofs.NamesRows.{IsPlain, plain_bridges, plain_round, plain_unclaim, plain_advert, plain_broadcast, plain_icmp, plain_message, plain_ogm, plain_other, plain_own, plain_passed, plain_question, plain_store, plain_unicast4}
-use Rattle.mesh_tie.proofs.FactActs.{came_stores, get_stores, round_stores}
+use Rattle.mesh_tie.proofs.NamesRows.{IsPlain, plain_bridges, plain_round, plain_unclaim, plain_advert, plain_broadcast, plain_fragment, plain_icmp, plain_message, plain_ogm, plain_other, plain_own, plain_passed, plain_question, plain_store, plain_unicast4}
+use Rattle.mesh_tie.proofs.FactActs.{get_stores, round_stores}
 use Rattle.mesh_tie.proofs.Sayable.{IsCalm, IsNoAlias}
 
 -- ---- acts that tell of none
@@ -98,13 +102,16 @@ packet_quiet q me own came known packet = go packet.head packet.tail
     go (Elp o seq interval) tail = tt
     go (Ogm2 ttl flags seq o throughput) tail = taken (Ogm2 ttl flags seq o throughput) tail (message_with o (first_table (containers_of tail)))
     go (Unicast ttl ttvn dst) tail =
-        let here = here_acts q known own.mentions own.bridge (place_at me came) ttl tail in
+        let here = unicast_here q known own.mentions own.bridge (place_at me came) ttl tail in
         let passed = passed_frame q known (place_at me came) ttl ttvn dst tail in
-        let told = fact_acts q known (place_at me came) (fact_message_of tail) in
-        quiet_if (same_mac dst me) (here ++ told) passed
-        (each_appended IsQuiet here told (calm_quiet here (calm_here q known own.mentions own.bridge (place_at me came) ttl tail)) (plain_quiet told (plain_store me told (came_stores q known (place_at me came) (fact_message_of tail)))))
+        quiet_if (same_mac dst me) here passed (calm_quiet here (calm_unicast_here q known own.mentions own.bridge (place_at me came) ttl tail))
         (plain_quiet passed (plain_passed q known (place_at me came) ttl ttvn dst tail))
-    go (Frag ttl number priority dst o seq total) tail = tt
+    go (Frag ttl number priority dst o seq total) tail =
+        let one = put_together (part_of came.now o seq total number tail) known.parts in
+        let here = carried_here q known own.mentions own.bridge (place_at me came) one in
+        let head = Frag (ttl - 1) number priority dst o seq total in
+        let passed = passed_fragment q known came.now ttl dst head tail in
+        quiet_if (same_mac dst me) here passed (calm_quiet here (calm_carried q known own.mentions own.bridge (place_at me came) one)) (plain_quiet passed (plain_fragment q known came.now ttl dst head tail))
     go (Unicast4 ttl ttvn dst src subtype) tail = plain_quiet (unicast4_acts q me came known ttl ttvn dst src subtype tail) (plain_unicast4 q me came known ttl ttvn dst src subtype tail)
     go (Icmp ttl msg dst o uid seq) tail =
         let m : IcmpMessage = record { ttl = ttl; kind = msg; dst = dst; orig = o; uid = uid; seq = seq } in
@@ -124,13 +131,17 @@ packets_quiet q me own came known (packet ∷ rest) = each_appended IsQuiet (pac
     (packet_quiet q me own came known packet) (packets_quiet q me own came (after_packet q me came known packet) rest)
 
 -- ---- inputs
+-- so do fragments, and what is put for acts that tell of none
+pub cut_quiet : (cutter : Cutter) (acts : List Act) → AreQuiet acts → AreQuiet (cut_acts cutter acts)
+cut_quiet cutter acts quiet = cut_any IsQuiet cutter acts (λ to ttl place dst me number total tail. tt) quiet
+
 pub frame_quiet : (q : Queries) (me : Mac) (mine : Log) (now number : ℕ) (from : Mac) (throughput : ℕ) (bytes : List ℕ) → AreQuiet (acts_of q me mine now (LinkFrame number from throughput bytes))
-frame_quiet q me mine now number from throughput bytes = packets_quiet q me (own_by me mine) (record { now = now; from = from; throughput = throughput; number = number }) (knowledge q me mine) (link_frame bytes).packets
+frame_quiet q me mine now number from throughput bytes = cut_quiet (cutter_by q me mine) (whole_acts q me mine now (LinkFrame number from throughput bytes)) (packets_quiet q me (own_by me mine) (record { now = now; from = from; throughput = throughput; number = number }) (knowledge q me mine) (link_frame bytes).packets)
 
 -- a line that isn't a reboot tells of none
-pub line_quiet : (q : Queries) (me : Mac) (mine : Log) (now : ℕ) (line : LineGiven) → line_reboots line ≡ false → AreQuiet (acts_of q me mine now (Line line))
-line_quiet q me mine now (Attach lan gateways) calm = tt
-line_quiet q me mine now (Frame src dst vid text) calm =
+quiet_line : (q : Queries) (me : Mac) (mine : Log) (now : ℕ) (line : LineGiven) → line_reboots line ≡ false → AreQuiet (whole_acts q me mine now (Line line))
+quiet_line q me mine now (Attach lan gateways) calm = tt
+quiet_line q me mine now (Frame src dst vid text) calm =
     let client : ClientFrame = record { dst = dst; src = src; vid = vid; text = text } in
     let key = key_of src vid in
     let known = knowledge q me mine in
@@ -138,33 +149,36 @@ line_quiet q me mine now (Frame src dst vid text) calm =
     each_appended IsQuiet (sighting_acts q me mine now key) (client_acts q me mine now client)
     (plain_quiet (sighting_acts q me mine now key) (plain_advert me key (advertised q me mine known now key)))
     (calm_quiet (client_acts q me mine now client) (calm_frame q (after_sighting q me mine now key known) ms (record { me = me; now = now }) client))
-line_quiet q me mine now (Gone key) calm = tt
-line_quiet q me mine now (Join key) calm = tt
-line_quiet q me mine now (Leave key) calm = tt
-line_quiet q me mine now (Arp mac own_ip asked_ip vid) calm =
+quiet_line q me mine now (Gone key) calm = tt
+quiet_line q me mine now (Join key) calm = tt
+quiet_line q me mine now (Leave key) calm = tt
+quiet_line q me mine now (Arp mac own_ip asked_ip vid) calm =
     let key = key_of mac vid in
     let known = after_sighting q me mine now key (knowledge q me mine) in
     let asking = asking_acts q me mine now mac own_ip asked_ip vid in
     plain_quiet (sighting_acts q me mine now key ++ asking)
     (each_appended IsPlain (sighting_acts q me mine now key) asking (plain_advert me key (advertised q me mine (knowledge q me mine) now key))
     (plain_question q known (record { me = me; now = now }) mac own_ip asked_ip vid))
-line_quiet q me mine now (Dhcp key text) calm =
+quiet_line q me mine now (Dhcp key text) calm =
     let known = after_sighting q me mine now key (knowledge q me mine) in
     each_appended IsQuiet (sighting_acts q me mine now key) (calling_acts q me mine now key text)
     (plain_quiet (sighting_acts q me mine now key) (plain_advert me key (advertised q me mine (knowledge q me mine) now key)))
     (calm_quiet (calling_acts q me mine now key text) (calm_call q known (record { me = me; now = now }) (call_frame key text)))
-line_quiet q me mine now (Sets setting) calm = tt
-line_quiet q me mine now (Put type_no version text) calm = tt
-line_quiet q me mine now (Get type_no) calm =
+quiet_line q me mine now (Sets setting) calm = tt
+quiet_line q me mine now (Put type_no version text) calm = tt
+quiet_line q me mine now (Get type_no) calm =
     let at : Place = record { me = me; now = now } in
     let got = get_acts q (knowledge q me mine) at type_no in
     plain_quiet got (plain_store me got (get_stores q (knowledge q me mine) at type_no))
-line_quiet q me mine now (Ping target) calm = calm_quiet (probing_acts q me mine now target false) (calm_session q (knowledge q me mine) (record { me = me; now = now }) target false)
-line_quiet q me mine now (Trace target) calm = calm_quiet (probing_acts q me mine now target true) (calm_session q (knowledge q me mine) (record { me = me; now = now }) target true)
-line_quiet q me mine now Reboot calm = cc
+quiet_line q me mine now (Ping target) calm = calm_quiet (probing_acts q me mine now target false) (calm_session q (knowledge q me mine) (record { me = me; now = now }) target false)
+quiet_line q me mine now (Trace target) calm = calm_quiet (probing_acts q me mine now target true) (calm_session q (knowledge q me mine) (record { me = me; now = now }) target true)
+quiet_line q me mine now Reboot calm = cc
 
-pub lan_quiet : (q : Queries) (me : Mac) (mine : Log) (now : ℕ) (bytes : List ℕ) → AreQuiet (acts_of q me mine now (LanFrame bytes))
-lan_quiet q me mine now bytes =
+pub line_quiet : (q : Queries) (me : Mac) (mine : Log) (now : ℕ) (line : LineGiven) → line_reboots line ≡ false → AreQuiet (acts_of q me mine now (Line line))
+line_quiet q me mine now line calm = cut_quiet (cutter_by q me mine) (whole_acts q me mine now (Line line)) (quiet_line q me mine now line calm)
+
+quiet_lan : (q : Queries) (me : Mac) (mine : Log) (now : ℕ) (bytes : List ℕ) → AreQuiet (whole_acts q me mine now (LanFrame bytes))
+quiet_lan q me mine now bytes =
     each_appended IsQuiet (claimed_first me mine now came) (from_lan_acts q me mine now ms (passed_from_lan me mine now came))
     (plain_quiet (claimed_first me mine now came) (plain_bridges (claimed_first me mine now came) (claimed_puts me mine now came))) (go (passed_from_lan me mine now came))
   where
@@ -182,6 +196,9 @@ lan_quiet q me mine now bytes =
         each_appended IsQuiet (sighting_acts q me mine now key) (on_from_lan q me mine now known ms frame)
         (plain_quiet (sighting_acts q me mine now key) (plain_advert me key (advertised q me mine (knowledge q me mine) now key)))
         (calm_quiet (on_from_lan q me mine now known ms frame) (lan_on q me mine now known ms frame))
+
+pub lan_quiet : (q : Queries) (me : Mac) (mine : Log) (now : ℕ) (bytes : List ℕ) → AreQuiet (acts_of q me mine now (LanFrame bytes))
+lan_quiet q me mine now bytes = cut_quiet (cutter_by q me mine) (whole_acts q me mine now (LanFrame bytes)) (quiet_lan q me mine now bytes)
 
 -- ---- ticks
 -- acts tell of the aliases that commits gain, and of no others
@@ -252,13 +269,20 @@ reboot_gains : (me : Mac) (before : History) → Gains me before.commits (restar
 reboot_gains me before = subst (Gains me before.commits (restarted before).commits) (append-nil (reboot_acts me before)) (more_gains me before.commits first_commit [] tt)
 
 -- a line tells of the aliases that its node's commits gain
-pub line_gains : (q : Queries) (me : Mac) (mine : Log) (now : ℕ) (line : LineGiven) (acts : List Act) → acts ≡ acts_of q me mine now (Line line)
+pub line_gains : (q : Queries) (me : Mac) (mine : Log) (now : ℕ) (line : LineGiven) (acts : List Act) → acts ≡ whole_acts q me mine now (Line line)
     → Gains me (commits me mine) (commits me (record { moment = now; given = Line line; acts = acts } ∷ mine)) acts
 line_gains q me mine now line acts is = go (line_reboots line) refl
   where
     go : (b : Bool) → line_reboots line ≡ b → Gains me (commits me mine) (cond b (restarted (history me mine)) (history me mine)).commits acts
-    go true reboots = subst (Gains me (commits me mine) (restarted (history me mine)).commits) (sym (is ∙ ap (λ x. acts_of q me mine now (Line x)) (reboot_line line reboots))) (reboot_gains me (history me mine))
-    go false calm = gains_none acts (subst AreQuiet (sym is) (line_quiet q me mine now line calm))
+    go true reboots = subst (Gains me (commits me mine) (restarted (history me mine)).commits) (sym (is ∙ ap (λ x. whole_acts q me mine now (Line x)) (reboot_line line reboots))) (reboot_gains me (history me mine))
+    go false calm = gains_none acts (subst AreQuiet (sym is) (quiet_line q me mine now line calm))
+
+-- so do they once long packets are cut
+pub gains_cut : (me : Mac) (before after : List Version) (cutter : Cutter) (acts : List Act) → passes_cuts cutter acts ≡ false → Gains me before after acts → Gains me before after (cut_acts cutter acts)
+gains_cut me before _ cutter _ none (gains_none acts quiet) = gains_none (cut_acts cutter acts) (cut_quiet cutter acts quiet)
+gains_cut me before _ cutter _ none (gains_one version acts only each) = gains_one version (cut_acts cutter acts)
+    (λ mac number earlier has. only mac number earlier (print_came cutter acts (Alias mac number earlier) has))
+    (λ earlier is. print_stays cutter acts none (Alias me (length before) earlier) (each earlier is))
 
 -- acts that tell of no alias may stand before others
 gains_behind : (me : Mac) (before after : List Version) (quiet acts : List Act) → AreQuiet quiet → Gains me before after acts → Gains me before after (quiet ++ acts)

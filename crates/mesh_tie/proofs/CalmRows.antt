@@ -11,22 +11,26 @@ use Rattle.mesh_base.specs.declared.event.Reason.TheVariants.{Alfred as ByAlfred
 use Rattle.mesh_base.specs.declared.event.LossReason.TheVariants.{Ttl, NoRoute}
 use Rattle.mesh_base.specs.declared.event.LossReason.{LossReason}
 use Rattle.mesh_model.specs.declared.act.Act.{Act}
+use Rattle.mesh_model.specs.declared.act.Act.TheVariants.{Link}
 use Rattle.mesh_model.specs.declared.packet.Head.{Head}
 use Rattle.mesh_model.specs.declared.packet.Head.TheVariants.{IvOgm, Bcast, Elp, Ogm2, Unicast, Frag, Unicast4, Icmp, Utvlv}
 use Rattle.mesh_model.specs.Acts.ArpRows.{question_acts}
 use Rattle.mesh_model.specs.Acts.BridgeRows.{Place, handed_out, out_acts, round_acts, spread_of_broadcast, spread_of_packet, unclaim_acts}
+use Rattle.mesh_model.specs.Acts.FactRows.{fact_acts}
+use Rattle.mesh_model.specs.Acts.FragmentRows.{carried_here, passed_fragment, unicast_here}
 use Rattle.mesh_model.specs.Acts.GroupRows.{addressed, call_acts, flooded, group_acts}
 use Rattle.mesh_model.specs.Acts.FrameRows.{arrived, broadcast_acts, broadcast_on, frame_acts, handed_out_if, here_acts, is_present, lost, lost_if, on_route, on_way, passed_frame, readdressed}
-use Rattle.mesh_model.specs.Acts.Packing.{sent_to, sent_to_all}
+use Rattle.mesh_model.specs.Acts.Packing.{sent_over, sent_to, sent_to_all}
 use Rattle.mesh_model.specs.Acts.ProbeRows.{IcmpMessage, icmp_head, session_acts}
 use Rattle.mesh_model.specs.Acts.Rows.{elp_acts, icmp_acts, message_acts}
 use Rattle.mesh_model.specs.Clients.Lans.{Bridge}
 use Rattle.mesh_model.specs.Clients.Mentions.{Mention, key_of}
 use Rattle.mesh_model.specs.Knowledge.Addressee.{Way, addressee}
 use Rattle.mesh_model.specs.Knowledge.Known.{Broadcast, Knowledge, is_new_broadcast, told_at}
+use Rattle.mesh_model.specs.Knowledge.PutTogether.{Carried}
 use Rattle.mesh_model.specs.Knowledge.Steps.{Coming}
 use Rattle.mesh_model.specs.Packets.Ethernet.{all_stations}
-use Rattle.mesh_model.specs.Packets.FactMessages.{Primary, fact_message_spelling}
+use Rattle.mesh_model.specs.Packets.FactMessages.{Primary, fact_message_of, fact_message_spelling}
 use Rattle.mesh_model.specs.Packets.Layout.{spelling}
 use Rattle.mesh_model.specs.Packets.Payload.{ClientFrame, client_frame_of, payload_spelling}
 use Rattle.mesh_model.specs.Routes.Queries.{Queries, is_elp}
@@ -34,9 +38,9 @@ use Rattle.mesh_model.specs.Routes.RouteLog.{RouteLog}
 use Rattle.mesh_tie.specs.Sources.{KeepsOriginators}
 use Rattle.mesh_tie.proofs.ArpActs.{IsAsking, each_asking, puts_packet, puts_told, question_puts, unicast4_acts, unicast4_puts}
 use Rattle.mesh_tie.proofs.BridgeActs.{AreBridging, IsBridging, hands_out, out_puts, puts_on_lan, round_puts, unclaim_puts}
-use Rattle.mesh_tie.proofs.FactActs.{AreStoring, IsStoring, each_storing, sends_announcement, sends_message, tells_fact, tells_none}
+use Rattle.mesh_tie.proofs.FactActs.{AreStoring, IsStoring, came_stores, each_storing, sends_announcement, sends_message, tells_fact, tells_none}
 use Rattle.mesh_tie.proofs.EntryLemmas.{each_appended}
-use Rattle.mesh_tie.proofs.KindLemmas.{bcast_frame, elp_frame, icmp_frame, unicast4_frame, unicast_frame}
+use Rattle.mesh_tie.proofs.KindLemmas.{bcast_frame, elp_frame, frag_frame, icmp_frame, unicast4_frame, unicast_frame}
 use Rattle.mesh_tie.proofs.ProbeActs.{AreProbing, IsProbing, icmp_puts, puts_message, puts_pinged, puts_traced, session_puts}
 use Rattle.mesh_tie.proofs.Sayable.{IsCalm}
 use Rattle.mesh_tie.proofs.ServingActs.{IsServing, call_serves, each_serving, group_serves, serves_all, serves_here, serves_one}
@@ -194,3 +198,23 @@ calm_storing me _ (tells_none type_no result none) = λ me n e is. cc
 
 pub calm_store : (me : Mac) (acts : List Act) → AreStoring (λ mac. Unit {0}) (λ fact. Unit {0}) me acts → AllByRecursion IsCalm acts
 calm_store me acts all = each_storing (λ mac. Unit {0}) (λ fact. Unit {0}) me IsCalm (calm_storing me) acts all
+
+-- ---- packets for this node, and fragments
+pub calm_unicast_here : (q : Queries) (known : Knowledge) (ms : List Mention) (bridge : Bridge) (at : Place) (ttl : ℕ) (payload : List ℕ) → AllByRecursion IsCalm (unicast_here q known ms bridge at ttl payload)
+calm_unicast_here q known ms bridge at ttl payload =
+    let told = fact_acts q known at (fact_message_of payload) in
+    each_appended IsCalm (here_acts q known ms bridge at ttl payload) told (calm_here q known ms bridge at ttl payload) (calm_store at.me told (came_stores q known at (fact_message_of payload)))
+
+pub calm_carried : (q : Queries) (known : Knowledge) (ms : List Mention) (bridge : Bridge) (at : Place) (o : Option Carried) → AllByRecursion IsCalm (carried_here q known ms bridge at o)
+calm_carried q known ms bridge at None = tt
+calm_carried q known ms bridge at (Some one) = calm_unicast_here q known ms bridge at one.ttl one.payload
+
+pub calm_frag : (to : Option Mac) (ttl place priority : ℕ) (dst orig : Mac) (seq total : ℕ) (tail : List ℕ) → IsCalm (Link to None (spelling (Frag ttl place priority dst orig seq total) tail))
+calm_frag to ttl place priority dst orig seq total tail = frag_frame (drop 1 (spelling (Frag ttl place priority dst orig seq total) tail))
+
+pub calm_fragment : (q : Queries) (known : Knowledge) (now ttl place priority : ℕ) (dst orig : Mac) (seq total : ℕ) (tail : List ℕ) → AllByRecursion IsCalm (passed_fragment q known now ttl dst (Frag (ttl - 1) place priority dst orig seq total) tail)
+calm_fragment q known now ttl place priority dst orig seq total tail = calm_if (nat_le ttl 1) [] (sent_over (q.route known.routes now dst) (Frag (ttl - 1) place priority dst orig seq total) tail) tt (go (q.route known.routes now dst))
+  where
+    go : (next : Option Mac) → AllByRecursion IsCalm (sent_over next (Frag (ttl - 1) place priority dst orig seq total) tail)
+    go None = tt
+    go (Some to) = (calm_frag (Some to) (ttl - 1) place priority dst orig seq total tail, tt)

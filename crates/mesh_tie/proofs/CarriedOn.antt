@@ -8,9 +8,12 @@ use Rattle.mesh_model.specs.declared.packet.Head.{Head}
 use Rattle.mesh_model.specs.declared.packet.Head.TheVariants.{IvOgm, Bcast, Elp, Ogm2, Unicast, Frag, Unicast4, Icmp, Utvlv}
 use Rattle.mesh_model.specs.declared.service.Fact.{Fact}
 use Rattle.mesh_model.specs.declared.service.KeptFact.{KeptFact}
+use Rattle.mesh_model.specs.Acts.Choosing.{cutter_by, whole_acts}
 use Rattle.mesh_model.specs.Clients.Log.{Given, LogEntry, Tick, LinkFrame, LanFrame, Line}
+use Rattle.mesh_model.specs.Fragments.Cutting.{Cut}
+use Rattle.mesh_model.specs.Knowledge.Steps.{knowledge}
 use Rattle.mesh_model.specs.Net.Due.{ticks_in}
-use Rattle.mesh_model.specs.Net.Inputs.{entry_of}
+use Rattle.mesh_model.specs.Net.Inputs.{entry_of, noting}
 use Rattle.mesh_model.specs.Net.Limits.{scenario_setup}
 use Rattle.mesh_model.specs.Net.Mesh.{NodeLog, Mesh}
 use Rattle.mesh_model.specs.Packets.Payload.{ClientFrame}
@@ -18,19 +21,22 @@ use Rattle.mesh_model.specs.Net.Next.{Has}
 use Rattle.mesh_model.specs.Routes.Queries.{Queries}
 use Rattle.mesh_model.specs.Services.Facts.{facts_at}
 use Rattle.mesh_laws.proofs.Schedule.Steps.{get_front}
-use Rattle.mesh_laws.proofs.Schedule.Members.{one_some}
+use Rattle.mesh_laws.specs.CutLaws.{cuts_made, cuts_of_log}
+use Rattle.mesh_laws.proofs.Schedule.Members.{has_left, one_some}
 use Rattle.mesh_tie.specs.Carried.{Carries, IsKept, IsReadOf, KeepsPutFacts, TailHas, TellsPutFacts, UnlessStored, WasGiven, WasPut, on_lan, to_node}
 use Rattle.mesh_laws.proofs.KeptLemmas.{kept_of}
+use Rattle.mesh_tie.specs.CutPackets.{WasCut}
 use Rattle.mesh_tie.specs.Sources.{IsWhole}
-use Rattle.mesh_tie.specs.Tie.{known_at_node}
+use Rattle.mesh_tie.specs.Tie.{IsOrderly, known_at_node}
 use Rattle.mesh_tie.specs.Steps.{IsReachable, Steps, begins, frame_comes, goes_on, lan_comes, lan_joins, line_gives, link_joins, node_joins, node_ticks, put_comes, put_reaches, time_passes}
 use Rattle.mesh_tie.specs.TieLaws.{AllKeep}
-use Rattle.mesh_tie.proofs.CarriedHeads.{IsCarried, Kept, HeadHas}
+use Rattle.mesh_tie.proofs.CarriedHeads.{IsCarried, IsPart, Kept, HeadHas}
+use Rattle.mesh_tie.proofs.CutPieces.{IsPartOf}
 use Rattle.mesh_tie.proofs.NodeLists.{Renewed, another, itself, noted_stays, renewed}
 use Rattle.mesh_tie.proofs.OrderSteps.{orderly}
 use Rattle.mesh_tie.proofs.SentLemmas.{HasGiven, given_is}
 use Rattle.mesh_tie.proofs.CarriedSteps.{HasKept, IsPut, Payload, kept_of_frame, kept_in, step_keeps}
-use Rattle.mesh_tie.proofs.FactLemmas.{OfKept, facts_have, more_message, more_stores}
+use Rattle.mesh_tie.proofs.FactLemmas.{OfKept, each_more, facts_have, more_message, more_stores}
 use Rattle.mesh_tie.proofs.LanSteps.{lan_read}
 
 -- ---- what goes on to hold
@@ -114,11 +120,64 @@ was_put queries mesh after fact (lan_comes _ _ place now number node put found m
     put_stays queries mesh after place now 0 node (LanFrame put.bytes) fact (given_is (scenario_setup queries) place now 0 node (LanFrame put.bytes) mesh after found is) w
 was_put queries mesh after fact (time_passes _ happening) w = put_same mesh after fact refl w
 
+-- a cut that was made stays made
+cuts_stay : (queries : Mac → Queries) (at : ℕ) (entry : LogEntry) (nodes : List NodeLog) (place : ℕ) (node after : NodeLog) (cut : Cut) → slice_get nodes place ≡ Some node → Renewed at entry nodes place after
+    → Has (cuts_of_log (queries node.mac) node.mac node.log) cut → (after.mac ≡ node.mac) × Has (cuts_of_log (queries after.mac) after.mac after.log) cut
+cuts_stay queries at entry nodes place node after cut found (another d got) made =
+    let same = one_some after node (sym got ∙ found) in
+    (ap (λ (n : NodeLog). n.mac) same, subst (λ (n : NodeLog). Has (cuts_of_log (queries n.mac) n.mac n.log) cut) (sym same) made)
+cuts_stay queries at entry nodes place node after cut found (itself before here got noted) made =
+    let same : after ≡ noting entry node = noted ∙ ap (noting entry) (one_some before node (sym got ∙ found)) in (
+      ap (λ (n : NodeLog). n.mac) same,
+      subst (λ (n : NodeLog). Has (cuts_of_log (queries n.mac) n.mac n.log) cut) (sym same)
+          (has_left (cuts_of_log (queries node.mac) node.mac node.log) (cuts_made (cutter_by (queries node.mac) node.mac node.log) (whole_acts (queries node.mac) node.mac node.log entry.moment entry.given)) cut made),
+    )
+
+cut_stays : (queries : Mac → Queries) (mesh after : Mesh) (place now root : ℕ) (node : NodeLog) (given : Given) (orig : Mac) (cut : Cut) → HasGiven (scenario_setup queries) place now root node given mesh after → WasCut queries mesh orig cut → WasCut queries after orig cut
+cut_stays queries mesh after place now root node given orig cut has w =
+    let entry = entry_of (scenario_setup queries) node now given in
+    let stays = noted_stays place entry mesh.nodes w.place w.node w.found in
+    let kept = cuts_stay queries place entry mesh.nodes w.place w.node stays.0 cut w.found (renewed place entry mesh.nodes w.place stays.0 stays.1) w.made in
+    record { place = w.place; node = stays.0; found = ap (λ ns. slice_get ns w.place) has.nodes ∙ stays.1; address = kept.0 ∙ w.address; made = kept.1 }
+
+cut_same : (queries : Mac → Queries) (mesh after : Mesh) (orig : Mac) (cut : Cut) → after.nodes ≡ mesh.nodes → WasCut queries mesh orig cut → WasCut queries after orig cut
+cut_same queries mesh after orig cut same w = record { place = w.place; node = w.node; found = ap (λ ns. slice_get ns w.place) same ∙ w.found; address = w.address; made = w.made }
+
+was_cut : (queries : Mac → Queries) (mesh after : Mesh) (orig : Mac) (cut : Cut) → Steps queries mesh after → WasCut queries mesh orig cut → WasCut queries after orig cut
+was_cut queries mesh _ orig cut (node_joins _ new empty whole fresh) w = record { place = w.place; node = w.node; found = get_front mesh.nodes (new ∷ []) w.place w.node w.found; address = w.address; made = w.made }
+was_cut queries mesh _ orig cut (link_joins _ link) w = cut_same queries mesh (record mesh { links = mesh.links ++ link ∷ [] }) orig cut refl w
+was_cut queries mesh after orig cut (line_gives _ _ place now node line found may of is) w =
+    cut_stays queries mesh after place now 0 node (Line line) orig cut (given_is (scenario_setup queries) place now 0 node (Line line) mesh after found is) w
+was_cut queries mesh after orig cut (node_ticks _ _ place now node found may is) w =
+    let index = suc (ticks_in node.log) in
+    cut_stays queries mesh after place now index node (Tick index) orig cut (given_is (scenario_setup queries) place now index node (Tick index) mesh after found is) w
+was_cut queries mesh after orig cut (frame_comes _ _ place now number throughput from node sent found may among whole is) w =
+    let given = LinkFrame (suc number) from throughput sent.bytes in
+    cut_stays queries mesh after place now sent.root node given orig cut (given_is (scenario_setup queries) place now sent.root node given mesh after found is) w
+was_cut queries mesh after orig cut (lan_joins _ lan) w = cut_same queries mesh after orig cut refl w
+was_cut queries mesh after orig cut (put_comes _ put frame by is tells) w = cut_same queries mesh after orig cut refl w
+was_cut queries mesh after orig cut (put_reaches _ number now put frame found carries) w = cut_same queries mesh after orig cut refl w
+was_cut queries mesh after orig cut (lan_comes _ _ place now number node put found may among is) w =
+    cut_stays queries mesh after place now 0 node (LanFrame put.bytes) orig cut (given_is (scenario_setup queries) place now 0 node (LanFrame put.bytes) mesh after found is) w
+was_cut queries mesh after orig cut (time_passes _ happening) w = cut_same queries mesh after orig cut refl w
+
+-- a part stays one
+part_stays : (queries : Mac → Queries) (mesh after : Mesh) (Q R : List ℕ → Type 0) (orig : Mac) (seq total place : ℕ) (tail : List ℕ) → Steps queries mesh after → ((payload : List ℕ) → Q payload → R payload)
+    → IsPartOf queries mesh Q orig seq total place tail → IsPartOf queries after R orig seq total place tail
+part_stays queries mesh after Q R orig seq total place tail s more p = record {
+  of = record { cut = p.of.cut; was_cut = was_cut queries mesh after orig p.of.cut s p.of.was_cut; number_is = p.of.number_is; length_is = p.of.length_is; piece = p.of.piece };
+  can = p.can;
+  low = p.low;
+  own = p.own;
+  carries = λ front first reach goes. more front.packet.tail (p.carries front first reach goes);
+}
+
 -- one that holds of more
 record IsWithin (P R : Kept) : Type 0 where
   carried : (payload : List ℕ) → P.carried payload → R.carried payload
   given : (frame : ClientFrame) → P.given frame → R.given frame
   fact : (one : Fact) → P.fact one → R.fact one
+  part : (orig : Mac) (seq total place : ℕ) (tail : List ℕ) → P.part orig seq total place tail → R.part orig seq total place tail
 
 more_has : (P R : Kept) → IsWithin P R → (tail : List ℕ) (head : Head) → HeadHas P tail head → HeadHas R tail head
 more_has P R more tail (IvOgm ttl flags seq orig prev tq) h = tt
@@ -126,7 +185,7 @@ more_has P R more tail (Bcast ttl seq orig) h = (h.0, more.carried tail h.1)
 more_has P R more tail (Elp orig seq interval) h = tt
 more_has P R more tail (Ogm2 ttl flags seq orig throughput) h = tt
 more_has P R more tail (Unicast ttl ttvn dst) h = (h.0, more.carried tail h.1)
-more_has P R more tail (Frag ttl number priority dst orig seq total) h = tt
+more_has P R more tail (Frag ttl number priority dst orig seq total) h = (h.0, h.1, more.part orig seq total number tail h.2)
 more_has P R more tail (Unicast4 ttl ttvn dst src subtype) h = tt
 more_has P R more tail (Icmp ttl msg dst orig uid seq) h = tt
 more_has P R more tail (Utvlv ttl dst src) h = tt
@@ -137,6 +196,7 @@ more_carried P R more frame (inr read) = inr (read.0, more.carried read.0 read.1
 
 more_kept : (queries : Mac → Queries) (P R : Kept) (mesh : Mesh) → IsWithin P R → HasKept queries P mesh → HasKept queries R mesh
 more_kept queries P R mesh more h = record {
+  parts = λ place node got newer log split. each_more (IsPart P) (IsPart R) (λ call. more.part call.orig call.seq call.total call.place call.tail) (knowledge (queries node.mac) node.mac log).parts (h.parts place node got newer log split);
   knows = λ place node got. more_stores IsWhole P.fact R.fact more.fact (kept_of (known_at_node queries node)) (h.knows place node got);
   frames = λ place frame got packet has. more_has P R more packet.tail packet.head (h.frames place frame got packet has);
   puts = λ place put got frame is. more.carried put.bytes (h.puts place put got frame is);
@@ -148,13 +208,14 @@ more_kept queries P R mesh more h = record {
 }
 
 -- ---- all steps
-all_kept : (queries : Mac → Queries) (P : Mesh → List ℕ → Type 0) → (kept : IsKept queries P) → AllKeep queries → (mesh : Mesh) → IsReachable queries mesh → HasKept queries (kept_in queries P kept mesh) mesh
-all_kept queries P kept keep _ begins = record { frames = λ place frame got. cc; puts = λ place put got. cc; events = λ event among. absurd among; knows = λ place node got. cc }
+pub all_kept : (queries : Mac → Queries) (P : Mesh → List ℕ → Type 0) → (kept : IsKept queries P) → AllKeep queries → (mesh : Mesh) → (r : IsReachable queries mesh) → HasKept queries (kept_in queries P kept mesh (orderly queries mesh r)) mesh
+all_kept queries P kept keep _ begins = record { frames = λ place frame got. cc; puts = λ place put got. cc; events = λ event among. absurd among; knows = λ place node got. cc; parts = λ place node got. cc }
 all_kept queries P kept keep _ (goes_on mesh after r s) =
-    step_keeps queries P mesh after kept keep (orderly queries mesh r) s
-    (more_kept queries (kept_in queries P kept mesh) (kept_in queries P kept after) mesh
+    step_keeps queries P mesh after kept keep (orderly queries mesh r) (orderly queries after (goes_on mesh after r s)) s
+    (more_kept queries (kept_in queries P kept mesh (orderly queries mesh r)) (kept_in queries P kept after (orderly queries after (goes_on mesh after r s))) mesh
     (record {
-      carried = λ payload p. record { has = stays payload p.has; facts = λ came is. more_message (IsPut mesh) (IsPut after) (λ one put. (was_put queries mesh after one s put.0, put.1)) came.message (p.facts came is) };
+      carried = λ payload p. payload_stays payload p;
+      part = λ orig seq total place tail p. part_stays queries mesh after (Payload (IsPut mesh) (P mesh)) (Payload (IsPut after) (P after)) orig seq total place tail s payload_stays p;
       given = λ frame was. was_given queries mesh after frame s was;
       fact = λ one put. (was_put queries mesh after one s put.0, put.1);
     }) (all_kept queries P kept keep mesh r))
@@ -163,16 +224,19 @@ all_kept queries P kept keep _ (goes_on mesh after r s) =
     stays payload (inl has) = inl (kept.stays mesh after payload s has)
     stays payload (inr message) = inr message
 
-tail_has : (queries : Mac → Queries) (P : Mesh → List ℕ → Type 0) (kept : IsKept queries P) (mesh : Mesh) (tail : List ℕ) (head : Head) → HeadHas (kept_in queries P kept mesh) tail head → TailHas (P mesh) tail head
-tail_has queries P kept mesh tail (IvOgm ttl flags seq orig prev tq) h = tt
-tail_has queries P kept mesh tail (Bcast ttl seq orig) h = h.1.has
-tail_has queries P kept mesh tail (Elp orig seq interval) h = tt
-tail_has queries P kept mesh tail (Ogm2 ttl flags seq orig throughput) h = tt
-tail_has queries P kept mesh tail (Unicast ttl ttvn dst) h = h.1.has
-tail_has queries P kept mesh tail (Frag ttl number priority dst orig seq total) h = tt
-tail_has queries P kept mesh tail (Unicast4 ttl ttvn dst src subtype) h = tt
-tail_has queries P kept mesh tail (Icmp ttl msg dst orig uid seq) h = tt
-tail_has queries P kept mesh tail (Utvlv ttl dst src) h = tt
+    payload_stays : (payload : List ℕ) → Payload (IsPut mesh) (P mesh) payload → Payload (IsPut after) (P after) payload
+    payload_stays payload p = record { has = stays payload p.has; facts = λ came is. more_message (IsPut mesh) (IsPut after) (λ one put. (was_put queries mesh after one s put.0, put.1)) came.message (p.facts came is) }
+
+tail_has : (queries : Mac → Queries) (P : Mesh → List ℕ → Type 0) (kept : IsKept queries P) (mesh : Mesh) (o : IsOrderly queries mesh) (tail : List ℕ) (head : Head) → HeadHas (kept_in queries P kept mesh o) tail head → TailHas (P mesh) tail head
+tail_has queries P kept mesh o tail (IvOgm ttl flags seq orig prev tq) h = tt
+tail_has queries P kept mesh o tail (Bcast ttl seq orig) h = h.1.has
+tail_has queries P kept mesh o tail (Elp orig seq interval) h = tt
+tail_has queries P kept mesh o tail (Ogm2 ttl flags seq orig throughput) h = tt
+tail_has queries P kept mesh o tail (Unicast ttl ttvn dst) h = h.1.has
+tail_has queries P kept mesh o tail (Frag ttl number priority dst orig seq total) h = tt
+tail_has queries P kept mesh o tail (Unicast4 ttl ttvn dst src subtype) h = tt
+tail_has queries P kept mesh o tail (Icmp ttl msg dst orig uid seq) h = tt
+tail_has queries P kept mesh o tail (Utvlv ttl dst src) h = tt
 
 read_kept : (F : Fact → Type 0) (P : List ℕ → Type 0) (frame : ClientFrame) → IsReadOf (Payload F P) frame → IsReadOf P frame
 read_kept F P frame (payload, has, read) = (payload, kept_of_frame F P payload frame has read, read)
@@ -186,7 +250,7 @@ pub carried_on : (queries : Mac → Queries) → AllKeep queries → (P : Mesh �
 carried_on queries keep P kept mesh r =
     let all = all_kept queries P kept keep mesh r in
     record {
-      frames = λ place frame got packet has. tail_has queries P kept mesh packet.tail packet.head (all.frames place frame got packet has);
+      frames = λ place frame got packet has. tail_has queries P kept mesh (orderly queries mesh r) packet.tail packet.head (all.frames place frame got packet has);
       puts = λ place put got frame is. kept_of_frame (IsPut mesh) (P mesh) put.bytes frame (all.puts place put got frame is) (lan_read put.bytes frame is);
       handed_out = λ moment node vid src dst text among. given_or_read (IsPut mesh) (P mesh) (WasGiven mesh) (record { dst = dst; src = src; vid = vid; text = text }) ((all.events (Received moment node vid src dst text) among).handed_out moment node vid src dst text refl);
       bridged = λ moment lan vid src dst text among. read_kept (IsPut mesh) (P mesh) (record { dst = dst; src = src; vid = vid; text = text }) ((all.events (Bridged moment lan vid src dst text) among).bridged moment lan vid src dst text refl);
@@ -194,7 +258,7 @@ carried_on queries keep P kept mesh r =
 
 -- ---- facts
 -- whatever is said of payloads
-any_kept : (queries : Mac → Queries) → IsKept queries (λ mesh payload. Unit {0})
+pub any_kept : (queries : Mac → Queries) → IsKept queries (λ mesh payload. Unit {0})
 any_kept queries = record { stays = λ mesh after payload s p. tt; begun = λ mesh frame was. tt; read_on = λ mesh payload frame p read. tt }
 
 -- each fact that was printed was put

@@ -1,5 +1,6 @@
 -- What the rows send carries payloads that came, or that a line begins.
-use Rattle.std.proofs.Common.{◌≡◌, ◌-◌, ℕ, suc, Bool, true, false, cond, ◌||◌, ◌==◌, nat_le, List, [], ◌∷◌, ◌++◌, length, drop, Option, Some, None, refl, subst}
+use Rattle.std.proofs.Common.{◌≡◌, ◌≤◌, ◌-◌, ℕ, suc, Bool, true, false, cond, ◌||◌, ◌==◌, nat_le, List, [], ◌∷◌, ◌++◌, length, drop, Option, Some, None, refl, subst}
+use Rattle.std.specs.List.{AllByRecursion}
 use Rattle.std.specs.Option.{unwrap_or}
 use Rattle.mesh_base.specs.Address.{is_broadcast, is_group}
 use Rattle.mesh_base.specs.declared.address.Mac.{Mac}
@@ -18,6 +19,7 @@ use Rattle.mesh_model.specs.Acts.ArpRows.{question_acts}
 use Rattle.mesh_model.specs.Acts.BridgeRows.{Place, handed_out, out_acts, round_acts, spread_of_broadcast, spread_of_packet, unclaim_acts}
 use Rattle.mesh_model.specs.Acts.GroupRows.{addressed, call_acts, flooded, group_acts}
 use Rattle.mesh_model.specs.Acts.FactRows.{fact_acts}
+use Rattle.mesh_model.specs.Acts.FragmentRows.{carried_here, passed_fragment, unicast_here}
 use Rattle.mesh_model.specs.Acts.FrameRows.{advert_acts, arrived, broadcast_acts, broadcast_on, frame_acts, handed_out_if, here_acts, is_present, lost, lost_if, on_route, on_way, passed_frame, readdressed}
 use Rattle.mesh_model.specs.Acts.OwnContainers.{own_containers}
 use Rattle.mesh_model.specs.Acts.Packing.{reply_containers, request_containers, roaming_container, sent_over, sent_to_all}
@@ -32,6 +34,8 @@ use Rattle.mesh_model.specs.Commits.Announcements.{announcement}
 use Rattle.mesh_model.specs.Commits.History.{History, committed, is_commit_tick, present_table}
 use Rattle.mesh_model.specs.Knowledge.Addressee.{Way, addressee}
 use Rattle.mesh_model.specs.Knowledge.Known.{Broadcast, Knowledge, is_new_broadcast, told_at}
+use Rattle.mesh_model.specs.Fragments.Assembly.{part_of}
+use Rattle.mesh_model.specs.Knowledge.PutTogether.{Carried, put_together}
 use Rattle.mesh_model.specs.Knowledge.Steps.{Coming, before_announcement, request_out}
 use Rattle.mesh_model.specs.Knowledge.Told.{Message, TableMessage, Asks, Answers, Neither, message_in, message_of, message_with, stamp_told}
 use Rattle.mesh_model.specs.Packets.Containers.{containers_of, containers_spelling}
@@ -59,7 +63,7 @@ use Rattle.mesh_tie.proofs.KnowsLemmas.{IfWay, addressee_whole}
 use Rattle.mesh_tie.proofs.ServesLemmas.{receiver_whole}
 use Rattle.mesh_tie.proofs.ServingActs.{IsServing, call_serves, each_serving, group_serves, serves_all, serves_here, serves_one}
 use Rattle.mesh_tie.proofs.ProbeActs.{AreProbing, IsProbing, icmp_puts, puts_message, puts_pinged, puts_traced, session_puts}
-use Rattle.mesh_tie.proofs.CarriedHeads.{IsCarried, Kept, handed_has, ActHas, ActsHave, HeadHas, PacketHas, bcast_has, elp_none, icmp_none, iv_none, ogm2_none, unicast4_none, unicast_has, utvlv_none}
+use Rattle.mesh_tie.proofs.CarriedHeads.{IsCarried, Kept, handed_has, ActHas, ActsHave, HeadHas, IsPart, PacketHas, bcast_has, elp_none, frag_has, icmp_none, iv_none, ogm2_none, unicast4_none, unicast_has, utvlv_none}
 
 -- ---- rows that carry none
 over_none : (P : Kept) (next : Option Mac) (ttl : ℕ) (dst src : Mac) (tail : List ℕ) → ActsHave P (sent_over next (Utvlv ttl dst src) tail)
@@ -225,6 +229,29 @@ here_has P q known ms bridge at ttl tail mine k p = go (client_frame_of tail) re
         let way = addressee q known at.now key in
         have_if P (is_group frame.dst || is_present ms at.now key) (out_acts bridge at (spread_of_packet frame) frame) (readdressed q known at ttl frame tail way) (out_has P bridge at (spread_of_packet frame) frame tail mine p is) (anew frame way (addressee_whole q known at.now key k))
 
+-- a packet for this node, which may be put together here
+unicast_here_has : (P : Kept) (q : Queries) (known : Knowledge) (ms : List Mention) (bridge : Bridge) (at : Place) (ttl : ℕ) (payload : List ℕ) → IsWhole at.me → KnowsWhole known → Stores IsWhole P.fact (kept_of known) → P.carried payload
+    → ActsHave P (unicast_here q known ms bridge at ttl payload)
+unicast_here_has P q known ms bridge at ttl payload mine k s p =
+    let told = fact_acts q known at (fact_message_of payload) in
+    each_appended (ActHas P) (here_acts q known ms bridge at ttl payload) told (here_has P q known ms bridge at ttl payload mine k p)
+    (stores_have P at.me told mine (fact_puts IsWhole P.fact q known at (fact_message_of payload) s (taken_came P payload p)))
+
+carried_has : (P : Kept) (q : Queries) (known : Knowledge) (ms : List Mention) (bridge : Bridge) (at : Place) (o : Option Carried) → IsWhole at.me → KnowsWhole known → Stores IsWhole P.fact (kept_of known)
+    → ((one : Carried) → o ≡ Some one → P.carried one.payload) → ActsHave P (carried_here q known ms bridge at o)
+carried_has P q known ms bridge at None mine k s p = tt
+carried_has P q known ms bridge at (Some one) mine k s p = unicast_here_has P q known ms bridge at one.ttl one.payload mine k s (p one refl)
+
+-- a fragment for another node
+fragment_has : (P : Kept) (q : Queries) (known : Knowledge) (now ttl place priority : ℕ) (dst orig : Mac) (seq total : ℕ) (tail : List ℕ) → IsWhole dst → priority ≤ 7 → P.part orig seq total place tail
+    → ActsHave P (passed_fragment q known now ttl dst (Frag (ttl - 1) place priority dst orig seq total) tail)
+fragment_has P q known now ttl place priority dst orig seq total tail whole low p =
+    have_if P (nat_le ttl 1) [] (sent_over (q.route known.routes now dst) (Frag (ttl - 1) place priority dst orig seq total) tail) tt (go (q.route known.routes now dst))
+  where
+    go : (next : Option Mac) → ActsHave P (sent_over next (Frag (ttl - 1) place priority dst orig seq total) tail)
+    go None = tt
+    go (Some to) = (frag_has P (Some to) (ttl - 1) place priority dst orig seq total tail whole low p, tt)
+
 -- for a group, or for a gateway
 serving_has : (P : Kept) (q : Queries) (known : Knowledge) (at : Place) (frame : ClientFrame) → IsWhole at.me → IsCarried P frame → P.carried (payload_spelling frame) → (act : Act) → IsServing IsWhole q known at frame act → ActHas P act
 serving_has P q known at frame mine given p _ (serves_one orig next reason whole for) = unicast_has P next (Some reason) 50 (unwrap_or (told_at q known at.now orig) 0) orig (payload_spelling frame) whole p
@@ -256,10 +283,10 @@ frame_has P q known ms at frame mine k given p =
     go (Some way) whole = (addressed_has P q known at.now 50 way (payload_spelling frame) (whole way refl) p, tt)
 
 -- ---- packets
-pub packet_has : (P : Kept) (q : Queries) (me : Mac) (own : Own) (came : Coming) (packet : Packet) (known : Knowledge) → KeepsOriginators me q → IsWhole me → IsWhole came.from → KnowsWhole known → Stores IsWhole P.fact (kept_of known) → HasWholeAddresses packet.head → PacketHas P packet
+pub packet_has : (P : Kept) (q : Queries) (me : Mac) (own : Own) (came : Coming) (packet : Packet) (known : Knowledge) → KeepsOriginators me q → IsWhole me → IsWhole came.from → KnowsWhole known → Stores IsWhole P.fact (kept_of known) → AllByRecursion (IsPart P) known.parts → HasWholeAddresses packet.head → PacketHas P packet
     → ActsHave P (packet_acts q me own came known packet)
 unfolding packet_acts
-packet_has P q me own came packet known keeps mine from k s whole has = go packet.head packet.tail whole has
+packet_has P q me own came packet known keeps mine from k s parts whole has = go packet.head packet.tail whole has
   where
     taken : (head : Head) (source : Mac) (tail : List ℕ) (o : Option Message) → IsMessageOf source head → ActsHave P (taken_acts q me came head o tail known)
     taken head source tail None is = tt
@@ -272,13 +299,14 @@ packet_has P q me own came packet known keeps mine from k s whole has = go packe
     go (Ogm2 ttl flags seq o throughput) tail w h = taken (Ogm2 ttl flags seq o throughput) o tail (message_with o (first_table (containers_of tail))) (record { word = refl; addresses = w })
     go (Unicast ttl ttvn dst) tail w h =
         let at = place_at me came in
-        let here = here_acts q known own.mentions own.bridge at ttl tail in
-        let told = fact_acts q known at (fact_message_of tail) in
-        have_if P (same_mac dst me) (here ++ told) (passed_frame q known at ttl ttvn dst tail)
-        (each_appended (ActHas P) here told (here_has P q known own.mentions own.bridge at ttl tail mine k h.1)
-        (stores_have P me told mine (fact_puts IsWhole P.fact q known at (fact_message_of tail) s (taken_came P tail h.1))))
-        (passed_has P q known at ttl ttvn dst tail h.0 h.1)
-    go (Frag ttl number priority dst o seq total) tail w h = tt
+        have_if P (same_mac dst me) (unicast_here q known own.mentions own.bridge at ttl tail) (passed_frame q known at ttl ttvn dst tail)
+        (unicast_here_has P q known own.mentions own.bridge at ttl tail mine k s h.1) (passed_has P q known at ttl ttvn dst tail h.0 h.1)
+    go (Frag ttl number priority dst o seq total) tail w h =
+        let at = place_at me came in
+        let call = part_of came.now o seq total number tail in
+        have_if P (same_mac dst me) (carried_here q known own.mentions own.bridge at (put_together call known.parts)) (passed_fragment q known came.now ttl dst (Frag (ttl - 1) number priority dst o seq total) tail)
+        (carried_has P q known own.mentions own.bridge at (put_together call known.parts) mine k s (λ one is. P.joined call known.parts one h.2 parts is))
+        (fragment_has P q known came.now ttl number priority dst o seq total tail h.0 h.1 h.2)
     go (Unicast4 ttl ttvn dst src subtype) tail w h =
         each_asking (ActHas P) (asking_none P) (unicast4_acts q me came known ttl ttvn dst src subtype tail) (unicast4_puts q me came known ttl ttvn dst src subtype tail)
     go (Icmp ttl msg dst o uid seq) tail w h =

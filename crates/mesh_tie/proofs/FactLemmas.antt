@@ -299,7 +299,7 @@ any_stores kept = record {
 }
 
 -- ---- what holds of more
-each_more : {X : Type 0} (P Q : X → Type 0) → ((x : X) → P x → Q x) → (xs : List X) → AllByRecursion P xs → AllByRecursion Q xs
+pub each_more : {X : Type 0} (P Q : X → Type 0) → ((x : X) → P x → Q x) → (xs : List X) → AllByRecursion P xs → AllByRecursion Q xs
 each_more P Q more [] all = tt
 each_more P Q more (x ∷ xs) all = (more x all.0, each_more P Q more xs all.1)
 

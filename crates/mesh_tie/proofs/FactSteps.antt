@@ -9,10 +9,12 @@ use Rattle.mesh_model.specs.declared.packet.Head.{Head}
 use Rattle.mesh_model.specs.declared.service.Fact.{Fact}
 use Rattle.mesh_model.specs.Clients.Log.{LineGiven, Attach, Frame, Gone, Join, Leave, Arp, Dhcp, Sets, Put, Get, Ping, Trace, Reboot, Log}
 use Rattle.mesh_model.specs.Clients.Mentions.{key_of}
-use Rattle.mesh_model.specs.Clients.Settings.{Setting, Wifi, Gateway, Multicast, ArpTable, FactStore}
+use Rattle.mesh_model.specs.Clients.Settings.{Setting, Wifi, Gateway, Multicast, ArpTable, FactStore, LongestWhole}
 use Rattle.mesh_model.specs.Knowledge.FactStore.{after_answering, after_brought, after_closing, after_fact_message, after_push, after_store_message, after_whole_push, closed_by, txn_call, with_fact, with_facts}
 use Rattle.mesh_model.specs.Knowledge.Known.{Knowledge}
 use Rattle.mesh_model.specs.Knowledge.Pairs.{after_asking, after_came, after_question, is_asked, with_ask, with_learned}
+use Rattle.mesh_model.specs.Fragments.Assembly.{PartCall}
+use Rattle.mesh_model.specs.Knowledge.PutTogether.{fact_carried, put_together, with_part}
 use Rattle.mesh_model.specs.Knowledge.Served.{FactRequest}
 use Rattle.mesh_model.specs.Knowledge.Steps.{after_call, after_frame, after_sighting, line_knowledge, with_set}
 use Rattle.mesh_model.specs.Packets.ArpMessages.{ArpCame, Asks, Puts, Tells}
@@ -21,7 +23,7 @@ use Rattle.mesh_model.specs.Routes.Queries.{Queries}
 use Rattle.mesh_model.specs.Services.ArpTable.{AskedFor}
 use Rattle.mesh_model.specs.Services.Facts.{CameFrom}
 use Rattle.mesh_model.specs.Services.Transactions.{APart, AnEnd, TxnCall, made_whole}
-use Rattle.mesh_laws.proofs.KeptLemmas.{HasCome, brings, call_kept, frame_kept, get_kept, has_payload, kept_of, leaves, stores}
+use Rattle.mesh_laws.proofs.KeptLemmas.{HasCome, brings, call_kept, frame_kept, get_kept, has_payload, head_part, joins, kept_of, leaves, stores}
 use Rattle.mesh_tie.proofs.FactActs.{Came}
 use Rattle.mesh_tie.proofs.FactLemmas.{CallBrings, MessageHas, Stores, whole_has}
 
@@ -92,11 +94,15 @@ arp_stored D F now (Some (Asks m)) known s = s
 arp_stored D F now (Some (Tells m)) known s = record { primaries = s.primaries; facts = s.facts; pushes = s.pushes; answers = s.answers }
 
 pub packet_stored : (D : Mac → Type 0) (F : Fact → Type 0) (now : ℕ) (head : Head) (tail : List ℕ) (known after : Knowledge) → HasCome now head tail known after
-    → (has_payload head ≡ true → (came : CameFact) → fact_message_of tail ≡ Some came → Came D F came) → Stores D F (kept_of known) → Stores D F (kept_of after)
-packet_stored D F now head tail known _ (leaves after same) c s = same_stores D F known after same s
-packet_stored D F now head tail known _ (brings came) c s = stores_if D F known.services.settings.arp_table (after_came now came known) known (arp_stored D F now came known s) s
-packet_stored D F now head tail known _ (stores told before payload of same) c s =
-    message_stored D F now told before (λ came is. c payload came (of came is)) (same_stores D F known before same s)
+    → (has_payload head ≡ true → head_part now head tail ≡ None → (came : CameFact) → fact_message_of tail ≡ Some came → Came D F came)
+    → ((call : PartCall) → head_part now head tail ≡ Some call → (came : CameFact) → fact_carried (put_together call known.parts) ≡ Some came → Came D F came)
+    → Stores D F (kept_of known) → Stores D F (kept_of after)
+packet_stored D F now head tail known _ (leaves after same) c j s = same_stores D F known after same s
+packet_stored D F now head tail known _ (joins call payload is) c j s =
+    message_stored D F call.moment (fact_carried (put_together call known.parts)) (with_part call known) (j call is) (record { primaries = s.primaries; facts = s.facts; pushes = s.pushes; answers = s.answers })
+packet_stored D F now head tail known _ (brings came) c j s = stores_if D F known.services.settings.arp_table (after_came now came known) known (arp_stored D F now came known s) s
+packet_stored D F now head tail known _ (stores told before payload uncut of same) c j s =
+    message_stored D F now told before (λ came is. c payload uncut came (of came is)) (same_stores D F known before same s)
 
 -- ---- lines
 question_stored : (D : Mac → Type 0) (F : Fact → Type 0) (q : Queries) (me : Mac) (now : ℕ) (mac : Mac) (own_ip asked_ip : ℕ) (vid : Rattle.mesh_base.specs.declared.client.Vid.Vid) (known : Knowledge) → Stores D F (kept_of known)
@@ -113,6 +119,7 @@ set_stored D F (Gateway part) known s = record { primaries = s.primaries; facts 
 set_stored D F (Multicast flags) known s = record { primaries = s.primaries; facts = s.facts; pushes = s.pushes; answers = s.answers }
 set_stored D F (ArpTable on) known s = record { primaries = s.primaries; facts = s.facts; pushes = s.pushes; answers = s.answers }
 set_stored D F (FactStore mode) known s = record { primaries = s.primaries; facts = s.facts; pushes = s.pushes; answers = s.answers }
+set_stored D F (LongestWhole size) known s = record { primaries = s.primaries; facts = s.facts; pushes = s.pushes; answers = s.answers }
 
 -- it holds of the fact that a line puts
 abbrev pub PutHas : (Fact → Type 0) → Mac → LineGiven → Type 0

@@ -11,7 +11,8 @@ use Rattle.mesh_model.specs.declared.ending.LimitName.{LimitName}
 use Rattle.mesh_model.specs.declared.packet.Head.{Head}
 use Rattle.mesh_model.specs.declared.packet.Head.TheVariants.{IvOgm, Bcast, Elp, Ogm2, Unicast, Frag, Unicast4, Icmp, Utvlv}
 use Rattle.mesh_model.specs.declared.table_row.LocalRow.{LocalRow}
-use Rattle.mesh_model.specs.Acts.NodeLimits.{acts_before_sighting}
+use Rattle.mesh_model.specs.Acts.Choosing.{cutter_by, whole_acts}
+use Rattle.mesh_model.specs.Acts.NodeLimits.{NodeLimit, acts_before_sighting, cut_limit}
 use Rattle.mesh_model.specs.Clients.Limits.{clients_limit, limit_of_mention, limit_of_mentions, passed_limit}
 use Rattle.mesh_model.specs.Clients.Log.{Given, Tick, LinkFrame, Frame, Gone, Join, Leave, Arp, Dhcp, Ping, Trace, Reboot, Log, LogEntry, LanFrame, Line, LineGiven, Attach, Sets, Put, Get}
 use Rattle.mesh_model.specs.Clients.Mentions.{Mention, News, Sighted, Departed, Roamed, Joined, Left, is_wifi_on, key_of, mentions, passed_from_lan, passed_mentions, roamed, roamed_by, roamed_in, sighted_after}
@@ -325,9 +326,9 @@ no_limit : (limit : LimitName) (o : Attempt) (after : Mesh) → on_ok (λ (mesh 
 no_limit limit (Ok mesh) after e = cc
 no_limit limit (Err other) after e = cc
 
-limit_free : (setup : Setup) (actor : Actor) (mesh : Mesh) (acts : List Act) (o : Option LimitName) (step : Attempt) (after : Mesh) → unless_passed setup actor mesh (option_map (λ limit. record { acts = acts; limit = limit }) o) step ≡ Ok after → o ≡ None
-limit_free setup actor mesh acts None step after e = refl
-limit_free setup actor mesh acts (Some limit) step after e = absurd (no_limit limit (after_acts setup actor acts mesh) after e)
+limit_free : (setup : Setup) (actor : Actor) (mesh : Mesh) (acts : List Act) (o : Option LimitName) (cuts : Option NodeLimit) (step : Attempt) (after : Mesh) → unless_passed setup actor mesh (option_or (option_map (λ limit. record { acts = acts; limit = limit }) o) cuts) step ≡ Ok after → o ≡ None
+limit_free setup actor mesh acts None cuts step after e = refl
+limit_free setup actor mesh acts (Some limit) cuts step after e = absurd (no_limit limit (after_acts setup actor acts mesh) after e)
 
 given_fits : (queries : Mac → Queries) (mesh after : Mesh) (place now root : ℕ) (node : NodeLog) (given : Given) → LogsFit mesh → slice_get mesh.nodes place ≡ Some node → MayBeGiven node now → Brings given
     → given_to (scenario_setup queries) place now root given mesh ≡ Ok after → LogsFit after
@@ -343,7 +344,8 @@ given_fits queries mesh after place now root node given fits found may names is 
     actor = record { place = place; mac = node.mac; now = now; root = root }
 
     none : passed_limit node.mac node.log now given ≡ None
-    none = limit_free setup actor mesh (acts_before_sighting node.mac node.log now given) (passed_limit node.mac node.log now given) (after_entry setup actor entry mesh) after
+    none = limit_free setup actor mesh (acts_before_sighting node.mac node.log now given) (passed_limit node.mac node.log now given)
+        (cut_limit (cutter_by (queries node.mac) node.mac node.log) (whole_acts (queries node.mac) node.mac node.log now given)) (after_entry setup actor entry mesh) after
         (ap (λ (o : Option NodeLog). given_node (scenario_setup queries) place now root given o mesh) (sym found) ∙ is)
 
     go : Renewed place entry mesh.nodes at n → LogFits n.mac n.log

@@ -10,7 +10,7 @@ use Rattle.mesh_model.specs.Packets.LinkFrame.{LinkFrame, behind, frame_from, is
 use Rattle.mesh_model.specs.Packets.Shapes.{shape_of}
 use Rattle.mesh_laws.proofs.FrameLemmas.{link_frame-first}
 use Rattle.mesh_model.specs.declared.packet.Head.{Head}
-use Rattle.mesh_model.specs.declared.packet.Head.TheVariants.{IvOgm, Bcast, Ogm2, Unicast, Utvlv}
+use Rattle.mesh_model.specs.declared.packet.Head.TheVariants.{IvOgm, Bcast, Ogm2, Unicast, Frag, Utvlv}
 use Rattle.mesh_model.specs.Packets.FirstPacket.{Front, Packet, first_packet, packet_cut}
 use Rattle.mesh_model.specs.Packets.Layout.{spelling}
 use Rattle.mesh_laws.proofs.FirstPacketLemmas.{ltb-from_le}
@@ -215,6 +215,42 @@ unfolding first_packet
 unicast_computes ttl ttvn a b c d e f tail =
     let bytes = spelling (Unicast ttl ttvn (mac6 a b c d e f)) tail in
     long_enough (length bytes) 10 (Err (Short (length bytes) 10)) (packet_cut (Unicast (one_read ttl) (one_read ttvn) (mac6 a b c d e f)) (length tail) tail) (omega arith)
+
+-- the byte of a fragment's place and priority
+abbrev pub fragment_read : ℕ → ℕ → ℕ
+fragment_read place priority = (16 * place + 2 * priority) * 1 + 0
+
+frag_computes : (ttl place priority a b c d e f g h i j k l seq total : ℕ) (tail : List ℕ)
+    → first_packet (spelling (Frag ttl place priority (mac6 a b c d e f) (mac6 g h i j k l) seq total) tail)
+    ≡ packet_cut (Frag (one_read ttl) (fragment_read place priority / 16) (fragment_read place priority / 2 % 8) (mac6 a b c d e f) (mac6 g h i j k l) (two_read seq) (two_read total)) (length tail) tail
+unfolding first_packet
+frag_computes ttl place priority a b c d e f g h i j k l seq total tail =
+    let bytes = spelling (Frag ttl place priority (mac6 a b c d e f) (mac6 g h i j k l) seq total) tail in
+    long_enough (length bytes) 20 (Err (Short (length bytes) 20))
+    (packet_cut (Frag (one_read ttl) (fragment_read place priority / 16) (fragment_read place priority / 2 % 8) (mac6 a b c d e f) (mac6 g h i j k l) (two_read seq) (two_read total)) (length tail) tail) (omega arith)
+
+frag_spelled : (ttl place priority : ℕ) (dst orig : Mac) (seq total : ℕ) (tail : List ℕ) → IsWhole dst → IsWhole orig
+    → (link_frame (spelling (Frag ttl place priority dst orig seq total) tail)).packets
+    ≡ record { head = Frag (one_read ttl) (fragment_read place priority / 16) (fragment_read place priority / 2 % 8) dst orig (two_read seq) (two_read total); tail = tail } ∷ []
+frag_spelled ttl place priority dst orig seq total tail whole also =
+    let d = six dst whole in
+    let o = six orig also in
+    subst (λ x. (link_frame (spelling (Frag ttl place priority x orig seq total) tail)).packets
+    ≡ record { head = Frag (one_read ttl) (fragment_read place priority / 16) (fragment_read place priority / 2 % 8) x orig (two_read seq) (two_read total); tail = tail } ∷ []) (sym d.is)
+    (subst (λ y. (link_frame (spelling (Frag ttl place priority (mac6 d.a d.b d.c d.d d.e d.f) y seq total) tail)).packets
+    ≡ record { head = Frag (one_read ttl) (fragment_read place priority / 16) (fragment_read place priority / 2 % 8) (mac6 d.a d.b d.c d.d d.e d.f) y (two_read seq) (two_read total); tail = tail } ∷ []) (sym o.is)
+    (rest_read (Frag ttl place priority (mac6 d.a d.b d.c d.d d.e d.f) (mac6 o.a o.b o.c o.d o.e o.f) seq total)
+    (Frag (one_read ttl) (fragment_read place priority / 16) (fragment_read place priority / 2 % 8) (mac6 d.a d.b d.c d.d d.e d.f) (mac6 o.a o.b o.c o.d o.e o.f) (two_read seq) (two_read total)) tail
+    (frag_computes ttl place priority d.a d.b d.c d.d d.e d.f o.a o.b o.c o.d o.e o.f seq total tail) refl))
+
+-- a fragment whose fields fit is read as it was spelled, with its tail
+pub frag_read : (ttl place priority : ℕ) (dst orig : Mac) (seq total : ℕ) (tail : List ℕ) → IsWhole dst → IsWhole orig → place ≤ 15 → priority ≤ 7 → seq < 65536 → total < 65536
+    → (link_frame (spelling (Frag ttl place priority dst orig seq total) tail)).packets ≡ record { head = Frag (one_read ttl) place (fragment_read place priority / 2 % 8) dst orig seq total; tail = tail } ∷ []
+frag_read ttl place priority dst orig seq total tail whole also few low small short =
+    let same : fragment_read place priority / 16 ≡ place = omega (arith, few, low) in
+    frag_spelled ttl place priority dst orig seq total tail whole also
+    ∙ ap (λ (n : ℕ). record { head = Frag (one_read ttl) n (fragment_read place priority / 2 % 8) dst orig (two_read seq) (two_read total); tail = tail } ∷ []) same
+    ∙ ap₂ (λ (s t : ℕ). record { head = Frag (one_read ttl) place (fragment_read place priority / 2 % 8) dst orig s t; tail = tail } ∷ []) (told_whole seq small) (told_whole total short)
 
 -- a broadcast and a packet for one node are read with their tails
 pub bcast_read : (ttl seq : ℕ) (orig : Mac) (tail : List ℕ) → IsWhole orig → (link_frame (spelling (Bcast ttl seq orig) tail)).packets ≡ record { head = Bcast (one_read ttl) (four_read seq) orig; tail = tail } ∷ []

@@ -8,7 +8,7 @@ use Rattle.mesh_model.specs.Net.Next.{Has}
 use Rattle.mesh_model.specs.Packets.FirstPacket.{Front, Packet, first_packet, head_in, packet_cut, packet_of_shape, tail_length, told_in}
 use Rattle.mesh_model.specs.Packets.LinkFrame.{LinkFrame, begin_header, behind, frame_from, frame_within, is_followed, link_frame, only_ending, packet_flaw}
 use Rattle.mesh_model.specs.Packets.Numbers.{compat_version, iv_ogm_type, ogm2_type}
-use Rattle.mesh_model.specs.Packets.Shapes.{Shape, bcast, elp, header_size, icmp, prefix_size, shape_of, shape_of_type, unicast, unicast4}
+use Rattle.mesh_model.specs.Packets.Shapes.{Shape, bcast, elp, frag, header_size, icmp, prefix_size, shape_of, shape_of_type, unicast, unicast4}
 use Rattle.mesh_tie.specs.Sources.{Nothing, word_of}
 
 -- each packet of a frame is so
@@ -104,6 +104,9 @@ bcast_frame fields = nothing_of bcast (record { by_type = refl; heads = λ f. re
 
 pub elp_frame : (fields : List ℕ) → TellsNothing (3 ∷ fields)
 elp_frame fields = nothing_of elp (record { by_type = refl; heads = λ f. refl; each = λ f tail. refl }) fields
+
+pub frag_frame : (fields : List ℕ) → TellsNothing (65 ∷ fields)
+frag_frame fields = nothing_of frag (record { by_type = refl; heads = λ f. refl; each = λ f tail. refl }) fields
 
 pub unicast4_frame : (fields : List ℕ) → TellsNothing (66 ∷ fields)
 unicast4_frame fields = nothing_of unicast4 (record { by_type = refl; heads = λ f. refl; each = λ f tail. refl }) fields

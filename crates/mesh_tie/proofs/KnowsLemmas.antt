@@ -16,6 +16,8 @@ use Rattle.mesh_model.specs.Clients.Present.{same_key}
 use Rattle.mesh_model.specs.Knowledge.Addressee.{Way, addressee, best_holder, marked_way, table_reason, table_way, way_to}
 use Rattle.mesh_model.specs.Knowledge.FactStore.{after_fact_message}
 use Rattle.mesh_model.specs.Knowledge.Known.{Broadcast, Knowledge, agreed_byte, is_new_broadcast, taken_at}
+use Rattle.mesh_model.specs.Fragments.Assembly.{part_of}
+use Rattle.mesh_model.specs.Knowledge.PutTogether.{fact_carried, put_together, with_part}
 use Rattle.mesh_model.specs.Knowledge.Steps.{Coming, advertised, after_announcement, after_answer, after_broadcast, after_containers, after_head, after_message, after_packet, after_reply, after_roaming, after_sighting, after_taken, announced_by, announced_table, asked_by_request, before_announcement, released_under, request_out, sighting_calls, with_announcement, with_head, with_life}
 use Rattle.mesh_model.specs.Knowledge.Told.{Message, TableMessage, Asks, Answers, Neither, message_in, message_of, message_with}
 use Rattle.mesh_model.specs.Marks.Calls.{Call, Calls, Marked, Released, Unmarked, Advised, Asked, Forgotten}
@@ -110,7 +112,12 @@ packet_knows q me came packet known whole k = go packet.head packet.tail whole
     go (Unicast ttl ttvn dst) tail whole =
         let after = after_fact_message came.now (fact_message_of tail) known in
         knows_if (same_mac dst me) after known ((rest_leaves known after (message_rest came.now (fact_message_of tail) known)).knows k) k
-    go (Frag ttl number priority dst o seq total) tail whole = k
+    go (Frag ttl number priority dst o seq total) tail whole =
+        let call = part_of came.now o seq total number tail in
+        let carried = fact_carried (put_together call known.parts) in
+        let with = with_part call known in
+        let after = after_fact_message call.moment carried with in
+        knows_if (same_mac dst me) after known ((rest_leaves with after (message_rest call.moment carried with)).knows (record { tables = k.tables; marks = k.marks; services = k.services })) k
     go (Unicast4 ttl ttvn dst src subtype) tail whole = (arp_leaves (same_mac dst me) came.now (arp_came subtype tail) known).knows k
     go (Icmp ttl msg dst o uid seq) tail whole = knows_if (same_mac dst me && is_answer msg) (after_reply q came.now msg seq known) known (record { tables = k.tables; marks = k.marks; services = k.services }) k
     go (Utvlv ttl dst src) tail whole =

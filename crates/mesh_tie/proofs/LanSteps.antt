@@ -3,7 +3,7 @@ use Rattle.std.proofs.Common.{◌≡◌, ℕ, Bool, true, false, cond, List, [],
 use Rattle.std.specs.List.{AllByRecursion}
 use Rattle.mesh_base.specs.declared.address.Mac.{Mac}
 use Rattle.mesh_base.specs.declared.client.Key.{Key}
-use Rattle.mesh_model.specs.Acts.Choosing.{acts_of, claimed_first, from_lan_acts, on_from_lan, sighting_acts}
+use Rattle.mesh_model.specs.Acts.Choosing.{claimed_first, from_lan_acts, on_from_lan, sighting_acts, whole_acts}
 use Rattle.mesh_model.specs.Acts.FrameRows.{frame_acts}
 use Rattle.mesh_model.specs.Bridges.Verdicts.{verdict_from_lan}
 use Rattle.mesh_model.specs.Clients.Lans.{bridge}
@@ -63,7 +63,7 @@ lan_on q me mine now known ms frame =
     calm_if (stays_on_lan q ms (bridge mine).lan now (key_of frame.dst frame.vid) known) [] acts tt (calm_frame q known ms (record { me = me; now = now }) frame)
 
 pub lan_row : (orig : Mac) (log : Log) (root : ℕ) (w : World) (q : Queries) (me : Mac) (mine : Log) (now : ℕ) (bytes : List ℕ) → BringsClient bytes → IsWhole me → KnowsWhole (knowledge q me mine)
-    → AllByRecursion (Sayable orig log root w) (acts_of q me mine now (LanFrame bytes))
+    → AllByRecursion (Sayable orig log root w) (whole_acts q me mine now (LanFrame bytes))
 lan_row orig log root w q me mine now bytes brings whole k =
     each_appended (Sayable orig log root w) (claimed_first me mine now came) (from_lan_acts q me mine now ms (passed_from_lan me mine now came))
     (calm_row orig log root w (claimed_first me mine now came) (calm_bridges (claimed_first me mine now came) (claimed_puts me mine now came)))

@@ -1,4 +1,5 @@
 -- What the laws rest on.
+pub mod CutActs
 pub mod HeadLemmas
 pub mod KindLemmas
 pub mod AddressLemmas
@@ -29,12 +30,14 @@ pub mod FactLemmas
 pub mod FactReading
 pub mod FactActs
 pub mod FactSteps
+pub mod CutPieces
 pub mod CarriedHeads
 pub mod CarriedLans
 pub mod CarriedRows
 pub mod CarriedSteps
 pub mod CarriedOn
 pub mod CarriedClients
+pub mod CutPut
 pub mod FitLemmas
 pub mod MeshSteps
 pub mod ReachLemmas
@@ -47,6 +50,7 @@ pub mod RunReach
 pub mod NoNodes
 pub mod TellReading
 pub mod LineReach
+pub mod CutRuns
 pub mod AliasRows
 pub mod SeenLemmas
 pub mod ShownLemmas

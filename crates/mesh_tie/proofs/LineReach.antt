@@ -12,10 +12,10 @@ use Rattle.mesh_model.specs.declared.ending.Stop.TheVariants.{Limit, Refused}
 use Rattle.mesh_model.specs.declared.frame_choice.FrameChoice.{FrameChoice}
 use Rattle.mesh_model.specs.declared.line_form.Algorithm.{Algorithm}
 use Rattle.mesh_model.specs.declared.line_form.Command.{Command}
-use Rattle.mesh_model.specs.declared.line_form.Command.TheVariants.{Nothing, Algo, Node, Link, Lan, Frame, Gone, Join, Leave, Arp, Dhcp, Wifi, GwOff, GwServer, GwClient, Mcast, Dat, Alfred, Put, Get, Ping, Trace, Reboot, Run as RunFor, Deliver, Show, Decode}
+use Rattle.mesh_model.specs.declared.line_form.Command.TheVariants.{Nothing, Algo, Node, Link, Lan, Frame, Gone, Join, Leave, Arp, Dhcp, Wifi, GwOff, GwServer, GwClient, Mcast, Dat, Frag, Alfred, Put, Get, Ping, Trace, Reboot, Run as RunFor, Deliver, Show, Decode}
 use Rattle.mesh_model.specs.Clients.Log.{Line, LineGiven, Attach, Sets}
 use Rattle.mesh_model.specs.Clients.Settings.{NoPart, Serves, Chooses}
-use Rattle.mesh_model.specs.Clients.Settings.{ArpTable as ArpTableSet, FactStore as FactStoreSet, Gateway as GatewaySet, Multicast as MulticastSet, Wifi as WifiSet}
+use Rattle.mesh_model.specs.Clients.Settings.{ArpTable as ArpTableSet, FactStore as FactStoreSet, Gateway as GatewaySet, LongestWhole as LongestWholeSet, Multicast as MulticastSet, Wifi as WifiSet}
 use Rattle.mesh_model.specs.Clients.Log.{Frame as FrameGiven, Gone as GoneGiven, Join as JoinGiven, Leave as LeaveGiven, Arp as ArpGiven, Dhcp as DhcpGiven, Put as PutGiven, Get as GetGiven, Ping as PingGiven, Trace as TraceGiven, Reboot as RebootGiven}
 use Rattle.mesh_model.specs.Net.Inputs.{all_given, given_to}
 use Rattle.mesh_model.specs.Net.Lans.{joins_lan, with_lan}
@@ -231,6 +231,7 @@ step_leads state (GwServer node down up) b tell none = line_leads state node (Se
 step_leads state (GwClient node policy) b tell none = line_leads state node (Sets (GatewaySet (Chooses policy))) b tt
 step_leads state (Mcast node flags) b tell none = line_leads state node (Sets (MulticastSet flags)) b tt
 step_leads state (Dat node on) b tell none = line_leads state node (Sets (ArpTableSet on)) b tt
+step_leads state (Frag node longest) b tell none = line_leads state node (Sets (LongestWholeSet longest)) b tt
 step_leads state (Alfred node mode) b tell none = line_leads state node (Sets (FactStoreSet mode)) b tt
 step_leads state (Put node type_no version text) b tell none = line_leads state node (PutGiven type_no version text) b tt
 step_leads state (Get node type_no) b tell none = line_leads state node (GetGiven type_no) b tt

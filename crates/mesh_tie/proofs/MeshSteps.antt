@@ -5,7 +5,9 @@ use Rattle.mesh_base.specs.declared.address.Mac.{Mac}
 use Rattle.mesh_model.specs.declared.act.Act.{Act}
 use Rattle.mesh_model.specs.declared.act.Act.TheVariants.{Link}
 use Rattle.mesh_model.specs.declared.table_change.Change.{Change}
-use Rattle.mesh_model.specs.Acts.Choosing.{acts_of}
+use Rattle.mesh_model.specs.declared.packet.Head.TheVariants.{Frag}
+use Rattle.mesh_model.specs.Acts.Choosing.{cutter_by, whole_acts}
+use Rattle.mesh_model.specs.Acts.Cuts.{Cutter, cut_acts}
 use Rattle.mesh_model.specs.Acts.FactRows.{fact_round_acts}
 use Rattle.mesh_model.specs.Acts.Rows.{own_by, tick_acts}
 use Rattle.mesh_model.specs.Clients.Lans.{bridge}
@@ -21,6 +23,7 @@ use Rattle.mesh_model.specs.Net.Inputs.{entry_of, given_to, noted_at, noting}
 use Rattle.mesh_model.specs.Net.Limits.{scenario_setup}
 use Rattle.mesh_model.specs.Net.Mesh.{NodeLog, SentFrame, LanPut, Mesh, empty_mesh}
 use Rattle.mesh_model.specs.Net.Next.{Has}
+use Rattle.mesh_model.specs.Packets.Layout.{spelling}
 use Rattle.mesh_model.specs.Packets.LinkFrame.{link_frame}
 use Rattle.mesh_model.specs.Routes.Queries.{Queries}
 use Rattle.mesh_model.specs.Tables.Known.{TableCalls, known_by}
@@ -35,7 +38,8 @@ use Rattle.mesh_tie.specs.Steps.{IsReachable, Steps, begins, frame_comes, goes_o
 use Rattle.mesh_tie.specs.Tie.{CommitsFit, FitsAnswer, FitsEntry, IsOrderly, IsTied, NodeIsTied, known_at_node}
 use Rattle.mesh_tie.specs.TieLaws.{AllKeep}
 use Rattle.mesh_tie.proofs.CommitLemmas.{Chain, Committed, Follows, announced_are, as_before, chain, chain_committed, committed_is, last_and_older, last_at, none_in_order, number_now, one_more, told_are}
-use Rattle.mesh_tie.proofs.CalmRows.{calm_store}
+use Rattle.mesh_tie.proofs.CalmRows.{calm_frag, calm_store}
+use Rattle.mesh_tie.proofs.CutActs.{cut_any}
 use Rattle.mesh_tie.proofs.FactActs.{round_stores}
 use Rattle.mesh_tie.proofs.EntryLemmas.{OfCommits, changes_of, each_appended}
 use Rattle.mesh_tie.proofs.LanSteps.{BringsClient, lan_row, lan_same}
@@ -45,7 +49,7 @@ use Rattle.mesh_tie.proofs.NodeSteps.{Announcer, Goes, Ready, goes_by, line_come
 use Rattle.mesh_tie.proofs.NodeMoves.{Comes}
 use Rattle.mesh_tie.proofs.OrderSteps.{joined, orderly}
 use Rattle.mesh_tie.proofs.PacketSteps.{CameIn}
-use Rattle.mesh_tie.proofs.Sayable.{ActSays, Sayable, calm_row, frame_more, one_or_two, then_path}
+use Rattle.mesh_tie.proofs.Sayable.{ActSays, Sayable, calm_row, frame_more, nothing_says, one_or_two, then_path}
 use Rattle.mesh_tie.proofs.SentLemmas.{HasGiven, IsFromActs, given_is}
 use Rattle.mesh_tie.proofs.TableLemmas.{FitsChange}
 
@@ -154,10 +158,22 @@ midway_of queries orig mesh node entry log w l next base tied = (
     c : Committing w (commits orig log)
     c = commits_after orig node entry (log_of orig mesh.nodes) log w l tied.commits
 
--- what a node that is given something does, from each world midway
+-- fragments say nothing
+cut_goes : (orig : Mac) (log : Log) (frames : List SentFrame) (root : ℕ) (w : World) (m : ℕ) (cutter : Cutter) (acts : List Act) (calls : TableCalls) → Goes orig log frames root w m acts calls → Goes orig log frames root w m (cut_acts cutter acts) calls
+cut_goes orig log frames root w m cutter acts calls g = record {
+  world = g.world;
+  path = g.path;
+  commits = g.commits;
+  others = g.others;
+  more = g.more;
+  says = cut_any (ActSays orig log g.world.said root) cutter acts (λ to ttl place dst me number total tail. nothing_says orig log g.world.said root (spelling (Frag ttl place 0 dst me number total) tail) (calm_frag to ttl place 0 dst me number total tail)) g.says;
+  tied = g.tied;
+}
+
+-- what a node that is given something does, from each world midway, of whole packets
 abbrev DoesIt : (Mac → Queries) → Mac → Mesh → ℕ → NodeLog → LogEntry → ℕ → Log → Type 0
 DoesIt queries orig mesh place node entry root log = (v : World) → IsMidway queries orig mesh log (commits orig log) v
-    → Goes orig log mesh.frames root v place entry.acts (next_knowledge (queries node.mac) node.mac node.log (known_at_node queries node) entry.moment entry.given).tables
+    → Goes orig log mesh.frames root v place (whole_acts (queries node.mac) node.mac node.log entry.moment entry.given) (next_knowledge (queries node.mac) node.mac node.log (known_at_node queries node) entry.moment entry.given).tables
 
 -- the frame of a Link act says what the act does
 from_act : (orig : Mac) (log : Log) (said : List Saying) (root : ℕ) (acts : List Act) (frame : SentFrame) → AllByRecursion (ActSays orig log said root) acts → IsFromActs acts root frame → FrameSays orig log said frame.root frame.bytes
@@ -225,7 +241,8 @@ given_step queries orig mesh after place now root node given w o found next is d
     }
 
     g : Goes orig log mesh.frames root c.world place entry.acts (next_knowledge (queries node.mac) node.mac node.log (known_at_node queries node) entry.moment entry.given).tables
-    g = does c.world midway
+    g = cut_goes orig log mesh.frames root c.world place (cutter_by (queries node.mac) node.mac node.log) (whole_acts (queries node.mac) node.mac node.log now given)
+        (next_knowledge (queries node.mac) node.mac node.log (known_at_node queries node) now given).tables (does c.world midway)
 
     frame_either : (at : ℕ) (frame : SentFrame) → (slice_get mesh.frames at ≡ Some frame) ⊎ Has given_has.more frame → FrameSays orig log g.world.said frame.root frame.bytes
     frame_either at frame (inl old) = frame_more orig log c.world.said g.world.said frame.root frame.bytes g.more (midway.frames at frame old)
@@ -262,7 +279,7 @@ line_does : (queries : Mac → Queries) (orig : Mac) (mesh : Mesh) (place now : 
 line_does queries orig mesh place now node line log o found of v midway =
     let q = queries node.mac in
     let known = known_at_node queries node in
-    goes_by orig log mesh.frames 0 v place (acts_of q node.mac node.log now (Line line)) (line_knowledge q node.mac node.log known now line).tables
+    goes_by orig log mesh.frames 0 v place (whole_acts q node.mac node.log now (Line line)) (line_knowledge q node.mac node.log known now line).tables
     (line_row orig log 0 v q node.mac node.log now line of (o.whole place node found) (o.knows place node found))
     (λ u later. line_comes orig log mesh.frames u place q node.mac node.log known now line (stays_tied orig log mesh.frames v place known.tables (midway.nodes place node found) u later))
 
@@ -271,7 +288,7 @@ lan_does : (queries : Mac → Queries) (orig : Mac) (mesh : Mesh) (place now : �
 lan_does queries orig mesh place now node bytes log o found brings v midway =
     let q = queries node.mac in
     let known = known_at_node queries node in
-    goes_by orig log mesh.frames 0 v place (acts_of q node.mac node.log now (LanFrame bytes)) (next_knowledge q node.mac node.log known now (LanFrame bytes)).tables
+    goes_by orig log mesh.frames 0 v place (whole_acts q node.mac node.log now (LanFrame bytes)) (next_knowledge q node.mac node.log known now (LanFrame bytes)).tables
     (lan_row orig log 0 v q node.mac node.log now bytes brings (o.whole place node found) (o.knows place node found))
     (λ u later. subst (λ calls. Comes orig log mesh.frames u place (known_by calls orig)) (sym (lan_same q node.mac node.log known now bytes)) (stays_tied orig log mesh.frames v place known.tables (midway.nodes place node found) u later))
 

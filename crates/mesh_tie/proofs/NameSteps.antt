@@ -5,7 +5,7 @@ use Rattle.mesh_base.specs.declared.address.Mac.{Mac}
 use Rattle.mesh_base.specs.declared.event.Reason.TheVariants.{Table}
 use Rattle.mesh_model.specs.declared.act.Act.{Act}
 use Rattle.mesh_model.specs.declared.act.Act.TheVariants.{Link, Lan, Print}
-use Rattle.mesh_model.specs.Acts.Choosing.{acts_of, asking_acts, call_frame, calling_acts, claimed_first, client_acts, from_lan_acts, on_from_lan, probing_acts, sighting_acts}
+use Rattle.mesh_model.specs.Acts.Choosing.{acts_of, asking_acts, call_frame, calling_acts, claimed_first, client_acts, cutter_by, from_lan_acts, on_from_lan, probing_acts, sighting_acts, whole_acts}
 use Rattle.mesh_model.specs.Acts.BridgeRows.{Place}
 use Rattle.mesh_model.specs.Acts.FactRows.{fact_round_acts, get_acts}
 use Rattle.mesh_model.specs.Acts.FrameRows.{frame_acts}
@@ -43,6 +43,7 @@ use Rattle.mesh_tie.specs.TieLaws.{AllKeep}
 use Rattle.mesh_tie.proofs.BridgeActs.{claimed_puts}
 use Rattle.mesh_tie.proofs.EtherReading.{dst_whole, src_whole}
 use Rattle.mesh_tie.proofs.CommitLemmas.{Follows, numbered_next}
+use Rattle.mesh_tie.proofs.CutActs.{cut_any}
 use Rattle.mesh_tie.proofs.EntryLemmas.{each_appended}
 use Rattle.mesh_tie.proofs.FitLemmas.{commits_always_fit}
 use Rattle.mesh_tie.proofs.KnowsLemmas.{packet_knows, sighting_knows}
@@ -115,7 +116,7 @@ Before q me mine act came = came ≡ (knowledge q me mine).tables
 
 -- the acts of an input, from the world midway
 line_names : (orig : Mac) (log : Log) (frames : List SentFrame) (v : World) (m : ℕ) (q : Queries) (me : Mac) (mine : Log) (now : ℕ) (line : LineGiven) → TellsClient line → KnowsWhole (knowledge q me mine) → IsClear orig log v
-    → NodeIsTied orig log frames (known_by (knowledge q me mine).tables orig) (v.nodes m) → AllByRecursion (ActNames (Before q me mine) orig log frames) (acts_of q me mine now (Line line))
+    → NodeIsTied orig log frames (known_by (knowledge q me mine).tables orig) (v.nodes m) → AllByRecursion (ActNames (Before q me mine) orig log frames) (whole_acts q me mine now (Line line))
 line_names orig log frames v m q me mine now (Attach lan gateways) of k clear tied = tt
 line_names orig log frames v m q me mine now (Frame src dst vid text) of k clear tied =
     let client : ClientFrame = record { dst = dst; src = src; vid = vid; text = text } in
@@ -158,7 +159,7 @@ line_names orig log frames v m q me mine now Reboot of k clear tied = let old = 
 
 -- a frame of a LAN
 lan_names : (orig : Mac) (log : Log) (frames : List SentFrame) (v : World) (m : ℕ) (q : Queries) (me : Mac) (mine : Log) (now : ℕ) (bytes : List ℕ) → KnowsWhole (knowledge q me mine) → IsClear orig log v
-    → NodeIsTied orig log frames (known_by (knowledge q me mine).tables orig) (v.nodes m) → AllByRecursion (ActNames (Before q me mine) orig log frames) (acts_of q me mine now (LanFrame bytes))
+    → NodeIsTied orig log frames (known_by (knowledge q me mine).tables orig) (v.nodes m) → AllByRecursion (ActNames (Before q me mine) orig log frames) (whole_acts q me mine now (LanFrame bytes))
 lan_names orig log frames v m q me mine now bytes k clear tied =
     each_appended Names (claimed_first me mine now came) (from_lan_acts q me mine now ms (passed_from_lan me mine now came))
     (plain_names (Before q me mine) orig log frames (claimed_first me mine now came) (plain_bridges (claimed_first me mine now came) (claimed_puts me mine now came)))
@@ -315,6 +316,12 @@ joined_named queries orig mesh new empty named at n newer older e got split = su
 abbrev NamedIf : (Mac → Queries) → Mac → Mesh → Type 0
 NamedIf queries orig mesh = HasNoAlias (commits_of orig mesh) → Named queries orig mesh
 
+-- fragments are sent by no table
+cut_names : (queries : Mac → Queries) (orig me : Mac) (log : Log) (frames : List SentFrame) (older : Log) (now : ℕ) (given : Given) → AllName (HadCome (queries me) me older now given) orig log frames (whole_acts (queries me) me older now given)
+    → AllName (HadCome (queries me) me older now given) orig log frames (acts_of (queries me) me older now given)
+cut_names queries orig me log frames older now given all =
+    cut_any (ActNames (HadCome (queries me) me older now given) orig log frames) (cutter_by (queries me) me older) (whole_acts (queries me) me older now given) (λ to ttl place dst mac number total tail. λ is. cc) all
+
 -- what the acts of a step's input name, where no two commits behind it are an alias
 pub line_acts_name : (queries : Mac → Queries) (mesh : Mesh) (place now : ℕ) (node : NodeLog) (line : LineGiven) (orig : Mac) → TellsClient line → Reached queries mesh → slice_get mesh.nodes place ≡ Some node
     → HasNoAlias (commits orig (log_of orig (noted_at place (entry_of (scenario_setup queries) node now (Line line)) mesh.nodes)))
@@ -325,8 +332,9 @@ line_acts_name queries mesh place now node line orig of h found clear =
     let l = log_after queries orig mesh place node entry h.holds.orderly found in
     let tie = h.ties orig in
     let v = midway_of queries orig mesh node entry log tie.0 l tt tie.1 tie.2 in
-    line_names orig log mesh.frames v.0 place (queries node.mac) node.mac node.log now line of (h.holds.orderly.knows place node found)
-    (record { base = v.1.base; none = subst HasNoAlias (sym v.1.commits) clear; commits = v.1.commits }) (v.1.nodes place node found)
+    cut_names queries orig node.mac log mesh.frames node.log now (Line line)
+    (line_names orig log mesh.frames v.0 place (queries node.mac) node.mac node.log now line of (h.holds.orderly.knows place node found)
+    (record { base = v.1.base; none = subst HasNoAlias (sym v.1.commits) clear; commits = v.1.commits }) (v.1.nodes place node found))
 
 -- those of a reboot send nothing
 pub reboot_names : (queries : Mac → Queries) (mesh : Mesh) (place now : ℕ) (node : NodeLog) (line : LineGiven) (orig : Mac) (log : Log) → line_reboots line ≡ true
@@ -334,8 +342,9 @@ pub reboot_names : (queries : Mac → Queries) (mesh : Mesh) (place now : ℕ) (
 reboot_names queries mesh place now node line orig log is =
     let old = history node.mac node.log in
     let Looks : Act → TableCalls → Type 0 = Before (queries node.mac) node.mac node.log in
-    subst (λ x. AllByRecursion (ActNames Looks orig log mesh.frames) (acts_of (queries node.mac) node.mac node.log now (Line x))) (sym (reboot_line line is))
-    (names_aliases Looks orig log mesh.frames node.mac old.commits (restarted old).commits)
+    cut_names queries orig node.mac log mesh.frames node.log now (Line line)
+    (subst (λ x. AllByRecursion (ActNames Looks orig log mesh.frames) (whole_acts (queries node.mac) node.mac node.log now (Line x))) (sym (reboot_line line is))
+    (names_aliases Looks orig log mesh.frames node.mac old.commits (restarted old).commits))
 
 pub lan_acts_name : (queries : Mac → Queries) (mesh : Mesh) (place now : ℕ) (node : NodeLog) (bytes : List ℕ) (orig : Mac) → Reached queries mesh → slice_get mesh.nodes place ≡ Some node
     → HasNoAlias (commits orig (log_of orig (noted_at place (entry_of (scenario_setup queries) node now (LanFrame bytes)) mesh.nodes)))
@@ -346,8 +355,9 @@ lan_acts_name queries mesh place now node bytes orig h found clear =
     let l = log_after queries orig mesh place node entry h.holds.orderly found in
     let tie = h.ties orig in
     let v = midway_of queries orig mesh node entry log tie.0 l tt tie.1 tie.2 in
-    lan_names orig log mesh.frames v.0 place (queries node.mac) node.mac node.log now bytes (h.holds.orderly.knows place node found)
-    (record { base = v.1.base; none = subst HasNoAlias (sym v.1.commits) clear; commits = v.1.commits }) (v.1.nodes place node found)
+    cut_names queries orig node.mac log mesh.frames node.log now (LanFrame bytes)
+    (lan_names orig log mesh.frames v.0 place (queries node.mac) node.mac node.log now bytes (h.holds.orderly.knows place node found)
+    (record { base = v.1.base; none = subst HasNoAlias (sym v.1.commits) clear; commits = v.1.commits }) (v.1.nodes place node found))
 
 pub tick_names : (queries : Mac → Queries) (mesh : Mesh) (place now : ℕ) (node : NodeLog) (orig : Mac) (log : Log)
     → EntryNames queries orig node.mac log mesh.frames node.log (entry_of (scenario_setup queries) node now (Tick (suc (ticks_in node.log))))
@@ -358,10 +368,11 @@ tick_names queries mesh place now node orig log =
     let before = before_round q now index known in
     let at : Place = record { me = node.mac; now = now } in
     let told = fact_round_acts q before at index in
-    each_appended (ActNames (Before q node.mac node.log) orig log mesh.frames)
+    cut_names queries orig node.mac log mesh.frames node.log now (Tick index)
+    (each_appended (ActNames (Before q node.mac node.log) orig log mesh.frames)
     (tick_acts q node.mac known.services.settings known.routes (mentions node.mac node.log) (history node.mac node.log) (bridge node.log) now index) told
     (names_tick (Before q node.mac node.log) orig log mesh.frames q node.mac known.services.settings known.routes (mentions node.mac node.log) (history node.mac node.log) (bridge node.log) now index)
-    (plain_names (Before q node.mac node.log) orig log mesh.frames told (plain_store node.mac told (round_stores q before at index)))
+    (plain_names (Before q node.mac node.log) orig log mesh.frames told (plain_store node.mac told (round_stores q before at index))))
 
 pub frame_acts_name : (queries : Mac → Queries) (mesh after : Mesh) (place now number throughput : ℕ) (from : Mac) (node : NodeLog) (frame : SentFrame) (orig : Mac) → AllKeep queries → Reached queries mesh → CommitsFit after → slice_get mesh.nodes place ≡ Some node
     → slice_get mesh.frames number ≡ Some frame → IsWhole from → given_to (scenario_setup queries) place now frame.root (LinkFrame (suc number) from throughput frame.bytes) mesh ≡ Ok after
@@ -379,11 +390,12 @@ frame_acts_name queries mesh after place now number throughput from node frame o
     let known = known_at_node queries node in
     let came : Coming = record { now = now; from = from; throughput = throughput; number = suc number } in
     let packets = (link_frame frame.bytes).packets in
-    packets_name orig log mesh.frames frame.root v.0 place (queries node.mac) node.mac (own_by node.mac node.log) came packets known (keep node.mac) whole
+    cut_names queries orig node.mac log mesh.frames node.log now given
+    (packets_name orig log mesh.frames frame.root v.0 place (queries node.mac) node.mac (own_by node.mac node.log) came packets known (keep node.mac) whole
     (came_in mesh number frame sent)
     (frame_ready queries orig mesh place now (suc number) throughput from node frame.bytes (log_of orig mesh.nodes) log h.holds.orderly found l (h.holds.fits place node found)
     (subst (λ ns. Rattle.mesh_tie.proofs.EntryLemmas.OfCommits Rattle.mesh_tie.specs.Tie.FitsEntry (commits orig (log_of orig ns))) has.nodes (fits_among after.nodes fit orig)) v.0 v.1)
-    (v.1.nodes place node found) (v.1.frames number frame sent) (subst HasNoAlias (sym v.1.commits) clear) v.1.commits (h.holds.orderly.knows place node found)
+    (v.1.nodes place node found) (v.1.frames number frame sent) (subst HasNoAlias (sym v.1.commits) clear) v.1.commits (h.holds.orderly.knows place node found))
 
 step_named : (queries : Mac → Queries) (mesh after : Mesh) → AllKeep queries → Reached queries mesh → CommitsFit after → Steps queries mesh after → (orig : Mac) → NamedIf queries orig mesh → NamedIf queries orig after
 step_named queries mesh _ keep h fit (node_joins _ node empty whole fresh) orig named none = joined_named queries orig mesh node empty (named (subst (λ l. HasNoAlias (commits orig l)) (log_joined orig mesh.nodes node empty) none))

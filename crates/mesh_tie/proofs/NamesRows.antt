@@ -20,6 +20,7 @@ use Rattle.mesh_model.specs.Acts.ArpRows.{question_acts}
 use Rattle.mesh_model.specs.Acts.BridgeRows.{Place, handed_out, out_acts, round_acts, spread_of_broadcast, spread_of_packet, unclaim_acts}
 use Rattle.mesh_model.specs.Acts.GroupRows.{addressed, call_acts, flooded, group_acts}
 use Rattle.mesh_model.specs.Acts.FactRows.{fact_acts}
+use Rattle.mesh_model.specs.Acts.FragmentRows.{carried_here, passed_fragment, unicast_here}
 use Rattle.mesh_model.specs.Acts.FrameRows.{advert_acts, arrived, broadcast_acts, broadcast_on, frame_acts, handed_out_if, here_acts, is_present, lost, lost_if, on_route, on_way, passed_frame, readdressed}
 use Rattle.mesh_model.specs.Acts.OwnContainers.{own_containers}
 use Rattle.mesh_model.specs.Acts.Packing.{reply_containers, request_containers, sent_over, sent_to_all}
@@ -35,6 +36,8 @@ use Rattle.mesh_model.specs.Commits.History.{History, commits, committed, is_com
 use Rattle.mesh_model.specs.Clients.Log.{Log}
 use Rattle.mesh_model.specs.Knowledge.Addressee.{Way, addressee, best_holder, marked_way, table_reason, table_way, way_to}
 use Rattle.mesh_model.specs.Knowledge.Known.{Broadcast, Knowledge, is_new_broadcast, known_at, told_at}
+use Rattle.mesh_model.specs.Fragments.Assembly.{part_of}
+use Rattle.mesh_model.specs.Knowledge.PutTogether.{Carried, put_together}
 use Rattle.mesh_model.specs.Knowledge.Steps.{Coming, before_announcement, request_out}
 use Rattle.mesh_model.specs.Knowledge.Told.{Message, TableMessage, Asks, Answers, Neither, message_in, message_of, message_with, stamp_told}
 use Rattle.mesh_model.specs.Marks.RoamingMarks.{mark_of}
@@ -158,6 +161,9 @@ pub plain_passed : (q : Queries) (known : Knowledge) (at : Place) (ttl ttvn : �
 unfolding passed_frame
 plain_passed q known at ttl ttvn dst tail = plain_if (nat_le ttl 1) (lost_if at Ttl (client_frame_of tail)) (on_route at ttl ttvn dst tail (q.route known.routes at.now dst))
     (plain_lost at Ttl (client_frame_of tail)) (plain_on_route at ttl ttvn dst tail (q.route known.routes at.now dst))
+
+pub plain_fragment : (q : Queries) (known : Knowledge) (now ttl : ℕ) (dst : Mac) (head : Head) (tail : List ℕ) → AllByRecursion IsPlain (passed_fragment q known now ttl dst head tail)
+plain_fragment q known now ttl dst head tail = plain_if (nat_le ttl 1) [] (sent_over (q.route known.routes now dst) head tail) tt (plain_over (q.route known.routes now dst) head tail)
 
 pub plain_advert : (me : Mac) (key : Key) (o : Option Way) → AllByRecursion IsPlain (advert_acts me key o)
 plain_advert me key None = tt
@@ -430,6 +436,19 @@ here_names looks orig log frames q known ms bridge at ttl tail can = by_frame (c
         (readdressed q known at ttl client tail (addressee q known at.now (key_of client.dst client.vid)))
         (plain_names looks orig log frames (out_acts bridge at (spread_of_packet client) client) (plain_bridges (out_acts bridge at (spread_of_packet client) client) (out_puts bridge at (spread_of_packet client) client))) (by_way client carried (addressee q known at.now (key_of client.dst client.vid)) refl)
 
+-- a packet for this node, which may be put together here
+unicast_here_names : (looks : Act → TableCalls → Type 0) (orig : Mac) (log : Log) (frames : List SentFrame) (q : Queries) (known : Knowledge) (ms : List Mention) (bridge : Bridge) (at : Place) (ttl : ℕ) (payload : List ℕ) → CanName looks orig log frames known
+    → AllByRecursion (ActNames looks orig log frames) (unicast_here q known ms bridge at ttl payload)
+unicast_here_names looks orig log frames q known ms bridge at ttl payload can =
+    let told = fact_acts q known at (fact_message_of payload) in
+    each_appended (ActNames looks orig log frames) (here_acts q known ms bridge at ttl payload) told (here_names looks orig log frames q known ms bridge at ttl payload can)
+    (plain_names looks orig log frames told (plain_store at.me told (came_stores q known at (fact_message_of payload))))
+
+carried_names : (looks : Act → TableCalls → Type 0) (orig : Mac) (log : Log) (frames : List SentFrame) (q : Queries) (known : Knowledge) (ms : List Mention) (bridge : Bridge) (at : Place) (o : Option Carried) → CanName looks orig log frames known
+    → AllByRecursion (ActNames looks orig log frames) (carried_here q known ms bridge at o)
+carried_names looks orig log frames q known ms bridge at None can = tt
+carried_names looks orig log frames q known ms bridge at (Some one) can = unicast_here_names looks orig log frames q known ms bridge at one.ttl one.payload can
+
 -- a packet
 pub packet_names : (looks : Act → TableCalls → Type 0) (orig : Mac) (log : Log) (frames : List SentFrame) (q : Queries) (me : Mac) (own : Own) (came : Coming) (packet : Packet) (known : Knowledge) → CanName looks orig log frames known
     → AllByRecursion (ActNames looks orig log frames) (packet_acts q me own came known packet)
@@ -450,13 +469,15 @@ packet_names looks orig log frames q me own came packet known can = go packet.he
     go (Ogm2 ttl flags seq o throughput) tail = plain (taken_acts q me came (Ogm2 ttl flags seq o throughput) (message_with o (first_table (containers_of tail))) tail known) (taken (Ogm2 ttl flags seq o throughput) tail (message_with o (first_table (containers_of tail))))
     go (Unicast ttl ttvn dst) tail =
         let at = place_at me came in
-        let here = here_acts q known own.mentions own.bridge at ttl tail in
-        let told = fact_acts q known at (fact_message_of tail) in
         let passed = passed_frame q known at ttl ttvn dst tail in
-        names_if looks orig log frames (same_mac dst me) (here ++ told) passed
-        (each_appended (ActNames looks orig log frames) here told (here_names looks orig log frames q known own.mentions own.bridge at ttl tail can) (plain told (plain_store me told (came_stores q known at (fact_message_of tail)))))
-        (plain passed (plain_passed q known at ttl ttvn dst tail))
-    go (Frag ttl number priority dst o seq total) tail = tt
+        names_if looks orig log frames (same_mac dst me) (unicast_here q known own.mentions own.bridge at ttl tail) passed
+        (unicast_here_names looks orig log frames q known own.mentions own.bridge at ttl tail can) (plain passed (plain_passed q known at ttl ttvn dst tail))
+    go (Frag ttl number priority dst o seq total) tail =
+        let one = put_together (part_of came.now o seq total number tail) known.parts in
+        let head = Frag (ttl - 1) number priority dst o seq total in
+        let passed = passed_fragment q known came.now ttl dst head tail in
+        names_if looks orig log frames (same_mac dst me) (carried_here q known own.mentions own.bridge (place_at me came) one) passed
+        (carried_names looks orig log frames q known own.mentions own.bridge (place_at me came) one can) (plain passed (plain_fragment q known came.now ttl dst head tail))
     go (Unicast4 ttl ttvn dst src subtype) tail = plain (unicast4_acts q me came known ttl ttvn dst src subtype tail) (plain_unicast4 q me came known ttl ttvn dst src subtype tail)
     go (Icmp ttl msg dst o uid seq) tail =
         let m : IcmpMessage = record { ttl = ttl; kind = msg; dst = dst; orig = o; uid = uid; seq = seq } in

@@ -8,7 +8,7 @@ use Rattle.mesh_model.specs.declared.packet.Head.{Head}
 use Rattle.mesh_model.specs.declared.packet.Head.TheVariants.{Utvlv}
 use Rattle.mesh_model.specs.declared.table_change.Change.{Change}
 use Rattle.mesh_model.specs.Acts.BridgeRows.{Place, round_acts}
-use Rattle.mesh_model.specs.Acts.Choosing.{acts_of, asking_acts, call_frame, calling_acts, client_acts, probing_acts, sighting_acts}
+use Rattle.mesh_model.specs.Acts.Choosing.{asking_acts, call_frame, calling_acts, client_acts, probing_acts, sighting_acts, whole_acts}
 use Rattle.mesh_model.specs.Acts.FactRows.{get_acts}
 use Rattle.mesh_model.specs.Acts.FrameRows.{advert_acts}
 use Rattle.mesh_model.specs.Acts.OwnContainers.{own_containers}
@@ -273,7 +273,7 @@ pub sighting_row : (orig : Mac) (log : Log) (root : ℕ) (w : World) (q : Querie
 sighting_row orig log root w q me mine now key whole k fits = advert_row orig log root w me key (advertised q me mine (knowledge q me mine) now key) whole fits (advertised_whole q me mine (knowledge q me mine) now key k)
 
 pub line_row : (orig : Mac) (log : Log) (root : ℕ) (w : World) (q : Queries) (me : Mac) (mine : Log) (now : ℕ) (line : LineGiven) → TellsClient line → IsWhole me → KnowsWhole (knowledge q me mine)
-    → AllByRecursion (Sayable orig log root w) (acts_of q me mine now (Line line))
+    → AllByRecursion (Sayable orig log root w) (whole_acts q me mine now (Line line))
 line_row orig log root w q me mine now (Attach lan gateways) of whole k = tt
 line_row orig log root w q me mine now (Frame src dst vid text) of whole k =
     let frame : ClientFrame = record { dst = dst; src = src; vid = vid; text = text } in

@@ -8,14 +8,16 @@ use Rattle.mesh_model.specs.declared.packet.Head.{Head}
 use Rattle.mesh_model.specs.declared.packet.Head.TheVariants.{IvOgm, Bcast, Elp, Ogm2, Unicast, Frag, Unicast4, Icmp, Utvlv}
 use Rattle.mesh_model.specs.declared.table_change.Change.{Change}
 use Rattle.mesh_model.specs.Acts.BridgeRows.{unclaim_acts}
-use Rattle.mesh_model.specs.Acts.FactRows.{fact_acts}
-use Rattle.mesh_model.specs.Acts.FrameRows.{here_acts, passed_frame}
+use Rattle.mesh_model.specs.Acts.FragmentRows.{carried_here, passed_fragment, unicast_here}
+use Rattle.mesh_model.specs.Acts.FrameRows.{passed_frame}
 use Rattle.mesh_model.specs.Acts.ProbeRows.{IcmpMessage}
 use Rattle.mesh_model.specs.Acts.Rows.{Own, head_acts, icmp_acts, packet_acts, place_at, taken_acts}
 use Rattle.mesh_model.specs.Acts.TableRows.{other_containers, own_answer}
 use Rattle.mesh_model.specs.Clients.Log.{Log}
+use Rattle.mesh_model.specs.Fragments.Assembly.{PartCall, part_of}
 use Rattle.mesh_model.specs.Knowledge.FactStore.{after_fact_message}
 use Rattle.mesh_model.specs.Knowledge.Known.{Broadcast, Knowledge, is_new_broadcast, taken_at}
+use Rattle.mesh_model.specs.Knowledge.PutTogether.{after_part, fact_carried, put_together, with_part}
 use Rattle.mesh_model.specs.Knowledge.Steps.{Coming, after_announcement, after_answer, after_broadcast, after_containers, after_head, after_message, after_packet, after_reply, after_roaming, after_taken, announced_by, announced_table, before_announcement, request_out, with_announcement, with_head, with_life}
 use Rattle.mesh_model.specs.Knowledge.Told.{Message, TableMessage, Asks, Answers, Neither, message_changes, message_in, message_of, message_with, stamp_told}
 use Rattle.mesh_model.specs.Net.Mesh.{SentFrame}
@@ -37,9 +39,8 @@ use Rattle.mesh_laws.proofs.StoreLemmas.{message_rest}
 use Rattle.mesh_tie.specs.Sayings.{IsAnnounced, IsAnswered, PacketSays, saying_of}
 use Rattle.mesh_tie.specs.Sources.{IsMessageOf, IsWhole, KeepsOriginators}
 use Rattle.mesh_tie.proofs.ArpActs.{unicast4_acts}
-use Rattle.mesh_tie.proofs.FactActs.{came_stores}
 use Rattle.mesh_tie.proofs.PairLemmas.{arp_leaves, rest_leaves}
-use Rattle.mesh_tie.proofs.CalmRows.{calm_unicast4, calm_broadcast, calm_here, calm_icmp, calm_passed, calm_store, calm_unclaim}
+use Rattle.mesh_tie.proofs.CalmRows.{calm_broadcast, calm_carried, calm_fragment, calm_icmp, calm_passed, calm_unclaim, calm_unicast4, calm_unicast_here}
 use Rattle.mesh_tie.proofs.EntryLemmas.{each_appended}
 use Rattle.mesh_tie.proofs.NodeMoves.{Comes, IsBrought, answers_come, forgets, tells}
 use Rattle.mesh_tie.proofs.Sayable.{Sayable, calm_row}
@@ -157,6 +158,11 @@ facts_same : (b : Bool) (now : ℕ) (o : Option CameFact) (known : Knowledge) �
 facts_same true now o known = fact_same now o known
 facts_same false now o known = refl
 
+-- a fragment
+part_same : (b : Bool) (call : PartCall) (known : Knowledge) → (cond b (after_part call known) known).tables ≡ known.tables
+part_same true call known = fact_same call.moment (fact_carried (put_together call known.parts)) (with_part call known)
+part_same false call known = refl
+
 -- an answer to a probe
 reply_same : (q : Queries) (now msg seq : ℕ) (b : Bool) (known : Knowledge) → (cond b (after_reply q now msg seq known) known).tables ≡ known.tables
 reply_same q now msg seq true known = refl
@@ -196,7 +202,9 @@ packet_comes orig log frames w m q me root came packet known f p c = go packet.h
     go (Ogm2 ttl flags seq o throughput) tail p = taken_comes orig log frames w m q root came (Ogm2 ttl flags seq o throughput) (message_with o (first_table (containers_of tail))) tail known f
         (λ one is. message_taken orig log w.said root (Ogm2 ttl flags seq o throughput) o tail one (record { word = refl; addresses = p.addresses }) p.says.0 p.says.1 is) c
     go (Unicast ttl ttvn dst) tail p = subst (Tied orig log frames w m) (sym (facts_same (same_mac dst me) came.now (fact_message_of tail) known)) c
-    go (Frag ttl number priority dst o seq total) tail p = c
+    go (Frag ttl number priority dst o seq total) tail p =
+        let call = part_of came.now o seq total number tail in
+        subst (Tied orig log frames w m) (sym (part_same (same_mac dst me) call known)) c
     go (Unicast4 ttl ttvn dst src subtype) tail p = subst (Tied orig log frames w m) (sym (arp_leaves (same_mac dst me) came.now (arp_came subtype tail) known).tables) c
     go (Icmp ttl msg dst o uid seq) tail p = subst (Tied orig log frames w m) (sym (reply_same q came.now msg seq (same_mac dst me && is_answer msg) known)) c
     go (Utvlv ttl dst src) tail p = containers_come orig log frames w m q me came.now dst src tail known p.says c
@@ -226,14 +234,17 @@ packet_row orig log w m q me own root came packet known keeps from s h p = go pa
         (λ one is. message_taken orig log w.said root (Ogm2 ttl flags seq o throughput) o tail one (record { word = refl; addresses = p.addresses }) p.says.0 p.says.1 is)
     go (Unicast ttl ttvn dst) tail p =
         let at = place_at me came in
-        let here = here_acts q known own.mentions own.bridge at ttl tail in
-        let told = fact_acts q known at (fact_message_of tail) in
+        let here = unicast_here q known own.mentions own.bridge at ttl tail in
         let passed = passed_frame q known at ttl ttvn dst tail in
-        either (same_mac dst me) (here ++ told) passed
-        (each_appended (Sayable orig log root w) here told (calm_row orig log root w here (calm_here q known own.mentions own.bridge at ttl tail))
-        (calm_row orig log root w told (calm_store me told (came_stores q known at (fact_message_of tail)))))
+        either (same_mac dst me) here passed (calm_row orig log root w here (calm_unicast_here q known own.mentions own.bridge at ttl tail))
         (calm_row orig log root w passed (calm_passed q known at ttl ttvn dst tail))
-    go (Frag ttl number priority dst o seq total) tail p = tt
+    go (Frag ttl number priority dst o seq total) tail p =
+        let at = place_at me came in
+        let one = put_together (part_of came.now o seq total number tail) known.parts in
+        let here = carried_here q known own.mentions own.bridge at one in
+        let passed = passed_fragment q known came.now ttl dst (Frag (ttl - 1) number priority dst o seq total) tail in
+        either (same_mac dst me) here passed (calm_row orig log root w here (calm_carried q known own.mentions own.bridge at one))
+        (calm_row orig log root w passed (calm_fragment q known came.now ttl number priority dst o seq total tail))
     go (Unicast4 ttl ttvn dst src subtype) tail p = calm_row orig log root w (unicast4_acts q me came known ttl ttvn dst src subtype tail) (calm_unicast4 q me came known ttl ttvn dst src subtype tail)
     go (Icmp ttl msg dst o uid seq) tail p =
         let m : IcmpMessage = record { ttl = ttl; kind = msg; dst = dst; orig = o; uid = uid; seq = seq } in

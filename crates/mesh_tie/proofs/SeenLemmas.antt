@@ -8,6 +8,7 @@ use Rattle.mesh_base.specs.declared.event.Event.{Event}
 use Rattle.mesh_base.specs.declared.event.Event.TheVariants.{Alias}
 use Rattle.mesh_model.specs.declared.act.Act.{Act}
 use Rattle.mesh_model.specs.declared.act.Act.TheVariants.{Print}
+use Rattle.mesh_model.specs.Acts.Choosing.{cutter_by, whole_acts}
 use Rattle.mesh_model.specs.Clients.Lans.{bridge}
 use Rattle.mesh_model.specs.Knowledge.Steps.{before_round, knowledge}
 use Rattle.mesh_model.specs.Net.Sending.{put_event}
@@ -36,7 +37,8 @@ use Rattle.mesh_laws.proofs.Schedule.Members.{has_either, has_left}
 use Rattle.mesh_tie.specs.AliasesSeen.{AliasesAreSeen, AliasesAreTold, HasAlias}
 use Rattle.mesh_tie.specs.Originators.{commits_of, log_of}
 use Rattle.mesh_tie.specs.Steps.{IsReachable, Steps, begins, frame_comes, goes_on, lan_comes, lan_joins, line_gives, link_joins, node_joins, node_ticks, put_comes, put_reaches, time_passes, bridged_event, with_lan_frame}
-use Rattle.mesh_tie.proofs.AliasRows.{AreQuiet, Gains, frame_quiet, gains_none, gains_one, lan_quiet, line_gains, quiet_none, ticks_gain}
+use Rattle.mesh_tie.proofs.AliasRows.{AreQuiet, Gains, frame_quiet, gains_cut, gains_none, gains_one, lan_quiet, line_gains, quiet_none, ticks_gain}
+use Rattle.mesh_tie.proofs.CutActs.{none_passed}
 use Rattle.mesh_tie.proofs.LogLemmas.{AreDistinct, log_found, log_itself, log_other}
 use Rattle.mesh_tie.proofs.MeshSteps.{log_joined}
 use Rattle.mesh_tie.proofs.NodeLists.{Renewed, another, got_front, itself, no_length, renewed}
@@ -240,12 +242,16 @@ step_told : (queries : Mac → Queries) (mesh after : Mesh) → AreDistinct mesh
 step_told queries mesh _ distinct (node_joins _ node empty whole fresh) orig told = subst (λ l. AreTold orig mesh (commits orig l)) (sym (log_joined orig mesh.nodes node empty)) told
 step_told queries mesh _ distinct (link_joins _ link) orig told = told
 step_told queries mesh after distinct (line_gives _ _ place now node line found may of is) orig told =
-    given_told queries orig mesh after place now 0 node (Line line) distinct found is (line_gains (queries node.mac) node.mac node.log now line (entry_of (scenario_setup queries) node now (Line line)).acts refl) told
+    let whole = whole_acts (queries node.mac) node.mac node.log now (Line line) in
+    given_told queries orig mesh after place now 0 node (Line line) distinct found is
+    (gains_cut node.mac (commits node.mac node.log) (commits node.mac (entry_of (scenario_setup queries) node now (Line line) ∷ node.log)) (cutter_by (queries node.mac) node.mac node.log) whole
+    (none_passed queries place now 0 node (Line line) mesh after found is) (line_gains (queries node.mac) node.mac node.log now line whole refl)) told
 step_told queries mesh after distinct (node_ticks _ _ place now node found may is) orig told =
     let index = suc (ticks_in node.log) in
     let known = knowledge (queries node.mac) node.mac node.log in
     given_told queries orig mesh after place now index node (Tick index) distinct found is
-    (ticks_gain (queries node.mac) node.mac known.services.settings known.routes (mentions node.mac node.log) (history node.mac node.log) (bridge node.log) now index (before_round (queries node.mac) now index known)) told
+    (gains_cut node.mac (commits node.mac node.log) (commits node.mac (entry_of (scenario_setup queries) node now (Tick index) ∷ node.log)) (cutter_by (queries node.mac) node.mac node.log)
+    (whole_acts (queries node.mac) node.mac node.log now (Tick index)) (none_passed queries place now index node (Tick index) mesh after found is) (ticks_gain (queries node.mac) node.mac known.services.settings known.routes (mentions node.mac node.log) (history node.mac node.log) (bridge node.log) now index (before_round (queries node.mac) now index known))) told
 step_told queries mesh after distinct (frame_comes _ _ place now number throughput from node frame found may sent whole is) orig told =
     let given = LinkFrame (suc number) from throughput frame.bytes in
     given_told queries orig mesh after place now frame.root node given distinct found is

@@ -1,5 +1,6 @@
 -- Where an alias stands among the events of a mesh: in the step of the tick, or of the reboot, that
 -- made its commit.
+use Rattle.std.specs.List.{AllByRecursion}
 use Rattle.std.proofs.Common.{◌≡◌, ◌⊎◌, inl, inr, ℕ, suc, Bool, true, false, cond, List, [], ◌∷◌, ◌++◌, length, slice_get, Option, Some, None, Ok, refl, sym, ap, subst, ◌∙◌, append-nil, arith}
 use Rattle.std.proofs.lemmas.Bool.{eq-eqb, ne_eqb, true≢false}
 use Rattle.mesh_base.specs.declared.address.Mac.{Mac}
@@ -8,6 +9,8 @@ use Rattle.mesh_base.specs.declared.event.Event.TheVariants.{Alias}
 use Rattle.mesh_model.specs.declared.act.Act.{Act}
 use Rattle.mesh_model.specs.declared.act.Act.TheVariants.{Print}
 use Rattle.mesh_model.specs.Acts.BridgeRows.{Place, round_acts}
+use Rattle.mesh_model.specs.Acts.Choosing.{cutter_by}
+use Rattle.mesh_model.specs.Acts.Cuts.{Cutter, cut_acts}
 use Rattle.mesh_model.specs.Acts.FactRows.{fact_round_acts}
 use Rattle.mesh_model.specs.Acts.OwnContainers.{own_containers}
 use Rattle.mesh_model.specs.Acts.Rows.{alias_acts, alias_event, commit_acts, reboot_acts, tick_acts}
@@ -16,7 +19,7 @@ use Rattle.mesh_model.specs.Clients.Log.{Given, Tick, LinkFrame, LanFrame, Line,
 use Rattle.mesh_model.specs.Clients.Mentions.{mentions}
 use Rattle.mesh_model.specs.Commits.Aliases.{alias_before, last_alias}
 use Rattle.mesh_model.specs.Commits.Announcements.{announcement}
-use Rattle.mesh_model.specs.Commits.History.{History, history, is_commit_tick}
+use Rattle.mesh_model.specs.Commits.History.{History, history, is_commit_tick, restarted}
 use Rattle.mesh_model.specs.Commits.Versions.{first_commit}
 use Rattle.mesh_model.specs.Knowledge.Known.{Knowledge}
 use Rattle.mesh_model.specs.Knowledge.Steps.{before_round, knowledge}
@@ -34,11 +37,16 @@ use Rattle.mesh_laws.proofs.Schedule.Members.{has_either}
 use Rattle.mesh_laws.proofs.Schedule.Sends.{ok_one}
 use Rattle.mesh_tie.specs.AliasesStand.{AliasesStandInSteps, LeadsTo, StandsInStep, elp_in_tick, history_in_tick, is_of_reboot, message_in_tick, next_tick, ticking}
 use Rattle.mesh_tie.specs.Originators.{log_of}
+use Rattle.mesh_tie.specs.Sources.{KeepsOriginators}
 use Rattle.mesh_tie.specs.Steps.{IsReachable, Steps, begins, frame_comes, goes_on, lan_comes, lan_joins, line_gives, link_joins, node_joins, node_ticks, put_comes, put_reaches, time_passes, bridged_event}
-use Rattle.mesh_tie.proofs.AliasRows.{AreQuiet, frame_quiet, lan_quiet, line_quiet, plain_quiet}
+use Rattle.mesh_tie.proofs.AliasRows.{AreQuiet, cut_quiet, frame_quiet, lan_quiet, line_quiet, plain_quiet}
 use Rattle.mesh_tie.proofs.CommitLemmas.{Committed, as_before, committed_is, one_more}
+use Rattle.mesh_tie.proofs.CutActs.{GoesWhole, aliases_whole, elps_whole, front_whole, messages_whole, round_whole}
+use Rattle.mesh_tie.proofs.EntryLemmas.{each_appended}
 use Rattle.mesh_tie.proofs.FactActs.{round_stores}
 use Rattle.mesh_tie.proofs.MeshSteps.{log_joined}
+use Rattle.mesh_tie.specs.TieLaws.{AllKeep}
+use Rattle.mesh_tie.proofs.OrderSteps.{orderly}
 use Rattle.mesh_tie.proofs.NamesRows.{plain_message, plain_round, plain_store}
 use Rattle.mesh_tie.proofs.SeenLemmas.{all_tell}
 use Rattle.mesh_tie.proofs.SentLemmas.{HasSent, acts_sent, given_is}
@@ -73,10 +81,10 @@ tells me before after message quiet (one_more commit byte order same) = subst (�
 same_alias : (m k : Mac) (a b c d : ℕ) → Alias m a c ≡ Alias k b d → (m ≡ k) × (a ≡ b) × (c ≡ d)
 same_alias m k a b c d is = (cc, cc, cc)
 
-tick_stand : (queries : Mac → Queries) (mesh after : Mesh) (place now : ℕ) (node : NodeLog) → IsReachable queries mesh → slice_get mesh.nodes place ≡ Some node → given_to (scenario_setup queries) place now (next_tick node) (Tick (next_tick node)) mesh ≡ Ok after
+tick_stand : (queries : Mac → Queries) (mesh after : Mesh) (place now : ℕ) (node : NodeLog) → KeepsOriginators node.mac (queries node.mac) → IsReachable queries mesh → slice_get mesh.nodes place ≡ Some node → given_to (scenario_setup queries) place now (next_tick node) (Tick (next_tick node)) mesh ≡ Ok after
     → AllStand queries after.nodes mesh.events → AllStand queries after.nodes after.events
 unfolding tick_acts
-tick_stand queries mesh after place now node r found is all before back orig number earlier at =
+tick_stand queries mesh after place now node keeps r found is all before back orig number earlier at =
     with_more queries log before orig number earlier f.rest s_facts.more_events back f.back_is (with_more queries log before orig number earlier b.rest s_round.more_events f.rest b.back_is (in_part part told p3.1 b.rest b.list_is))
   where
     setup : Setup
@@ -121,6 +129,24 @@ tick_stand queries mesh after place now node r found is all before back orig num
     facts : List Act
     facts = fact_round_acts q later here index
 
+    cutter : Cutter
+    cutter = cutter_by q node.mac node.log
+
+    put : List Act
+    put = cut_acts cutter facts
+
+    part_whole : (b : Bool) → AllByRecursion (GoesWhole cutter.most) (cond b (commit_acts q node.mac known.services.settings known.routes index old new) [])
+    part_whole true =
+        let tail = containers_spelling (own_containers known.services.settings (announcement new)) in
+        each_appended (GoesWhole cutter.most) (alias_acts node.mac old.commits new.commits) message (aliases_whole cutter.most node.mac old.commits new.commits)
+        (messages_whole cutter.most node.mac (q.beats known.routes index).ogm tail (λ head is. keeps.own known.routes index head ((orderly queries mesh r).whole place node found) is))
+    part_whole false = tt
+
+    -- what comes before the round of the fact store goes whole
+    all_whole : AllByRecursion (GoesWhole cutter.most) (elp ++ (part ++ round))
+    all_whole = each_appended (GoesWhole cutter.most) elp (part ++ round) (elps_whole cutter.most (q.beats known.routes index).elp (λ head is. keeps.elps known.routes index head is))
+        (each_appended (GoesWhole cutter.most) part round (part_whole (is_commit_tick index)) (round_whole cutter.most here (bridge node.log) index))
+
     alias : Event
     alias = Alias orig number earlier
 
@@ -140,8 +166,8 @@ tick_stand queries mesh after place now node r found is all before back orig num
     c : CarriesActs setup place now index node (Tick index) mesh after
     c = carries_acts setup place now index node (Tick index) mesh after found is
 
-    p1 : (mid : Mesh) × (after_acts setup actor (elp ++ (part ++ round)) mesh ≡ Ok mid) × (after_acts setup actor facts mid ≡ Ok c.mid)
-    p1 = acts_apart setup actor (elp ++ (part ++ round)) facts mesh c.mid c.carried
+    p1 : (mid : Mesh) × (after_acts setup actor (elp ++ (part ++ round)) mesh ≡ Ok mid) × (after_acts setup actor put mid ≡ Ok c.mid)
+    p1 = acts_apart setup actor (elp ++ (part ++ round)) put mesh c.mid (subst (λ acts. after_acts setup actor acts mesh ≡ Ok c.mid) (front_whole cutter (elp ++ (part ++ round)) facts all_whole) c.carried)
 
     p2 : (mid : Mesh) × (after_acts setup actor elp mesh ≡ Ok mid) × (after_acts setup actor (part ++ round) mid ≡ Ok p1.0)
     p2 = acts_apart setup actor elp (part ++ round) mesh p1.0 p1.1
@@ -155,8 +181,8 @@ tick_stand queries mesh after place now node r found is all before back orig num
     s_round : HasSent round node.mac now index p3.0 p1.0
     s_round = acts_sent setup actor round p3.0 p1.0 p3.2
 
-    s_facts : HasSent facts node.mac now index p1.0 c.mid
-    s_facts = acts_sent setup actor facts p1.0 c.mid p1.2
+    s_facts : HasSent put node.mac now index p1.0 c.mid
+    s_facts = acts_sent setup actor put p1.0 c.mid p1.2
 
     none_elp : (me : Mac) (n e : ℕ) → Has s_elp.more_events (Alias me n e) → ⊥
     none_elp = quiet_events elp node.mac now s_elp.more_events (plain_quiet elp (plain_message (q.beats known.routes index).elp [])) s_elp.came
@@ -165,7 +191,7 @@ tick_stand queries mesh after place now node r found is all before back orig num
     none_round = quiet_events round node.mac now s_round.more_events (plain_quiet round (plain_round here (bridge node.log) index)) s_round.came orig number earlier
 
     none_facts : Has s_facts.more_events alias → ⊥
-    none_facts = quiet_events facts node.mac now s_facts.more_events (plain_quiet facts (plain_store node.mac facts (round_stores q later here index))) s_facts.came orig number earlier
+    none_facts = quiet_events put node.mac now s_facts.more_events (cut_quiet cutter facts (plain_quiet facts (plain_store node.mac facts (round_stores q later here index)))) s_facts.came orig number earlier
 
     f : StandsBefore p1.0.events s_facts.more_events before alias back
     f = peeled p1.0.events s_facts.more_events before alias back none_facts (sym (c.events ∙ s_facts.events) ∙ at)
@@ -241,7 +267,7 @@ tick_stand queries mesh after place now node r found is all before back orig num
 reboot_stand : (queries : Mac → Queries) (mesh after : Mesh) (place now : ℕ) (node : NodeLog) → IsReachable queries mesh → slice_get mesh.nodes place ≡ Some node → given_to (scenario_setup queries) place now 0 (Line Reboot) mesh ≡ Ok after
     → AllStand queries after.nodes mesh.events → AllStand queries after.nodes after.events
 reboot_stand queries mesh after place now node r found is all before back orig number earlier at =
-    in_acts (reboot_acts node.mac old) (subst (Tells node.mac old.commits (first_commit ∷ old.commits) []) (append-nil (reboot_acts node.mac old)) (tells_more node.mac old.commits first_commit [] tt)) c.carried
+    in_acts (reboot_acts node.mac old) (subst (Tells node.mac old.commits (first_commit ∷ old.commits) []) (append-nil (reboot_acts node.mac old)) (tells_more node.mac old.commits first_commit [] tt)) sent
   where
     setup : Setup
     setup = scenario_setup queries
@@ -258,8 +284,20 @@ reboot_stand queries mesh after place now node r found is all before back orig n
     log : Log
     log = log_of orig after.nodes
 
+    cutter : Cutter
+    cutter = cutter_by (queries node.mac) node.mac node.log
+
     c : CarriesActs setup place now 0 node (Line Reboot) mesh after
     c = carries_acts setup place now 0 node (Line Reboot) mesh after found is
+
+    -- its acts go whole
+    acts_whole : cut_acts cutter (reboot_acts node.mac old) ≡ reboot_acts node.mac old
+    acts_whole =
+        let acts = reboot_acts node.mac old in
+        ap (cut_acts cutter) (sym (append-nil acts)) ∙ front_whole cutter acts [] (aliases_whole cutter.most node.mac old.commits (restarted old).commits) ∙ append-nil acts
+
+    sent : after_acts setup actor (reboot_acts node.mac old) mesh ≡ Ok c.mid
+    sent = subst (λ acts. after_acts setup actor acts mesh ≡ Ok c.mid) acts_whole c.carried
 
     rebooted : node.mac ≡ orig → number ≡ length old.commits → is_of_reboot orig number log ≡ true
     rebooted same number_is = ap (λ ns. is_of_reboot orig number (log_of orig ns)) (given_is setup place now 0 node (Line Reboot) mesh after found is).nodes ∙ now_made mesh.nodes place node (entry_of setup node now (Line Reboot)) orig number (all_tell queries mesh r).distinct found same number_is
@@ -330,21 +368,21 @@ given_on queries mesh after place now root node given r found is =
     let entry = entry_of (scenario_setup queries) node now given in
     stand_on queries mesh after.nodes r (subst (WasMade mesh.nodes) (sym (given_is (scenario_setup queries) place now root node given mesh after found is).nodes) (was_made mesh.nodes place node entry (all_tell queries mesh r).distinct found))
 
-step_stand : (queries : Mac → Queries) (mesh after : Mesh) → IsReachable queries mesh → Steps queries mesh after → AllStand queries mesh.nodes mesh.events → AllStand queries after.nodes after.events
-step_stand queries mesh _ r (node_joins _ node empty whole fresh) all = stand_on queries mesh (mesh.nodes ++ node ∷ []) r (λ orig number there. ap (is_of_reboot orig number) (log_joined orig mesh.nodes node empty)) all
-step_stand queries mesh _ r (link_joins _ link) all = all
-step_stand queries mesh after r (line_gives _ _ place now node line found may of is) all = line_stand queries mesh after place now node line r found is (given_on queries mesh after place now 0 node (Line line) r found is all)
-step_stand queries mesh after r (node_ticks _ _ place now node found may is) all = tick_stand queries mesh after place now node r found is (given_on queries mesh after place now (next_tick node) node (Tick (next_tick node)) r found is all)
-step_stand queries mesh after r (frame_comes _ _ place now number throughput from node frame found may sent whole is) all =
+step_stand : (queries : Mac → Queries) → AllKeep queries → (mesh after : Mesh) → IsReachable queries mesh → Steps queries mesh after → AllStand queries mesh.nodes mesh.events → AllStand queries after.nodes after.events
+step_stand queries keep mesh _ r (node_joins _ node empty whole fresh) all = stand_on queries mesh (mesh.nodes ++ node ∷ []) r (λ orig number there. ap (is_of_reboot orig number) (log_joined orig mesh.nodes node empty)) all
+step_stand queries keep mesh _ r (link_joins _ link) all = all
+step_stand queries keep mesh after r (line_gives _ _ place now node line found may of is) all = line_stand queries mesh after place now node line r found is (given_on queries mesh after place now 0 node (Line line) r found is all)
+step_stand queries keep mesh after r (node_ticks _ _ place now node found may is) all = tick_stand queries mesh after place now node (keep node.mac) r found is (given_on queries mesh after place now (next_tick node) node (Tick (next_tick node)) r found is all)
+step_stand queries keep mesh after r (frame_comes _ _ place now number throughput from node frame found may sent whole is) all =
     let given = LinkFrame (suc number) from throughput frame.bytes in
     calm_stand queries mesh after place now frame.root node given found is (frame_quiet (queries node.mac) node.mac node.log now (suc number) from throughput frame.bytes) (given_on queries mesh after place now frame.root node given r found is all)
-step_stand queries mesh _ r (lan_joins _ lan) all = all
-step_stand queries mesh _ r (put_comes _ put frame by is tells) all = beside_stand queries mesh (put_event mesh put) (λ orig number earlier e. cc) all
-step_stand queries mesh _ r (put_reaches _ number now put frame found carries) all = beside_stand queries mesh (bridged_event now put frame) (λ orig number earlier e. cc) all
-step_stand queries mesh after r (lan_comes _ _ place now number node put found may among is) all =
+step_stand queries keep mesh _ r (lan_joins _ lan) all = all
+step_stand queries keep mesh _ r (put_comes _ put frame by is tells) all = beside_stand queries mesh (put_event mesh put) (λ orig number earlier e. cc) all
+step_stand queries keep mesh _ r (put_reaches _ number now put frame found carries) all = beside_stand queries mesh (bridged_event now put frame) (λ orig number earlier e. cc) all
+step_stand queries keep mesh after r (lan_comes _ _ place now number node put found may among is) all =
     calm_stand queries mesh after place now 0 node (LanFrame put.bytes) found is (lan_quiet (queries node.mac) node.mac node.log now put.bytes) (given_on queries mesh after place now 0 node (LanFrame put.bytes) r found is all)
-step_stand queries mesh _ r (time_passes _ happening) all = all
+step_stand queries keep mesh _ r (time_passes _ happening) all = all
 
 pub aliases_stand_in_steps : AliasesStandInSteps
-aliases_stand_in_steps queries _ begins = λ before back orig number earlier is. absurd (no_place before (Alias orig number earlier) back is)
-aliases_stand_in_steps queries _ (goes_on mesh after r s) = step_stand queries mesh after r s (aliases_stand_in_steps queries mesh r)
+aliases_stand_in_steps queries keep _ begins = λ before back orig number earlier is. absurd (no_place before (Alias orig number earlier) back is)
+aliases_stand_in_steps queries keep _ (goes_on mesh after r s) = step_stand queries keep mesh after r s (aliases_stand_in_steps queries keep mesh r)

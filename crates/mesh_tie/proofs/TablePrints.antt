@@ -8,12 +8,12 @@ use Rattle.mesh_model.specs.declared.ending.Refusal.{Refusal}
 use Rattle.mesh_model.specs.declared.ending.Stop.TheVariants.{Limit}
 use Rattle.mesh_model.specs.declared.frame_choice.FrameChoice.{FrameChoice}
 use Rattle.mesh_model.specs.declared.line_form.Command.{Command}
-use Rattle.mesh_model.specs.declared.line_form.Command.TheVariants.{Nothing, Algo, Node, Link, Lan, Frame, Gone, Join, Leave, Arp, Dhcp, Wifi, GwOff, GwServer, GwClient, Mcast, Dat, Alfred, Put, Get, Ping, Trace, Reboot, Run as RunFor, Deliver, Show, Decode}
+use Rattle.mesh_model.specs.declared.line_form.Command.TheVariants.{Nothing, Algo, Node, Link, Lan, Frame, Gone, Join, Leave, Arp, Dhcp, Wifi, GwOff, GwServer, GwClient, Mcast, Dat, Frag, Alfred, Put, Get, Ping, Trace, Reboot, Run as RunFor, Deliver, Show, Decode}
 use Rattle.mesh_model.specs.declared.line_form.Table.{Table}
 use Rattle.mesh_model.specs.declared.line_form.Table.TheVariants.{Originators, Neighbors, Locals, Globals, Claims, Gateways, Groups, Addresses, Facts}
 use Rattle.mesh_model.specs.Clients.Log.{Line, LineGiven, Sets}
 use Rattle.mesh_model.specs.Clients.Settings.{NoPart, Serves, Chooses}
-use Rattle.mesh_model.specs.Clients.Settings.{ArpTable as ArpTableSet, FactStore as FactStoreSet, Gateway as GatewaySet, Multicast as MulticastSet, Wifi as WifiSet}
+use Rattle.mesh_model.specs.Clients.Settings.{ArpTable as ArpTableSet, FactStore as FactStoreSet, Gateway as GatewaySet, LongestWhole as LongestWholeSet, Multicast as MulticastSet, Wifi as WifiSet}
 use Rattle.mesh_model.specs.Clients.Log.{Frame as FrameGiven, Gone as GoneGiven, Join as JoinGiven, Leave as LeaveGiven, Arp as ArpGiven, Dhcp as DhcpGiven, Put as PutGiven, Get as GetGiven, Ping as PingGiven, Trace as TraceGiven, Reboot as RebootGiven}
 use Rattle.mesh_model.specs.Net.Inputs.{all_given, given_to}
 use Rattle.mesh_model.specs.Net.Lans.{joins_lan}
@@ -181,6 +181,7 @@ adds_command state (GwServer node down up) = adds_line state node (Sets (Gateway
 adds_command state (GwClient node policy) = adds_line state node (Sets (GatewaySet (Chooses policy)))
 adds_command state (Mcast node flags) = adds_line state node (Sets (MulticastSet flags))
 adds_command state (Dat node on) = adds_line state node (Sets (ArpTableSet on))
+adds_command state (Frag node longest) = adds_line state node (Sets (LongestWholeSet longest))
 adds_command state (Alfred node mode) = adds_line state node (Sets (FactStoreSet mode))
 adds_command state (Put node type_no version text) = adds_line state node (PutGiven type_no version text)
 adds_command state (Get node type_no) = adds_line state node (GetGiven type_no)

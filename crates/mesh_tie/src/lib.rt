@@ -5,6 +5,7 @@
 #![tactic(auto)]
 
 pub mod alias_laws;
+pub mod cut_laws;
 pub mod held_laws;
 pub mod run_laws;
 pub mod sent_laws;
