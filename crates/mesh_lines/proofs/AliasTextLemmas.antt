@@ -32,6 +32,7 @@ use Rattle.mesh_tie.proofs.LogLemmas.{AreDistinct, log_found}
 use Rattle.mesh_tie.proofs.PrintLemmas.{events_are_printed, events_parted, printed_has}
 use Rattle.mesh_tie.proofs.SeenLemmas.{all_tell, aliases_are_told}
 use Rattle.mesh_tie.proofs.StandLemmas.{aliases_stand_in_steps}
+use Rattle.mesh_tie.proofs.VLemmas.{algorithms_keep}
 use Rattle.mesh_lines.specs.AliasText.{AliasLinesAreRight, IsAliasIn, StandsOrFollows, TellsOfAlias, alias_line, follows, stands}
 use Rattle.mesh_lines.specs.ItemLines.{ArePlain, lines_printed}
 use Rattle.mesh_lines.specs.LineSources.{IsOfEvent}
@@ -127,7 +128,7 @@ alias_lines_are_right choice lines text plain f = record { told = told; each = e
             let had : HasAlias (commits_of mac mesh) number earlier = (aliases_are_told (queries_of run.state.algorithm) mesh reachable mac number earlier).0 told_of in
             let log_is : log_of mac mesh.nodes ≡ a.node.log = log_found mac mesh.nodes a.place a.node distinct a.found a.mac_is in
             let stands_in : StandsInStep (queries_of run.state.algorithm) (log_of mac mesh.nodes) (events_in source.earlier) mac number earlier (events_in source.later) =
-            aliases_stand_in_steps (queries_of run.state.algorithm) mesh reachable (events_in source.earlier) (events_in source.later) mac number earlier events in
+            aliases_stand_in_steps (queries_of run.state.algorithm) (algorithms_keep run.state.algorithm) mesh reachable (events_in source.earlier) (events_in source.later) mac number earlier events in
             record {
               node = a.node;
               number = number;
