@@ -9,23 +9,24 @@ use Rattle.tt_local.specs.declared.failure.LocalErr.{LocalErr}
 use Rattle.tt_local.specs.declared.failure.LocalErr.TheVariants as local
 use Rattle.tt_local.specs.Limits.{HasLimit}
 use Rattle.node_ground.specs.declared.failure.NodeErr.{NodeErr}
-use Rattle.node_ground.specs.declared.failure.NodeErr.TheVariants.{Memory, Clients, Vlans, Frames, FrameBytes, Dead}
-use Rattle.node_ground.specs.Errors.{HasCause, HasClientCause, client_error_of}
+use Rattle.node_ground.specs.declared.failure.NodeErr.TheVariants.{Memory, Clients, Vlans, Frames, FrameBytes, Cuts, Dead}
+use Rattle.node_ground.specs.Errors.{HasCause, HasOwnCause, client_error_of}
 use Rattle.node_ground.specs.Puts.{Answers, Leaves, Puts, StopsAt, StopsBehind, TakesAll, behind}
 use Rattle.node_ground.proofs.PutsLemmas.{puts_behind, stops_among}
 
 -- the cause of the clients is that of the node
-pub client_cause : (limit : Option LimitName) (error : LocalErr) → HasLimit limit error → HasClientCause limit (client_error_of error)
+pub client_cause : (limit : Option LimitName) (error : LocalErr) → HasLimit limit error → HasOwnCause limit (client_error_of error)
 client_cause limit local.Clients cause = cause
 client_cause limit local.Vlans cause = cause
 client_cause limit local.Memory cause = tt
 
-pub free_cause : (error : NodeErr) → HasClientCause None error → HasCause None error
+pub free_cause : (error : NodeErr) → HasOwnCause None error → HasCause None error
 free_cause Memory cause = tt
 free_cause Clients cause = absurd cc
 free_cause Vlans cause = absurd cc
 free_cause Frames cause = absurd cause
 free_cause FrameBytes cause = absurd cause
+free_cause Cuts cause = absurd cc
 free_cause Dead cause = absurd cause
 
 -- a refused joining is answered by its limit
@@ -74,12 +75,13 @@ module _ {P : Type 0} (takes : P → Act → P → Type 0) (same : P → P → T
   leaves_behind None old mid new first rest result all left = puts_behind takes same over old mid new first rest result all left
   leaves_behind (Some limit) old mid new first rest result all left = passed_behind limit old mid new first result all left.0 left.1
 
-  any_cause : (limit : LimitName) (error : NodeErr) → HasCause None error → HasClientCause (Some limit) error
+  any_cause : (limit : LimitName) (error : NodeErr) → HasCause None error → HasOwnCause (Some limit) error
   any_cause limit Memory cause = tt
   any_cause limit Clients cause = absurd cause
   any_cause limit Vlans cause = absurd cause
   any_cause limit Frames cause = absurd cc
   any_cause limit FrameBytes cause = absurd cc
+  any_cause limit Cuts cause = absurd cause
   any_cause limit Dead cause = absurd cause
 
   stopped_behind : (limit : LimitName) (error : NodeErr) (old new : P) (first : List Act) → StopsAt takes same over error old first new → StopsBehind takes same over limit old first (Err error) new

@@ -3,7 +3,7 @@ use Rattle.std.proofs.Common.{inl, inr, List, [], ◌∷◌, ◌++◌, sym, subs
 use Rattle.mesh_model.specs.declared.act.Act.{Act}
 use Rattle.mesh_model.specs.declared.ending.LimitName.{LimitName}
 use Rattle.node_ground.specs.declared.failure.NodeErr.{NodeErr}
-use Rattle.node_ground.specs.declared.failure.NodeErr.TheVariants.{Memory, Clients, Vlans, Frames, FrameBytes, Dead}
+use Rattle.node_ground.specs.declared.failure.NodeErr.TheVariants.{Memory, Clients, Vlans, Frames, FrameBytes, Cuts, Dead}
 use Rattle.node_ground.specs.Errors.{HasCause}
 use Rattle.node_ground.specs.Puts.{TakesAll, StopsAt, Puts}
 
@@ -19,6 +19,7 @@ module _ {P : Type 0} (takes : P → Act → P → Type 0) (same : P → P → T
   free_only Vlans limit cause = absurd cause
   free_only Frames limit cause = absurd cc
   free_only FrameBytes limit cause = absurd cc
+  free_only Cuts limit cause = absurd cause
   free_only Dead limit cause = absurd cause
 
   stops_early : (error : NodeErr) (old new : P) (acts : List Act) → same old new → HasCause None error → StopsAt takes same over error old acts new

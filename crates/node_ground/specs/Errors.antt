@@ -8,7 +8,7 @@ use Rattle.tt_local.specs.declared.failure.LocalErr.TheVariants as local
 use Rattle.node_ground.specs.declared.failure.PortErr.{PortErr}
 use Rattle.node_ground.specs.declared.failure.PortErr.TheVariants as port
 use Rattle.node_ground.specs.declared.failure.NodeErr.{NodeErr}
-use Rattle.node_ground.specs.declared.failure.NodeErr.TheVariants.{Memory, Clients, Vlans, Frames, FrameBytes, Dead}
+use Rattle.node_ground.specs.declared.failure.NodeErr.TheVariants.{Memory, Clients, Vlans, Frames, FrameBytes, Cuts, Dead}
 
 -- the error of a node whose port refused an act
 abbrev pub error_of : PortErr → NodeErr
@@ -35,13 +35,15 @@ HasCause over Clients = ⊥
 HasCause over Vlans = ⊥
 HasCause over Frames = over ≡ Some limits.Frames
 HasCause over FrameBytes = over ≡ Some limits.FrameBytes
+HasCause over Cuts = ⊥
 HasCause over Dead = ⊥
 
--- why a node refuses a sighting that passes this limit of clients, or none
-abbrev pub HasClientCause : Option LimitName → NodeErr → Type 0
-HasClientCause limit Memory = ⊤
-HasClientCause limit Clients = limit ≡ Some limits.Clients
-HasClientCause limit Vlans = limit ≡ Some limits.Vlans
-HasClientCause limit Frames = ⊥
-HasClientCause limit FrameBytes = ⊥
-HasClientCause limit Dead = ⊥
+-- why a node refuses what passes this limit of its own, or none: of its clients or of its cuts
+abbrev pub HasOwnCause : Option LimitName → NodeErr → Type 0
+HasOwnCause limit Memory = ⊤
+HasOwnCause limit Clients = limit ≡ Some limits.Clients
+HasOwnCause limit Vlans = limit ≡ Some limits.Vlans
+HasOwnCause limit Frames = ⊥
+HasOwnCause limit FrameBytes = ⊥
+HasOwnCause limit Cuts = limit ≡ Some limits.Cuts
+HasOwnCause limit Dead = ⊥

@@ -1,13 +1,13 @@
 -- What a call leaves of a port. Its acts are put in order: all of them, or those before the act at
 -- which it stops, for a cause that holds of the port as it then stands. An input that passes a
--- limit of clients puts what comes before the sighting, and no more. `takes`, `same` and `over` are
--- the port's own words. The main words are `Puts` and `Leaves`.
+-- limit of the node's own, of its clients or of its cuts, puts what comes before, and no more.
+-- `takes`, `same` and `over` are the port's own words. The main words are `Puts` and `Leaves`.
 use Rattle.std.specs.Prelude.{◌≡◌, ◌⊎◌, List, [], ◌∷◌, Option, Some, None, option_map, Result, Ok, Err}
 use Rattle.mesh_model.specs.declared.act.Act.{Act}
 use Rattle.mesh_model.specs.declared.ending.LimitName.{LimitName}
 use Rattle.mesh_model.specs.Acts.NodeLimits.{NodeLimit}
 use Rattle.node_ground.specs.declared.failure.NodeErr.{NodeErr}
-use Rattle.node_ground.specs.Errors.{HasCause, HasClientCause}
+use Rattle.node_ground.specs.Errors.{HasCause, HasOwnCause}
 
 -- all of the acts are taken, one after another, and none passes a limit
 abbrev pub TakesAll : {P : Type 0} → (P → Act → P → Type 0) → (P → Act → Option LimitName)
@@ -31,17 +31,17 @@ abbrev pub Puts : {P : Type 0} → (P → Act → P → Type 0) → (P → P →
 Puts takes same over old acts (Ok done) new = TakesAll takes over old acts new
 Puts takes same over old acts (Err error) new = StopsAt takes same over error old acts new
 
--- how a sighting is answered that passes this limit of clients, or none
+-- how an input is answered that passes this limit of the node's own, or none
 abbrev pub Answers : Option LimitName → Result Unit NodeErr → Type 0
 Answers limit (Ok done) = limit ≡ None
-Answers limit (Err error) = HasClientCause limit error
+Answers limit (Err error) = HasOwnCause limit error
 
 -- whether a call stops before an act whose frames would pass this limit
 abbrev pub StopsBefore : Option LimitName → Result Unit NodeErr → Type 0
 StopsBefore over (Ok done) = ⊥
 StopsBefore over (Err error) = HasCause over error
 
--- acts are taken up to one at which it stops, or up to the last, and then the clients pass a limit
+-- acts are taken up to one at which it stops, or up to the last, and then a limit is passed
 abbrev pub StopsBehind : {P : Type 0} → (P → Act → P → Type 0) → (P → P → Type 0)
     → (P → Act → Option LimitName)
     → LimitName → P → List Act → Result Unit NodeErr → P → Type 0
@@ -55,7 +55,7 @@ StopsBehind {P} takes same over limit old (act ∷ acts) result new =
 abbrev pub behind : List Act → Option LimitName → Option NodeLimit
 behind acts limit = option_map (λ limit. record { acts = acts; limit = limit }) limit
 
--- what a call leaves by these acts, where its clients pass a limit, or none
+-- what a call leaves by these acts, where it passes a limit of the node's own, or none
 abbrev pub Leaves : {P : Type 0} → (P → Act → P → Type 0) → (P → P → Type 0)
     → (P → Act → Option LimitName)
     → Option NodeLimit → P → List Act → Result Unit NodeErr → P → Type 0

@@ -38,6 +38,9 @@ pub enum NodeErr {
     /// The frames of an act would have more bytes than may be sent.
     #[error("too many bytes of frames")]
     FrameBytes,
+    /// A packet would be cut that is one too many.
+    #[error("too many cuts")]
+    Cuts,
     /// The node refused something before.
     #[error("the node refused something before")]
     Dead,

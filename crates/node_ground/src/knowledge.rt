@@ -10,6 +10,7 @@ use crate::broadcasts::Broadcasts;
 use crate::services::Services;
 use mesh_algo::Algo;
 use mesh_base::{Mac, Millis};
+use mesh_frag::Frags;
 use mesh_icmp::Sessions;
 use std::alloc::Global;
 use tt_global::Globals;
@@ -24,6 +25,7 @@ pub struct NodeKnowledge<A: Algo> {
     pub sync: Sync,
     pub sessions: Sessions,
     pub broadcasts: Broadcasts,
+    pub frags: Frags,
     /// How many broadcasts were sent, modulo 2^32.
     pub sent: u32,
     pub services: Services,
@@ -41,6 +43,7 @@ impl<A: Algo> NodeKnowledge<A> {
             sync: Sync::new(alloc),
             sessions: Sessions::new(alloc),
             broadcasts: Broadcasts::new(alloc),
+            frags: Frags::new(alloc),
             sent: 0,
             services: Services::new(alloc, me),
         }
@@ -57,6 +60,7 @@ impl<A: Algo> NodeKnowledge<A> {
         self.sync = Sync::new(self.alloc);
         self.sessions = Sessions::new(self.alloc);
         self.broadcasts = Broadcasts::new(self.alloc);
+        self.frags = Frags::new(self.alloc);
         self.sent = 0;
         self.services.restart(self.alloc, me);
     }

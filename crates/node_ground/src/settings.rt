@@ -31,6 +31,8 @@ pub enum Setting {
     ArpTable(bool),
     /// The part in the fact store.
     FactStore(AlfredMode),
+    /// The greatest length of a packet for one node that goes whole, 0 where all do.
+    LongestWhole(u16),
 }
 
 /// The settings of a node.
@@ -45,6 +47,8 @@ pub struct Settings {
     pub arp_table: bool,
     /// Its part in the fact store.
     pub fact_store: AlfredMode,
+    /// The greatest length of a packet for one node that goes whole, 0 where all do.
+    pub longest_whole: u16,
 }
 
 impl Settings {
@@ -58,6 +62,7 @@ impl Settings {
             multicast: 0,
             arp_table: true,
             fact_store: AlfredMode::Off,
+            longest_whole: 0,
         }
     }
 
@@ -72,6 +77,7 @@ impl Settings {
             Setting::Multicast(flags) => self.multicast = flags,
             Setting::ArpTable(on) => self.arp_table = on,
             Setting::FactStore(mode) => self.fact_store = mode,
+            Setting::LongestWhole(size) => self.longest_whole = size,
         }
     }
 }

@@ -7,6 +7,7 @@ returns-clause-ok g c = λ me known stands. record {
   marks = stands.marks;
   probes = stands.probes;
   taken = stands.taken;
+  parts = stands.parts;
   sent = stands.sent;
   services = record {
     settings = stands.services.settings;
