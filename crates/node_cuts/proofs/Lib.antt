@@ -1,0 +1,3 @@
+-- What the handing over rests on.
+pub mod CutLemmas
+pub mod HandLemmas
