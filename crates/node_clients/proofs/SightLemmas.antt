@@ -9,7 +9,7 @@ use Rattle.mesh_model.specs.Clients.Mentions.{Mention, News, Sighted, key_of, me
 use Rattle.tt_local.specs.declared.failure.LocalErr.{LocalErr}
 use Rattle.tt_local.specs.Limits.{HasLimit}
 use Rattle.node_ground.specs.declared.failure.NodeErr.{NodeErr}
-use Rattle.node_ground.specs.Errors.{HasClientCause, client_error_of}
+use Rattle.node_ground.specs.Errors.{HasOwnCause, client_error_of}
 use Rattle.node_ground.specs.Puts.{Leaves, Puts, behind}
 use Rattle.node_ground.proofs.PutsLemmas.{stops_among}
 use Rattle.node_ground.proofs.LeavesLemmas.{client_cause, free_cause}
@@ -97,7 +97,7 @@ limit_by mentions now key news = limit_of_mention mentions (record { moment = no
 
 module _ {P : Type 0} (takes : P → Act → P → Type 0) (same : P → P → Type 0) (over : P → Act → Option LimitName)
     (mentions : List Mention) (now : ℕ) (key : Key) (flags : ℕ) (news : News) (is : Sighted flags ≡ news) where
-  refused_leaves : (limit : Option LimitName) (error : NodeErr) (port : P) (acts : List Act) → same port port → HasClientCause limit error
+  refused_leaves : (limit : Option LimitName) (error : NodeErr) (port : P) (acts : List Act) → same port port → HasOwnCause limit error
       → Leaves takes same over (behind [] (option_or limit None)) port acts (Err error) port
   refused_leaves None error port acts as_is cause = stops_among takes same over error port port [] acts (as_is, free_cause error cause)
   refused_leaves (Some limit) error port acts as_is cause = (as_is, cause)
@@ -107,7 +107,7 @@ module _ {P : Type 0} (takes : P → Act → P → Type 0) (same : P → P → T
       → Leaves takes same over (behind [] (option_or (limit_by mentions now key news) None)) port acts (Err (client_error_of error)) port
   frame_refused error cause port acts as_is =
       refused_leaves (limit_by mentions now key news) (client_error_of error) port acts as_is
-      (subst (λ n. HasClientCause (limit_by mentions now key n) (client_error_of error)) is (client_cause (limit_by mentions now key (Sighted flags)) error cause))
+      (subst (λ n. HasOwnCause (limit_by mentions now key n) (client_error_of error)) is (client_cause (limit_by mentions now key (Sighted flags)) error cause))
 
   -- a sighting that passes no limit leads to the acts
   pub frame_taken : limit_by mentions now key (Sighted flags) ≡ None → (old new : P) (acts : List Act) (result : Result Unit NodeErr)

@@ -2,9 +2,9 @@
 
 ghost use Rattle.std.specs.Prelude.{◌≡◌, OnOk};
 ghost use Rattle.mesh_codec.specs.Payloads.{seen_frame};
-ghost use Rattle.mesh_model.specs.Acts.Choosing.{acts_of};
+ghost use Rattle.mesh_model.specs.Acts.Choosing.{whole_acts};
 ghost use Rattle.mesh_model.specs.Acts.GroupRows.{call_acts};
-ghost use Rattle.mesh_model.specs.Acts.NodeLimits.{node_limit};
+ghost use Rattle.mesh_model.specs.Acts.NodeLimits.{client_limit};
 ghost use Rattle.mesh_model.specs.Clients.Log.{Log};
 ghost use Rattle.mesh_model.specs.Clients.Mentions.{Sighted, sighted_after};
 ghost use Rattle.mesh_model.specs.Knowledge.Known.{Knowledge};
@@ -60,8 +60,8 @@ pub fn call<A: Algo, P: Port>(
         Before A.stands A.queries kept.old locals.old at.me log at.now →
         Sighted flags ≡ sighted_after log →
         let given = given_call key text.now in
-        Leaves P.takes P.same P.over (node_limit at.me log at.now given) port.old
-        (acts_of (A.queries at.me) at.me log at.now given) result port.new }
+        Leaves P.takes P.same P.over (client_limit at.me log at.now given) port.old
+        (whole_acts (A.queries at.me) at.me log at.now given) result port.new }
     ensures noted { (log : Log) →
         Before A.stands A.queries kept.old locals.old at.me log at.now →
         let given = given_call key text.now in

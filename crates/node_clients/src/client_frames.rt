@@ -4,8 +4,8 @@ ghost use Rattle.std.specs.Prelude.{◌≡◌, [], OnOk};
 ghost use Rattle.mesh_codec.specs.Payloads.{seen_frame};
 ghost use Rattle.mesh_model.specs.Acts.FrameRows.{frame_acts, on_way};
 ghost use Rattle.mesh_model.specs.Acts.Rows.{Own};
-ghost use Rattle.mesh_model.specs.Acts.Choosing.{acts_of, sighting_acts};
-ghost use Rattle.mesh_model.specs.Acts.NodeLimits.{node_limit};
+ghost use Rattle.mesh_model.specs.Acts.Choosing.{whole_acts, sighting_acts};
+ghost use Rattle.mesh_model.specs.Acts.NodeLimits.{client_limit};
 ghost use Rattle.mesh_model.specs.Clients.Log.{Log};
 ghost use Rattle.mesh_model.specs.Clients.Limits.{limit_of_mentions};
 ghost use Rattle.mesh_model.specs.Clients.Mentions.{Sighted, mentions, sighted_after};
@@ -146,8 +146,8 @@ pub fn frame<A: Algo, P: Port>(
         Before A.stands A.queries kept.old locals.old at.me log at.now →
         Sighted flags ≡ sighted_after log →
         let given = given_frame (seen_frame frame.now) in
-        Leaves P.takes P.same P.over (node_limit at.me log at.now given) port.old
-        (acts_of (A.queries at.me) at.me log at.now given) result port.new }
+        Leaves P.takes P.same P.over (client_limit at.me log at.now given) port.old
+        (whole_acts (A.queries at.me) at.me log at.now given) result port.new }
     ensures noted { (log : Log) →
         Before A.stands A.queries kept.old locals.old at.me log at.now →
         let given = given_frame (seen_frame frame.now) in

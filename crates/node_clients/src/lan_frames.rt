@@ -3,8 +3,8 @@
 ghost use Rattle.std.specs.Prelude.{◌≡◌, ◌++◌, [], OnOk};
 ghost use Rattle.mesh_base.specs.declared.address.Mac.{Mac};
 ghost use Rattle.mesh_codec.specs.Payloads.{seen_frame};
-ghost use Rattle.mesh_model.specs.Acts.Choosing.{acts_of, on_from_lan, sighting_acts};
-ghost use Rattle.mesh_model.specs.Acts.NodeLimits.{node_limit};
+ghost use Rattle.mesh_model.specs.Acts.Choosing.{whole_acts, on_from_lan, sighting_acts};
+ghost use Rattle.mesh_model.specs.Acts.NodeLimits.{client_limit};
 ghost use Rattle.mesh_model.specs.Acts.Rows.{Own};
 ghost use Rattle.mesh_model.specs.Clients.Lans as lans;
 ghost use Rattle.mesh_model.specs.Clients.Limits.{limit_of_mentions};
@@ -167,8 +167,8 @@ pub fn lan_frame<A: Algo, P: Port>(
     ensures puts { (log : Log) →
         Before A.stands A.queries kept.old locals.old at.me log at.now →
         BridgeStands bridge.old at.me (lans.bridge log) → Sighted flags ≡ sighted_after log →
-        Leaves P.takes P.same P.over (node_limit at.me log at.now (LanFrame bytes.now)) port.old
-        (acts_of (A.queries at.me) at.me log at.now (LanFrame bytes.now)) result port.new }
+        Leaves P.takes P.same P.over (client_limit at.me log at.now (LanFrame bytes.now)) port.old
+        (whole_acts (A.queries at.me) at.me log at.now (LanFrame bytes.now)) result port.new }
     ensures noted { (log : Log) →
         Before A.stands A.queries kept.old locals.old at.me log at.now →
         BridgeStands bridge.old at.me (lans.bridge log) → Sighted flags ≡ sighted_after log →
