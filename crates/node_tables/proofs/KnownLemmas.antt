@@ -74,6 +74,7 @@ head_came stands kept algo me came head known is noted = record {
   marks = is.marks;
   probes = is.probes;
   taken = is.taken;
+  parts = is.parts;
   sent = is.sent;
   services = is.services;
 }
@@ -88,6 +89,7 @@ offer_noted stands kept offers me orig tail known is noted = record {
   marks = is.marks;
   probes = is.probes;
   taken = is.taken;
+  parts = is.parts;
   sent = is.sent;
   services = record {
     settings = is.services.settings;

@@ -167,6 +167,7 @@ ticked stands kept algo me now index known is noted = record {
   marks = is.marks;
   probes = is.probes;
   taken = is.taken;
+  parts = is.parts;
   sent = is.sent;
   services = is.services;
 }

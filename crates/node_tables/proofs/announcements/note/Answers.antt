@@ -7,6 +7,7 @@ returns-clause-noted g c = λ me known number stands. record {
   marks = stands.marks;
   probes = stands.probes;
   taken = stands.taken;
+  parts = stands.parts;
   sent = stands.sent;
   services = stands.services;
 }
