@@ -12,6 +12,7 @@ use Rattle.mesh_model.specs.declared.service.Fact.{Fact}
 use Rattle.mesh_model.specs.Acts.BridgeRows.{Place}
 use Rattle.mesh_model.specs.Acts.FactRows.{answer_told, answering_acts, brought_acts, whole_answer}
 use Rattle.mesh_model.specs.Clients.Settings.{Settings}
+use Rattle.mesh_model.specs.Fragments.Assembly.{PartCall}
 use Rattle.mesh_model.specs.Knowledge.FactStore.{after_announced, after_answering, after_brought, after_closing, after_push, after_whole_push, closed_by, open_request, with_fact, with_facts, with_primary}
 use Rattle.mesh_model.specs.Knowledge.Known.{Knowledge, TakenBroadcast}
 use Rattle.mesh_model.specs.Knowledge.Served.{FactRequest, Offered, Services}
@@ -23,6 +24,7 @@ use Rattle.mesh_model.specs.Services.Facts.{CameFrom}
 use Rattle.mesh_model.specs.Services.Transactions.{TxnCall, made_whole}
 use Rattle.mesh_model.specs.Tables.Known.{TableCalls}
 use Rattle.mesh_dat.specs.Cache.{CacheStands}
+use Rattle.mesh_frag.specs.Frags.{FragsStand}
 use Rattle.mesh_icmp.specs.Sessions.{StandsFor as SessionsStand}
 use Rattle.mesh_serv.specs.OffersStand.{OffersStand}
 use Rattle.node_facts.specs.Messages.{answer_acts, takes}
@@ -40,6 +42,7 @@ pub record Beside : Type 0 where
   pub marks : Calls
   pub probes : List ProbeCall
   pub taken : List TakenBroadcast
+  pub parts : List PartCall
   pub sent : ℕ
   pub settings : Settings
   pub offers : List Offered
@@ -54,6 +57,7 @@ beside known = record {
   marks = known.marks;
   probes = known.probes;
   taken = known.taken;
+  parts = known.parts;
   sent = known.sent;
   settings = known.services.settings;
   offers = known.services.offers;
@@ -74,6 +78,7 @@ stands_with stands kept store me known after same is stored = by_parts (sym same
       marks = subst (λ (b : Beside). MarksStand kept.sync b.marks) same is.marks;
       probes = subst (λ (b : Beside). SessionsStand kept.sessions b.probes) same is.probes;
       taken = subst (λ (b : Beside). BroadcastsStand kept.broadcasts b.taken) same is.taken;
+      parts = subst (λ (b : Beside). FragsStand kept.frags b.parts) same is.parts;
       sent = is.sent ∙ ap (λ (b : Beside). b.sent % 2 ^ 32) same;
       services = record {
         settings = is.services.settings ∙ ap (λ (b : Beside). b.settings) same;

@@ -65,6 +65,7 @@ primary_stands stands kept sent store me known count all is counted same stored 
   marks = is.marks;
   probes = is.probes;
   taken = is.taken;
+  parts = is.parts;
   sent = counted;
   services = record {
     settings = is.services.settings;
