@@ -37,6 +37,7 @@ with_sessions stands kept sessions me calls known is noted = record {
   marks = is.marks;
   probes = noted;
   taken = is.taken;
+  parts = is.parts;
   sent = is.sent;
   services = is.services;
 }
