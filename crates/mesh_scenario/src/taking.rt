@@ -2,6 +2,7 @@
 
 ghost use Rattle.std.specs.Prelude.{◌≡◌, ◌<◌, ◌≤◌, IfOk, IfErr};
 ghost use Rattle.mesh_model.specs.Scenario.Fields.{word_field, name_field, unicast_field, target_field, group_field, vid_field, ip_field, hex_field, number_field, number_limit, frame_number_field, switch_field, algorithm_field, alfred_mode_field, table_field};
+ghost use Rattle.mesh_model.specs.Scenario.SettingForms.{longest_field};
 ghost use Rattle.mesh_scenario.specs.Inner.Taking.{GivesField, FailsField, RefusesField, GivesText, FailsText, GivesTextUpTo, FailsTextUpTo, IsAtEnd, HasMore};
 
 use crate::hex_bytes::hex_bytes;
@@ -12,6 +13,11 @@ use crate::{listed, terms};
 use mesh_base::{Bytes, Mac, Vid};
 use mesh_model::{AlfredMode, Algorithm, Table};
 use std::alloc::Global;
+
+/// The least length that the greatest length of a packet that goes whole may be.
+const LEAST_LONGEST: u64 = 300;
+/// The greatest of these lengths.
+const LONGEST_LIMIT: u64 = 65_535;
 
 impl<'a> Words<'a> {
     /// Takes a word as it stands.
@@ -117,6 +123,20 @@ impl<'a> Words<'a> {
         let number = terms::number(found.word).ok_or(LineErr::BadNumber)?;
         if least <= number && number <= most {
             Ok(number)
+        } else {
+            Err(LineErr::OutOfRange)
+        }
+    }
+
+    /// Takes the greatest length of a packet that goes whole, or 0 where all do.
+    pub fn longest_whole(&mut self) -> Result<u16, LineErr>
+        ensures ok { IfOk result (λ size. GivesField longest_field self.old size self.new) }
+        ensures refused { IfErr result (FailsField longest_field self.old) }
+    {
+        let found = self.next().ok_or(LineErr::MissingWord)?;
+        let size = terms::number(found.word).ok_or(LineErr::BadNumber)?;
+        if size == 0 || LEAST_LONGEST <= size && size <= LONGEST_LIMIT {
+            Ok(size as u16)
         } else {
             Err(LineErr::OutOfRange)
         }
