@@ -4,8 +4,8 @@ ghost use Rattle.mesh_model.specs.Text.Events.{shows, shows_lan, is_shown};
 use mesh_base::Event;
 use mesh_model::FrameChoice;
 
-/// The type bytes of packets that carry client frames: bcast, unicast and unicast4.
-const CLIENT_TYPES: [u8; 3] = [0x01, 0x40, 0x42];
+/// The type bytes of packets that carry client frames: bcast, unicast, frag and unicast4.
+const CLIENT_TYPES: [u8; 4] = [0x01, 0x40, 0x41, 0x42];
 /// The type bytes of originator messages, and of ELP between them.
 const OGM_TYPES: [u8; 3] = [0x00, 0x03, 0x04];
 
