@@ -2,7 +2,7 @@
 -- The main words are `packet`, `cut_at`, `comes` and `client_of_gateway`.
 use Rattle.std.specs.Prelude.{ℕ, ◌-◌, List, [], ◌∷◌, ◌++◌, codes, flat_map, replicate}
 use Rattle.mesh_model.specs.declared.packet.Head.TheVariants.{Unicast}
-use Rattle.mesh_model.specs.Fragments.Assembly.{PartCall}
+use Rattle.mesh_model.specs.Fragments.Assembly.{PartCall, part_of}
 use Rattle.mesh_model.specs.Fragments.Cutting.{Cut}
 use Rattle.mesh_model.specs.Packets.Layout.{spelling}
 use Rattle.mesh_model.specs.Packets.Shapes.{header_size, unicast}
@@ -20,14 +20,7 @@ cut_at most size = record { most = most; number = 1; me = node 10; packet = pack
 
 -- a part of A's first cut comes at a moment: the length of the packet, the place and the tail
 abbrev pub comes : ℕ → ℕ → ℕ → List ℕ → PartCall
-comes moment total place tail = record {
-  moment = moment;
-  orig = node 10;
-  seq = 1;
-  total = total;
-  place = place;
-  tail = tail;
-}
+comes moment total place tail = part_of moment (node 10) 1 total place tail
 
 -- how A cuts at 300 bytes after so many cuts
 abbrev pub cutter_after : ℕ → Cutter
