@@ -114,6 +114,14 @@ fn put_cuts<P: Port>(
 }
 
 impl Cutter {
+    /// How the node of an address cuts, where at most so many bytes go whole, after so many cuts.
+    pub fn new(me: Mac, most: u16, cuts: u16) -> Cutter
+        ensures is { cutter_of result ≡ record { me = me; most = most; cuts = cuts } }
+        ensures few { result.cuts ≤ 65535 }
+    {
+        Cutter { me, most, cuts }
+    }
+
     // Puts a packet, which is cut where it is too long.
     fn put_packet<P: Port>(
         &mut self,
