@@ -22,7 +22,7 @@ use Rattle.node_ground.specs.declared.knowledge.NodeKnowledge.{NodeKnowledge}
 use Rattle.node_ground.specs.declared.services.Services.{Services}
 use Rattle.node_ground.specs.KnowledgeStands.{KnowledgeStands}
 use Rattle.node_ground.specs.ServicesStand.{ServicesStand}
-use Rattle.mesh_node.specs.NodeStands.{NodeStands, given_session}
+use Rattle.mesh_node.specs.NodeStands.{KeepsLog, given_session}
 use Rattle.node_ground.specs.OwnStands.{with_input}
 use Rattle.node_ground.specs.OwnStands.{AreFew, HasClients, newest_moment}
 use Rattle.node_clients.proofs.RoamingLemmas.{named}
@@ -205,7 +205,7 @@ has_session q locals me log now target false has late = record {
 -- ---- settings
 
 -- sightings are marked as it was set
-pub wifi_is : {A : Type 0} (stands : A → Mac → RouteLog → Type 0) (queries : Mac → Queries) (node : Node A) (me : Mac) (log : Log) → NodeStands stands queries node me log
+pub wifi_is : {A : Type 0} (stands : A → Mac → RouteLog → Type 0) (queries : Mac → Queries) (node : Node A) (me : Mac) (log : Log) → KeepsLog stands queries node me log
     → node.kept.services.settings.wifi ≡ is_wifi_on log
 wifi_is stands queries node me log is = ap (λ s. s.wifi) (is.kept.services.settings ∙ settings_known (queries me) me log)
 
@@ -218,6 +218,7 @@ set_stands stands kept services me setting known is set = record {
   marks = is.marks;
   probes = is.probes;
   taken = is.taken;
+  parts = is.parts;
   sent = is.sent;
   services = set;
 }

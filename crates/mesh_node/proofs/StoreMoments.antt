@@ -1,5 +1,6 @@
 -- No message of a transaction came after the newest input.
 use Rattle.std.proofs.Common.{◌≡◌, ◌≤◌, ℕ, Bool, true, false, cond, List, [], ◌∷◌, Option, Some, None, refl, sym, ap, subst, arith}
+use Rattle.std.proofs.lemmas.Option.{same_Some}
 use Rattle.alfred_core.specs.Transactions.{newest_moment as newest_message}
 use Rattle.alfred_store.specs.StoreStands.{IsBefore, KnownStore, store_in}
 use Rattle.alfred_store.proofs.StoreLemmas.{answering, pushed}
@@ -8,12 +9,15 @@ use Rattle.mesh_base.specs.declared.client.Vid.{Vid}
 use Rattle.mesh_model.specs.declared.line_form.AlfredMode.{AlfredMode}
 use Rattle.mesh_model.specs.declared.line_form.AlfredMode.TheVariants.{Off, Primary as IsPrimary, Secondary}
 use Rattle.mesh_model.specs.declared.packet.Head.{Head}
+use Rattle.mesh_model.specs.declared.packet.Head.TheVariants.{IvOgm, Bcast, Elp, Ogm2, Unicast, Frag, Unicast4, Icmp, Utvlv}
 use Rattle.mesh_model.specs.Clients.Log.{Given, Tick, LinkFrame, LanFrame, Line, LineGiven, Attach, Frame, Gone, Join, Leave, Arp, Dhcp, Sets, Put, Get, Ping, Trace, Reboot, Log}
 use Rattle.mesh_model.specs.Clients.Mentions.{key_of, mentions, next_mentions, passed_from_lan}
-use Rattle.mesh_model.specs.Clients.Settings.{Setting, Wifi, Gateway, Multicast, ArpTable, FactStore}
+use Rattle.mesh_model.specs.Clients.Settings.{Setting, Wifi, Gateway, Multicast, ArpTable, FactStore, LongestWhole}
 use Rattle.mesh_model.specs.Knowledge.FactStore.{after_answering, after_brought, after_fact_message, after_get, after_push, after_store_message, txn_call}
+use Rattle.mesh_model.specs.Fragments.Assembly.{PartCall, part_of}
 use Rattle.mesh_model.specs.Knowledge.Known.{Knowledge}
 use Rattle.mesh_model.specs.Knowledge.Pairs.{after_arp, after_came, after_question, is_asked, with_ask, with_learned}
+use Rattle.mesh_model.specs.Knowledge.PutTogether.{fact_carried, put_together, with_part}
 use Rattle.mesh_model.specs.Knowledge.Steps.{Coming, after_call, after_frame, after_packet, after_packets, after_passed, after_sighting, after_tick, knowledge, line_knowledge, next_knowledge, with_set}
 use Rattle.mesh_model.specs.Knowledge.Told.{message_of}
 use Rattle.mesh_model.specs.Packets.ArpMessages.{ArpCame, Asks, Puts, Tells}
@@ -24,7 +28,7 @@ use Rattle.mesh_model.specs.Packets.LinkFrame.{link_frame}
 use Rattle.mesh_model.specs.Routes.Queries.{Queries}
 use Rattle.mesh_model.specs.Services.ArpTable.{AskedFor}
 use Rattle.mesh_model.specs.Services.Transactions.{APart, AnEnd, TxnCall, made_whole}
-use Rattle.mesh_laws.proofs.KeptLemmas.{HasCome, Kept, brings, call_kept, frame_kept, get_kept, head_comes, kept_of, leaves, passed_kept, stores, tick_kept}
+use Rattle.mesh_laws.proofs.KeptLemmas.{HasCome, Kept, brings, call_kept, frame_kept, get_kept, head_comes, head_part, joins, kept_of, leaves, passed_kept, stores, tick_kept}
 use Rattle.mesh_node.specs.NodeStands.{IsRising}
 use Rattle.node_ground.specs.OwnStands.{newest_moment}
 
@@ -84,10 +88,25 @@ arp_before now came known before = go known.services.settings.arp_table came
     go true (Some (Asks m)) = before
     go true (Some (Tells m)) = record { pushes = before.pushes; answers = before.answers }
 
+-- a part comes at the moment of its packet
+pub part_moment : (now : ℕ) (head : Head) (tail : List ℕ) (call : PartCall) → head_part now head tail ≡ Some call → call.moment ≡ now
+part_moment now (IvOgm ttl flags seq orig prev tq) tail call is = absurd cc
+part_moment now (Bcast ttl seq orig) tail call is = absurd cc
+part_moment now (Elp orig seq interval) tail call is = absurd cc
+part_moment now (Ogm2 ttl flags seq orig throughput) tail call is = absurd cc
+part_moment now (Unicast ttl ttvn dst) tail call is = absurd cc
+part_moment now (Frag ttl number priority dst orig seq total) tail call is = ap (λ (c : PartCall). c.moment) (sym (same_Some (part_of now orig seq total number tail) call is))
+part_moment now (Unicast4 ttl ttvn dst src subtype) tail call is = absurd cc
+part_moment now (Icmp ttl msg dst orig uid seq) tail call is = absurd cc
+part_moment now (Utvlv ttl dst src) tail call is = absurd cc
+
 step_before : (now : ℕ) (head : Head) (tail : List ℕ) (known after : Knowledge) → HasCome now head tail known after → IsBefore (store_in known) now → IsBefore (store_in after) now
 step_before now head tail known _ (leaves after same) before = stays known after now same before
 step_before now head tail known _ (brings came) before = arp_before now came known before
-step_before now head tail known _ (stores told amid payload of same) before = message_before now told amid (stays known amid now same before)
+step_before now head tail known _ (stores told amid payload uncut of same) before = message_before now told amid (stays known amid now same before)
+step_before now head tail known _ (joins call payload is) before =
+    subst (λ moment. IsBefore (store_in (after_fact_message moment (fact_carried (put_together call known.parts)) (with_part call known))) now) (sym (part_moment now head tail call is))
+    (message_before now (fact_carried (put_together call known.parts)) (with_part call known) before)
 
 -- a packet
 pub packet_before : (q : Queries) (me : Mac) (came : Coming) (known : Knowledge) (packet : Packet) → IsBefore (store_in known) came.now → IsBefore (store_in (after_packet q me came known packet)) came.now
@@ -118,6 +137,7 @@ set_before (Gateway part) known now before = before
 set_before (Multicast flags) known now before = before
 set_before (ArpTable on) known now before = before
 set_before (FactStore mode) known now before = before
+set_before (LongestWhole size) known now before = before
 
 line_before : (q : Queries) (me : Mac) (older : Log) (known : Knowledge) (now : ℕ) (line : LineGiven) → IsBefore (store_in known) now → IsBefore (store_in (line_knowledge q me older known now line)) now
 line_before q me older known now (Attach lan gateways) before = before

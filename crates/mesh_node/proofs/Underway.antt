@@ -1,6 +1,5 @@
 -- A link frame of which the first packets were taken: what is then known, and where the port stands.
 use Rattle.std.proofs.Common.{◌≡◌, ℕ, List, [], ◌∷◌, refl, subst, Option, Result, Ok, Err}
-use Rattle.alfred_store.specs.StoreStands.{IsBefore, store_in}
 use Rattle.mesh_base.specs.declared.address.Mac.{Mac}
 use Rattle.mesh_model.specs.declared.act.Act.{Act}
 use Rattle.mesh_model.specs.declared.ending.LimitName.{LimitName}
@@ -19,7 +18,8 @@ use Rattle.node_ground.specs.Puts.{Puts}
 use Rattle.node_ground.proofs.PutsLemmas.{puts_behind, stops_among}
 use Rattle.node_lans.specs.BridgeStands.{BridgeStands}
 use Rattle.node_lans.specs.declared.bridge.Bridge as kept_bridge
-use Rattle.mesh_node.proofs.StoreMoments.{packet_before}
+use Rattle.mesh_node.specs.Past.{IsPast}
+use Rattle.mesh_node.proofs.PartMoments.{packet_past}
 use Rattle.tt_local.specs.Locals.{LocalsView}
 
 module _ {A P : Type 0} (stands : A → Mac → RouteLog → Type 0) (queries : Mac → Queries)
@@ -34,8 +34,8 @@ module _ {A P : Type 0} (stands : A → Mac → RouteLog → Type 0) (queries : 
 
   -- what is kept and a port behind the packets before the rest
   pub record IsUnderway (whole rest : List Packet) (first kept : NodeKnowledge A) (old mid : P) : Type 0 where
-    pub each : (known : Knowledge) (number : ℕ) → KnowledgeStands stands first me known → IsBefore (store_in known) came.now
-        → (here : Knowledge) × KnowledgeStands stands kept me here × IsBefore (store_in here) came.now × IsBetween (coming came number) whole rest known here old mid
+    pub each : (known : Knowledge) (number : ℕ) → KnowledgeStands stands first me known → IsPast known came.now
+        → (here : Knowledge) × KnowledgeStands stands kept me here × IsPast here came.now × IsBetween (coming came number) whole rest known here old mid
 
   -- before the first
   pub begins : (whole : List Packet) (kept : NodeKnowledge A) (port : P) → IsUnderway whole whole kept kept port port
@@ -45,8 +45,8 @@ module _ {A P : Type 0} (stands : A → Mac → RouteLog → Type 0) (queries : 
 
   -- behind one more
   pub goes_on : (whole rest : List Packet) (packet : Packet) (first kept next : NodeKnowledge A) (old mid new : P) → IsUnderway whole (packet ∷ rest) first kept old mid
-      → ((known : Knowledge) (number : ℕ) → KnowledgeStands stands kept me known → IsBefore (store_in known) came.now → KnowledgeStands stands next me (after_packet (queries me) me (coming came number) known packet))
-      → ((known : Knowledge) (own : Own) (number : ℕ) → KnowledgeStands stands kept me known → IsBefore (store_in known) came.now → OwnStands locals own came.now → BridgeStands bridge me own.bridge
+      → ((known : Knowledge) (number : ℕ) → KnowledgeStands stands kept me known → IsPast known came.now → KnowledgeStands stands next me (after_packet (queries me) me (coming came number) known packet))
+      → ((known : Knowledge) (own : Own) (number : ℕ) → KnowledgeStands stands kept me known → IsPast known came.now → OwnStands locals own came.now → BridgeStands bridge me own.bridge
       → Puts takes same over mid (packet_acts (queries me) me own (coming came number) known packet) (Ok tt) new)
       → IsUnderway whole rest first next old new
   unfolding packets_acts
@@ -56,7 +56,7 @@ module _ {A P : Type 0} (stands : A → Mac → RouteLog → Type 0) (queries : 
         let then : Knowledge = after_packet (queries me) me (coming came number) at.0 packet in (
           then,
           noted at.0 number at.1 at.2,
-          packet_before (queries me) me (coming came number) at.0 packet at.2,
+          packet_past (queries me) me (coming came number) at.0 packet at.2,
           record {
             heard = at.3.heard;
             puts = λ own owns bridged result end puts. at.3.puts own owns bridged result end
@@ -69,9 +69,9 @@ module _ {A P : Type 0} (stands : A → Mac → RouteLog → Type 0) (queries : 
   -- it stops at one
   pub stops : (whole rest : List Packet) (packet : Packet) (first kept : NodeKnowledge A) (old mid new : P) (error : NodeErr)
       → IsUnderway whole (packet ∷ rest) first kept old mid
-      → ((known : Knowledge) (own : Own) (number : ℕ) → KnowledgeStands stands kept me known → IsBefore (store_in known) came.now → OwnStands locals own came.now → BridgeStands bridge me own.bridge
+      → ((known : Knowledge) (own : Own) (number : ℕ) → KnowledgeStands stands kept me known → IsPast known came.now → OwnStands locals own came.now → BridgeStands bridge me own.bridge
       → Puts takes same over mid (packet_acts (queries me) me own (coming came number) known packet) (Err error) new)
-      → (known : Knowledge) (own : Own) (number : ℕ) → KnowledgeStands stands first me known → IsBefore (store_in known) came.now → OwnStands locals own came.now → BridgeStands bridge me own.bridge
+      → (known : Knowledge) (own : Own) (number : ℕ) → KnowledgeStands stands first me known → IsPast known came.now → OwnStands locals own came.now → BridgeStands bridge me own.bridge
       → Puts takes same over old (packets_acts (queries me) me own (coming came number) known whole) (Err error) new
   unfolding packets_acts
   stops whole rest packet first kept old mid new error way put known own number is before owns bridged =
@@ -81,14 +81,14 @@ module _ {A P : Type 0} (stands : A → Mac → RouteLog → Type 0) (queries : 
 
   -- behind the last
   pub ends_noted : (whole : List Packet) (first kept : NodeKnowledge A) (old mid : P) → IsUnderway whole [] first kept old mid
-      → (known : Knowledge) (number : ℕ) → KnowledgeStands stands first me known → IsBefore (store_in known) came.now
+      → (known : Knowledge) (number : ℕ) → KnowledgeStands stands first me known → IsPast known came.now
       → KnowledgeStands stands kept me (after_packets (queries me) me (coming came number) known whole)
   ends_noted whole first kept old mid way known number is before =
       let at = way.each known number is before in
       subst (λ here. KnowledgeStands stands kept me here) at.3.heard at.1
 
   pub ends_put : (whole : List Packet) (first kept : NodeKnowledge A) (old mid : P) → IsUnderway whole [] first kept old mid
-      → (known : Knowledge) (own : Own) (number : ℕ) → KnowledgeStands stands first me known → IsBefore (store_in known) came.now → OwnStands locals own came.now → BridgeStands bridge me own.bridge
+      → (known : Knowledge) (own : Own) (number : ℕ) → KnowledgeStands stands first me known → IsPast known came.now → OwnStands locals own came.now → BridgeStands bridge me own.bridge
       → Puts takes same over old (packets_acts (queries me) me own (coming came number) known whole) (Ok tt) mid
   unfolding packets_acts
   ends_put whole first kept old mid way known own number is before owns bridged = (way.each known number is before).3.puts own owns bridged (Ok tt) mid refl

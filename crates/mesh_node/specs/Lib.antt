@@ -1,3 +1,5 @@
 -- The words of the contracts.
 pub mod NodeStands
+pub mod Past
+pub mod Fragments
 pub mod Questions

@@ -1,10 +1,11 @@
 -- What a node stands for: the log of the node of an address. What it keeps of the others stands for
 -- what it knows by that log, its local clients for the mentions and the commits there, its bridge for
--- the LAN and the claims there, whose moments never fall, and it has refused nothing. `stands` is the
--- algorithm's own word. The main word is `NodeStands`.
+-- the LAN and the claims there, whose moments never fall, it has refused nothing, and it counted its
+-- cuts. `stands` is the algorithm's own word. The main word is `NodeStands`.
 use Rattle.std.specs.Prelude.{◌≡◌, ◌≤◌, ℕ, Bool, true, false, List, [], ◌∷◌, ⊤}
 use Rattle.mesh_base.specs.declared.address.Mac.{Mac}
 use Rattle.mesh_model.specs.declared.service.GroupRow.{GroupRow}
+use Rattle.mesh_model.specs.Acts.Choosing.{cuts_by}
 use Rattle.mesh_model.specs.Clients.Lans.{bridge}
 use Rattle.mesh_model.specs.Clients.Log.{Given, Log}
 use Rattle.mesh_model.specs.Clients.Log as log
@@ -17,7 +18,7 @@ use Rattle.node_ground.specs.KnowledgeStands.{KnowledgeStands}
 use Rattle.node_ground.specs.OwnStands.{HasClients, newest_moment}
 use Rattle.node_lans.specs.BridgeStands.{BridgeStands}
 use Rattle.mesh_node.specs.declared.input.Input.{Input}
-use Rattle.mesh_node.specs.declared.input.Input.TheVariants.{Tick, Link, Lan, Attach, Frame, Gone, Join, Leave, Arp, Dhcp, Wifi, GwOff, GwServer, GwClient, Mcast, Dat, Alfred, Put, Get, Ping, Trace, Reboot}
+use Rattle.mesh_node.specs.declared.input.Input.TheVariants.{Tick, Link, Lan, Attach, Frame, Gone, Join, Leave, Arp, Dhcp, Wifi, GwOff, GwServer, GwClient, Mcast, Dat, Frag, Alfred, Put, Get, Ping, Trace, Reboot}
 use Rattle.mesh_node.specs.declared.node.Node.{Node}
 
 -- moments never fall from input to input
@@ -25,8 +26,8 @@ abbrev pub IsRising : Log → Type 0
 IsRising [] = ⊤
 IsRising (entry ∷ older) = (newest_moment older ≤ entry.moment) × IsRising older
 
--- the node stands for this log of the node of an address
-pub record NodeStands {A : Type 0} (stands : A → Mac → RouteLog → Type 0)
+-- what the node keeps besides its count of cuts stands for this log of the node of an address
+pub record KeepsLog {A : Type 0} (stands : A → Mac → RouteLog → Type 0)
     (queries : Mac → Queries) (node : Node A) (me : Mac) (log : Log) : Type 0 where
   pub mac : node.me ≡ me
   pub kept : KnowledgeStands stands node.kept me (knowledge (queries me) me log)
@@ -34,6 +35,12 @@ pub record NodeStands {A : Type 0} (stands : A → Mac → RouteLog → Type 0)
   pub bridge : BridgeStands node.bridge me (bridge log)
   pub rising : IsRising log
   pub alive : node.dead ≡ false
+
+-- the node stands for this log of the node of an address
+pub record NodeStands {A : Type 0} (stands : A → Mac → RouteLog → Type 0)
+    (queries : Mac → Queries) (node : Node A) (me : Mac) (log : Log) : Type 0 where
+  pub keeps : KeepsLog stands queries node me log
+  pub cuts : node.cuts ≡ cuts_by (queries me) me log
 
 -- what an input gives a node, where a link frame has this number
 abbrev pub given_by : ℕ → Input → Given
@@ -55,6 +62,7 @@ given_by number (GwClient policy) =
     log.Line (log.Sets (settings.Gateway (settings.Chooses policy)))
 given_by number (Mcast flags) = log.Line (log.Sets (settings.Multicast flags))
 given_by number (Dat on) = log.Line (log.Sets (settings.ArpTable on))
+given_by number (Frag size) = log.Line (log.Sets (settings.LongestWhole size))
 given_by number (Alfred mode) = log.Line (log.Sets (settings.FactStore mode))
 given_by number (Put type_no version text) = log.Line (log.Put type_no version text.now)
 given_by number (Get type_no) = log.Line (log.Get type_no)
@@ -93,6 +101,7 @@ MayFollow known (GwServer down up) = ⊤
 MayFollow known (GwClient policy) = ⊤
 MayFollow known (Mcast flags) = ⊤
 MayFollow known (Dat on) = ⊤
+MayFollow known (Frag size) = ⊤
 MayFollow known (Alfred mode) = ⊤
 MayFollow known (Put type_no version text) = ⊤
 MayFollow known (Get type_no) = ⊤

@@ -3,8 +3,8 @@
 
 ghost use Rattle.std.specs.Prelude.{◌≡◌, ◌↔◌, ◌≤◌, length, slice_get, IsNone, OnOk};
 ghost use Rattle.mesh_base.specs.declared.address.Mac.{Mac};
-ghost use Rattle.mesh_model.specs.Acts.Choosing.{acts_of};
-ghost use Rattle.mesh_model.specs.Acts.NodeLimits.{node_limit};
+ghost use Rattle.mesh_model.specs.Acts.Choosing.{whole_acts};
+ghost use Rattle.mesh_model.specs.Acts.NodeLimits.{client_limit};
 ghost use Rattle.mesh_model.specs.Clients.Log.{Log};
 ghost use Rattle.mesh_model.specs.Clients.Mentions.{Sighted, sighted_after};
 ghost use Rattle.mesh_model.specs.Knowledge.Steps.{knowledge, next_knowledge};
@@ -13,7 +13,7 @@ ghost use Rattle.node_clients.specs.FrameRows.{Before};
 ghost use Rattle.node_ground.specs.KnowledgeStands.{KnowledgeStands};
 ghost use Rattle.node_ground.specs.OwnStands.{HasClients, newest_moment, with_input};
 ghost use Rattle.node_ground.specs.Puts.{Leaves};
-ghost use Rattle.mesh_node.specs.NodeStands.{NodeStands, is_dead};
+ghost use Rattle.mesh_node.specs.NodeStands.{KeepsLog, NodeStands, is_dead};
 ghost use Rattle.mesh_node.specs.Questions.{given_question};
 
 use crate::node::Node;
@@ -40,8 +40,8 @@ fn ask_sighted<A: Algo, P: Port>(
         Before A.stands A.queries kept.old locals.old at.me log at.now →
         Sighted flags ≡ sighted_after log →
         let given = given_question asked in
-        Leaves P.takes P.same P.over (node_limit at.me log at.now given) port.old
-        (acts_of (A.queries at.me) at.me log at.now given) result port.new }
+        Leaves P.takes P.same P.over (client_limit at.me log at.now given) port.old
+        (whole_acts (A.queries at.me) at.me log at.now given) result port.new }
     ensures noted { (log : Log) →
         Before A.stands A.queries kept.old locals.old at.me log at.now →
         let before = knowledge (A.queries at.me) at.me log in
@@ -70,14 +70,14 @@ impl<A: Algo> Node<A> {
         now: Millis,
         asked: Question,
     ) -> Result<(), NodeErr>
-        ensures puts { (me : Mac) (log : Log) → NodeStands A.stands A.queries self.old me log →
+        ensures puts { (me : Mac) (log : Log) → KeepsLog A.stands A.queries self.old me log →
             newest_moment log ≤ now →
             let given = given_question asked in
-            Leaves P.takes P.same P.over (node_limit me log now given) port.old
-            (acts_of (A.queries me) me log now given) result port.new }
-        ensures noted { (me : Mac) (log : Log) → NodeStands A.stands A.queries self.old me log →
+            Leaves P.takes P.same P.over (client_limit me log now given) port.old
+            (whole_acts (A.queries me) me log now given) result port.new }
+        ensures noted { (me : Mac) (log : Log) → KeepsLog A.stands A.queries self.old me log →
             newest_moment log ≤ now →
-            OnOk result (NodeStands A.stands A.queries self.new me
+            OnOk result (KeepsLog A.stands A.queries self.new me
             (with_input (A.queries me) me log now (given_question asked))) }
         ensures alive { is_dead self.new ≡ is_dead self.old }
     {

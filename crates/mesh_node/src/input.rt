@@ -71,6 +71,8 @@ pub enum Input<'a> {
     Mcast(u8),
     /// Whether this node takes part in the distributed ARP table.
     Dat(bool),
+    /// The greatest length of a packet for one node that goes whole, 0 where all do.
+    Frag(u16),
     /// The part of this node in the fact store.
     Alfred(AlfredMode),
     /// This node puts a fact of its own.

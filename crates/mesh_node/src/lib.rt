@@ -4,6 +4,7 @@
 
 mod asking;
 mod carrying;
+mod fragments;
 pub mod input;
 pub mod node;
 mod rebooting;

@@ -1,11 +1,12 @@
 ghost use Rattle.std.specs.Prelude.{◌≡◌, ◌↔◌, ◌≤◌, ℕ, true, false, [], Err, option_map, OnOk, is_err};
 ghost use Rattle.mesh_base.specs.declared.address.Mac.{Mac};
-ghost use Rattle.mesh_model.specs.Acts.Choosing.{acts_of};
+ghost use Rattle.mesh_model.specs.Acts.Choosing.{acts_of, cutter_by};
 ghost use Rattle.mesh_model.specs.Acts.NodeLimits.{node_limit};
 ghost use Rattle.mesh_model.specs.Clients.Lans.{bridge};
 ghost use Rattle.mesh_model.specs.Clients.Log.{Given, Log};
 ghost use Rattle.mesh_model.specs.Knowledge.Steps.{knowledge};
 ghost use Rattle.mesh_node.specs.NodeStands.{NodeStands, MayTake, given_by, is_dead};
+ghost use Rattle.node_cuts.specs.Collected.{cutter_of};
 ghost use Rattle.node_ground.specs.OwnStands.{with_input};
 ghost use Rattle.node_ground.specs.OwnStands.{HasClients, newest_moment};
 ghost use Rattle.node_ground.specs.Puts.{Leaves};
@@ -17,6 +18,7 @@ use crate::input::Input;
 use mesh_algo::Algo;
 use mesh_base::{Mac, Millis};
 use mesh_bla::Claims;
+use node_cuts::{Acts, Cutter, hand_over};
 use node_ground::{NodeErr, NodeKnowledge, Port};
 use node_lans::Bridge;
 use std::alloc::Global;
@@ -31,6 +33,8 @@ pub struct Node<A: Algo> {
     pub(crate) locals: Locals,
     pub(crate) kept: NodeKnowledge<A>,
     pub(crate) bridge: Bridge,
+    /// How many cuts it made.
+    pub(crate) cuts: u16,
     pub(crate) dead: bool,
 }
 
@@ -45,6 +49,7 @@ impl<A: Algo> Node<A> {
             locals: Locals::new(alloc),
             kept: NodeKnowledge::new(alloc, me, algo),
             bridge: Bridge::new(alloc, me),
+            cuts: 0,
             dead: false,
         }
     }
@@ -111,12 +116,12 @@ impl<A: Algo> Node<A> {
         requires { is_dead self.old ≡ false → MayTake A.stands A.queries self.old now input.now }
 
         // The acts are put in order, up to the first that is refused, whatever number a link frame
-        // has; and where the input passes a limit of clients, those before the sighting. Moments
-        // never fall.
+        // has; and where the input passes a limit of clients, those before the sighting, and where
+        // it passes that of cuts, those before the cut. Moments never fall.
         ensures puts { (me : Mac) (log : Log) (number : ℕ) →
             NodeStands A.stands A.queries self.old me log → newest_moment log ≤ now →
             let given : Given = given_by number input.now in
-            Leaves P.takes P.same P.over (node_limit me log now given)
+            Leaves P.takes P.same P.over (node_limit (A.queries me) me log now given)
             port.old (acts_of (A.queries me) me log now given) result port.new }
         ensures noted { (me : Mac) (log : Log) (number : ℕ) →
             NodeStands A.stands A.queries self.old me log → newest_moment log ≤ now →
@@ -131,12 +136,28 @@ impl<A: Algo> Node<A> {
         if self.dead {
             return Err(NodeErr::Dead);
         }
-        match self.carry_out(port, now, input) {
-            Ok(()) => Ok(()),
+        let mut cutter = self.cutter();
+        let mut acts = Acts::new(self.kept.alloc);
+        let answer = self.carry_out(&mut acts, now, input);
+        match hand_over(&mut cutter, self.kept.alloc, port, acts, answer) {
+            Ok(()) => {
+                self.cuts = cutter.cuts;
+                Ok(())
+            }
             Err(error) => {
                 self.dead = true;
                 Err(error)
             }
         }
+    }
+
+    // How it cuts.
+    fn cutter(&self) -> Cutter
+        ensures cuts { (me : Mac) (log : Log) → NodeStands A.stands A.queries self.now me log →
+            cutter_of result ≡ cutter_by (A.queries me) me log }
+        ensures few { result.cuts ≤ 65535 }
+    {
+        let most = self.kept.services.settings.longest_whole;
+        Cutter::new(self.me, most, self.cuts)
     }
 }

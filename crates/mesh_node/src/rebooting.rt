@@ -2,10 +2,10 @@
 
 ghost use Rattle.std.specs.Prelude.{◌≡◌, ◌≤◌, OnOk};
 ghost use Rattle.mesh_base.specs.declared.address.Mac.{Mac};
-ghost use Rattle.mesh_model.specs.Acts.Choosing.{acts_of};
+ghost use Rattle.mesh_model.specs.Acts.Choosing.{whole_acts};
 ghost use Rattle.mesh_model.specs.Clients.Log.{Log};
 ghost use Rattle.mesh_model.specs.Clients.Log as given;
-ghost use Rattle.mesh_node.specs.NodeStands.{NodeStands, is_dead};
+ghost use Rattle.mesh_node.specs.NodeStands.{KeepsLog, is_dead};
 ghost use Rattle.node_ground.specs.OwnStands.{newest_moment, with_input};
 ghost use Rattle.node_ground.specs.Puts.{Puts};
 
@@ -18,12 +18,12 @@ use node_tables::reboots::reboot;
 impl<A: Algo> Node<A> {
     // Reboots: it forgets all but its settings, and makes a new first commit.
     pub(crate) fn take_reboot<P: Port>(&mut self, port: &mut P, now: Millis) -> Result<(), NodeErr>
-        ensures puts { (me : Mac) (log : Log) → NodeStands A.stands A.queries self.old me log →
+        ensures puts { (me : Mac) (log : Log) → KeepsLog A.stands A.queries self.old me log →
             Puts P.takes P.same P.over port.old
-            (acts_of (A.queries me) me log now (given.Line given.Reboot)) result port.new }
-        ensures noted { (me : Mac) (log : Log) → NodeStands A.stands A.queries self.old me log →
+            (whole_acts (A.queries me) me log now (given.Line given.Reboot)) result port.new }
+        ensures noted { (me : Mac) (log : Log) → KeepsLog A.stands A.queries self.old me log →
             newest_moment log ≤ now →
-            OnOk result (NodeStands A.stands A.queries self.new me
+            OnOk result (KeepsLog A.stands A.queries self.new me
             (with_input (A.queries me) me log now (given.Line given.Reboot))) }
         ensures alive { is_dead self.new ≡ is_dead self.old }
     {

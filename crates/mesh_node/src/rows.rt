@@ -1,19 +1,20 @@
 //! The rows of ticks and packets, one function each.
 
 ghost use Rattle.std.specs.Prelude.{ℕ, OnOk};
-ghost use Rattle.alfred_store.specs.StoreStands.{IsBefore, store_in};
 ghost use Rattle.mesh_codec.specs.Frames.{seen};
 ghost use Rattle.mesh_model.specs.Acts.Rows.{Own, packet_acts, packets_acts};
 ghost use Rattle.mesh_model.specs.Knowledge.Known.{Knowledge};
 ghost use Rattle.mesh_model.specs.Knowledge.Steps.{after_packet, after_packets};
 ghost use Rattle.mesh_model.specs.Packets.Layout.{HasSpelling};
 ghost use Rattle.mesh_model.specs.Packets.LinkFrame.{link_frame};
+ghost use Rattle.mesh_node.specs.Past.{IsPast};
 ghost use Rattle.node_ground.specs.KnowledgeStands.{KnowledgeStands, coming};
 ghost use Rattle.node_ground.specs.OwnStands.{OwnStands};
 ghost use Rattle.node_ground.specs.Puts.{Puts};
 ghost use Rattle.node_lans.specs.BridgeStands.{BridgeStands};
 
 use crate::carrying::{broadcast_came, unicast_came};
+use crate::fragments::{Fragment, fragment_came};
 use mesh_algo::Algo;
 use mesh_base::Mac;
 use mesh_codec::{Head, LinkFrame, Packet};
@@ -45,13 +46,13 @@ fn packet<A: Algo, P: Port>(
     requires owns { (own : Own) × OwnStands locals.now own came.now }
     requires written { HasSpelling packet.now.head packet.now.tail.now }
     ensures puts { (known : Knowledge) (own : Own) (number : ℕ) →
-        KnowledgeStands A.stands kept.old me known → IsBefore (store_in known) came.now →
+        KnowledgeStands A.stands kept.old me known → IsPast known came.now →
         OwnStands locals.now own came.now → BridgeStands bridge.now me own.bridge →
         Puts P.takes P.same P.over port.old
         (packet_acts (A.queries me) me own (coming came number) known (seen packet.now))
         result port.new }
     ensures noted { (known : Knowledge) (number : ℕ) →
-        KnowledgeStands A.stands kept.old me known → IsBefore (store_in known) came.now →
+        KnowledgeStands A.stands kept.old me known → IsPast known came.now →
         OnOk result (KnowledgeStands A.stands kept.new me
         (after_packet (A.queries me) me (coming came number) known (seen packet.now))) }
 {
@@ -107,7 +108,26 @@ fn packet<A: Algo, P: Port>(
             };
             packet_with_sender(kept, port, at, head, tail)?;
         }
-        Head::Frag { .. } => {}
+        Head::Frag {
+            ttl,
+            number,
+            priority,
+            dst,
+            orig,
+            seq,
+            total,
+        } => {
+            let fragment = Fragment {
+                ttl,
+                number,
+                priority,
+                dst,
+                orig,
+                seq,
+                total,
+            };
+            fragment_came(kept, port, locals, bridge, at, fragment, tail)?;
+        }
     }
     Ok(())
 }
@@ -123,16 +143,16 @@ pub(crate) fn link<A: Algo, P: Port>(
     bytes: &[u8],
 ) -> Result<(), NodeErr>
     requires stands { (known : Knowledge) × KnowledgeStands A.stands kept.old me known
-        × IsBefore (store_in known) came.now }
+        × IsPast known came.now }
     requires owns { (own : Own) × OwnStands locals.now own came.now }
     ensures puts { (known : Knowledge) (own : Own) (number : ℕ) →
-        KnowledgeStands A.stands kept.old me known → IsBefore (store_in known) came.now →
+        KnowledgeStands A.stands kept.old me known → IsPast known came.now →
         OwnStands locals.now own came.now → BridgeStands bridge.now me own.bridge →
         Puts P.takes P.same P.over port.old
         (packets_acts (A.queries me) me own (coming came number) known
         (link_frame bytes.now).packets) result port.new }
     ensures noted { (known : Knowledge) (number : ℕ) →
-        KnowledgeStands A.stands kept.old me known → IsBefore (store_in known) came.now →
+        KnowledgeStands A.stands kept.old me known → IsPast known came.now →
         OnOk result (KnowledgeStands A.stands kept.new me
         (after_packets (A.queries me) me (coming came number) known
         (link_frame bytes.now).packets)) }

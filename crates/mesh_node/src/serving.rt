@@ -3,8 +3,8 @@
 
 ghost use Rattle.std.specs.Prelude.{◌≡◌, ◌↔◌, ◌≤◌, length, option_map, slice_get, IsNone, OnOk};
 ghost use Rattle.mesh_base.specs.declared.address.Mac.{Mac};
-ghost use Rattle.mesh_model.specs.Acts.Choosing.{acts_of};
-ghost use Rattle.mesh_model.specs.Acts.NodeLimits.{node_limit};
+ghost use Rattle.mesh_model.specs.Acts.Choosing.{whole_acts};
+ghost use Rattle.mesh_model.specs.Acts.NodeLimits.{client_limit};
 ghost use Rattle.mesh_model.specs.Clients.Log.{Log};
 ghost use Rattle.mesh_model.specs.Clients.Log as given;
 ghost use Rattle.mesh_model.specs.Knowledge.Offers.{gateway_rows, group_rows};
@@ -14,7 +14,7 @@ ghost use Rattle.node_clients.specs.FrameRows.{given_call};
 ghost use Rattle.node_ground.specs.OwnStands.{newest_moment, with_input};
 ghost use Rattle.node_ground.specs.Puts.{Leaves};
 ghost use Rattle.node_ground.specs.SettingsSeen.{setting_seen};
-ghost use Rattle.mesh_node.specs.NodeStands.{NodeStands, flags_of, is_dead};
+ghost use Rattle.mesh_node.specs.NodeStands.{KeepsLog, NodeStands, flags_of, is_dead};
 
 use crate::node::Node;
 use crate::taking::client_flags;
@@ -28,9 +28,9 @@ use node_ground::{GatewayPart, NodeErr, Place, Port, Setting};
 impl<A: Algo> Node<A> {
     // Sets one of its settings.
     pub(crate) fn set(&mut self, now: Millis, setting: Setting)
-        ensures noted { (me : Mac) (log : Log) → NodeStands A.stands A.queries self.old me log →
+        ensures noted { (me : Mac) (log : Log) → KeepsLog A.stands A.queries self.old me log →
             newest_moment log ≤ now →
-            NodeStands A.stands A.queries self.new me
+            KeepsLog A.stands A.queries self.new me
             (with_input (A.queries me) me log now
             (given.Line (given.Sets (setting_seen setting)))) }
         ensures alive { is_dead self.new ≡ is_dead self.old }
@@ -46,16 +46,16 @@ impl<A: Algo> Node<A> {
         key: Key,
         text: &[u8],
     ) -> Result<(), NodeErr>
-        requires { (me : Mac) × (log : Log) × NodeStands A.stands A.queries self.old me log
+        requires { (me : Mac) × (log : Log) × KeepsLog A.stands A.queries self.old me log
             × (newest_moment log ≤ now) }
-        ensures puts { (me : Mac) (log : Log) → NodeStands A.stands A.queries self.old me log →
+        ensures puts { (me : Mac) (log : Log) → KeepsLog A.stands A.queries self.old me log →
             newest_moment log ≤ now →
             let given = given_call key text.now in
-            Leaves P.takes P.same P.over (node_limit me log now given) port.old
-            (acts_of (A.queries me) me log now given) result port.new }
-        ensures noted { (me : Mac) (log : Log) → NodeStands A.stands A.queries self.old me log →
+            Leaves P.takes P.same P.over (client_limit me log now given) port.old
+            (whole_acts (A.queries me) me log now given) result port.new }
+        ensures noted { (me : Mac) (log : Log) → KeepsLog A.stands A.queries self.old me log →
             newest_moment log ≤ now →
-            OnOk result (NodeStands A.stands A.queries self.new me
+            OnOk result (KeepsLog A.stands A.queries self.new me
             (with_input (A.queries me) me log now (given_call key text.now))) }
         ensures alive { is_dead self.new ≡ is_dead self.old }
     {

@@ -7,7 +7,7 @@ ghost use Rattle.mesh_model.specs.Clients.Log.{Log};
 ghost use Rattle.mesh_model.specs.Clients.Log as given;
 ghost use Rattle.mesh_model.specs.Knowledge.Steps.{knowledge};
 ghost use Rattle.mesh_model.specs.Services.Facts.{facts_at};
-ghost use Rattle.mesh_node.specs.NodeStands.{NodeStands, is_dead};
+ghost use Rattle.mesh_node.specs.NodeStands.{KeepsLog, NodeStands, is_dead};
 ghost use Rattle.node_ground.specs.OwnStands.{newest_moment, with_input};
 ghost use Rattle.node_ground.specs.Puts.{Puts};
 
@@ -28,9 +28,9 @@ impl<A: Algo> Node<A> {
         text: &[u8],
     ) -> Result<(), NodeErr>
         ensures memory { IfErr result (λ error. error ≡ NodeErr.Memory) }
-        ensures noted { (me : Mac) (log : Log) → NodeStands A.stands A.queries self.old me log →
+        ensures noted { (me : Mac) (log : Log) → KeepsLog A.stands A.queries self.old me log →
             newest_moment log ≤ now →
-            OnOk result (NodeStands A.stands A.queries self.new me
+            OnOk result (KeepsLog A.stands A.queries self.new me
             (with_input (A.queries me) me log now
             (given.Line (given.Put type_no version text.now)))) }
         ensures alive { is_dead self.new ≡ is_dead self.old }
@@ -47,13 +47,13 @@ impl<A: Algo> Node<A> {
         now: Millis,
         type_no: u8,
     ) -> Result<(), NodeErr>
-        ensures puts { (me : Mac) (log : Log) → NodeStands A.stands A.queries self.old me log →
+        ensures puts { (me : Mac) (log : Log) → KeepsLog A.stands A.queries self.old me log →
             Puts P.takes P.same P.over port.old
             (get_acts (A.queries me) (knowledge (A.queries me) me log)
             (record { me = me; now = now }) type_no) result port.new }
-        ensures noted { (me : Mac) (log : Log) → NodeStands A.stands A.queries self.old me log →
+        ensures noted { (me : Mac) (log : Log) → KeepsLog A.stands A.queries self.old me log →
             newest_moment log ≤ now →
-            OnOk result (NodeStands A.stands A.queries self.new me
+            OnOk result (KeepsLog A.stands A.queries self.new me
             (with_input (A.queries me) me log now (given.Line (given.Get type_no)))) }
         ensures alive { is_dead self.new ≡ is_dead self.old }
     {

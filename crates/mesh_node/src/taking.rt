@@ -3,8 +3,8 @@
 ghost use Rattle.std.specs.Prelude.{◌≡◌, ◌≤◌, ℕ, if◌then◌else◌, IfErr, OnOk};
 ghost use Rattle.mesh_base.specs.declared.address.Mac.{Mac};
 ghost use Rattle.mesh_codec.specs.Payloads.{seen_frame};
-ghost use Rattle.mesh_model.specs.Acts.Choosing.{acts_of, probing_acts};
-ghost use Rattle.mesh_model.specs.Acts.NodeLimits.{node_limit};
+ghost use Rattle.mesh_model.specs.Acts.Choosing.{whole_acts, probing_acts};
+ghost use Rattle.mesh_model.specs.Acts.NodeLimits.{client_limit};
 ghost use Rattle.mesh_model.specs.Clients.Limits.{passed_limit};
 ghost use Rattle.mesh_model.specs.Clients.Log.{Given, Log};
 ghost use Rattle.mesh_model.specs.Clients.Log as given;
@@ -12,7 +12,7 @@ ghost use Rattle.mesh_model.specs.Knowledge.Steps.{knowledge};
 ghost use Rattle.mesh_model.specs.Packets.Numbers.{wifi_flag};
 ghost use Rattle.mesh_model.specs.Routes.RouteLog.{MayTick};
 ghost use Rattle.node_clients.specs.FrameRows.{given_frame};
-ghost use Rattle.mesh_node.specs.NodeStands.{NodeStands, MayTake, given_by, given_session, is_dead};
+ghost use Rattle.mesh_node.specs.NodeStands.{KeepsLog, MayTake, given_by, given_session, is_dead};
 ghost use Rattle.node_ground.specs.OwnStands.{with_input};
 ghost use Rattle.node_ground.specs.OwnStands.{newest_moment};
 ghost use Rattle.node_ground.specs.Puts.{Answers, Leaves, Puts};
@@ -44,13 +44,13 @@ impl<A: Algo> Node<A> {
     ) -> Result<(), NodeErr>
         requires { MayTake A.stands A.queries self.old now input.now }
         ensures puts { (me : Mac) (log : Log) (number : ℕ) →
-            NodeStands A.stands A.queries self.old me log → newest_moment log ≤ now →
+            KeepsLog A.stands A.queries self.old me log → newest_moment log ≤ now →
             let given : Given = given_by number input.now in
-            Leaves P.takes P.same P.over (node_limit me log now given)
-            port.old (acts_of (A.queries me) me log now given) result port.new }
+            Leaves P.takes P.same P.over (client_limit me log now given)
+            port.old (whole_acts (A.queries me) me log now given) result port.new }
         ensures noted { (me : Mac) (log : Log) (number : ℕ) →
-            NodeStands A.stands A.queries self.old me log → newest_moment log ≤ now →
-            OnOk result (NodeStands A.stands A.queries self.new me
+            KeepsLog A.stands A.queries self.old me log → newest_moment log ≤ now →
+            OnOk result (KeepsLog A.stands A.queries self.new me
             (with_input (A.queries me) me log now (given_by number input.now))) }
         ensures alive { is_dead self.new ≡ is_dead self.old }
     {
@@ -107,6 +107,7 @@ impl<A: Algo> Node<A> {
             }
             Input::Mcast(flags) => self.set(now, Setting::Multicast(flags)),
             Input::Dat(on) => self.set(now, Setting::ArpTable(on)),
+            Input::Frag(size) => self.set(now, Setting::LongestWhole(size)),
             Input::Alfred(mode) => self.set(now, Setting::FactStore(mode)),
             Input::Put {
                 type_no,
@@ -123,16 +124,16 @@ impl<A: Algo> Node<A> {
 
     // Takes a tick of its own.
     fn take_tick<P: Port>(&mut self, port: &mut P, now: Millis, index: u64) -> Result<(), NodeErr>
-        requires { (me : Mac) × (log : Log) × NodeStands A.stands A.queries self.old me log
+        requires { (me : Mac) × (log : Log) × KeepsLog A.stands A.queries self.old me log
             × (newest_moment log ≤ now)
             × MayTick (knowledge (A.queries me) me log).routes index }
-        ensures puts { (me : Mac) (log : Log) → NodeStands A.stands A.queries self.old me log →
+        ensures puts { (me : Mac) (log : Log) → KeepsLog A.stands A.queries self.old me log →
             newest_moment log ≤ now →
-            Leaves P.takes P.same P.over (node_limit me log now (given.Tick index)) port.old
-            (acts_of (A.queries me) me log now (given.Tick index)) result port.new }
-        ensures noted { (me : Mac) (log : Log) → NodeStands A.stands A.queries self.old me log →
+            Leaves P.takes P.same P.over (client_limit me log now (given.Tick index)) port.old
+            (whole_acts (A.queries me) me log now (given.Tick index)) result port.new }
+        ensures noted { (me : Mac) (log : Log) → KeepsLog A.stands A.queries self.old me log →
             newest_moment log ≤ now →
-            OnOk result (NodeStands A.stands A.queries self.new me
+            OnOk result (KeepsLog A.stands A.queries self.new me
             (with_input (A.queries me) me log now (given.Tick index))) }
         ensures alive { is_dead self.new ≡ is_dead self.old }
     {
@@ -156,17 +157,17 @@ impl<A: Algo> Node<A> {
         came: Coming,
         bytes: &[u8],
     ) -> Result<(), NodeErr>
-        requires { (me : Mac) × (log : Log) × NodeStands A.stands A.queries self.old me log
+        requires { (me : Mac) × (log : Log) × KeepsLog A.stands A.queries self.old me log
             × (newest_moment log ≤ came.now) }
         ensures puts { (me : Mac) (log : Log) (number : ℕ) →
-            NodeStands A.stands A.queries self.old me log → newest_moment log ≤ came.now →
+            KeepsLog A.stands A.queries self.old me log → newest_moment log ≤ came.now →
             let given = given.LinkFrame number came.from came.tp bytes.now in
-            Leaves P.takes P.same P.over (node_limit me log came.now given) port.old
-            (acts_of (A.queries me) me log came.now given) result port.new }
+            Leaves P.takes P.same P.over (client_limit me log came.now given) port.old
+            (whole_acts (A.queries me) me log came.now given) result port.new }
         ensures noted { (me : Mac) (log : Log) (number : ℕ) →
-            NodeStands A.stands A.queries self.old me log → newest_moment log ≤ came.now →
+            KeepsLog A.stands A.queries self.old me log → newest_moment log ≤ came.now →
             let given = given.LinkFrame number came.from came.tp bytes.now in
-            OnOk result (NodeStands A.stands A.queries self.new me
+            OnOk result (KeepsLog A.stands A.queries self.new me
             (with_input (A.queries me) me log came.now given)) }
         ensures alive { is_dead self.new ≡ is_dead self.old }
     {
@@ -185,16 +186,16 @@ impl<A: Algo> Node<A> {
 
     // Takes a frame on its LAN.
     fn take_lan<P: Port>(&mut self, port: &mut P, now: Millis, bytes: &[u8]) -> Result<(), NodeErr>
-        requires { (me : Mac) × (log : Log) × NodeStands A.stands A.queries self.old me log
+        requires { (me : Mac) × (log : Log) × KeepsLog A.stands A.queries self.old me log
             × (newest_moment log ≤ now) }
-        ensures puts { (me : Mac) (log : Log) → NodeStands A.stands A.queries self.old me log →
+        ensures puts { (me : Mac) (log : Log) → KeepsLog A.stands A.queries self.old me log →
             newest_moment log ≤ now →
             let given = given.LanFrame bytes.now in
-            Leaves P.takes P.same P.over (node_limit me log now given) port.old
-            (acts_of (A.queries me) me log now given) result port.new }
-        ensures noted { (me : Mac) (log : Log) → NodeStands A.stands A.queries self.old me log →
+            Leaves P.takes P.same P.over (client_limit me log now given) port.old
+            (whole_acts (A.queries me) me log now given) result port.new }
+        ensures noted { (me : Mac) (log : Log) → KeepsLog A.stands A.queries self.old me log →
             newest_moment log ≤ now →
-            OnOk result (NodeStands A.stands A.queries self.new me
+            OnOk result (KeepsLog A.stands A.queries self.new me
             (with_input (A.queries me) me log now (given.LanFrame bytes.now))) }
         ensures alive { is_dead self.new ≡ is_dead self.old }
     {
@@ -215,9 +216,9 @@ impl<A: Algo> Node<A> {
     // Becomes a gateway of a LAN.
     fn attach(&mut self, now: Millis, lan: u16, gateways: &[Mac]) -> Result<(), NodeErr>
         ensures memory { IfErr result (λ error. error ≡ NodeErr.Memory) }
-        ensures noted { (me : Mac) (log : Log) → NodeStands A.stands A.queries self.old me log →
+        ensures noted { (me : Mac) (log : Log) → KeepsLog A.stands A.queries self.old me log →
             newest_moment log ≤ now →
-            OnOk result (NodeStands A.stands A.queries self.new me
+            OnOk result (KeepsLog A.stands A.queries self.new me
             (with_input (A.queries me) me log now (given.Line (given.Attach lan gateways.now)))) }
         ensures alive { is_dead self.new ≡ is_dead self.old }
     {
@@ -232,16 +233,16 @@ impl<A: Algo> Node<A> {
         now: Millis,
         sent: &ClientFrame<'_>,
     ) -> Result<(), NodeErr>
-        requires { (me : Mac) × (log : Log) × NodeStands A.stands A.queries self.old me log
+        requires { (me : Mac) × (log : Log) × KeepsLog A.stands A.queries self.old me log
             × (newest_moment log ≤ now) }
-        ensures puts { (me : Mac) (log : Log) → NodeStands A.stands A.queries self.old me log →
+        ensures puts { (me : Mac) (log : Log) → KeepsLog A.stands A.queries self.old me log →
             newest_moment log ≤ now →
             let given = given_frame (seen_frame sent.now) in
-            Leaves P.takes P.same P.over (node_limit me log now given) port.old
-            (acts_of (A.queries me) me log now given) result port.new }
-        ensures noted { (me : Mac) (log : Log) → NodeStands A.stands A.queries self.old me log →
+            Leaves P.takes P.same P.over (client_limit me log now given) port.old
+            (whole_acts (A.queries me) me log now given) result port.new }
+        ensures noted { (me : Mac) (log : Log) → KeepsLog A.stands A.queries self.old me log →
             newest_moment log ≤ now →
-            OnOk result (NodeStands A.stands A.queries self.new me
+            OnOk result (KeepsLog A.stands A.queries self.new me
             (with_input (A.queries me) me log now (given_frame (seen_frame sent.now)))) }
         ensures alive { is_dead self.new ≡ is_dead self.old }
     {
@@ -259,12 +260,12 @@ impl<A: Algo> Node<A> {
         target: Mac,
         trace: bool,
     ) -> Result<(), NodeErr>
-        ensures puts { (me : Mac) (log : Log) → NodeStands A.stands A.queries self.old me log →
+        ensures puts { (me : Mac) (log : Log) → KeepsLog A.stands A.queries self.old me log →
             Puts P.takes P.same P.over port.old
             (probing_acts (A.queries me) me log now target trace) result port.new }
-        ensures noted { (me : Mac) (log : Log) → NodeStands A.stands A.queries self.old me log →
+        ensures noted { (me : Mac) (log : Log) → KeepsLog A.stands A.queries self.old me log →
             newest_moment log ≤ now →
-            OnOk result (NodeStands A.stands A.queries self.new me
+            OnOk result (KeepsLog A.stands A.queries self.new me
             (with_input (A.queries me) me log now (given_session target trace))) }
         ensures alive { is_dead self.new ≡ is_dead self.old }
     {
@@ -275,9 +276,9 @@ impl<A: Algo> Node<A> {
 
     // Notes that a client departed.
     fn lose_client(&mut self, now: Millis, key: Key)
-        ensures noted { (me : Mac) (log : Log) → NodeStands A.stands A.queries self.old me log →
+        ensures noted { (me : Mac) (log : Log) → KeepsLog A.stands A.queries self.old me log →
             newest_moment log ≤ now →
-            NodeStands A.stands A.queries self.new me
+            KeepsLog A.stands A.queries self.new me
             (with_input (A.queries me) me log now (given.Line (given.Gone key))) }
         ensures alive { is_dead self.new ≡ is_dead self.old }
     {
@@ -286,11 +287,11 @@ impl<A: Algo> Node<A> {
 
     // Notes that a client joined a group.
     fn join_group(&mut self, now: Millis, key: Key) -> Result<(), NodeErr>
-        ensures answers { (me : Mac) (log : Log) → NodeStands A.stands A.queries self.old me log →
+        ensures answers { (me : Mac) (log : Log) → KeepsLog A.stands A.queries self.old me log →
             newest_moment log ≤ now → Answers (passed_limit me log now (given.Line (given.Join key))) result }
-        ensures noted { (me : Mac) (log : Log) → NodeStands A.stands A.queries self.old me log →
+        ensures noted { (me : Mac) (log : Log) → KeepsLog A.stands A.queries self.old me log →
             newest_moment log ≤ now →
-            OnOk result (NodeStands A.stands A.queries self.new me
+            OnOk result (KeepsLog A.stands A.queries self.new me
             (with_input (A.queries me) me log now (given.Line (given.Join key)))) }
         ensures alive { is_dead self.new ≡ is_dead self.old }
     {
@@ -300,9 +301,9 @@ impl<A: Algo> Node<A> {
 
     // Notes that a group was left.
     fn leave_group(&mut self, now: Millis, key: Key)
-        ensures noted { (me : Mac) (log : Log) → NodeStands A.stands A.queries self.old me log →
+        ensures noted { (me : Mac) (log : Log) → KeepsLog A.stands A.queries self.old me log →
             newest_moment log ≤ now →
-            NodeStands A.stands A.queries self.new me
+            KeepsLog A.stands A.queries self.new me
             (with_input (A.queries me) me log now (given.Line (given.Leave key))) }
         ensures alive { is_dead self.new ≡ is_dead self.old }
     {

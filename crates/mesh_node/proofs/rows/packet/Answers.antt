@@ -1,4 +1,6 @@
-use Rattle.std.proofs.Common.{Err, sym, subst}
+use Rattle.std.proofs.Common.{Err, length, sym, subst}
+use Rattle.std.specs.List.{AllByRecursion}
+use Rattle.mesh_model.specs.Packets.Layout.{Fits, header_of}
 use Rattle.std.proofs.lemmas.Result.{err_from_is_err_and}
 use Rattle.mesh_codec.specs.Frames.{seen}
 use Rattle.mesh_model.specs.declared.packet.Head.{Head}
@@ -20,3 +22,7 @@ returns-in_ok-elp-in-Elp-clause-noted g c = λ known number stands before.
     let packet = seen c.args.packet.now in
     subst (λ (head : Head). KnowledgeStands g.A.Algo.stands c.elp.new.kept c.args.me (after_head (g.A.Algo.queries c.args.me) c.args.me came (message_of packet) packet.tail head known)) (sym c.in-Elp.is)
     (subst (λ (head : Head). KnowledgeStands g.A.Algo.stands c.elp.new.kept c.args.me (with_head came head known)) c.in-Elp.is (c.in_ok-elp-in-Elp.ensures.ok c.args.me known number stands))
+
+pub fragment_came-requires : goal.fragment_came-requires
+fragment_came-requires g c =
+    (subst (λ (h : Head). AllByRecursion Fits (header_of h (length c.args.packet.now.tail.now))) c.in-Frag.is c.requires.written.parts).1.1.1.0

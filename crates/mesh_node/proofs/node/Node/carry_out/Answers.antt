@@ -12,7 +12,7 @@ use Rattle.mesh_node.proofs.node.Node.carry_out.Goals as goal
 pub take_tick-requires : goal.take_tick-requires
 take_tick-requires g c =
     let may = c.requires in
-    (may.me, may.log, may.stand, may.later, subst (MayFollow (knowledge (g.A.Algo.queries may.me) may.me may.log)) c.in-Tick.is may.follows)
+    (may.me, may.log, may.stand.keeps, may.later, subst (MayFollow (knowledge (g.A.Algo.queries may.me) may.me may.log)) c.in-Tick.is may.follows)
 
 pub returns-in_err-take_tick-in-Tick-clause-puts : goal.returns-in_err-take_tick-in-Tick-clause-puts
 returns-in_err-take_tick-in-Tick-clause-puts g c = λ me log number is late.
@@ -32,7 +32,7 @@ returns-in_ok-take_tick-in-Tick-clause-noted g c = λ me log number is late.
 pub take_link-requires : goal.take_link-requires
 take_link-requires g c =
     let may = c.requires in
-    (may.me, may.log, may.stand, may.later)
+    (may.me, may.log, may.stand.keeps, may.later)
 
 pub returns-in_err-take_link-in-Link-clause-puts : goal.returns-in_err-take_link-in-Link-clause-puts
 returns-in_err-take_link-in-Link-clause-puts g c = λ me log number is late.
@@ -52,7 +52,7 @@ returns-in_ok-take_link-in-Link-clause-noted g c = λ me log number is late.
 pub take_lan-requires : goal.take_lan-requires
 take_lan-requires g c =
     let may = c.requires in
-    (may.me, may.log, may.stand, may.later)
+    (may.me, may.log, may.stand.keeps, may.later)
 
 pub returns-in_err-take_lan-in-Lan-clause-puts : goal.returns-in_err-take_lan-in-Lan-clause-puts
 returns-in_err-take_lan-in-Lan-clause-puts g c = λ me log number is late.
@@ -84,7 +84,7 @@ returns-in_ok-attach-in-Attach-clause-noted g c = λ me log number is late.
 pub take_frame-requires : goal.take_frame-requires
 take_frame-requires g c =
     let may = c.requires in
-    (may.me, may.log, may.stand, may.later)
+    (may.me, may.log, may.stand.keeps, may.later)
 
 pub returns-in_err-take_frame-in-Frame-clause-puts : goal.returns-in_err-take_frame-in-Frame-clause-puts
 returns-in_err-take_frame-in-Frame-clause-puts g c = λ me log number is late.
@@ -115,7 +115,7 @@ returns-in_ok-take_question-in-Arp-clause-noted g c = λ me log number is late.
 pub take_call-requires : goal.take_call-requires
 take_call-requires g c =
     let may = c.requires in
-    (may.me, may.log, may.stand, may.later)
+    (may.me, may.log, may.stand.keeps, may.later)
 
 pub returns-in_err-take_call-in-Dhcp-clause-puts : goal.returns-in_err-take_call-in-Dhcp-clause-puts
 returns-in_err-take_call-in-Dhcp-clause-puts g c = λ me log number is late.

@@ -4,10 +4,13 @@ use Rattle.mesh_node.proofs.node.Node.new.Goals as goal
 
 pub returns : goal.returns
 returns g c = record {
-  mac = refl;
-  kept = c.new-2.ensures c.requires;
-  clients = has_none _ c.args.me c.new.ensures;
-  bridge = c.new-3.ensures;
-  rising = tt;
-  alive = refl;
+  keeps = record {
+    mac = refl;
+    kept = c.new-2.ensures c.requires;
+    clients = has_none _ c.args.me c.new.ensures;
+    bridge = c.new-3.ensures;
+    rising = tt;
+    alive = refl;
+  };
+  cuts = refl;
 }

@@ -2,8 +2,8 @@ use Rattle.std.proofs.Common.{◌∙◌, Err, Ok, ap, subst, sym}
 use Rattle.std.specs.Prelude.{if◌then◌else◌}
 use Rattle.std.proofs.lemmas.Result.{err_from_is_err_and}
 use Rattle.mesh_codec.specs.Payloads.{seen_frame}
-use Rattle.mesh_model.specs.Acts.Choosing.{acts_of}
-use Rattle.mesh_model.specs.Acts.NodeLimits.{node_limit}
+use Rattle.mesh_model.specs.Acts.Choosing.{whole_acts}
+use Rattle.mesh_model.specs.Acts.NodeLimits.{client_limit}
 use Rattle.mesh_model.specs.Clients.Mentions.{Sighted}
 use Rattle.mesh_model.specs.Knowledge.Steps.{knowledge, next_knowledge}
 use Rattle.mesh_model.specs.Packets.Numbers.{wifi_flag}
@@ -30,8 +30,8 @@ returns-in_err-frame-clause-puts g c = λ me log is late.
     let given = given_frame (seen_frame c.args.sent.now) in
     let before = subst (λ m. Before g.A.Algo.stands g.A.Algo.queries c.args.self.now.kept c.args.self.now.locals m log c.args.now) (sym is.mac)
     (record { known = is.kept; clients = is.clients; later = late }) in
-    rw (p.1, p.2) (subst (λ m. Leaves g.P.Port.takes g.P.Port.same g.P.Port.over (node_limit m log c.args.now given) c.args.port.now
-    (acts_of (g.A.Algo.queries m) m log c.args.now given) (Err c.in_err-frame.field-0.0) c.frame.new.port) is.mac
+    rw (p.1, p.2) (subst (λ m. Leaves g.P.Port.takes g.P.Port.same g.P.Port.over (client_limit m log c.args.now given) c.args.port.now
+    (whole_acts (g.A.Algo.queries m) m log c.args.now given) (Err c.in_err-frame.field-0.0) c.frame.new.port) is.mac
     (c.in_err-frame.ensures.puts log before (ap Sighted c.client_flags-flags.ensures ∙ ap (λ wifi. Sighted (if wifi then wifi_flag else 0)) (wifi_is g.A.Algo.stands g.A.Algo.queries c.args.self.now me log is))))
 
 pub returns-clause-puts : goal.returns-clause-puts
@@ -39,8 +39,8 @@ returns-clause-puts g c = λ me log is late.
     let given = given_frame (seen_frame c.args.sent.now) in
     let before = subst (λ m. Before g.A.Algo.stands g.A.Algo.queries c.args.self.now.kept c.args.self.now.locals m log c.args.now) (sym is.mac)
     (record { known = is.kept; clients = is.clients; later = late }) in
-    subst (λ m. Leaves g.P.Port.takes g.P.Port.same g.P.Port.over (node_limit m log c.args.now given) c.args.port.now
-    (acts_of (g.A.Algo.queries m) m log c.args.now given) (Ok tt) c.frame.new.port) is.mac
+    subst (λ m. Leaves g.P.Port.takes g.P.Port.same g.P.Port.over (client_limit m log c.args.now given) c.args.port.now
+    (whole_acts (g.A.Algo.queries m) m log c.args.now given) (Ok tt) c.frame.new.port) is.mac
     (c.in_ok-frame.ensures.puts log before (ap Sighted c.client_flags-flags.ensures ∙ ap (λ wifi. Sighted (if wifi then wifi_flag else 0)) (wifi_is g.A.Algo.stands g.A.Algo.queries c.args.self.now me log is)))
 
 pub returns-clause-noted : goal.returns-clause-noted

@@ -12,7 +12,7 @@ use Rattle.node_ground.specs.Puts.{Leaves, Puts, behind}
 use Rattle.node_lans.specs.BridgeStands.{BridgeStands}
 use Rattle.mesh_node.proofs.GivenLemmas.{has_roamed, roaming_limit}
 use Rattle.node_ground.proofs.OwnLemmas.{owned}
-use Rattle.mesh_node.proofs.StoreMoments.{later_before}
+use Rattle.mesh_node.proofs.PartMoments.{later_past}
 use Rattle.mesh_node.proofs.node.Node.take_link.Goals as goal
 use Rattle.tt_local.specs.Locals.{LocalsStand}
 
@@ -22,7 +22,7 @@ link-requires-clause-stands g c =
     let is = c.requires.2 in (
       known,
       subst (λ m. KnowledgeStands g.A.Algo.stands c.args.self.now.kept m known) (sym is.mac) is.kept,
-      later_before (g.A.Algo.queries c.requires.0) c.requires.0 c.requires.1 c.args.came.now is.rising c.requires.3,
+      later_past (g.A.Algo.queries c.requires.0) c.requires.0 c.requires.1 c.args.came.now is.rising c.requires.3,
     )
 
 pub link-requires-clause-owns : goal.link-requires-clause-owns
@@ -39,7 +39,7 @@ returns-in_err-link-clause-puts g c = λ me log number is late.
     (sym (roaming_limit me (mentions me log) c.args.came.now packets))
     (subst (λ m. Puts g.P.Port.takes g.P.Port.same g.P.Port.over c.args.port.now
     (packets_acts (g.A.Algo.queries m) m (own_by me log) (coming c.args.came number) known packets) (Err c.in_err-link.field-0.0) c.link.new.port) is.mac
-    (c.in_err-link.ensures.puts known (own_by me log) number (subst (λ m. KnowledgeStands g.A.Algo.stands c.args.self.now.kept m known) (sym is.mac) is.kept) (later_before (g.A.Algo.queries me) me log c.args.came.now is.rising late)
+    (c.in_err-link.ensures.puts known (own_by me log) number (subst (λ m. KnowledgeStands g.A.Algo.stands c.args.self.now.kept m known) (sym is.mac) is.kept) (later_past (g.A.Algo.queries me) me log c.args.came.now is.rising late)
     (owned c.args.self.now.locals me log c.args.came.now is.clients late)
     (subst (λ m. BridgeStands c.args.self.now.bridge m (bridge log)) (sym is.mac) is.bridge))))
 
@@ -52,7 +52,7 @@ returns-clause-puts g c = λ me log number is late.
     (sym (roaming_limit me (mentions me log) c.args.came.now packets))
     (subst (λ m. Puts g.P.Port.takes g.P.Port.same g.P.Port.over c.args.port.now
     (packets_acts (g.A.Algo.queries m) m (own_by me log) (coming c.args.came number) known packets) (Ok tt) c.link.new.port) is.mac
-    (c.in_ok-link.ensures.puts known (own_by me log) number (subst (λ m. KnowledgeStands g.A.Algo.stands c.args.self.now.kept m known) (sym is.mac) is.kept) (later_before (g.A.Algo.queries me) me log c.args.came.now is.rising late)
+    (c.in_ok-link.ensures.puts known (own_by me log) number (subst (λ m. KnowledgeStands g.A.Algo.stands c.args.self.now.kept m known) (sym is.mac) is.kept) (later_past (g.A.Algo.queries me) me log c.args.came.now is.rising late)
     (owned c.args.self.now.locals me log c.args.came.now is.clients late)
     (subst (λ m. BridgeStands c.args.self.now.bridge m (bridge log)) (sym is.mac) is.bridge)))
 
@@ -64,7 +64,7 @@ returns-clause-noted g c = λ me log number is late.
     record {
       mac = is.mac;
       kept = subst (λ m. KnowledgeStands g.A.Algo.stands c.link.new.kept m (after_packets (g.A.Algo.queries m) m (coming came number) known packets)) is.mac
-          (c.in_ok-link.ensures.noted known number (subst (λ m. KnowledgeStands g.A.Algo.stands c.args.self.now.kept m known) (sym is.mac) is.kept) (later_before (g.A.Algo.queries me) me log came.now is.rising late));
+          (c.in_ok-link.ensures.noted known number (subst (λ m. KnowledgeStands g.A.Algo.stands c.args.self.now.kept m known) (sym is.mac) is.kept) (later_past (g.A.Algo.queries me) me log came.now is.rising late));
       clients = has_roamed (g.A.Algo.queries me) c.args.self.now.locals c.note_roamed.new.locals me came.from log came.now number came.tp c.args.bytes.now is.clients late
           (subst (λ m. LocalsStand c.note_roamed.new.locals (filter_map (roamed_by m came.now) packets ++ mentions me log) (history me log) is.clients.since) is.mac
           (c.note_roamed.ensures (mentions me log) (history me log) is.clients.since came.now is.clients.stand));
