@@ -38,6 +38,7 @@ set A dat off
 arp A 02:00:00:00:01:05 10.0.0.5 10.0.0.6 -
 > arp A 10.0.0.6 off
 set A dat on
+set A frag 300
 alfred B mode off
 alfred B get 255
 > alfred B get 255 off
