@@ -18,7 +18,7 @@ use Rattle.mesh_model.specs.Packets.FirstPacket.{Packet}
 use Rattle.mesh_model.specs.Packets.LinkFrame.{link_frame}
 use Rattle.mesh_model.specs.Routes.Algorithms.{queries_of}
 use Rattle.mesh_model.specs.Routes.Queries.{Queries}
-use Rattle.mesh_model.specs.Run.PlainRun.{plain_run}
+use Rattle.mesh_model.specs.Run.PlainRun.{after_lines, start}
 use Rattle.mesh_laws.specs.CutLaws.{cuts_of_log}
 use Rattle.mesh_tie.specs.Steps.{IsReachable}
 use Rattle.mesh_tie.specs.TieLaws.{AllKeep}
@@ -104,8 +104,12 @@ abbrev pub PutTogetherWasCut : Type 0
 PutTogetherWasCut = (queries : Mac → Queries) → AllKeep queries → (mesh : Mesh) →
     IsReachable queries mesh → PacketsWereCut queries mesh
 
--- and in the mesh of every plain run
+-- so it is of those that the nodes of a run of any lines put together
+abbrev pub RunPacketsWereCut : FrameChoice → List (List ℕ) → Type 0
+RunPacketsWereCut choice lines =
+    PacketsWereCut (queries_of (after_lines (start choice) lines).state.algorithm)
+    (after_lines (start choice) lines).state.mesh
+
 abbrev pub RunsPutCutsTogether : Type 0
-RunsPutCutsTogether = (choice : FrameChoice) (input : List ℕ) →
-    PacketsWereCut (queries_of (plain_run choice input).state.algorithm)
-    (plain_run choice input).state.mesh
+RunsPutCutsTogether = (choice : FrameChoice) (lines : List (List ℕ)) →
+    RunPacketsWereCut choice lines

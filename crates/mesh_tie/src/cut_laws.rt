@@ -10,7 +10,7 @@ pub fn fragments_were_cut()
 {}
 
 /// Every packet that a node puts together, whatever is lost, repeated, held or delivered late, is
-/// one that the originator of its fragments cut under their number. So it is in every plain run.
+/// one that the originator of its fragments cut under their number. So it is in a run of any lines.
 pub fn packets_put_together_were_cut()
     ensures meshes { PutTogetherWasCut }
     ensures runs { RunsPutCutsTogether }
