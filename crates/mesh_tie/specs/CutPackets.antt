@@ -3,24 +3,27 @@
 -- number, and the numbers of a node are of one cut each. So, whatever a network loses, repeats,
 -- holds or delivers late, each packet that a node puts together is one that was cut. The main words
 -- are `FragmentsAreCut`, `CutsAreKnownByNumber` and `PutTogetherWasCut`.
-use Rattle.std.specs.Prelude.{◌≡◌, ℕ, List, ◌∷◌, ◌++◌, length, slice_get, Some, ⊤}
+use Rattle.std.specs.Prelude.{◌≡◌, ℕ, List, ◌∷◌, ◌++◌, length, slice_get, Option, Some, None, if◌then◌else◌, ⊤}
 use Rattle.mesh_base.specs.declared.address.Mac.{Mac}
 use Rattle.mesh_model.specs.declared.frame_choice.FrameChoice.{FrameChoice}
 use Rattle.mesh_model.specs.declared.packet.Head.{Head}
 use Rattle.mesh_model.specs.declared.packet.Head.TheVariants.{IvOgm, Bcast, Elp, Ogm2, Unicast, Frag, Unicast4, Icmp, Utvlv}
-use Rattle.mesh_model.specs.Clients.Log.{Log}
-use Rattle.mesh_model.specs.Fragments.Assembly.{PartCall, made_whole}
+use Rattle.mesh_model.specs.Clients.Log.{LinkFrame, Log, LogEntry}
+use Rattle.mesh_model.specs.Fragments.Assembly.{PartCall, made_whole, part_of}
 use Rattle.mesh_model.specs.Fragments.Cutting.{Cut, tails}
-use Rattle.mesh_model.specs.Knowledge.Steps.{knowledge}
+use Rattle.mesh_model.specs.Knowledge.Steps.{Coming, after_packets, knowledge}
+use Rattle.mesh_model.specs.Net.Inputs.{noting}
 use Rattle.mesh_model.specs.Net.Mesh.{NodeLog, SentFrame, Mesh}
 use Rattle.mesh_model.specs.Net.Next.{Has}
 use Rattle.mesh_model.specs.Packets.FirstPacket.{Packet}
 use Rattle.mesh_model.specs.Packets.LinkFrame.{link_frame}
+use Rattle.mesh_model.specs.Routes.Addresses.{same_mac}
 use Rattle.mesh_model.specs.Routes.Algorithms.{queries_of}
 use Rattle.mesh_model.specs.Routes.Queries.{Queries}
 use Rattle.mesh_model.specs.Run.PlainRun.{after_lines, start}
 use Rattle.mesh_laws.specs.CutLaws.{cuts_of_log}
 use Rattle.mesh_tie.specs.Steps.{IsReachable}
+use Rattle.mesh_tie.specs.Tie.{known_at_node}
 use Rattle.mesh_tie.specs.TieLaws.{AllKeep}
 
 -- ---- cuts
@@ -73,7 +76,7 @@ FragmentsAreCut = (queries : Mac → Queries) → AllKeep queries → (mesh : Me
 
 -- ---- what is put together
 
--- at an entry of its log a node put a packet together: a part that came made it whole, after others
+-- by its log a node put a packet together: a part that came made it whole, after others
 pub record PutsTogether (queries : Mac → Queries) (node : NodeLog) (call : PartCall)
     (packet : List ℕ) : Type 0 where
   pub newer : Log
@@ -83,6 +86,44 @@ pub record PutsTogether (queries : Mac → Queries) (node : NodeLog) (call : Par
   pub older : List PartCall
   pub parts_are : (knowledge (queries node.mac) node.mac log).parts ≡ later ++ call ∷ older
   pub whole : made_whole call older ≡ Some packet
+
+-- the part that a packet with this head and tail is for the node of an address at a moment, where it
+-- is a fragment for it
+abbrev pub part_for : Mac → ℕ → List ℕ → Head → Option PartCall
+part_for me now tail (IvOgm ttl flags seq orig prev tq) = None
+part_for me now tail (Bcast ttl seq orig) = None
+part_for me now tail (Elp orig seq interval) = None
+part_for me now tail (Ogm2 ttl flags seq orig throughput) = None
+part_for me now tail (Unicast ttl ttvn dst) = None
+part_for me now tail (Frag ttl number priority dst orig seq total) =
+    if same_mac dst me then Some (part_of now orig seq total number tail) else None
+part_for me now tail (Unicast4 ttl ttvn dst src subtype) = None
+part_for me now tail (Icmp ttl msg dst orig uid seq) = None
+part_for me now tail (Utvlv ttl dst src) = None
+
+-- of the packets of a link frame that comes to a node one is a part that makes a packet whole, by
+-- what the node knew and what those in front of it brought
+pub record MakesWhole (queries : Mac → Queries) (node : NodeLog) (came : Coming) (bytes : List ℕ)
+    (call : PartCall) (packet : List ℕ) : Type 0 where
+  pub front : List Packet
+  pub fragment : Packet
+  pub back : List Packet
+  pub packets_are : (link_frame bytes).packets ≡ front ++ fragment ∷ back
+  pub part_is : part_for node.mac came.now fragment.tail fragment.head ≡ Some call
+  pub whole : made_whole call
+      (after_packets (queries node.mac) node.mac came (known_at_node queries node) front).parts
+      ≡ Some packet
+
+-- each packet that a node makes whole is one that it put together, by its log then
+abbrev pub NotesWholes : Type 0
+NotesWholes = (queries : Mac → Queries) (node : NodeLog) (entry : LogEntry) (number : ℕ)
+    (from : Mac) (throughput : ℕ) (bytes : List ℕ) (call : PartCall) (packet : List ℕ) →
+    entry.given ≡ LinkFrame number from throughput bytes → MakesWhole queries node (record {
+      now = entry.moment;
+      from = from;
+      throughput = throughput;
+      number = number;
+    }) bytes call packet → PutsTogether queries (noting entry node) call packet
 
 -- a packet is one that the node of an address cut under a number
 pub record IsPacketOfCut (queries : Mac → Queries) (mesh : Mesh) (orig : Mac) (number : ℕ)
