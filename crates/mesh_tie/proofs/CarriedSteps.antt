@@ -118,7 +118,7 @@ packet_keeps P q me came packet known parts has s =
     (λ call is. carried_came P call known.parts (part_has P came.now packet.head packet.tail call is has) parts) s
 
 -- the parts that it knows then
-came_parts : (now : ℕ) (came : Option ArpCame) (known : Knowledge) → (after_came now came known).parts ≡ known.parts
+pub came_parts : (now : ℕ) (came : Option ArpCame) (known : Knowledge) → (after_came now came known).parts ≡ known.parts
 came_parts now None known = refl
 came_parts now (Some (Puts m)) known = refl
 came_parts now (Some (Asks m)) known = refl

@@ -38,6 +38,7 @@ pub mod CarriedSteps
 pub mod CarriedOn
 pub mod CarriedClients
 pub mod CutPut
+pub mod CutNoted
 pub mod FitLemmas
 pub mod MeshSteps
 pub mod ReachLemmas
