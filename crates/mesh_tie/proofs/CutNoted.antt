@@ -1,20 +1,18 @@
 -- Each packet that a node makes whole is one that it put together by its log: the parts that it knows are
 -- those that it knew, behind those that came since.
-use Rattle.std.proofs.Common.{◌≡◌, ◌∙◌, refl, sym, ap, ap₂, subst, ℕ, Bool, true, false, cond, List, [], ◌∷◌, ◌++◌, Option, Some, None, append_assoc}
+use Rattle.std.proofs.Common.{◌≡◌, ◌∙◌, refl, sym, ap, ℕ, Bool, true, false, cond, List, [], ◌∷◌, ◌++◌, Option, Some, None, append_assoc}
 use Rattle.std.proofs.lemmas.Option.{same_Some}
 use Rattle.mesh_base.specs.declared.address.Mac.{Mac}
 use Rattle.mesh_model.specs.declared.packet.Head.{Head}
 use Rattle.mesh_model.specs.declared.packet.Head.TheVariants.{IvOgm, Bcast, Elp, Ogm2, Unicast, Frag, Unicast4, Icmp, Utvlv}
-use Rattle.mesh_model.specs.Clients.Log.{Given, LinkFrame, LogEntry}
+use Rattle.mesh_model.specs.Clients.Log.{Given}
 use Rattle.mesh_model.specs.Fragments.Assembly.{PartCall, part_of}
 use Rattle.mesh_model.specs.Knowledge.Known.{Knowledge}
 use Rattle.mesh_model.specs.Knowledge.Pairs.{after_came}
 use Rattle.mesh_model.specs.Knowledge.PutTogether.{after_part, fact_carried, put_together, with_part}
 use Rattle.mesh_model.specs.Knowledge.Steps.{Coming, after_head, after_packet, after_packets, next_knowledge}
 use Rattle.mesh_model.specs.Knowledge.Told.{Message, message_of}
-use Rattle.mesh_model.specs.Net.Mesh.{NodeLog}
 use Rattle.mesh_model.specs.Packets.FirstPacket.{Packet}
-use Rattle.mesh_model.specs.Packets.LinkFrame.{link_frame}
 use Rattle.mesh_model.specs.Routes.Addresses.{same_mac}
 use Rattle.mesh_model.specs.Routes.Queries.{Queries}
 use Rattle.mesh_laws.proofs.KeptLemmas.{HasCome, Kept, brings, head_comes, joins, leaves, stores}
