@@ -192,6 +192,7 @@ refused_tells attempt node_errors.Clients t = t
 refused_tells attempt node_errors.Vlans t = t
 refused_tells attempt node_errors.Frames t = t
 refused_tells attempt node_errors.FrameBytes t = t
+refused_tells attempt node_errors.Cuts t = t
 refused_tells attempt node_errors.Dead t = t
 
 pub settle_tells : (attempt : Attempt) (r : Result Unit NodeErr) (error : NetErr) → SettleTells r error → IfErr r (GiveTells attempt) → StepTells attempt error

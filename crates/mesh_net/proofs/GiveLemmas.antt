@@ -21,10 +21,10 @@ use Rattle.mesh_model.specs.Net.Sending.{Attempt, on_ok, after_acts}
 use Rattle.mesh_model.specs.Routes.Queries.{Queries}
 use Rattle.mesh_model.specs.Routes.RouteLog.{RouteLog}
 use Rattle.node_ground.specs.declared.failure.NodeErr.{NodeErr}
-use Rattle.node_ground.specs.declared.failure.NodeErr.TheVariants.{Memory, Clients, Vlans, Frames, FrameBytes, Dead}
+use Rattle.node_ground.specs.declared.failure.NodeErr.TheVariants.{Memory, Clients, Vlans, Frames, FrameBytes, Cuts, Dead}
 use Rattle.mesh_node.specs.declared.node.Node.{Node}
 use Rattle.mesh_node.specs.NodeStands.{NodeStands}
-use Rattle.node_ground.specs.Errors.{HasCause, HasClientCause}
+use Rattle.node_ground.specs.Errors.{HasCause, HasOwnCause}
 use Rattle.node_ground.specs.Puts.{TakesAll, StopsAt, StopsBehind, Puts, Leaves}
 use Rattle.mesh_post.specs.declared.port.NetPort.{NetPort}
 use Rattle.mesh_post.specs.declared.post.Post.{Post}
@@ -125,6 +125,7 @@ named_cause Clients over attempt c e = absurd c
 named_cause Vlans over attempt c e = absurd c
 named_cause Frames over attempt c e = e limits.Frames c
 named_cause FrameBytes over attempt c e = e limits.FrameBytes c
+named_cause Cuts over attempt c e = absurd c
 named_cause Dead over attempt c e = absurd c
 
 none_named : (error : NodeErr) (attempt : Attempt) → HasCause None error → Named error attempt
@@ -136,6 +137,7 @@ named_map Clients a b f n = f limits.Clients n
 named_map Vlans a b f n = f limits.Vlans n
 named_map Frames a b f n = f limits.Frames n
 named_map FrameBytes a b f n = f limits.FrameBytes n
+named_map Cuts a b f n = f limits.Cuts n
 named_map Dead a b f n = n
 
 pub stop_named : (queries : Mac → Queries) (older : List Sending) (last : Happening) (ticks : List Happening) (error : NodeErr) (p : NetPort) (acts : List Act) (q : NetPort) (mesh : Mesh) → StopsAt PortTook PortSame port_over error p acts q → InStep p.post.now older last ticks mesh → MaySend p.sender last mesh
@@ -216,10 +218,10 @@ noted_after queries sender given row mesh =
 
 given_is : (queries : Mac → Queries) (sender : Sender) (given : Given) (row : NodeLog) (mesh : Mesh) → slice_get mesh.nodes sender.place ≡ Some row → sender.mac ≡ row.mac
     → given_to (scenario_setup queries) sender.place sender.now sender.root given mesh
-    ≡ unless_passed (scenario_setup queries) (actor_of sender) mesh (node_limit row.mac row.log sender.now given) (noted_after queries sender given row mesh)
+    ≡ unless_passed (scenario_setup queries) (actor_of sender) mesh (node_limit (queries row.mac) row.mac row.log sender.now given) (noted_after queries sender given row mesh)
 given_is queries sender given row mesh found mac_is =
     ap (λ o. given_node (scenario_setup queries) sender.place sender.now sender.root given o mesh) found
-    ∙ ap (λ (mac : Mac). unless_passed (scenario_setup queries) (record { place = sender.place; mac = mac; now = sender.now; root = sender.root }) mesh (node_limit row.mac row.log sender.now given)
+    ∙ ap (λ (mac : Mac). unless_passed (scenario_setup queries) (record { place = sender.place; mac = mac; now = sender.now; root = sender.root }) mesh (node_limit (queries row.mac) row.mac row.log sender.now given)
     (on_ok (noted sender.place (entry_of (scenario_setup queries) row sender.now given)) (after_acts (scenario_setup queries) (record { place = sender.place; mac = mac; now = sender.now; root = sender.root }) (acts_of (queries row.mac) row.mac row.log sender.now given) mesh))) (sym mac_is)
 
 -- the mesh after it, as far as what is kept knows
@@ -235,15 +237,16 @@ abbrev pub Gave : (Mac → Queries) → FrameChoice → Sender → Given → Pos
 Gave queries choice sender given post older last ticks row before old new (Ok done) = GaveMesh queries choice sender given post older last ticks row before old new
 Gave queries choice sender given post older last ticks row before old new (Err error) = GiveTells (given_to (scenario_setup queries) sender.place sender.now sender.root given before) error
 
-client_named : (error : NodeErr) (limit : LimitName) (attempt : Attempt) → HasClientCause (Some limit) error → attempt ≡ Err limit → GiveTells attempt error
-client_named Memory limit attempt c e = tt
-client_named Clients limit attempt c e = e ∙ ap Err (some_one limit limits.Clients c)
-client_named Vlans limit attempt c e = e ∙ ap Err (some_one limit limits.Vlans c)
-client_named Frames limit attempt c e = absurd c
-client_named FrameBytes limit attempt c e = absurd c
-client_named Dead limit attempt c e = absurd c
+own_named : (error : NodeErr) (limit : LimitName) (attempt : Attempt) → HasOwnCause (Some limit) error → attempt ≡ Err limit → GiveTells attempt error
+own_named Memory limit attempt c e = tt
+own_named Clients limit attempt c e = e ∙ ap Err (some_one limit limits.Clients c)
+own_named Vlans limit attempt c e = e ∙ ap Err (some_one limit limits.Vlans c)
+own_named Frames limit attempt c e = absurd c
+own_named FrameBytes limit attempt c e = absurd c
+own_named Cuts limit attempt c e = e ∙ ap Err (some_one limit limits.Cuts c)
+own_named Dead limit attempt c e = absurd c
 
--- the limit of clients, behind these acts
+-- a limit of the node's own, behind these acts
 abbrev limit_behind : (Mac → Queries) → Sender → List Act → LimitName → Mesh → Attempt
 limit_behind queries sender acts limit mesh = on_ok (λ after. Err limit) (after_acts (scenario_setup queries) (actor_of sender) acts mesh)
 
@@ -252,7 +255,7 @@ no_ok l e = cc
 
 behind_named : (queries : Mac → Queries) (older : List Sending) (last : Happening) (ticks : List Happening) (limit : LimitName) (error : NodeErr) (p : NetPort) (acts : List Act) (q : NetPort) (mesh : Mesh) → StopsBehind PortTook PortSame port_over limit p acts (Err error) q → InStep p.post.now older last ticks mesh → MaySend p.sender last mesh
     → Named error (limit_behind queries p.sender acts limit mesh)
-behind_named queries older last ticks limit error p [] q mesh t step may = client_named error limit (Err limit) t.1 refl
+behind_named queries older last ticks limit error p [] q mesh t step may = own_named error limit (Err limit) t.1 refl
 behind_named queries older last ticks limit error p (act ∷ acts) q mesh t step may = elim t as (λ _. Named error (limit_behind queries p.sender (act ∷ acts) limit mesh)) [
   | inl s ↦ named_cause error (port_over p act) (limit_behind queries p.sender (act ∷ acts) limit mesh) s.1
       (λ l e. ap (λ a. on_ok (λ after. Err limit) (on_ok (after_acts (scenario_setup queries) (actor_of p.sender) acts) a)) (over_act queries p.post.now older last ticks p.sender act mesh l step may.place e))
@@ -272,7 +275,7 @@ behind_not_ok limit p (act ∷ acts) done q t = elim t as (λ _. ⊥) [
 ]
 
 gave_by : (queries : Mac → Queries) (older : List Sending) (last : Happening) (ticks : List Happening) (p q : NetPort) (row : NodeLog) (given : Given) (mesh : Mesh) (o : Option NodeLimit) (r : Result Unit NodeErr) → slice_get mesh.nodes p.sender.place ≡ Some row → p.sender.mac ≡ row.mac
-    → node_limit row.mac row.log p.sender.now given ≡ o → Leaves PortTook PortSame port_over o p (acts_of (queries row.mac) row.mac row.log p.sender.now given) r q → InStep p.post.now older last ticks mesh → MaySend p.sender last mesh
+    → node_limit (queries row.mac) row.mac row.log p.sender.now given ≡ o → Leaves PortTook PortSame port_over o p (acts_of (queries row.mac) row.mac row.log p.sender.now given) r q → InStep p.post.now older last ticks mesh → MaySend p.sender last mesh
     → Gave queries p.post.now.choice p.sender given q.post.now older last ticks row mesh p.log.now q.log.now r
 gave_by queries older last ticks p q row given mesh None (Ok done) found mac_is none t step may =
     let setup = scenario_setup queries in
@@ -300,9 +303,9 @@ gave_by queries older last ticks p q row given mesh (Some passed) (Err error) fo
     (behind_named queries older last ticks passed.limit error p passed.acts q mesh t step may)
 
 pub gave : (queries : Mac → Queries) (older : List Sending) (last : Happening) (ticks : List Happening) (p q : NetPort) (row : NodeLog) (given : Given) (mesh : Mesh) (r : Result Unit NodeErr) → slice_get mesh.nodes p.sender.place ≡ Some row → p.sender.mac ≡ row.mac
-    → Leaves PortTook PortSame port_over (node_limit row.mac row.log p.sender.now given) p (acts_of (queries row.mac) row.mac row.log p.sender.now given) r q → InStep p.post.now older last ticks mesh → MaySend p.sender last mesh
+    → Leaves PortTook PortSame port_over (node_limit (queries row.mac) row.mac row.log p.sender.now given) p (acts_of (queries row.mac) row.mac row.log p.sender.now given) r q → InStep p.post.now older last ticks mesh → MaySend p.sender last mesh
     → Gave queries p.post.now.choice p.sender given q.post.now older last ticks row mesh p.log.now q.log.now r
-gave queries older last ticks p q row given mesh r found mac_is t step may = gave_by queries older last ticks p q row given mesh (node_limit row.mac row.log p.sender.now given) r found mac_is refl t step may
+gave queries older last ticks p q row given mesh r found mac_is t step may = gave_by queries older last ticks p q row given mesh (node_limit (queries row.mac) row.mac row.log p.sender.now given) r found mac_is refl t step may
 
 -- ---- what the caller learns
 pub by_bool : {X : Type 0} (b : Bool) → (b ≡ true → X) → (b ≡ false → X) → X

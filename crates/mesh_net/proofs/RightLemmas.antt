@@ -26,6 +26,7 @@ use Rattle.mesh_tie.specs.Steps.{lan_joins as lan_is_there}
 use Rattle.mesh_tie.specs.PlainRuns.{NoneIsLater}
 use Rattle.mesh_tie.specs.Steps.{begins as nothing_yet}
 use Rattle.mesh_tie.specs.TieLaws.{AllKeep}
+use Rattle.mesh_tie.proofs.CutPut.{put_together_was_cut}
 use Rattle.mesh_tie.proofs.GainLemmas.{put_is}
 use Rattle.mesh_tie.proofs.NodeLists.{got_front, got_noted}
 use Rattle.mesh_tie.proofs.RunReach.{Comes, delivered_comes, given_comes, happening_comes, later_settled, lines_all}
@@ -179,6 +180,7 @@ tells_rightly {A} queries stands net choice clock before after old new standing 
   tables = λ keep t. tables_are_right queries after keep (comes_to queries keep clock after standing.reached t).reachable;
   events = λ keep t. gains_are_right queries before after follows.more old new (is_shown choice) keep (comes_to queries keep clock after standing.reached t).reachable follows.events (λ orig number earlier. refl)
       (gains ∙ ap (λ es. old ++ filter (is_shown choice) es) (since_is before after follows));
+  packets = λ keep t. put_together_was_cut queries keep after (comes_to queries keep clock after standing.reached t).reachable;
 }
 
 pub carried_rightly : {A : Type 0} (queries : Mac → Queries) (stands : A → Mac → RouteLog → Type 0) (net : Net A) (choice : FrameChoice) (clock : ℕ) (before : Mesh) (old new : List Event) (attempt : Attempt)

@@ -14,10 +14,12 @@ use Rattle.mesh_model.specs.Clients.Log.{Given, Tick, LinkFrame, LanFrame, Line,
 use Rattle.mesh_model.specs.Clients.Lans.{bridge}
 use Rattle.mesh_model.specs.Clients.Mentions.{Mention, key_of, mentions, next_mentions, passed_from_lan}
 use Rattle.mesh_model.specs.Commits.History.{is_commit_tick}
+use Rattle.mesh_model.specs.Fragments.Assembly.{PartCall, part_of}
 use Rattle.mesh_model.specs.Knowledge.FactStore.{after_fact_message}
 use Rattle.mesh_model.specs.Knowledge.Known.{Broadcast, Knowledge, agreed_byte, is_new_broadcast, taken_at}
 use Rattle.mesh_model.specs.Knowledge.Offers.{after_choice, gateway_way}
 use Rattle.mesh_model.specs.Knowledge.Pairs.{after_arp, after_asking, after_came, after_question, is_asked, with_ask, with_learned}
+use Rattle.mesh_model.specs.Knowledge.PutTogether.{after_part, fact_carried, put_together, with_part}
 use Rattle.mesh_model.specs.Knowledge.Steps.{Coming, announced_by, before_round, stays_on_lan, knowledge, next_knowledge, after_announcement, after_answer, after_broadcast, after_call, after_containers, after_frame, after_head, after_message, after_reply, after_packet, after_packets, after_passed, after_roaming, after_sent, after_sighting, after_taken, before_announcement, is_flooded, released_under, with_head, with_offered, line_knowledge}
 use Rattle.mesh_model.specs.Knowledge.Told.{Message, TableMessage, Asks, Answers, Neither, message_in, message_of}
 use Rattle.mesh_model.specs.Marks.Calls.{Forgotten}
@@ -121,6 +123,10 @@ came_counted now (Some (Tells m)) known = refl
 arp_counted : (now : ℕ) (came : Option ArpCame) (known : Knowledge) → counted (after_arp now came known) ≡ counted known
 arp_counted now came known = either_counted known.services.settings.arp_table (after_came now came known) known known (came_counted now came known) refl
 
+-- nor does a part, which may make a message of the fact store whole
+part_counted : (call : PartCall) (known : Knowledge) → counted (after_part call known) ≡ counted known
+part_counted call known = ap counted_left (message_rest call.moment (fact_carried (put_together call known.parts)) (with_part call known))
+
 head_counted : (q : Queries) (me : Mac) (came : Coming) (message : Option Message) (tail : List ℕ) (head : Head) (known : Knowledge) → counted (after_head q me came message tail head known) ≡ counted known
 head_counted q me came message tail (IvOgm ttl flags seq orig prev tq) known = taken_counted q came (IvOgm ttl flags seq orig prev tq) message tail known
 head_counted q me came message tail (Bcast ttl seq orig) known =
@@ -130,7 +136,9 @@ head_counted q me came message tail (Elp orig seq interval) known = refl
 head_counted q me came message tail (Ogm2 ttl flags seq orig throughput) known = taken_counted q came (Ogm2 ttl flags seq orig throughput) message tail known
 head_counted q me came message tail (Unicast ttl ttvn dst) known =
     either_counted (same_mac dst me) (after_fact_message came.now (fact_message_of tail) known) known known (ap counted_left (message_rest came.now (fact_message_of tail) known)) refl
-head_counted q me came message tail (Frag ttl number priority dst orig seq total) known = refl
+head_counted q me came message tail (Frag ttl number priority dst orig seq total) known =
+    let call : PartCall = part_of came.now orig seq total number tail in
+    either_counted (same_mac dst me) (after_part call known) known known (part_counted call known) refl
 head_counted q me came message tail (Unicast4 ttl ttvn dst src subtype) known =
     either_counted (same_mac dst me) (after_arp came.now (arp_came subtype tail) known) known known (arp_counted came.now (arp_came subtype tail) known) refl
 head_counted q me came message tail (Icmp ttl msg dst orig uid seq) known =

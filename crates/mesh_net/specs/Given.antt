@@ -13,7 +13,7 @@ use Rattle.mesh_model.specs.Net.Sending.{Attempt}
 use Rattle.mesh_model.specs.Routes.Queries.{Queries}
 use Rattle.mesh_model.specs.Routes.RouteLog.{RouteLog}
 use Rattle.node_ground.specs.declared.failure.NodeErr.{NodeErr}
-use Rattle.node_ground.specs.declared.failure.NodeErr.TheVariants.{Memory, Clients, Vlans, Frames, FrameBytes, Dead}
+use Rattle.node_ground.specs.declared.failure.NodeErr.TheVariants.{Memory, Clients, Vlans, Frames, FrameBytes, Cuts, Dead}
 use Rattle.mesh_node.specs.declared.node.Node.{Node}
 use Rattle.mesh_node.specs.NodeStands.{NodeStands}
 use Rattle.mesh_post.specs.declared.post.Post.{Post}
@@ -44,4 +44,5 @@ GiveTells attempt Clients = attempt ≡ Err limits.Clients
 GiveTells attempt Vlans = attempt ≡ Err limits.Vlans
 GiveTells attempt Frames = attempt ≡ Err limits.Frames
 GiveTells attempt FrameBytes = attempt ≡ Err limits.FrameBytes
+GiveTells attempt Cuts = attempt ≡ Err limits.Cuts
 GiveTells attempt Dead = ⊥

@@ -24,7 +24,7 @@ use Rattle.mesh_model.specs.Routes.RouteLog.{RouteLog, MayTick}
 use Rattle.node_ground.specs.declared.failure.NodeErr.{NodeErr}
 use Rattle.node_ground.specs.declared.failure.NodeErr.TheVariants as node_errors
 use Rattle.mesh_node.specs.declared.input.Input.{Input}
-use Rattle.mesh_node.specs.declared.input.Input.TheVariants.{Tick, Link, Lan, Attach, Frame, Gone, Join, Leave, Arp, Dhcp, Wifi, GwOff, GwServer, GwClient, Mcast, Dat, Alfred, Put, Get, Ping, Trace, Reboot}
+use Rattle.mesh_node.specs.declared.input.Input.TheVariants.{Tick, Link, Lan, Attach, Frame, Gone, Join, Leave, Arp, Dhcp, Wifi, GwOff, GwServer, GwClient, Mcast, Dat, Frag, Alfred, Put, Get, Ping, Trace, Reboot}
 use Rattle.node_ground.specs.OwnStands.{newest_moment}
 use Rattle.mesh_node.specs.NodeStands.{MayFollow}
 use Rattle.mesh_net.specs.declared.failure.NetErr.{NetErr}
@@ -56,6 +56,7 @@ ticks_with ticks (GwServer down up) = ticks
 ticks_with ticks (GwClient policy) = ticks
 ticks_with ticks (Mcast flags) = ticks
 ticks_with ticks (Dat on) = ticks
+ticks_with ticks (Frag size) = ticks
 ticks_with ticks (Alfred mode) = ticks
 ticks_with ticks (Put type_no version text) = ticks
 ticks_with ticks (Get type_no) = ticks
@@ -81,6 +82,7 @@ Counts ticks (GwServer down up) = ⊤
 Counts ticks (GwClient policy) = ⊤
 Counts ticks (Mcast flags) = ⊤
 Counts ticks (Dat on) = ⊤
+Counts ticks (Frag size) = ⊤
 Counts ticks (Alfred mode) = ⊤
 Counts ticks (Put type_no version text) = ⊤
 Counts ticks (Get type_no) = ⊤
@@ -209,6 +211,7 @@ net_error node_errors.Clients = net_errors.Limit limits.Clients
 net_error node_errors.Vlans = net_errors.Limit limits.Vlans
 net_error node_errors.Frames = net_errors.Limit limits.Frames
 net_error node_errors.FrameBytes = net_errors.Limit limits.FrameBytes
+net_error node_errors.Cuts = net_errors.Limit limits.Cuts
 net_error node_errors.Dead = net_errors.Dead
 
 -- why the sendings of a step aren't kept: what it tried was refused, or memory ran out

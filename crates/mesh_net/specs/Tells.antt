@@ -20,6 +20,7 @@ use Rattle.mesh_model.specs.Run.Passing.{events_since}
 use Rattle.mesh_model.specs.Run.Steps.{new_node}
 use Rattle.mesh_model.specs.Text.Events.{is_shown}
 use Rattle.mesh_laws.specs.GatewayLaws.{LansStand}
+use Rattle.mesh_tie.specs.CutPackets.{PacketsWereCut}
 use Rattle.mesh_tie.specs.NetTables.{GainsAreRight, IsTellable, TablesAreRight}
 use Rattle.mesh_tie.specs.TieLaws.{AllKeep}
 use Rattle.mesh_net.specs.declared.failure.NetErr.{NetErr}
@@ -54,7 +55,8 @@ pub record Carried {A : Type 0} (queries : Mac → Queries) (stands : A → Mac 
 -- a net stands for a mesh behind a call whose LANs stand, with gateways that have the same claims,
 -- and whose tables are right, as are the events that the log gained: each frame that was sent by
 -- table is for a client that the addressee's commit names, as its sender was told last when it sent
--- the frame. Where an event told of an alias of an originator, this says nothing of it
+-- the frame. Where an event told of an alias of an originator, this says nothing of it. And each
+-- packet that a node put together is one that the originator of its fragments cut
 pub record TellsRightly {A : Type 0} (queries : Mac → Queries)
     (stands : A → Mac → RouteLog → Type 0) (net : Net A) (choice : FrameChoice) (before : Mesh)
     (old new : List Event) : Type 0 where
@@ -64,6 +66,7 @@ pub record TellsRightly {A : Type 0} (queries : Mac → Queries)
   pub lans : LansStand after
   pub tables : AllKeep queries → IsTellable after → TablesAreRight queries after
   pub events : AllKeep queries → IsTellable after → GainsAreRight queries before after old new
+  pub packets : AllKeep queries → IsTellable after → PacketsWereCut queries after
 
 -- why a step at the clock is refused
 abbrev pub StepTells : Attempt → NetErr → Type 0

@@ -118,6 +118,7 @@ fn ticks_with(ticks: u64, input: &Input<'_>) -> u64
         | Input::GwClient(_)
         | Input::Mcast(_)
         | Input::Dat(_)
+        | Input::Frag(_)
         | Input::Alfred(_)
         | Input::Put { .. }
         | Input::Get { .. }

@@ -276,6 +276,7 @@ fn net_error(error: NodeErr) -> NetErr
         NodeErr::Vlans => NetErr::Limit(LimitName::Vlans),
         NodeErr::Frames => NetErr::Limit(LimitName::Frames),
         NodeErr::FrameBytes => NetErr::Limit(LimitName::FrameBytes),
+        NodeErr::Cuts => NetErr::Limit(LimitName::Cuts),
         NodeErr::Dead => NetErr::Dead,
     }
 }

@@ -4,7 +4,7 @@ use Rattle.std.specs.Io.KnownBytes.{Appends}
 use Rattle.std.proofs.lemmas.Bool.Decides.{nat_tests}
 use Rattle.mesh_base.specs.Writes.{AppendsFront}
 use Rattle.mesh_model.specs.declared.frame_choice.FrameChoice.{FrameChoice}
-use Rattle.mesh_model.specs.declared.ending.LimitName.TheVariants.{Line, Input, Nodes, Links, Lans, Clients, Vlans, Frames, FrameBytes, Clock}
+use Rattle.mesh_model.specs.declared.ending.LimitName.TheVariants.{Line, Input, Nodes, Links, Lans, Clients, Vlans, Frames, FrameBytes, Cuts, Clock}
 use Rattle.mesh_model.specs.declared.ending.Stop.{Stop}
 use Rattle.mesh_model.specs.declared.ending.Stop.TheVariants.{Refused, Limit}
 use Rattle.mesh_model.specs.Scenario.Commands.{command_of_line}
@@ -107,6 +107,7 @@ halting_place-last before rest (Limit Clients) short within = omega arith
 halting_place-last before rest (Limit Vlans) short within = omega arith
 halting_place-last before rest (Limit Frames) short within = omega arith
 halting_place-last before rest (Limit FrameBytes) short within = omega arith
+halting_place-last before rest (Limit Cuts) short within = omega arith
 halting_place-last before rest (Limit Clock) short within = omega arith
 
 -- the run prints what the unfinished line leaves printed

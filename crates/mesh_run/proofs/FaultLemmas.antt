@@ -2,7 +2,7 @@
 use Rattle.std.proofs.Common.{◌≡◌, ℕ, ◌+◌, ◌<◌, ◌≤◌, List, [], ◌∷◌, ◌++◌, length, Option, refl, sym, ap, ◌∙◌, subst, length-append, arith}
 use Rattle.std.specs.Io.KnownBytes.{Appends}
 use Rattle.mesh_model.specs.declared.frame_choice.FrameChoice.{FrameChoice}
-use Rattle.mesh_model.specs.declared.ending.LimitName.TheVariants.{Line, Input, Nodes, Links, Lans, Clients, Vlans, Frames, FrameBytes, Clock}
+use Rattle.mesh_model.specs.declared.ending.LimitName.TheVariants.{Line, Input, Nodes, Links, Lans, Clients, Vlans, Frames, FrameBytes, Cuts, Clock}
 use Rattle.mesh_model.specs.declared.ending.Stop.{Stop}
 use Rattle.mesh_model.specs.declared.ending.Stop.TheVariants.{Refused, Limit}
 use Rattle.mesh_model.specs.Scenario.Readings.{Reading}
@@ -65,6 +65,7 @@ halting_place-newline before least rest (Limit Clients) is short within = omega 
 halting_place-newline before least rest (Limit Vlans) is short within = omega (arith, is, length-append rest (newline ∷ []))
 halting_place-newline before least rest (Limit Frames) is short within = omega (arith, is, length-append rest (newline ∷ []))
 halting_place-newline before least rest (Limit FrameBytes) is short within = omega (arith, is, length-append rest (newline ∷ []))
+halting_place-newline before least rest (Limit Cuts) is short within = omega (arith, is, length-append rest (newline ∷ []))
 halting_place-newline before least rest (Limit Clock) is short within = omega (arith, is, length-append rest (newline ∷ []))
 
 -- the run of any longer input prints what a line leaves printed, and more

@@ -10,6 +10,7 @@ use Rattle.mesh_model.specs.Scenario.Lines.{complete_lines, lines_of}
 use Rattle.mesh_lines.specs.TextLaws.{AreFirst, IsFrontOf}
 use Rattle.mesh_lines.proofs.InputLines.{front_lines}
 use Rattle.mesh_lines.proofs.TextLawLemmas.{texts_show_aliases, texts_show_commits, texts_show_right_frames}
+use Rattle.mesh_tie.proofs.CutRuns.{runs_put_cuts_together}
 use Rattle.mesh_run.specs.Inner.Reading.{RunFails}
 use Rattle.mesh_run.specs.Outcome.{Finishes, PrintsRightly, PrintsTaken}
 use Rattle.mesh_run.specs.declared.fault.Fault.{Fault}
@@ -31,6 +32,7 @@ rightly choice old new input lines text first took front = record {
   tables = texts_show_commits choice input lines first text front;
   frames = texts_show_right_frames choice input lines first text front;
   aliases = texts_show_aliases choice input lines first text front;
+  packets = runs_put_cuts_together choice lines;
 }
 
 of_whole : (choice : FrameChoice) (old new : Option (List ℕ)) (input : List ℕ) → AppendsFront old new (output (plain_run choice input)) → PrintsRightly choice old new input

@@ -22,6 +22,7 @@ use Rattle.mesh_lines.specs.AliasText.{AliasLinesAreRight}
 use Rattle.mesh_lines.specs.FrameText.{TableFramesAreRight}
 use Rattle.mesh_lines.specs.TableText.{OkLinesAreCommitted}
 use Rattle.mesh_lines.specs.TextLaws.{AreFirst, IsFrontOf}
+use Rattle.mesh_tie.specs.CutPackets.{RunPacketsWereCut}
 
 -- ---- the lines that words ask for
 
@@ -164,7 +165,9 @@ pub record TellsStatus (choice : FrameChoice) (status : ℕ) (named old new : Op
 
 -- whatever the status: what out took since the call is what the first lines of the input print, or
 -- a front of that; each whole line in it of an originator in agreement, of a link frame that was
--- sent by table, and of an alias is right; and each commit that has an alias has its line
+-- sent by table, and of an alias is right; each commit that has an alias has its line; and each
+-- packet that a node put together, as these lines were carried out, is one that the originator of
+-- its fragments cut under their number
 pub record PrintsRightly (choice : FrameChoice) (old new : Option (List ℕ)) (input : List ℕ)
     : Type 0 where
   pub lines : List (List ℕ)
@@ -175,3 +178,4 @@ pub record PrintsRightly (choice : FrameChoice) (old new : Option (List ℕ)) (i
   pub tables : OkLinesAreCommitted choice lines text
   pub frames : TableFramesAreRight choice lines text
   pub aliases : AliasLinesAreRight choice lines text
+  pub packets : RunPacketsWereCut choice lines

@@ -223,7 +223,9 @@ pub fn batmesh<I: Intake, K: Sink, E: Sink>(
     // before it tells of an alias of that node. A whole line `alias NAME K J` stands exactly where
     // the node of that name made commit K, whose alias is J. Where a tick made it, that is behind
     // the lines of the tick's ELP, where there is one, and before those of its originator message;
-    // where a reboot did, it tells the only event of the input's line that reboots the node.
+    // where a reboot did, it tells the only event of the input's line that reboots the node. And each
+    // packet that a node put together by then is one that the originator of its fragments cut under
+    // their number, whatever links lost or repeated.
     ensures right { IfSome (read_input (I.named intake.old) (words_of (texts words.now)))
         (PrintsRightly (choice_of (texts words.now)) (K.taken out.old) (K.taken out.new)) }
 {

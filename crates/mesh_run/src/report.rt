@@ -49,6 +49,7 @@ fn limit_words(name: LimitName) -> &'static [u8]
         LimitName::Vlans => b"vlans",
         LimitName::Frames => b"frames",
         LimitName::FrameBytes => b"frame-bytes",
+        LimitName::Cuts => b"cuts",
         LimitName::Clock => b"clock",
     }
 }

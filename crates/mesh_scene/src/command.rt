@@ -110,6 +110,7 @@ impl<A: Choosable + Drop> Scene<A> {
             | Command::GwClient { .. }
             | Command::Mcast { .. }
             | Command::Dat { .. }
+            | Command::Frag { .. }
             | Command::Alfred { .. }
             | Command::Put { .. }
             | Command::Get { .. } => unreachable!(),
