@@ -1,6 +1,7 @@
--- What a net tells of tables: those that its nodes hold, and the events that its log gains. Both are
--- right where nodes have addresses of their own and lines name clients that records can tell, unless
--- an event told of an alias. The main words are `TablesAreRight` and `GainsAreRight`.
+-- What a net tells of tables: what messages and answers say of them, those that its nodes hold, and
+-- the events that its log gains. All are right where nodes have addresses of their own and lines name
+-- clients that records can tell, unless an event told of an alias. The main words are
+-- `SayingsAreRight`, `TablesAreRight` and `GainsAreRight`.
 use Rattle.std.specs.Prelude.{◌≡◌, ◌++◌, ◌∷◌, ℕ, List, slice_get, Some, None, IsTrue, ⊤}
 use Rattle.mesh_base.specs.declared.address.Mac.{Mac}
 use Rattle.mesh_base.specs.declared.event.Event.{Event}
@@ -20,7 +21,7 @@ use Rattle.mesh_tie.specs.Originators.{commits_of}
 use Rattle.mesh_tie.specs.Sources.{IsWhole}
 use Rattle.mesh_tie.specs.Steps.{TellsClient}
 use Rattle.mesh_tie.specs.Tie.{known_at_node}
-use Rattle.mesh_tie.specs.TieLaws.{HoldsTheTold}
+use Rattle.mesh_tie.specs.TieLaws.{AnnouncesCommits, AnswersWithCommits, HoldsTheTold}
 
 -- the client that an input names, where it names one, is such as records can tell, and its client
 -- frame goes to a whole address
@@ -48,6 +49,16 @@ pub record IsTellable (mesh : Mesh) : Type 0 where
       slice_get mesh.nodes place ≡ Some node → Has node.log entry → NamesClients entry.given
   pub puts : (place : ℕ) (put : LanPut) → slice_get mesh.puts place ≡ Some put →
       put.by ≡ None → TellsPut put.bytes
+
+-- every originator message of an originator announces its commit, and every answer in its name
+-- carries one
+pub record SaysRightly (orig : Mac) (mesh : Mesh) : Type 0 where
+  pub messages : AnnouncesCommits orig mesh
+  pub answers : AnswersWithCommits orig mesh
+
+-- so it is of each originator of which no event told of an alias
+abbrev pub SayingsAreRight : Mesh → Type 0
+SayingsAreRight mesh = (orig : Mac) → ToldNone orig mesh → SaysRightly orig mesh
 
 -- every table that a node holds of an originator was committed under the held byte, and one in
 -- agreement is that of the commit that the node was told last

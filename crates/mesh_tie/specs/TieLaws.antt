@@ -72,22 +72,28 @@ pub record AnnouncesCommit (orig : Mac) (log : Log) (root : ℕ) (table : TtData
       (number_at_root orig log root) (commit_at_root orig log root) (message_changes table)
 
 -- every originator message of an originator that was ever sent announces the commit of its root
-abbrev pub MessagesAnnounce : Type 0
-MessagesAnnounce = (queries : Mac → Queries) (orig : Mac) (mesh : Mesh) →
-    IsWithoutAlias queries orig mesh → (place : ℕ) (frame : SentFrame) (packet : Packet) →
+abbrev pub AnnouncesCommits : Mac → Mesh → Type 0
+AnnouncesCommits orig mesh = (place : ℕ) (frame : SentFrame) (packet : Packet) →
     slice_get mesh.frames place ≡ Some frame → Has (link_frame frame.bytes).packets packet →
     word_of packet.head ≡ MessageOf orig →
     (table : TtData) × (first_table (containers_of packet.tail) ≡ Some table)
     × AnnouncesCommit orig (log_of orig mesh.nodes) frame.root table
 
+abbrev pub MessagesAnnounce : Type 0
+MessagesAnnounce = (queries : Mac → Queries) (orig : Mac) (mesh : Mesh) →
+    IsWithoutAlias queries orig mesh → AnnouncesCommits orig mesh
+
 -- every answer with an originator as its source that was ever sent carries a commit of it
-abbrev pub AnswersCarry : Type 0
-AnswersCarry = (queries : Mac → Queries) (orig : Mac) (mesh : Mesh) →
-    IsWithoutAlias queries orig mesh → (place : ℕ) (frame : SentFrame) (packet : Packet) →
+abbrev pub AnswersWithCommits : Mac → Mesh → Type 0
+AnswersWithCommits orig mesh = (place : ℕ) (frame : SentFrame) (packet : Packet) →
     slice_get mesh.frames place ≡ Some frame → Has (link_frame frame.bytes).packets packet →
     word_of packet.head ≡ ContainersOf orig → (stamp : Stamp) (carried : Carried) →
     message_in (first_table (containers_of packet.tail)) ≡ Answers stamp carried →
     CarriesCommit (commits_of orig mesh) stamp carried
+
+abbrev pub AnswersCarry : Type 0
+AnswersCarry = (queries : Mac → Queries) (orig : Mac) (mesh : Mesh) →
+    IsWithoutAlias queries orig mesh → AnswersWithCommits orig mesh
 
 -- ---- what is held
 
