@@ -1,6 +1,7 @@
 -- What the methods rest on.
 pub mod LookUps
 pub mod RisingLemmas
+pub mod Before
 pub mod QueueLemmas
 pub mod PostLemmas
 pub mod Chosen

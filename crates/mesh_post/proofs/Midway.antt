@@ -18,7 +18,7 @@ use Rattle.mesh_post.proofs.LookUps.{got_there}
 use Rattle.mesh_post.proofs.PostLemmas.{length_more, bytes_more}
 
 -- ---- logs
-filter_append : {X : Type 0} (test : X → Bool) (a b : List X) → filter test (a ++ b) ≡ filter test a ++ filter test b
+pub filter_append : {X : Type 0} (test : X → Bool) (a b : List X) → filter test (a ++ b) ≡ filter test a ++ filter test b
 filter_append test [] b = refl
 filter_append test (x ∷ xs) b =
     ap (λ r. cond (test x) (x ∷ r) r) (filter_append test xs b)

@@ -57,6 +57,10 @@ first_is xs h rising first = (has_at xs 0 h first, λ x has. let p = place_of xs
     by x zero e = inl (one_some h x (sym first ∙ e))
     by x (suc i) e = inr (rising 0 (suc i) h x (omega arith) first e)
 
+-- the first comes before the others
+pub first_before : (h : Happening) (xs : List Happening) → IsRising (h ∷ xs) → (x : Happening) → Has xs x → Before h x
+first_before h xs rising x has = let p = place_of xs x has in rising 0 (suc p.0) h x (omega arith) refl p.1
+
 -- what comes behind the last comes behind all
 pub behind_last : (xs : List Happening) (i : ℕ) (last h : Happening) → IsRising xs → slice_get xs i ≡ Some last → suc i ≡ length xs → Before last h → (x : Happening) → Has xs x → Before x h
 behind_last xs i last h rising found end before x has =

@@ -5,3 +5,4 @@ pub mod Waiting
 pub mod Kept
 pub mod Lanes
 pub mod Sent
+pub mod Refused

@@ -274,9 +274,3 @@ pub record PortTook (old : NetPort) (act : Act) (new : NetPort) : Type 0 where
   pub choice : new.post.now.choice ≡ old.post.now.choice
   pub grew : Grew old.log.now new.log.now
   pub took : Took old.sender act old.post.now new.post.now old.log.now new.log.now
-
--- a port as one that refused an act leaves it: what it told before stays in the log
-pub record PortSame (old new : NetPort) : Type 0 where
-  pub post : new.post.ghost_name ≡ old.post.ghost_name
-  pub log : new.log.ghost_name ≡ old.log.ghost_name
-  pub grew : Grew old.log.now new.log.now

@@ -5,6 +5,7 @@
 
 mod arrivals;
 mod leaving;
+mod marks;
 mod port;
 mod post;
 mod puts;

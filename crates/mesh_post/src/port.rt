@@ -13,8 +13,9 @@ pub struct NetPort<'a> {
 }
 
 impl Port for NetPort<'_> {
-    ghost use Rattle.mesh_post.specs.Sent.{PortTook, PortSame, passed_by};
-    ghost use Rattle.std.proofs.Common.{refl, sym, append-nil, []};
+    ghost use Rattle.mesh_post.specs.Refused.{PortSame};
+    ghost use Rattle.mesh_post.specs.Sent.{PortTook, passed_by};
+    ghost use Rattle.std.proofs.Common.{refl};
 
     ghost takes = { PortTook };
 
@@ -25,7 +26,23 @@ impl Port for NetPort<'_> {
     ghost same_refl = { λ p. record {
       post = refl;
       log = refl;
-      grew = record { more = []; is = sym (append-nil p.log.now) };
+      kept = record {
+        joined = record {
+          alloc = refl;
+          rows = refl;
+          ways = refl;
+          lans = refl;
+          older = refl;
+          choice = refl;
+        };
+        turns = refl;
+        frames = refl;
+        puts = refl;
+        fresh = refl;
+        bytes = refl;
+        waits = λ own x. (λ has. has, λ has. has);
+      };
+      told = refl;
     } };
 
     fn put(&mut self, act: Act) -> Result<(), PortErr> {

@@ -8,6 +8,7 @@ ghost use Rattle.mesh_model.specs.Text.Events.{is_shown};
 ghost use Rattle.mesh_model.specs.declared.act.Act.TheVariants.{Lan};
 ghost use Rattle.mesh_model.specs.declared.happening.Happening.{Happening};
 ghost use Rattle.mesh_post.specs.Lanes.{is_other};
+ghost use Rattle.mesh_post.specs.Refused.{Enters, IsAsBefore};
 ghost use Rattle.mesh_post.specs.Sent.{CarriesPut, Grew, HasCome, InStep, Took, lan_among, passed_by, passed_more};
 ghost use Rattle.mesh_post.specs.declared.row.Sending.{Sending};
 ghost use Rattle.node_ground.specs.Errors.{HasPortCause};
@@ -38,6 +39,8 @@ impl Post {
         ensures taken { OnOk result (Took sender (Lan bytes) self.old self.new log.old log.new) }
         ensures within { OnOk result (passed_by self.old sender.place (Lan bytes) ≡ None) }
         ensures cause { IfErr result (HasPortCause (passed_by self.old sender.place (Lan bytes))) }
+        ensures refused { OnErr result (IsAsBefore self.old self.new) }
+        ensures untold { OnErr result (log.new ≡ log.old) }
         ensures grew { Grew log.old log.new }
         ensures choice { self.new.choice ≡ self.old.choice }
     {
@@ -71,13 +74,23 @@ impl Post {
             self.new older last ticks mesh log.old log.new) }
         ensures within { OnOk result (passed_more self.old 1 (length bytes) ≡ None) }
         ensures cause { IfErr result (HasPortCause (passed_more self.old 1 (length bytes))) }
+        ensures refused { OnErr result (IsAsBefore self.old self.new) }
+        ensures untold { OnErr result (log.new ≡ log.old) }
         ensures grew { Grew log.old log.new }
         ensures choice { self.new.choice ≡ self.old.choice }
     {
         self.check_room(1, bytes.len())?;
+        let Ok(mark) = self.mark() else {
+            return Err(PortErr::Memory);
+        };
+        let told = log.len();
         match self.carry_put(log, putting, bytes) {
             Ok(()) => Ok(()),
-            Err(NoMemory) => Err(PortErr::Memory),
+            Err(NoMemory) => {
+                self.take_back(mark);
+                log.cut(told);
+                Err(PortErr::Memory)
+            }
         }
     }
 
@@ -93,6 +106,7 @@ impl Post {
             (record { lan = putting.lan; moment = putting.now; bytes = bytes; by = putting.by })) }
         ensures told { OnOk result (log.new ≡ log.old ++ filter (is_shown self.old.choice)
             (LanSent (length self.new.puts.items) putting.now (putting.lan + 1) bytes ∷ [])) }
+        ensures enters { Enters self.old self.new }
         ensures grew { Grew log.old log.new }
         ensures choice { self.new.choice ≡ self.old.choice }
     {

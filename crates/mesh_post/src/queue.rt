@@ -1,12 +1,14 @@
-ghost use Rattle.std.specs.Prelude.{◌≡◌, ◌++◌, ◌∷◌, ◌+◌, ◌*◌, ◌^◌, ◌<◌, map, true, false, [], List, OnOk, OnErr, IfSome, IfNone};
+ghost use Rattle.std.specs.Prelude.{◌≡◌, ◌++◌, ◌∷◌, ◌+◌, ◌*◌, ◌^◌, ◌<◌, map, filter, true, false, [], List, ◌↔◌, OnOk, OnErr, IfSome, IfNone};
 ghost use Rattle.mesh_model.specs.Net.Due.{arrivals_by, delivery_at, fate_of_mark, lan_delivery_at};
 ghost use Rattle.mesh_model.specs.Net.Mesh.{LanPut};
 ghost use Rattle.mesh_model.specs.declared.happening.Happening.{Happening};
 ghost use Rattle.mesh_model.specs.Net.Next.{AtMost, Has};
+ghost use Rattle.mesh_model.specs.declared.happening.Class.TheVariants.{LinkDelivery, LanDelivery};
+ghost use Rattle.mesh_post.specs.Refused.{stays};
 ghost use Rattle.mesh_post.specs.Sent.{Gained};
 ghost use Rattle.mesh_post.specs.Waiting.{IsEarliest, IsPopped, IsNoneDue, IsSomeDue, Joins, Leaves};
 
-use crate::rising::{Rising, is_before};
+use crate::rising::{Rising, is_before, stays};
 use crate::row::{ONCE, TWICE};
 use mesh_base::{Millis, NoMemory};
 use mesh_model::{Class, Happening};
@@ -102,8 +104,10 @@ impl Queue {
         now: Millis,
         delay: Millis,
     ) -> Result<(), NoMemory>
-        ensures { now + 2 * delay < 2 ^ 64 → OnOk result (Gained self.old self.new
+        ensures gained { now + 2 * delay < 2 ^ 64 → OnOk result (Gained self.old self.new
             (map (delivery_at place) (arrivals_by (fate_of_mark mark) now delay))) }
+        ensures others { (x : Happening) → (x.class ≡ LinkDelivery → x.place ≡ place → ⊥) →
+            Has self.new x ↔ Has self.old x }
     {
         let moment = now.saturating_add(delay);
         if mark == ONCE {
@@ -117,8 +121,10 @@ impl Queue {
 
     /// Lets the delivery of the LAN frame at a place wait, which was put at a moment.
     pub(crate) fn wait_on_lan(&mut self, place: u32, moment: Millis) -> Result<(), NoMemory>
-        ensures { (put : LanPut) → put.moment ≡ moment → moment < 2 ^ 63 →
+        ensures gained { (put : LanPut) → put.moment ≡ moment → moment < 2 ^ 63 →
             OnOk result (Gained self.old self.new (lan_delivery_at place put ∷ [])) }
+        ensures others { (x : Happening) → (x.class ≡ LanDelivery → x.place ≡ place → ⊥) →
+            Has self.new x ↔ Has self.old x }
     {
         self.push(Happening {
             moment: moment.saturating_add(LAN_DELAY),
@@ -126,6 +132,17 @@ impl Queue {
             place,
         })?;
         Ok(())
+    }
+
+    /// Lets the deliveries of frames on links from one place on wait no more, nor those of frames
+    /// on LANs from another.
+    pub(crate) fn forget(&mut self, frames: usize, puts: usize)
+        ensures { self.new ≡ filter (stays frames puts) self.old }
+    {
+        self.first.forget(frames, puts);
+        self.second.forget(frames, puts);
+        self.third.forget(frames, puts);
+        self.others.retain(|h| stays(*h, frames, puts));
     }
 
     // The first happening.

@@ -1,11 +1,12 @@
-ghost use Rattle.std.specs.Prelude.{◌≡◌, ◌++◌, [], ◌∷◌, true, OnOk, OnErr};
+ghost use Rattle.std.specs.Prelude.{◌≡◌, ◌++◌, [], ◌∷◌, true, filter, OnOk, OnErr};
 ghost use Rattle.mesh_model.specs.declared.happening.Happening.{Happening};
 ghost use Rattle.mesh_model.specs.Net.Happenings.{Before, is_before};
 ghost use Rattle.mesh_model.specs.Net.Next.{AtMost, Has};
+ghost use Rattle.mesh_post.specs.Refused.{stays};
 ghost use Rattle.mesh_post.specs.Waiting.{IsEarliest, IsRising, Leaves};
 
 use mesh_base::NoMemory;
-use mesh_model::Happening;
+use mesh_model::{Class, Happening};
 use std::alloc::Global;
 use std::collections::VecDeque;
 use std::marker::Model;
@@ -79,6 +80,14 @@ impl Rising {
         }
         self.waiting.pop_front();
     }
+
+    /// Lets the deliveries of frames on links from one place on wait no more, nor those of frames
+    /// on LANs from another.
+    pub fn forget(&mut self, frames: usize, puts: usize)
+        ensures { self.new ≡ filter (stays frames puts) self.old }
+    {
+        self.waiting.retain(|h| stays(*h, frames, puts));
+    }
 }
 
 /// Whether a happening comes before another.
@@ -86,4 +95,16 @@ pub fn is_before(a: Happening, b: Happening) -> bool
     ensures { result ≡ is_before a b }
 {
     a.cmp(&b).is_lt()
+}
+
+/// Whether a happening is no delivery of a frame on a link from one place on, or of one on a LAN
+/// from another.
+pub fn stays(h: Happening, frames: usize, puts: usize) -> bool
+    ensures { result ≡ stays frames puts h }
+{
+    match h.class {
+        Class::LinkDelivery => (h.place as usize) < frames,
+        Class::LanDelivery => (h.place as usize) < puts,
+        Class::NodeTick => true,
+    }
 }

@@ -10,6 +10,7 @@ ghost use Rattle.node_ground.specs.Errors.{HasPortCause};
 ghost use Rattle.mesh_post.specs.Kept.{PostStands};
 ghost use Rattle.mesh_post.specs.Sent.{Amid, AreLow, Carries, Grew, HasRoom, HasRoomFor, IsSending, KeepsAll, Sends, actor_of, sent_on, sent_on_all, InStep, SentAll, Took, chosen_at, chosen_ways, passed_by, passed_more};
 ghost use Rattle.mesh_post.specs.Lanes.{LaneIs};
+ghost use Rattle.mesh_post.specs.Refused.{Enters, IsAsBefore};
 ghost use Rattle.mesh_post.specs.declared.row.Lane.{Lane};
 
 use crate::post::{Post, place_of};
@@ -39,6 +40,8 @@ impl Post {
             (passed_by self.old sender.place (Link to reason bytes) ≡ None) }
         ensures cause { IfErr result
             (HasPortCause (passed_by self.old sender.place (Link to reason bytes))) }
+        ensures refused { OnErr result (IsAsBefore self.old self.new) }
+        ensures untold { OnErr result (log.new ≡ log.old) }
         ensures grew { Grew log.old log.new }
         ensures choice { self.new.choice ≡ self.old.choice }
     {
@@ -47,9 +50,17 @@ impl Post {
         if count == 0 {
             return Ok(());
         }
+        let Ok(mark) = self.mark() else {
+            return Err(PortErr::Memory);
+        };
+        let told = log.len();
         match self.send_all(log, sender, to, reason, bytes) {
             Ok(()) => Ok(()),
-            Err(NoMemory) => Err(PortErr::Memory),
+            Err(NoMemory) => {
+                self.take_back(mark);
+                log.cut(told);
+                Err(PortErr::Memory)
+            }
         }
     }
 
@@ -99,6 +110,7 @@ impl Post {
             OnOk result (SentAll self.old.choice self.new older last ticks mesh
             (sent_on_all (actor_of sender) reason bytes
             (chosen_ways self.old sender.place to) mesh) log.old log.new) }
+        ensures enters { Enters self.old self.new }
         ensures grew { Grew log.old log.new }
         ensures choice { self.new.choice ≡ self.old.choice }
     {
@@ -128,6 +140,7 @@ impl Post {
             OnOk result (Sends self.old.choice self.new sendings last ticks mesh
             (sent_on_all (actor_of sender) parcel.reason bytes.now
             (chosen_ways self.old sender.place to) mesh) log.old log.new) }
+        ensures enters { Enters self.old self.new }
         ensures grew { Grew log.old log.new }
         ensures kept { KeepsAll self.old self.new }
     {
@@ -155,6 +168,7 @@ impl Post {
             HasRoom mesh sender.now (length bytes.now) → last.moment ≤ sender.now →
             OnOk result (Sends self.old.choice self.new sendings last ticks mesh
             (sent_on (actor_of sender) parcel.reason bytes.now way mesh) log.old log.new) }
+        ensures enters { Enters self.old self.new }
         ensures grew { Grew log.old log.new }
         ensures kept { KeepsAll self.old self.new }
     {
@@ -199,6 +213,7 @@ impl Post {
         ensures carries { lane.turn < 4294967295 → sender.now + 2 * lane.delay < 2 ^ 64 →
             self.old.bytes + size < 2 ^ 64 →
             OnOk result (Carries self.old self.new sender parcel.sending size way lane) }
+        ensures enters { Enters self.old self.new }
         ensures kept { KeepsAll self.old self.new }
     {
         let place = place_of(self.frames.len())?;

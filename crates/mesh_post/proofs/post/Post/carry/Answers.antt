@@ -9,6 +9,7 @@ use Rattle.mesh_model.specs.Net.Sending.{end_of}
 use Rattle.mesh_model.specs.Text.Events.{is_shown}
 use Rattle.mesh_post.specs.Sent.{actor_of, next_event}
 use Rattle.mesh_post.specs.Lanes.{LaneIs}
+use Rattle.mesh_post.proofs.Before.{enters_none}
 use Rattle.mesh_post.proofs.LookUps.{some_one}
 use Rattle.mesh_post.proofs.PostLemmas.{carries, length_more, turn_fits, frames_length}
 use Rattle.mesh_post.proofs.post.Post.carry.Goals as goal
@@ -41,3 +42,6 @@ returns-clause-sent c = λ sendings last ticks mesh link amid found sending room
             ∙ ap (λ e. c.args.log.now ++ filter (is_shown c.args.self.now.choice) (event (suc (length mesh.frames)) e ∷ [])) end_is;
       };
     }
+
+pub returns-in_default-clause-enters : goal.returns-in_default-clause-enters
+returns-in_default-clause-enters c = enters_none c.args.self.now

@@ -1,11 +1,16 @@
-use Rattle.std.proofs.Common.{◌≡◌, ℕ, ◌+◌, List, [], drop, slice_index_or, option_and_then, slice_get, sym, ◌∙◌, subst, arith}
+use Rattle.std.proofs.Common.{rules, ◌≡◌, ℕ, ◌+◌, List, [], drop, slice_index_or, option_and_then, slice_get, sym, ◌∙◌, subst, arith}
 use Rattle.std.specs.List.{filter}
 use Rattle.mesh_model.specs.declared.frame_choice.FrameChoice.{FrameChoice}
+use Rattle.mesh_post.specs.Refused.{Enters}
 use Rattle.mesh_post.specs.Sent.{Grew, KeepsAll, Sends, actor_of, sent_on, row_goes, chosen_ways, if_passes}
+use Rattle.mesh_post.proofs.Before.{enters_both, enters_none}
 use Rattle.mesh_post.proofs.Chosen.{chosen_one, chosen_none, chosen_last}
 use Rattle.mesh_post.proofs.Midway.{midway_skip, midway_step, midway_end, grew_both, keeps_both, chosen_kept}
 use Rattle.mesh_post.proofs.post.Post.carry_all.Goals.{in-Some+in_ok-carry, in_default}
 use Rattle.mesh_post.proofs.post.Post.carry_all.Goals as goal
+
+pub loop-i-init : goal.loop-i-init
+loop-i-init c = record { kept = search rules; grew = search rules; enters = enters_none c.args.self.now; goes = search rules }
 
 pub loop-i-preserved : goal.loop-i-preserved
 loop-i-preserved c =
@@ -17,6 +22,7 @@ loop-i-preserved c =
       | in-Some+in_ok-carry w ↦ record {
         kept = subst (λ p. KeepsAll c.args.self.now p) (sym w.self-is) (keeps_both c.args.self.now c.loop-i.self w.carry.new.self inv.kept w.carry.ensures.kept);
         grew = subst (λ g. Grew c.args.log.now g) (sym w.log-is) (grew_both c.args.log.now c.loop-i.log w.carry.new.log inv.grew w.carry.ensures.grew);
+        enters = subst (λ p. Enters c.args.self.now p) (sym w.self-is) (enters_both c.args.self.now c.loop-i.self w.carry.new.self inv.enters w.carry.ensures.enters);
         goes = λ sendings last ticks mesh amid sending room low late.
             rw (w.self-is, w.log-is) (midway_step c.args.self.now.choice c.loop-i.self w.carry.new.self sendings last ticks c.args.sender c.args.parcel.reason c.args.bytes.now (chosen_ways c.args.self.now c.args.sender.place c.args.to)
             (filter test (drop c.loop-i.i ws)) w.in-Some.way (filter test (drop (c.loop-i.i + 1) ws)) mesh c.args.log.now c.loop-i.log w.carry.new.log
@@ -28,6 +34,7 @@ loop-i-preserved c =
       | in_default w ↦ record {
         kept = subst (λ p. KeepsAll c.args.self.now p) (sym w.self-is) inv.kept;
         grew = subst (λ g. Grew c.args.log.now g) (sym w.log-is) inv.grew;
+        enters = subst (λ p. Enters c.args.self.now p) (sym w.self-is) inv.enters;
         goes = λ sendings last ticks mesh amid sending room low late.
             rw (w.self-is, w.log-is) (midway_skip c.args.self.now.choice c.loop-i.self sendings last ticks c.args.sender c.args.parcel.reason c.args.bytes.now (chosen_ways c.args.self.now c.args.sender.place c.args.to)
             (filter test (drop c.loop-i.i ws)) (filter test (drop (c.loop-i.i + 1) ws)) mesh c.args.log.now c.loop-i.log
@@ -49,3 +56,6 @@ returns-clause-sent c = λ sendings last ticks mesh amid sending room low late.
     (midway_skip c.args.self.now.choice c.loop-i.self sendings last ticks c.args.sender c.args.parcel.reason c.args.bytes.now all (filter test (drop c.loop-i.i ws)) [] mesh c.args.log.now c.loop-i.log
     (chosen_last test ws c.loop-i.i (omega (arith, low_end, count)) (omega (arith, high_end, count)))
     (inv.goes sendings last ticks mesh amid sending room low late))
+
+pub returns-in_err-carry-clause-enters : goal.returns-in_err-carry-clause-enters
+returns-in_err-carry-clause-enters c = enters_both c.args.self.now c.loop-i.self c.carry.new.self c.loop-i.invariant.enters c.carry.ensures.enters

@@ -1,6 +1,7 @@
 use Rattle.std.proofs.Common.{◌≡◌, ◌+◌, ◌++◌, ◌∷◌, [], length, sym, ap, ◌∙◌, subst, arith}
 use Rattle.mesh_post.specs.declared.row.Sending.{Sending}
 use Rattle.mesh_post.specs.Sent.{Amid, IsSending, sent_on_all, actor_of, chosen_ways}
+use Rattle.mesh_post.proofs.Before.{enters_none}
 use Rattle.mesh_post.proofs.ActLemmas.{amid_more, next_sending, grown}
 use Rattle.mesh_post.proofs.post.Post.send_all.Goals as goal
 
@@ -41,3 +42,6 @@ returns-clause-sent c = λ older last ticks mesh step room low late.
       };
       logged = sends.logged;
     }
+
+pub returns-in_err-sending-clause-enters : goal.returns-in_err-sending-clause-enters
+returns-in_err-sending-clause-enters c = enters_none c.args.self.now

@@ -1,0 +1,21 @@
+use Rattle.std.proofs.Common.{rules, ◌≡◌, ◌∷◌, [], length, sym, ◌∙◌, append-nil}
+use Rattle.mesh_post.proofs.Before.{enters_none, frame_entered}
+use Rattle.mesh_post.proofs.post.Post.enter.Goals as goal
+
+pub returns-in_err-place-clause-enters : goal.returns-in_err-place-clause-enters
+returns-in_err-place-clause-enters c = enters_none c.args.self.now
+
+pub returns-in_err-wait-clause-enters : goal.returns-in_err-wait-clause-enters
+returns-in_err-wait-clause-enters c =
+    let next : c.in_ok-place.place ≡ length c.args.self.now.frames.items = search rules in
+    frame_entered c.args.self.now _ c.in_ok-place.place [] (search rules) next (search rules) (search rules) (search rules) c.wait.ensures.others
+
+pub returns-in_err-push-clause-enters : goal.returns-in_err-push-clause-enters
+returns-in_err-push-clause-enters c =
+    let next : c.in_ok-place.place ≡ length c.args.self.now.frames.items = search rules in
+    frame_entered c.args.self.now _ c.in_ok-place.place [] (search rules) next (c.in_err-push.ensures.items ∙ sym (append-nil c.args.self.now.frames.items)) (search rules) (search rules) c.wait.ensures.others
+
+pub returns-clause-enters : goal.returns-clause-enters
+returns-clause-enters c =
+    let next : c.in_ok-place.place ≡ length c.args.self.now.frames.items = search rules in
+    frame_entered c.args.self.now _ c.in_ok-place.place (record { link = c.args.way; sending = c.args.parcel.sending } ∷ []) (search rules) next (search rules) (search rules) (search rules) (search rules)

@@ -1,0 +1,88 @@
+-- What a refused act leaves. Where it would pass a limit nothing is begun; where memory is wanting
+-- amid it, what was entered is taken back: the frames, what they bring, and what was told of them.
+-- So what is kept is as before, and so is the log. The main words are `IsAsBefore` and `PortSame`.
+use Rattle.std.specs.Prelude.{◌≡◌, ◌↔◌, ℕ, nat_lt, Bool, true, List, ◌++◌, filter, length, take}
+use Rattle.mesh_model.specs.declared.happening.Class.{Class}
+use Rattle.mesh_model.specs.declared.happening.Class.TheVariants.{LinkDelivery, LanDelivery, NodeTick}
+use Rattle.mesh_model.specs.declared.happening.Happening.{Happening}
+use Rattle.mesh_model.specs.Net.Next.{Has}
+use Rattle.mesh_post.specs.declared.marks.Mark.{Mark}
+use Rattle.mesh_post.specs.declared.port.NetPort.{NetPort}
+use Rattle.mesh_post.specs.declared.post.Post.{Post}
+use Rattle.mesh_post.specs.declared.row.Posted.{Posted}
+use Rattle.mesh_post.specs.declared.row.Put.{Put}
+use Rattle.mesh_post.specs.declared.row.Sending.{Sending}
+
+-- whether what happens of a class at a place is no delivery of a frame on a link from one place on,
+-- or of one on a LAN from another
+abbrev pub is_older : (frames puts : ℕ) → Class → ℕ → Bool
+is_older frames puts LinkDelivery place = nat_lt place frames
+is_older frames puts LanDelivery place = nat_lt place puts
+is_older frames puts NodeTick place = true
+
+-- so of a happening
+abbrev pub stays : (frames puts : ℕ) → Happening → Bool
+stays frames puts h = is_older frames puts h.class h.place
+
+-- what joined, and what an act never changes besides
+pub record KeepsJoined (old new : Post) : Type 0 where
+  pub alloc : new.alloc ≡ old.alloc
+  pub rows : new.rows ≡ old.rows
+  pub ways : new.ways ≡ old.ways
+  pub lans : new.lans ≡ old.lans
+  pub older : new.older ≡ old.older
+  pub choice : new.choice ≡ old.choice
+
+-- frames and sendings were entered behind the others, and only deliveries of these frames wait
+-- besides what waited
+pub record Enters (old new : Post) : Type 0 where
+  pub joined : KeepsJoined old new
+  pub frames : List Posted
+  pub frames_are : new.frames.items ≡ old.frames.items ++ frames
+  pub puts : List Put
+  pub puts_are : new.puts.items ≡ old.puts.items ++ puts
+  pub fresh : List Sending
+  pub fresh_are : new.fresh.items ≡ old.fresh.items ++ fresh
+  pub waits : (x : Happening) →
+      stays (length old.frames.items) (length old.puts.items) x ≡ true →
+      Has new.queue x ↔ Has old.queue x
+
+-- a mark is of what is kept
+pub record IsMark (post : Post) (mark : Mark) : Type 0 where
+  pub frames : mark.frames ≡ length post.frames.items
+  pub puts : mark.puts ≡ length post.puts.items
+  pub fresh : mark.fresh ≡ length post.fresh.items
+  pub bytes : mark.bytes ≡ post.bytes
+  pub turns : mark.turns.items ≡ post.turns.items
+
+-- what was entered since a mark is taken back
+pub record TakesBack (mark : Mark) (old new : Post) : Type 0 where
+  pub joined : KeepsJoined old new
+  pub frames : new.frames.items ≡ take mark.frames old.frames.items
+  pub puts : new.puts.items ≡ take mark.puts old.puts.items
+  pub fresh : new.fresh.items ≡ take mark.fresh old.fresh.items
+  pub bytes : new.bytes ≡ mark.bytes
+  pub turns : new.turns.items ≡ mark.turns.items
+  pub queue : new.queue ≡ filter (stays mark.frames mark.puts) old.queue
+
+-- each delivery that waits is of a frame that is kept
+abbrev pub AwaitsItsFrames : Post → Type 0
+AwaitsItsFrames post = (x : Happening) → Has post.queue x →
+    stays (length post.frames.items) (length post.puts.items) x ≡ true
+
+-- what is kept is as it was
+pub record IsAsBefore (old new : Post) : Type 0 where
+  pub joined : KeepsJoined old new
+  pub turns : new.turns.items ≡ old.turns.items
+  pub frames : new.frames.items ≡ old.frames.items
+  pub puts : new.puts.items ≡ old.puts.items
+  pub fresh : new.fresh.items ≡ old.fresh.items
+  pub bytes : new.bytes ≡ old.bytes
+  pub waits : AwaitsItsFrames old → (x : Happening) → Has new.queue x ↔ Has old.queue x
+
+-- a port as one that refused an act leaves it
+pub record PortSame (old new : NetPort) : Type 0 where
+  pub post : new.post.ghost_name ≡ old.post.ghost_name
+  pub log : new.log.ghost_name ≡ old.log.ghost_name
+  pub kept : IsAsBefore old.post.now new.post.now
+  pub told : new.log.now ≡ old.log.now
