@@ -1,5 +1,5 @@
 -- What a node puts is carried out, one act after another.
-use Rattle.std.proofs.Common.{◌≡◌, ℕ, zero, suc, ◌<◌, inl, inr, List, [], ◌∷◌, length, Bool, true, false, slice_get, Option, Some, None, Result, Ok, Err, refl, sym, ap, ◌∙◌, subst}
+use Rattle.std.proofs.Common.{◌≡◌, ℕ, zero, suc, ◌<◌, inl, inr, List, [], ◌∷◌, length, Bool, true, false, slice_get, Option, Some, None, Result, Ok, Err, refl, sym, ap, ◌∙◌, subst, append-nil}
 use Rattle.std.specs.Result.{OnOk, IfErr}
 use Rattle.mesh_base.specs.declared.address.Mac.{Mac}
 use Rattle.mesh_base.specs.declared.event.Event.{Event}
@@ -31,7 +31,8 @@ use Rattle.mesh_post.specs.declared.post.Post.{Post}
 use Rattle.mesh_post.specs.declared.row.Sender.{Sender}
 use Rattle.mesh_post.specs.declared.row.Sending.{Sending}
 use Rattle.mesh_net.specs.Given.{HasGiven, GiveTells}
-use Rattle.mesh_post.specs.Sent.{InStep, MaySend, Logged, Grew, PortTook, PortSame, passed_by, actor_of}
+use Rattle.mesh_post.specs.Refused.{PortSame}
+use Rattle.mesh_post.specs.Sent.{InStep, MaySend, Logged, Grew, PortTook, passed_by, actor_of}
 use Rattle.mesh_post.proofs.ActLemmas.{over_act}
 use Rattle.mesh_post.proofs.Midway.{logged_none, logged_both, grew_none, grew_both}
 
@@ -55,7 +56,7 @@ took_kept : (p q : NetPort) (act : Act) → PortTook p act q → PortKept p q
 took_kept p q act t = record { post = t.post; log = t.log; grew = t.grew }
 
 pub same_kept : (p q : NetPort) → PortSame p q → PortKept p q
-same_kept p q s = record { post = s.post; log = s.log; grew = s.grew }
+same_kept p q s = record { post = s.post; log = s.log; grew = record { more = []; is = s.told ∙ sym (append-nil p.log.now) } }
 
 all_kept : (p : NetPort) (acts : List Act) (q : NetPort) → TakesAll PortTook port_over p acts q → PortKept p q
 all_kept p [] q t = subst (PortKept p) t (kept_none p)

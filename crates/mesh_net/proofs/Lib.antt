@@ -10,9 +10,8 @@ pub mod LanSteps
 pub mod TickLemmas
 pub mod PopLemmas
 pub mod Ends
-pub mod Slices
-pub mod ExtendLemmas
 pub mod ToldLemmas
 pub mod RightLemmas
+pub mod Slices
 pub mod JoinCalls
 pub mod EmptyLemmas

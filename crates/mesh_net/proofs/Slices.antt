@@ -1,5 +1,7 @@
 -- Runs of the net, happening after happening.
 use Rattle.std.proofs.Common.{◌≡◌, ℕ, ◌+◌, ◌*◌, ◌-◌, ◌<◌, ◌≤◌, inl, inr, Bool, true, false, is_none, List, Some, Result, Ok, Err, refl, sym, ap, ◌∙◌, subst, arith}
+use Rattle.std.specs.Fn.{iterate}
+use Rattle.std.specs.Prelude.{⊤}
 use Rattle.std.specs.Result.{OnErr, IfOk}
 use Rattle.mesh_base.specs.declared.address.Mac.{Mac}
 use Rattle.mesh_base.specs.declared.event.Event.{Event}
@@ -11,6 +13,8 @@ use Rattle.mesh_model.specs.Net.Mesh.{Mesh, Setup}
 use Rattle.mesh_model.specs.Net.Runs.{after_happening, after_next, begin, course_after, going_on, run_to, turn}
 use Rattle.mesh_model.specs.Routes.Queries.{Queries}
 use Rattle.mesh_model.specs.Routes.RouteLog.{RouteLog}
+use Rattle.mesh_tie.specs.Steps.{IsReachable}
+use Rattle.mesh_tie.specs.TieLaws.{AllKeep}
 use Rattle.mesh_laws.specs.Soundness.{FitsPlaces, IsSound, rank}
 use Rattle.mesh_laws.proofs.Schedule.Due.{finds_next}
 use Rattle.mesh_laws.proofs.Schedule.Kept.{fine_start}
@@ -23,13 +27,14 @@ use Rattle.mesh_net.specs.declared.net.Net.{Net}
 use Rattle.mesh_net.specs.NetStands.{NetStands, IsDead, IsLive, IsNet}
 use Rattle.mesh_net.specs.Reached.{passes}
 use Rattle.mesh_post.specs.Sent.{Logged}
-use Rattle.mesh_net.specs.Steps.{IsLate, RanOn, Rested, SliceTells, StepFails, StepLeaves, Stepped, Went, WentUpTo}
-use Rattle.mesh_net.specs.Tells.{RanAll, RunTells}
+use Rattle.mesh_net.specs.Steps.{IsLate, LeftAt, RanOn, Rested, SliceTells, StepFails, StepLeaves, Stepped, Went, WentUpTo}
+use Rattle.mesh_net.specs.Tells.{LeavesRightly, RanAll, RunTells}
 use Rattle.mesh_post.specs.Waiting.{IsNoneDue, IsSomeDue}
 use Rattle.mesh_net.proofs.Ends.{gains}
 use Rattle.mesh_post.proofs.Midway.{logged_none, logged_both}
 use Rattle.mesh_net.proofs.PopLemmas.{none_quiet, some_not_quiet}
 use Rattle.mesh_net.proofs.ReachedLemmas.{reached}
+use Rattle.mesh_net.proofs.RightLemmas.{happening_steps, left_rightly, rightly}
 
 -- a run past the last moment
 pub late_tells : (setup : Setup) (choice : FrameChoice) (mesh : Mesh) (t : ℕ) (log : List Event) (error : NetErr) → IsLate t error → RunTells setup choice mesh t log log error
@@ -65,6 +70,7 @@ module _ {A : Type 0} (queries : Mac → Queries) (stands : A → Mac → RouteL
     risen = omega arith;
     now_is = inl (refl, refl);
     within = l;
+    way = λ keep r. r;
   }
 
   turn_next : (t : ℕ) (mesh after : Mesh) (h : Happening) → next_due t mesh ≡ Some h → after_happening (scenario_setup queries) h mesh ≡ Ok after → turn (scenario_setup queries) t (begin mesh) ≡ begin after
@@ -90,6 +96,7 @@ module _ {A : Type 0} (queries : Mac → Queries) (stands : A → Mac → RouteL
         risen = subst (λ (x : Happening). rank mesh.last + (count + 1) ≤ rank x) (sym last) high;
         now_is = inr (ap (λ (x : Happening). x.moment) (sym last));
         within = s.next.within;
+        way = λ keep r. happening_steps queries w.now t w.after s.after s.happening w.standing.reached s.next s.is keep (w.way keep r);
       }
 
   -- none is due
@@ -108,6 +115,7 @@ module _ {A : Type 0} (queries : Mac → Queries) (stands : A → Mac → RouteL
       risen = w.risen;
       now_is = w.now_is;
       within = w.within;
+      way = w.way;
     };
     full = inr r.quiet;
   }
@@ -135,6 +143,29 @@ module _ {A : Type 0} (queries : Mac → Queries) (stands : A → Mac → RouteL
     goes = w.goes;
     logged = subst (Logged choice mesh w.after old) (sym same) w.logged;
   }
+
+  pub went_left : (net : Net A) (choice : FrameChoice) (clock : ℕ) (mesh : Mesh) (t count : ℕ) (old mid new : List Event) → Went queries stands net choice clock mesh t count old mid → new ≡ mid → LeftAt queries choice mesh t old new
+  went_left net choice clock mesh t count old mid new w same = record {
+    count = count;
+    after = w.after;
+    now = w.now;
+    taken = w.taken;
+    logged = subst (Logged choice mesh w.after old) (sym same) w.logged;
+    is_reached = w.standing.reached;
+    way = w.way;
+  }
+
+  -- nothing of it was begun
+  pub none_left : (net : Net A) (choice : FrameChoice) (clock : ℕ) (mesh : Mesh) (t : ℕ) (log : List Event) → NetStands queries stands net choice clock mesh → LeavesRightly queries choice mesh t log log
+  none_left net choice clock mesh t log s = left_rightly queries choice mesh t log log (record {
+    count = 0;
+    after = mesh;
+    now = clock;
+    taken = refl;
+    logged = logged_none choice mesh log;
+    is_reached = s.reached;
+    way = λ keep r. r;
+  })
 
   -- a step that was carried out, or not
   pub step_true : (net : Net A) (choice : FrameChoice) (clock : ℕ) (mesh : Mesh) (t : ℕ) (old new : List Event) (went : Bool) → went ≡ true → StepLeaves queries stands net choice clock mesh t old new went → Stepped queries stands net choice mesh t old new
@@ -171,6 +202,7 @@ module _ {A : Type 0} (queries : Mac → Queries) (stands : A → Mac → RouteL
       );
       ended = λ e. clash e;
       within = soon;
+      right = rightly queries choice ⊤ u.went.now mesh u.went.after old new u.went.standing.reached (λ keep r none. u.went.way keep r) u.went.logged;
     };
     logged = u.went.logged;
     risen = u.went.risen;
@@ -211,6 +243,7 @@ module _ {A : Type 0} (queries : Mac → Queries) (stands : A → Mac → RouteL
           broke_off = λ e. clash (sym e);
           ended = λ e. (quiet, refl);
           within = soon;
+          right = rightly queries choice ⊤ u.went.now mesh u.went.after old new s.reached (λ keep r none. u.went.way keep r) u.went.logged;
         };
         logged = u.went.logged;
         risen = u.went.risen;
@@ -226,9 +259,15 @@ module _ {A : Type 0} (queries : Mac → Queries) (stands : A → Mac → RouteL
     pub logged : Logged choice mesh after old new
     pub goes : run_to (scenario_setup queries) t mesh ≡ going_on (scenario_setup queries) t (begin after)
     pub within : now ≤ t
+    pub count : ℕ
+    pub taken : iterate (turn (scenario_setup queries) t) count (begin mesh) ≡ begin after
+    pub way : AllKeep queries → IsReachable queries mesh → IsReachable queries after
 
   pub under_way_first : (net : Net A) (choice : FrameChoice) (clock : ℕ) (mesh : Mesh) (t : ℕ) (log : List Event) → NetStands queries stands net choice clock mesh → clock ≤ t → UnderWay net choice mesh t log log
-  under_way_first net choice clock mesh t log s l = record { after = mesh; now = clock; standing = s; logged = logged_none choice mesh log; goes = refl; within = l }
+  under_way_first net choice clock mesh t log s l = record { after = mesh; now = clock; standing = s; logged = logged_none choice mesh log; goes = refl; within = l; count = 0; taken = refl; way = λ keep r. r }
+
+  more_taken : (t one two : ℕ) (mesh mid after : Mesh) → iterate (turn (scenario_setup queries) t) one (begin mesh) ≡ begin mid → iterate (turn (scenario_setup queries) t) two (begin mid) ≡ begin after → iterate (turn (scenario_setup queries) t) (one + two) (begin mesh) ≡ begin after
+  more_taken t one two mesh mid after p q = iterate-add (turn (scenario_setup queries) t) one two (begin mesh) ∙ ap (iterate (turn (scenario_setup queries) t) two) p ∙ q
 
   pub under_way_next : (net net' : Net A) (choice : FrameChoice) (mesh : Mesh) (t most : ℕ) (old mid new : List Event) (more : Bool) → (w : UnderWay net choice mesh t old mid) → RanOn queries stands net' choice w.now w.after t most mid new more → UnderWay net' choice mesh t old new
   under_way_next net net' choice mesh t most old mid new more w r = record {
@@ -238,6 +277,9 @@ module _ {A : Type 0} (queries : Mac → Queries) (stands : A → Mac → RouteL
     logged = logged_both choice mesh w.after r.ran.after old mid new w.logged r.logged;
     goes = w.goes ∙ r.ran.goes;
     within = r.within_now;
+    count = w.count + r.ran.count;
+    taken = more_taken t w.count r.ran.count mesh w.after r.ran.after w.taken r.ran.taken;
+    way = λ keep before. (r.ran.right.told keep (w.way keep before) tt).reachable;
   }
 
   -- it came to its end
@@ -254,6 +296,7 @@ module _ {A : Type 0} (queries : Mac → Queries) (stands : A → Mac → RouteL
         goes = w.goes ∙ r.ran.goes ∙ done_stays setup t (begin r.ran.after) (ap is_none (none.1 end.0));
         quiet = end.0;
         within = soon;
+        right = rightly queries choice ⊤ r.ran.now mesh r.ran.after old new r.ran.standing.reached (λ keep before none. (r.ran.right.told keep (w.way keep before) tt).reachable) (logged_both choice mesh w.after r.ran.after old mid new w.logged r.logged);
       }
 
   -- the last happening rises, below a bound
@@ -278,6 +321,17 @@ module _ {A : Type 0} (queries : Mac → Queries) (stands : A → Mac → RouteL
   }
   tells_on net choice mesh t old mid new net_errors.Dead w f = f
   tells_on net choice mesh t old mid new net_errors.Memory w s = record { after = s.after; goes = w.goes ∙ s.goes; logged = logged_both choice mesh w.after s.after old mid new w.logged s.logged }
+
+  pub left_on : (net : Net A) (choice : FrameChoice) (mesh : Mesh) (t : ℕ) (old mid new : List Event) → (w : UnderWay net choice mesh t old mid) → LeftAt queries choice w.after t mid new → LeavesRightly queries choice mesh t old new
+  left_on net choice mesh t old mid new w l = left_rightly queries choice mesh t old new (record {
+    count = w.count + l.count;
+    after = l.after;
+    now = l.now;
+    taken = more_taken t w.count l.count mesh w.after l.after w.taken l.taken;
+    logged = logged_both choice mesh w.after l.after old mid new w.logged l.logged;
+    is_reached = l.is_reached;
+    way = λ keep before. l.way keep (w.way keep before);
+  })
 
   -- ---- nets that stand for something
   -- one that stands for what another does, since they are equal

@@ -1,4 +1,4 @@
--- What is told of tables, and of the events that a log gained, is right in a mesh that steps reach.
+-- What is told of messages and tables, and of the events that a log gained, is right in a mesh that steps reach.
 use Rattle.std.proofs.Common.{◌≡◌, ◌⊎◌, inl, inr, ℕ, Bool, true, false, cond, List, [], ◌∷◌, ◌++◌, filter, Some, refl, sym, ap, ◌∙◌, append_assoc}
 use Rattle.mesh_base.specs.declared.address.Mac.{Mac}
 use Rattle.mesh_base.specs.declared.event.Event.{Event}
@@ -8,12 +8,20 @@ use Rattle.mesh_model.specs.Net.Mesh.{Mesh}
 use Rattle.mesh_model.specs.Net.Next.{Has}
 use Rattle.mesh_model.specs.Routes.Queries.{Queries}
 use Rattle.mesh_laws.proofs.Schedule.Members.{has_either}
-use Rattle.mesh_tie.specs.NetTables.{GainsAreRight, TablesAreRight}
+use Rattle.mesh_tie.specs.NetTables.{GainsAreRight, SayingsAreRight, TablesAreRight}
 use Rattle.mesh_tie.specs.Steps.{IsReachable}
 use Rattle.mesh_tie.specs.TieLaws.{AllKeep, IsWithoutAlias}
 use Rattle.mesh_tie.proofs.EventLemmas.{events_by_table_are_right}
-use Rattle.mesh_tie.proofs.LawLemmas.{agreed_are_told, held_are_committed}
+use Rattle.mesh_tie.proofs.LawLemmas.{agreed_are_told, answers_carry, held_are_committed, messages_announce}
 use Rattle.mesh_tie.proofs.SeenLemmas.{aliases_are_seen}
+
+pub sayings_are_right : (queries : Mac → Queries) (mesh : Mesh) → AllKeep queries → IsReachable queries mesh → SayingsAreRight mesh
+sayings_are_right queries mesh keep r orig none =
+    let clear : IsWithoutAlias queries orig mesh = record { keep = keep; reachable = r; none = aliases_are_seen queries mesh r orig none } in
+    record {
+      messages = λ place frame packet sent has word. messages_announce queries orig mesh clear place frame packet sent has word;
+      answers = λ place frame packet sent has word stamp carried is. answers_carry queries orig mesh clear place frame packet sent has word stamp carried is;
+    }
 
 pub tables_are_right : (queries : Mac → Queries) (mesh : Mesh) → AllKeep queries → IsReachable queries mesh → TablesAreRight queries mesh
 tables_are_right queries mesh keep r orig none place node found =

@@ -33,7 +33,10 @@ use Rattle.mesh_net.specs.declared.net.Net.{Net}
 use Rattle.mesh_post.specs.declared.post.Post.{Post}
 use Rattle.mesh_post.specs.declared.row.Sending.{Sending}
 use Rattle.mesh_net.specs.declared.seat.Seat.{Seat}
+use Rattle.mesh_tie.specs.Steps.{IsReachable}
+use Rattle.mesh_tie.specs.TieLaws.{AllKeep}
 use Rattle.mesh_net.specs.NetStands.{SeatsStand, NetStands}
+use Rattle.mesh_net.specs.Reached.{IsReached}
 use Rattle.mesh_post.specs.Sent.{InStep, Logged}
 use Rattle.mesh_net.specs.Tells.{Ran, StepTells}
 
@@ -290,6 +293,7 @@ pub record Went {A : Type 0} (queries : Mac → Queries) (stands : A → Mac →
   pub risen : rank before.last + count ≤ rank after.last
   pub now_is : ((count ≡ 0) × (now ≡ clock)) ⊎ (now ≡ after.last.moment)
   pub within : now ≤ t
+  pub way : AllKeep queries → IsReachable queries before → IsReachable queries after
 
 -- at most so many were, and fewer only where no more are due
 pub record WentUpTo {A : Type 0} (queries : Mac → Queries) (stands : A → Mac → RouteLog → Type 0)
@@ -338,3 +342,14 @@ SliceTells setup choice before t old new (net_errors.Limit limit) =
 SliceTells setup choice before t old new net_errors.Dead = ⊥
 SliceTells setup choice before t old new net_errors.Memory =
     BrokeOffAt setup choice before t old new
+
+-- a run that began is refused behind so many turns: the mesh and the clock behind them
+pub record LeftAt (queries : Mac → Queries) (choice : FrameChoice) (before : Mesh) (t : ℕ)
+    (old new : List Event) : Type 0 where
+  pub count : ℕ
+  pub after : Mesh
+  pub now : ℕ
+  pub taken : iterate (turn (scenario_setup queries) t) count (begin before) ≡ begin after
+  pub logged : Logged choice before after old new
+  pub is_reached : IsReached (scenario_setup queries) now after
+  pub way : AllKeep queries → IsReachable queries before → IsReachable queries after

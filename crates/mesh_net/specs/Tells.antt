@@ -1,7 +1,7 @@
 -- What the calls of a net tell: what a step or a run leaves in the log of events, how far a run
 -- came, that all gateways of a LAN have the same claims, that what is told of tables is right, and
 -- what each refusal means. The main words are `Ran`, `TellsRightly` and `RunTells`.
-use Rattle.std.specs.Prelude.{◌≡◌, ℕ, ◌<◌, ◌≤◌, ◌⊎◌, Bool, true, false, List, ◌++◌, filter, length, Some, Ok, Err}
+use Rattle.std.specs.Prelude.{◌≡◌, ℕ, ◌<◌, ◌≤◌, ◌⊎◌, Bool, true, false, List, ◌++◌, filter, length, Some, Ok, Err, ⊤}
 use Rattle.std.specs.Fn.{iterate}
 use Rattle.mesh_base.specs.declared.address.Mac.{Mac}
 use Rattle.mesh_base.specs.declared.event.Event.{Event}
@@ -21,7 +21,8 @@ use Rattle.mesh_model.specs.Run.Steps.{new_node}
 use Rattle.mesh_model.specs.Text.Events.{is_shown}
 use Rattle.mesh_laws.specs.GatewayLaws.{LansStand}
 use Rattle.mesh_tie.specs.CutPackets.{PacketsWereCut}
-use Rattle.mesh_tie.specs.NetTables.{GainsAreRight, IsTellable, TablesAreRight}
+use Rattle.mesh_tie.specs.NetTables.{GainsAreRight, SayingsAreRight, TablesAreRight}
+use Rattle.mesh_tie.specs.Steps.{IsReachable}
 use Rattle.mesh_tie.specs.TieLaws.{AllKeep}
 use Rattle.mesh_net.specs.declared.failure.NetErr.{NetErr}
 use Rattle.mesh_net.specs.declared.failure.NetErr.TheVariants.{Limit, Dead, Memory}
@@ -52,21 +53,27 @@ pub record Carried {A : Type 0} (queries : Mac → Queries) (stands : A → Mac 
   pub standing : NetStands queries stands net choice clock after
   pub gains : Gains choice before after old new
 
--- a net stands for a mesh behind a call whose LANs stand, with gateways that have the same claims,
--- and whose tables are right, as are the events that the log gained: each frame that was sent by
--- table is for a client that the addressee's commit names, as its sender was told last when it sent
--- the frame. Where an event told of an alias of an originator, this says nothing of it. And each
--- packet that a node put together is one that the originator of its fragments cut
-pub record TellsRightly {A : Type 0} (queries : Mac → Queries)
-    (stands : A → Mac → RouteLog → Type 0) (net : Net A) (choice : FrameChoice) (before : Mesh)
+-- what is told between two meshes is right: steps reach the mesh behind; what its messages and its
+-- answers say is right, as are its tables, and the events that the log gained: each frame that was
+-- sent by table is for a client that the addressee's commit names, as its sender was told last when
+-- it sent the frame. Where an event told of an alias of an originator, this says nothing of it. And
+-- each packet that a node put together is one that the originator of its fragments cut
+pub record IsToldRightly (queries : Mac → Queries) (before after : Mesh) (old new : List Event)
+    : Type 0 where
+  pub reachable : IsReachable queries after
+  pub sayings : SayingsAreRight after
+  pub tables : TablesAreRight queries after
+  pub events : GainsAreRight queries before after old new
+  pub packets : PacketsWereCut queries after
+
+-- the LANs of the mesh behind a call stand, with gateways that have the same claims; and where the
+-- algorithm keeps originator messages their originators', steps reach the mesh before, and what the
+-- call brings can be told, so what is told of tables is right
+pub record TellsRightly (queries : Mac → Queries) (brings : Type 0) (before after : Mesh)
     (old new : List Event) : Type 0 where
-  pub clock : ℕ
-  pub after : Mesh
-  pub standing : NetStands queries stands net choice clock after
   pub lans : LansStand after
-  pub tables : AllKeep queries → IsTellable after → TablesAreRight queries after
-  pub events : AllKeep queries → IsTellable after → GainsAreRight queries before after old new
-  pub packets : AllKeep queries → IsTellable after → PacketsWereCut queries after
+  pub told : AllKeep queries → IsReachable queries before → brings →
+      IsToldRightly queries before after old new
 
 -- why a step at the clock is refused
 abbrev pub StepTells : Attempt → NetErr → Type 0
@@ -140,6 +147,7 @@ pub record Ran {A : Type 0} (queries : Mac → Queries) (stands : A → Mac → 
   -- where none is, nothing is due until the moment, and the clock is there
   pub ended : more ≡ false → IsQuiet t after × (now ≡ t)
   pub within : t ≤ clock_limit
+  pub right : TellsRightly queries ⊤ before after old new
 
 -- a run until a moment came to its end
 pub record RanAll {A : Type 0} (queries : Mac → Queries) (stands : A → Mac → RouteLog → Type 0)
@@ -151,6 +159,7 @@ pub record RanAll {A : Type 0} (queries : Mac → Queries) (stands : A → Mac �
   pub goes : run_to setup t before ≡ begin after
   pub quiet : IsQuiet t after
   pub within : t ≤ clock_limit
+  pub right : TellsRightly queries ⊤ before after old new
 
 -- a run until a moment passes a limit: it stops there, and the log gained the events of the steps
 -- before
@@ -170,6 +179,15 @@ pub record BrokeOff (setup : Setup) (choice : FrameChoice) (before : Mesh) (t : 
   pub goes : run_to setup t before ≡ going_on setup t (begin after)
   pub gains : Gains choice before after old new
   pub within : t ≤ clock_limit
+
+-- a run until a moment is refused: the log gained the events of so many turns, and they are right
+pub record LeavesRightly (queries : Mac → Queries) (choice : FrameChoice) (before : Mesh) (t : ℕ)
+    (old new : List Event) : Type 0 where
+  pub count : ℕ
+  pub after : Mesh
+  pub taken : iterate (turn (scenario_setup queries) t) count (begin before) ≡ begin after
+  pub gains : Gains choice before after old new
+  pub right : TellsRightly queries ⊤ before after old new
 
 -- a run until a moment that is too late isn't begun
 pub record IsTooLate (t : ℕ) (old new : List Event) (limit : LimitName) : Type 0 where

@@ -1,4 +1,4 @@
-ghost use Rattle.std.specs.Prelude.{◌≡◌, ℕ, ◌<◌, None, is_some, length, List, map, IfErr, IfOk, OnErr, OnOk, IsErrOf};
+ghost use Rattle.std.specs.Prelude.{◌≡◌, ℕ, ◌<◌, None, Ok, is_some, length, List, map, IfErr, IfOk, OnErr, OnOk, IsErrOf};
 ghost use Rattle.mesh_model.specs.Net.Inputs.{all_given};
 ghost use Rattle.mesh_model.specs.Net.Limits.{scenario_setup};
 ghost use Rattle.mesh_model.specs.Net.Mesh.{NodeLog, Mesh, address_at};
@@ -11,6 +11,7 @@ ghost use Rattle.mesh_net.specs.NetStands.{NetStands, IsNet, IsDead, IsLive, Sea
 ghost use Rattle.mesh_net.specs.Reached.{IsNewLan, IsOfLine};
 ghost use Rattle.mesh_net.specs.Steps.{Begun, Gave, GaveAndKept, IsTickless, KeepsNet, MayBegin};
 ghost use Rattle.mesh_net.specs.Tells.{Carried, HasJoinedLan, LanTells, StepTells, TellsRightly};
+ghost use Rattle.mesh_tie.specs.NetTables.{NamesClients, TellsPut};
 ghost use Rattle.mesh_node.specs.NodeStands.{given_by};
 ghost use Rattle.mesh_post.specs.Sent.{Grew};
 
@@ -63,10 +64,11 @@ impl<A: Algo + Drop> Net<A> {
             OnOk result (Carried A.queries A.stands self.new choice clock mesh log.old log.new
             (with_put (scenario_setup A.queries)
             (record { lan = lan; moment = clock; bytes = bytes; by = None }) mesh)) }
-        ensures right { (choice : FrameChoice) (clock : ℕ) (mesh : Mesh) →
+        ensures right { (choice : FrameChoice) (clock : ℕ) (mesh after : Mesh) →
             NetStands A.queries A.stands self.old choice clock mesh →
-            OnOk result
-            (TellsRightly A.queries A.stands self.new choice mesh log.old log.new) }
+            with_put (scenario_setup A.queries)
+            (record { lan = lan; moment = clock; bytes = bytes; by = None }) mesh ≡ Ok after →
+            OnOk result (TellsRightly A.queries (TellsPut bytes) mesh after log.old log.new) }
 
         // An earlier refusal comes first; want of memory may stand in place of a limit.
         ensures cause { (choice : FrameChoice) (clock : ℕ) (mesh : Mesh) →
@@ -95,10 +97,12 @@ impl<A: Algo + Drop> Net<A> {
             OnOk result (Carried A.queries A.stands self.new choice clock mesh log.old log.new
             (all_given (scenario_setup A.queries) (gateways_at lan mesh.lans) clock
             (given_by 0 input.now) mesh)) }
-        ensures right { (choice : FrameChoice) (clock : ℕ) (mesh : Mesh) →
+        ensures right { (choice : FrameChoice) (clock : ℕ) (mesh after : Mesh) →
             NetStands A.queries A.stands self.old choice clock mesh →
-            OnOk result
-            (TellsRightly A.queries A.stands self.new choice mesh log.old log.new) }
+            all_given (scenario_setup A.queries) (gateways_at lan mesh.lans) clock
+            (given_by 0 input.now) mesh ≡ Ok after →
+            OnOk result (TellsRightly A.queries (NamesClients (given_by 0 input.now)) mesh after
+            log.old log.new) }
 
         // An earlier refusal comes first; want of memory may stand in place of a limit.
         ensures cause { (choice : FrameChoice) (clock : ℕ) (mesh : Mesh) →

@@ -3,8 +3,8 @@ ghost use Rattle.mesh_model.specs.declared.frame_choice.FrameChoice.{FrameChoice
 ghost use Rattle.mesh_model.specs.Net.Mesh.{Mesh};
 ghost use Rattle.mesh_model.specs.Net.Limits.{clock_limit, scenario_setup};
 ghost use Rattle.mesh_net.specs.NetStands.{NetStands, IsNet, IsDead, IsLive};
-ghost use Rattle.mesh_net.specs.Steps.{RanOn, WentUpTo, IsLate, SliceTells, StepFails, StepLeaves};
-ghost use Rattle.mesh_net.specs.Tells.{Ran, RanAll, RunTells, TellsRightly};
+ghost use Rattle.mesh_net.specs.Steps.{LeftAt, RanOn, WentUpTo, IsLate, SliceTells, StepFails, StepLeaves};
+ghost use Rattle.mesh_net.specs.Tells.{LeavesRightly, Ran, RanAll, RunTells};
 
 use crate::failure::NetErr;
 use crate::net::Net;
@@ -26,16 +26,15 @@ impl<A: Algo + Drop> Net<A> {
             NetStands A.queries A.stands self.old choice clock mesh →
             OnOk result (RanAll A.queries A.stands (scenario_setup A.queries) self.new choice mesh t
             log.old log.new) }
-        ensures right { (choice : FrameChoice) (clock : ℕ) (mesh : Mesh) →
-            NetStands A.queries A.stands self.old choice clock mesh →
-            OnOk result
-            (TellsRightly A.queries A.stands self.new choice mesh log.old log.new) }
 
         // An earlier refusal comes first, then the clock; want of memory may stand in place of a
         // limit.
         ensures cause { (choice : FrameChoice) (clock : ℕ) (mesh : Mesh) →
             NetStands A.queries A.stands self.old choice clock mesh →
             IfErr result (RunTells (scenario_setup A.queries) choice mesh t log.old log.new) }
+        ensures left { (choice : FrameChoice) (clock : ℕ) (mesh : Mesh) →
+            NetStands A.queries A.stands self.old choice clock mesh →
+            OnErr result (LeavesRightly A.queries choice mesh t log.old log.new) }
         ensures dead { IsDead self.old → IsErrOf result NetErr.Dead × (log.new ≡ log.old) }
         ensures refused { OnErr result (IsDead self.new) }
         ensures net { IsNet A.queries A.stands self.new }
@@ -55,16 +54,15 @@ impl<A: Algo + Drop> Net<A> {
             NetStands A.queries A.stands self.old choice clock mesh →
             IfOk result (Ran A.queries A.stands (scenario_setup A.queries) self.new choice clock
             mesh t most log.old log.new) }
-        ensures right { (choice : FrameChoice) (clock : ℕ) (mesh : Mesh) →
-            NetStands A.queries A.stands self.old choice clock mesh →
-            OnOk result
-            (TellsRightly A.queries A.stands self.new choice mesh log.old log.new) }
 
         // An earlier refusal comes first, then the clock; want of memory may stand in place of a
         // limit.
         ensures cause { (choice : FrameChoice) (clock : ℕ) (mesh : Mesh) →
             NetStands A.queries A.stands self.old choice clock mesh →
             IfErr result (RunTells (scenario_setup A.queries) choice mesh t log.old log.new) }
+        ensures left { (choice : FrameChoice) (clock : ℕ) (mesh : Mesh) →
+            NetStands A.queries A.stands self.old choice clock mesh →
+            OnErr result (LeavesRightly A.queries choice mesh t log.old log.new) }
         ensures dead { IsDead self.old → IsErrOf result NetErr.Dead × (log.new ≡ log.old) }
         ensures refused { OnErr result (IsDead self.new) }
         ensures net { IsNet A.queries A.stands self.new }
@@ -105,6 +103,9 @@ impl<A: Algo + Drop> Net<A> {
         ensures cause { (choice : FrameChoice) (clock : ℕ) (mesh : Mesh) →
             NetStands A.queries A.stands self.old choice clock mesh →
             IfErr result (SliceTells (scenario_setup A.queries) choice mesh t log.old log.new) }
+        ensures left { (choice : FrameChoice) (clock : ℕ) (mesh : Mesh) →
+            NetStands A.queries A.stands self.old choice clock mesh →
+            OnErr result (LeftAt A.queries choice mesh t log.old log.new) }
         ensures refused { OnErr result (IsDead self.new) }
     {
         self.step_often(t, most, log)?;
@@ -128,6 +129,9 @@ impl<A: Algo + Drop> Net<A> {
         ensures cause { (choice : FrameChoice) (clock : ℕ) (mesh : Mesh) →
             NetStands A.queries A.stands self.old choice clock mesh →
             IfErr result (SliceTells (scenario_setup A.queries) choice mesh t log.old log.new) }
+        ensures left { (choice : FrameChoice) (clock : ℕ) (mesh : Mesh) →
+            NetStands A.queries A.stands self.old choice clock mesh →
+            OnErr result (LeftAt A.queries choice mesh t log.old log.new) }
         ensures refused { OnErr result (IsDead self.new) }
     {
         for _ in 0..most {

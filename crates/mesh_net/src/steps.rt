@@ -1,4 +1,4 @@
-ghost use Rattle.std.specs.Prelude.{◌≡◌, ◌-◌, ◌+◌, ℕ, suc, ◌<◌, true, is_ok, List, ◌∷◌, take, Some, IfErr, OnOk, OnErr, IsErrOf, slice_get};
+ghost use Rattle.std.specs.Prelude.{◌≡◌, ◌-◌, ◌+◌, ℕ, suc, ◌<◌, true, is_ok, List, ◌∷◌, take, Some, IfErr, Ok, OnOk, OnErr, IsErrOf, slice_get, ⊤};
 ghost use Rattle.mesh_model.specs.declared.frame_choice.FrameChoice.{FrameChoice};
 ghost use Rattle.mesh_model.specs.Net.Mesh.{Mesh};
 ghost use Rattle.mesh_model.specs.declared.happening.Class.TheVariants.{NodeTick};
@@ -15,6 +15,7 @@ ghost use Rattle.mesh_post.specs.Sent.{Grew};
 ghost use Rattle.mesh_net.specs.Steps.{AreOnLans, AreOnLinks, Begun, Gave, HasNodes, HasStage, KeepsNet, MayTickAt, Settled, SettleTells, net_error, tick_now, ticks_amid};
 ghost use Rattle.mesh_net.specs.Reached.{IsOfLine};
 ghost use Rattle.mesh_net.specs.Tells.{Carried, StepTells, TellsRightly};
+ghost use Rattle.mesh_tie.specs.NetTables.{NamesClients};
 
 use crate::failure::NetErr;
 use crate::give::{Occasion, give_at};
@@ -36,10 +37,11 @@ impl<A: Algo + Drop> Net<A> {
             NetStands A.queries A.stands self.old choice clock mesh →
             OnOk result (Carried A.queries A.stands self.new choice clock mesh log.old log.new
             (given_to (scenario_setup A.queries) node clock 0 (given_by 0 input.now) mesh)) }
-        ensures right { (choice : FrameChoice) (clock : ℕ) (mesh : Mesh) →
+        ensures right { (choice : FrameChoice) (clock : ℕ) (mesh after : Mesh) →
             NetStands A.queries A.stands self.old choice clock mesh →
-            OnOk result
-            (TellsRightly A.queries A.stands self.new choice mesh log.old log.new) }
+            given_to (scenario_setup A.queries) node clock 0 (given_by 0 input.now) mesh ≡ Ok after →
+            OnOk result (TellsRightly A.queries (NamesClients (given_by 0 input.now)) mesh after
+            log.old log.new) }
 
         // An earlier refusal comes first; want of memory may stand in place of a limit.
         ensures cause { (choice : FrameChoice) (clock : ℕ) (mesh : Mesh) →
@@ -66,10 +68,10 @@ impl<A: Algo + Drop> Net<A> {
             NetStands A.queries A.stands self.old choice clock mesh →
             OnOk result (Carried A.queries A.stands self.new choice clock mesh log.old log.new
             (delivered (scenario_setup A.queries) (number - 1) clock mesh)) }
-        ensures right { (choice : FrameChoice) (clock : ℕ) (mesh : Mesh) →
+        ensures right { (choice : FrameChoice) (clock : ℕ) (mesh after : Mesh) →
             NetStands A.queries A.stands self.old choice clock mesh →
-            OnOk result
-            (TellsRightly A.queries A.stands self.new choice mesh log.old log.new) }
+            delivered (scenario_setup A.queries) (number - 1) clock mesh ≡ Ok after →
+            OnOk result (TellsRightly A.queries ⊤ mesh after log.old log.new) }
 
         // An earlier refusal comes first; want of memory may stand in place of a limit.
         ensures cause { (choice : FrameChoice) (clock : ℕ) (mesh : Mesh) →

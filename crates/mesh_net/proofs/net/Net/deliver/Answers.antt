@@ -27,8 +27,8 @@ returns-clause-carried g c = λ choice clock mesh s.
     (ok_has c.deliver_at-given.result ok.0 (c.deliver_at-given.ensures.given choice mesh.last (first_ticks 0 mesh.nodes) mesh begun (on_links q st net choice clock mesh s)))) c.settle.ensures.ok))
 
 pub returns-clause-right : goal.returns-clause-right
-returns-clause-right g c = λ choice clock mesh s.
-    on_ok_map c.settle.result (λ done. deliver_rightly g.A.Algo.queries g.A.Algo.stands c.settle.new.self choice clock mesh c.args.log.now c.settle.new.log (c.args.number - 1) done)
+returns-clause-right g c = λ choice clock mesh after s is.
+    on_ok_map c.settle.result (λ done. deliver_rightly g.A.Algo.queries g.A.Algo.stands c.settle.new.self choice clock mesh after c.args.log.now c.settle.new.log (c.args.number - 1) s.reached is done)
     (returns-clause-carried g c choice clock mesh s)
 
 pub returns-clause-cause : goal.returns-clause-cause

@@ -26,8 +26,8 @@ returns-clause-carried g c = λ choice clock mesh s.
     (ok_has c.input_at-given.result ok.0 (c.input_at-given.ensures.given choice mesh.last (first_ticks 0 mesh.nodes) mesh begun))) c.settle.ensures.ok)
 
 pub returns-clause-right : goal.returns-clause-right
-returns-clause-right g c = λ choice clock mesh s.
-    on_ok_map c.settle.result (λ done. input_rightly g.A.Algo.queries g.A.Algo.stands c.settle.new.self choice clock mesh c.args.log.now c.settle.new.log c.args.node (given_by 0 c.args.input.now) c.requires.line done)
+returns-clause-right g c = λ choice clock mesh after s is.
+    on_ok_map c.settle.result (λ done. input_rightly g.A.Algo.queries g.A.Algo.stands c.settle.new.self choice clock mesh after c.args.log.now c.settle.new.log c.args.node (given_by 0 c.args.input.now) c.requires.line s.reached is done)
     (returns-clause-carried g c choice clock mesh s)
 
 pub returns-clause-cause : goal.returns-clause-cause

@@ -21,8 +21,9 @@ returns-clause-carried g c = λ choice clock mesh s.
     (ok_has c.put_now-given.result ok.0 (c.put_now-given.ensures.given choice mesh.last (first_ticks 0 mesh.nodes) mesh begun))) c.settle.ensures.ok)
 
 pub returns-clause-right : goal.returns-clause-right
-returns-clause-right g c = λ choice clock mesh s.
-    on_ok_map c.settle.result (λ done. put_rightly g.A.Algo.queries g.A.Algo.stands c.settle.new.self choice clock mesh c.args.log.now c.settle.new.log (record { lan = c.args.lan; moment = clock; bytes = c.args.bytes; by = None }) (c.requires.known choice clock mesh s) done)
+returns-clause-right g c = λ choice clock mesh after s is.
+    on_ok_map c.settle.result (λ done. put_rightly g.A.Algo.queries g.A.Algo.stands c.settle.new.self choice clock mesh after c.args.log.now c.settle.new.log (record { lan = c.args.lan; moment = clock; bytes = c.args.bytes; by = None })
+    (c.requires.known choice clock mesh s) refl is done)
     (returns-clause-carried g c choice clock mesh s)
 
 pub returns-clause-cause : goal.returns-clause-cause

@@ -1,9 +1,9 @@
 use Rattle.std.proofs.Common.{sym}
 use Rattle.std.proofs.lemmas.Result.{err_from_is_err_and}
 use Rattle.mesh_model.specs.Net.Limits.{scenario_setup}
-use Rattle.mesh_net.proofs.Ends.{if_err_map, if_ok_done, if_ok_map, live_of}
-use Rattle.mesh_net.proofs.Slices.{is_alive, late_tells, net_on, same_live, same_stands, slice_tells}
-use Rattle.mesh_net.proofs.RightLemmas.{ran_rightly}
+use Rattle.mesh_net.proofs.Ends.{if_err_map, if_ok_map, live_of, on_err_map}
+use Rattle.mesh_net.proofs.Slices.{is_alive, late_tells, net_on, none_left, same_live, same_stands, slice_tells}
+use Rattle.mesh_net.proofs.RightLemmas.{left_rightly}
 use Rattle.mesh_net.proofs.net.Net.run_some.Goals as goal
 
 pub run_slice-requires-clause-live : goal.run_slice-requires-clause-live
@@ -22,10 +22,16 @@ returns-clause-ran g c = λ choice clock mesh s.
     if_ok_map c.run_slice.result (λ more ran. ran.ran)
     (c.run_slice.ensures.ran choice clock mesh (same_stands g.A.Algo.queries g.A.Algo.stands c.args.self.now c.check_run.new.self choice clock mesh ok.0 s))
 
-pub returns-clause-right : goal.returns-clause-right
-returns-clause-right g c = λ choice clock mesh s.
-    if_ok_done c.run_slice.result (λ more ran. ran_rightly g.A.Algo.queries g.A.Algo.stands c.run_slice.new.self choice clock mesh c.args.t c.args.most c.args.log.now c.run_slice.new.log more ran)
-    (returns-clause-ran g c choice clock mesh s)
+pub returns-clause-left : goal.returns-clause-left
+returns-clause-left g c = λ choice clock mesh s.
+    let ok = c.in_ok-check_run.ensures.ok in
+    on_err_map c.run_slice.result (λ left. left_rightly g.A.Algo.queries choice mesh c.args.t c.args.log.now c.run_slice.new.log left)
+    (c.run_slice.ensures.left choice clock mesh (same_stands g.A.Algo.queries g.A.Algo.stands c.args.self.now c.check_run.new.self choice clock mesh ok.0 s))
+
+pub returns-in_err-check_run-clause-left : goal.returns-in_err-check_run-clause-left
+returns-in_err-check_run-clause-left g c = λ choice clock mesh s.
+    let p = err_from_is_err_and c.from_residual.result c.from_residual.ensures.1 in
+    rw p.1 (none_left g.A.Algo.queries g.A.Algo.stands c.args.self.now choice clock mesh c.args.t c.args.log.now s)
 
 pub returns-clause-cause : goal.returns-clause-cause
 returns-clause-cause g c = λ choice clock mesh s.

@@ -3,8 +3,7 @@ use Rattle.std.proofs.lemmas.Result.{err_from_is_err_and}
 use Rattle.mesh_model.specs.Net.Limits.{scenario_setup}
 use Rattle.mesh_net.specs.Steps.{RanOn}
 use Rattle.mesh_net.proofs.Ends.{live_of}
-use Rattle.mesh_net.proofs.Slices.{clock_soon, late_tells, live_on, ran_all, rises, same_live, same_stands, slice_tells, soon_on, tells_on, under_way_first, under_way_next}
-use Rattle.mesh_net.proofs.RightLemmas.{all_rightly}
+use Rattle.mesh_net.proofs.Slices.{clock_soon, late_tells, left_on, live_on, none_left, ran_all, rises, same_live, same_stands, slice_tells, soon_on, tells_on, under_way_first, under_way_next}
 use Rattle.mesh_net.proofs.net.Net.run_to.Goals as goal
 
 pub loop-init : goal.loop-init
@@ -71,9 +70,16 @@ returns-clause-ran g c = λ choice clock mesh s.
     (subst (RanOn q st c.run_slice.new.self choice w.now w.after c.args.t 4294967295 c.loop.log c.run_slice.new.log) c.if-branch.false
     (c.in_ok-run_slice.ensures.ran choice w.now w.after w.standing))
 
-pub returns-clause-right : goal.returns-clause-right
-returns-clause-right g c = λ choice clock mesh s.
-    all_rightly g.A.Algo.queries g.A.Algo.stands c.run_slice.new.self choice mesh c.args.t c.args.log.now c.run_slice.new.log (returns-clause-ran g c choice clock mesh s)
+pub returns-in_err-check_run-clause-left : goal.returns-in_err-check_run-clause-left
+returns-in_err-check_run-clause-left g c = λ choice clock mesh s.
+    let p = err_from_is_err_and c.from_residual.result c.from_residual.ensures.1 in
+    rw p.1 (none_left g.A.Algo.queries g.A.Algo.stands c.args.self.now choice clock mesh c.args.t c.args.log.now s)
+
+pub returns-in_err-run_slice-clause-left : goal.returns-in_err-run_slice-clause-left
+returns-in_err-run_slice-clause-left g c = λ choice clock mesh s.
+    let w = c.loop.invariant.way choice clock mesh s in
+    let p = err_from_is_err_and c.from_residual-in_err-run_slice.result c.from_residual-in_err-run_slice.ensures.1 in
+    rw p.1 (left_on g.A.Algo.queries g.A.Algo.stands c.loop.self choice mesh c.args.t c.args.log.now c.loop.log c.run_slice.new.log w (c.in_err-run_slice.ensures.left choice w.now w.after w.standing))
 
 pub returns-clause-net : goal.returns-clause-net
 returns-clause-net g c =

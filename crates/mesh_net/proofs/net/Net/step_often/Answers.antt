@@ -1,6 +1,6 @@
 use Rattle.std.proofs.Common.{◌≡◌, ◌≤◌, arith}
 use Rattle.std.proofs.lemmas.Result.{err_from_is_err_and}
-use Rattle.mesh_net.proofs.Slices.{live_next, step_true, step_false, went_none, went_next, went_rest, went_all, went_fails}
+use Rattle.mesh_net.proofs.Slices.{live_next, step_true, step_false, went_none, went_next, went_rest, went_all, went_fails, went_left}
 use Rattle.mesh_net.proofs.net.Net.step_often.Goals as goal
 
 pub loop-init : goal.loop-init
@@ -33,6 +33,11 @@ returns-in_err-step-clause-cause g c = λ choice clock mesh s.
     let p = err_from_is_err_and c.from_residual.result c.from_residual.ensures.1 in
     rw (p.1, p.2) (went_fails q st c.loop.self choice clock mesh c.args.t c.loop.counter c.args.log.now c.loop.log c.step.new.log c.in_err-step.field-0.0 c.requires.soon w
     c.in_err-step.ensures.as_before (c.in_err-step.ensures.cause choice w.now w.after w.standing))
+
+pub returns-in_err-step-clause-left : goal.returns-in_err-step-clause-left
+returns-in_err-step-clause-left g c = λ choice clock mesh s.
+    let p = err_from_is_err_and c.from_residual.result c.from_residual.ensures.1 in
+    rw p.1 (went_left g.A.Algo.queries g.A.Algo.stands c.loop.self choice clock mesh c.args.t c.loop.counter c.args.log.now c.loop.log c.step.new.log (c.loop.invariant.went choice clock mesh s) c.in_err-step.ensures.as_before)
 
 pub returns-then-not-branch-clause-went : goal.returns-then-not-branch-clause-went
 returns-then-not-branch-clause-went g c = λ choice clock mesh s.
