@@ -17,6 +17,7 @@ FRAMES = 4_194_304
 FRAME_BYTES = 536_870_912
 LINE = 4096
 INPUT = 67_108_864
+CUTS = 65_535
 
 
 def nodes(count):
@@ -89,6 +90,19 @@ class OfTheMesh(unittest.TestCase):
             self.assertEqual(run_lines([*within, line]), limited(len(within) + 1, "vlans"))
         line = f"gone A {client(1)} 3"
         self.assertEqual(run_lines([*within, line, frame("A", 1, vid="16")]), finished([]))
+
+    @needs_program
+    def test_cuts(self):
+        """A packet that comes again and again to the node on its way is cut each time."""
+        within = [
+            "algo v", *(f"node {name} 02:00:00:00:00:0{name.lower()}" for name in "ABC"),
+            "link A B", "link B A", "link B C", "link C B", "set C gw server 10 1",
+            "set A gw client best", "set B frag 300", "run 4000",
+            f"dhcp A {client(1)} - {'a' * 300}", "run 1", *["deliver 73"] * (CUTS - 1),
+        ]
+        self.assertEqual(run_lines(within), finished([]))
+        number = len(within) + 1
+        self.assertEqual(run_lines([*within, "deliver 73"]), limited(number, "cuts"))
 
     @needs_program
     def test_clock(self):
