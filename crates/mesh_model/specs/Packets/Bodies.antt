@@ -1,9 +1,9 @@
 -- The bodies of the known containers, field by field, as batman-adv's packet header names them.
 -- Numbers have their higher byte first. Reserved bytes are written 0 and ignored when read.
 -- Bytes behind a body's fields are ignored, and so is a last record that isn't whole.
--- The main words are `tt_of_body`, `roaming_of_body`, `gateway_of_body` and `multicast_of_body`,
--- which are none where a body is too short.
-use Rattle.std.specs.Prelude.{ℕ, zero, suc, ◌+◌, ◌*◌, ◌/◌, ◌==◌, nat_lt, if◌then◌else◌, Bool, List, [], ◌∷◌, length, take, drop, map, slice_index, bit_and, bit_or, Option, Some, None}
+-- The main words are `tt_of_body`, `part_of_body`, `roaming_of_body`, `gateway_of_body` and
+-- `multicast_of_body`, which are none where a body is too short.
+use Rattle.std.specs.Prelude.{ℕ, zero, suc, ◌+◌, ◌*◌, ◌/◌, ◌==◌, nat_lt, if◌then◌else◌, Bool, List, [], ◌∷◌, length, take, drop, map, slice_index, bit_and, bit_or, Option, Some, None, option_map}
 use Rattle.byteorder.specs.Endian.{big_number}
 use Rattle.mesh_base.specs.declared.client.Vid.{Vid}
 use Rattle.mesh_base.specs.declared.client.Key.{Key}
@@ -26,6 +26,13 @@ pub record TtData : Type 0 where
   pub ttvn : ℕ
   pub vlans : List VlanSum
   pub changes : List TtChange
+
+-- what the body of a part of a translation table tells: the table with the records of this part,
+-- the part's number, from 0, and how many parts there are
+pub record TtPart : Type 0 where
+  pub table : TtData
+  pub number : ℕ
+  pub count : ℕ
 
 -- what a gateway offers, each in 100 kbit/s
 pub record Bandwidth : Type 0 where
@@ -94,6 +101,10 @@ change_size = 12
 abbrev pub tt_head_size : ℕ
 tt_head_size = 4
 
+-- the bytes of a part of a translation table before its VLANs
+abbrev pub tt_part_head_size : ℕ
+tt_part_head_size = 8
+
 -- the number of VLANs that a translation table tells; a byte that isn't there counts as 0
 abbrev pub told_vlans : List ℕ → ℕ
 told_vlans body = big_number 2 (drop 2 body)
@@ -116,6 +127,18 @@ tt_data head body = record {
 abbrev pub tt_of_body : ℕ → List ℕ → Option TtData
 tt_of_body head body =
     if nat_lt (length body) (head + vlans_size body) then None else Some (tt_data head body)
+
+-- a part of a translation table, whose head goes on behind the number of VLANs: number 2, count 2
+abbrev pub part_with : List ℕ → TtData → TtPart
+part_with body table = record {
+  table = table;
+  number = big_number 2 (drop 4 body);
+  count = big_number 2 (drop 6 body);
+}
+
+-- what the body of a part of a translation table tells
+abbrev pub part_of_body : List ℕ → Option TtPart
+part_of_body body = option_map (part_with body) (tt_of_body tt_part_head_size body)
 
 -- the client that a roaming advertisement tells: client 8
 abbrev pub roaming_of_body : List ℕ → Option Key

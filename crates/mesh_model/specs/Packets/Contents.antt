@@ -1,7 +1,7 @@
 -- What containers tell. The body of a known type and version is read field by field; it may be too
 -- short for its type. Of other containers nothing is told. The main words are `content_of`, what a
--- container tells, `first_table` and its kin, the container of a type that a node looks at, and
--- `flaw_of`, why bytes of containers can't be read to their end.
+-- container tells, `first_table` and its kin, the container of a type and version that a node looks
+-- at, and `flaw_of`, why bytes of containers can't be read to their end.
 use Rattle.std.specs.Prelude.{ℕ, ◌==◌, ◌&&◌, not, Bool, List, [], ◌∷◌, length, filter, filter_map, find, take_while, Option, Some, None, is_some, option_map, if◌then◌else◌}
 use Rattle.std.specs.Option.{option_or}
 use Rattle.std.specs.List.{last_or, list_any}
@@ -9,14 +9,15 @@ use Rattle.mesh_base.specs.declared.client.Key.{Key}
 use Rattle.mesh_base.specs.declared.client.Vid.{Vid}
 use Rattle.mesh_model.specs.declared.link_frame.TvlvErr.{TvlvErr}
 use Rattle.mesh_model.specs.declared.link_frame.TvlvErr.TheVariants.{Cut, BadLength}
-use Rattle.mesh_model.specs.Packets.Numbers.{gateway_tvlv, dat_tvlv, tt_tvlv, roaming_tvlv, multicast_tvlv, tvlv_version, multicast_version}
+use Rattle.mesh_model.specs.Packets.Numbers.{gateway_tvlv, dat_tvlv, tt_tvlv, roaming_tvlv, multicast_tvlv, tvlv_version, tt_part_version, multicast_version}
 use Rattle.mesh_model.specs.Packets.Containers.{Container, containers_of, containers_spelling, rest_of}
-use Rattle.mesh_model.specs.Packets.Bodies.{Bandwidth, TtData, VlanSum, gateway_of_body, multicast_of_body, roaming_of_body, tt_head_size, tt_of_body}
+use Rattle.mesh_model.specs.Packets.Bodies.{Bandwidth, TtData, TtPart, VlanSum, gateway_of_body, multicast_of_body, part_of_body, roaming_of_body, tt_head_size, tt_of_body}
 
 -- what a container tells; `unread` where nothing of its body is looked at
 pub data Content : Type 0 where
   gateway : Bandwidth → Content
   translation : TtData → Content
+  part : TtPart → Content
   roaming : Key → Content
   multicast : ℕ → Content
   unread : Content
@@ -36,6 +37,8 @@ content_of container =
     then option_map gateway (gateway_of_body container.body)
     else if is_of tt_tvlv tvlv_version container
     then option_map translation (table_of_body container.body)
+    else if is_of tt_tvlv tt_part_version container
+    then option_map part (part_of_body container.body)
     else if is_of roaming_tvlv tvlv_version container
     then option_map roaming (roaming_of_body container.body)
     else if is_of multicast_tvlv multicast_version container
@@ -69,6 +72,10 @@ has_dat containers = list_any (is_of dat_tvlv tvlv_version) containers
 -- the first translation table that is long enough
 abbrev pub first_table : List Container → Option TtData
 first_table containers = first_told tt_tvlv tvlv_version table_of_body containers
+
+-- the first part of a translation table that is long enough
+abbrev pub first_part : List Container → Option TtPart
+first_part containers = first_told tt_tvlv tt_part_version part_of_body containers
 
 -- the client of the first roaming advertisement that is long enough
 abbrev pub first_roaming : List Container → Option Key

@@ -98,9 +98,13 @@ roaming_tvlv = 5
 abbrev pub multicast_tvlv : ℕ
 multicast_tvlv = 6
 
--- the version of containers other than multicast
+-- the version of containers other than multicast and parts of a translation table
 abbrev pub tvlv_version : ℕ
 tvlv_version = 1
+
+-- the version of a container with a part of a translation table
+abbrev pub tt_part_version : ℕ
+tt_part_version = 2
 
 -- the version of a multicast container
 abbrev pub multicast_version : ℕ
