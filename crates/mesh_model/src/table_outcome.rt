@@ -32,11 +32,15 @@ pub enum Heard {
 /// What an answer makes of the table that is held of an originator.
 #[derive(Clone, Copy, Debug, PartialEq, Eq)]
 pub enum Taken {
+    /// A part came whose count is 0 or above 4, or whose number isn't below its count.
+    BadPart { number: u16, count: u16 },
     /// The answer's byte isn't the one that was announced, or none was.
     NotTold { told: u8, wanted: Option<u8> },
     /// The announced sum and the carried one, or that of the result and the announced one, differ
     /// in this VLAN.
     SumDiffers { vid: Vid, kept: u32, told: u32 },
+    /// A part came, so many are there with it, and this is the least number that is missing.
+    Part { have: u16, want: u16 },
     /// Changes came, and nothing is held.
     Unheld,
     /// Changes came, and their byte isn't the next after the held one.

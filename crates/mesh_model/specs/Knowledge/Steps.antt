@@ -2,7 +2,7 @@
 -- and by what lines give it. Its algorithm is given each tick, each ELP, and each originator
 -- message that is taken. An accepted originator message begins what is known of its originator anew
 -- where a life begins; it may release marks, and lead to a request. An answer from a live
--- originator, or for it, is taken and may release marks too. A client that roamed is marked, with
+-- originator, or for it, or a part of one, is taken and may release marks too. A client that roamed is marked, with
 -- what its new node was told to have. A sighting ends the client's mark, and is advertised where
 -- the client wasn't present just before and was elsewhere. A client frame from a LAN that its
 -- gateway passes is a sighting, and it goes on unless its client is at the gateway or behind
@@ -34,13 +34,13 @@ use Rattle.mesh_model.specs.Knowledge.Offers.{after_choice, gateway_way, receive
 use Rattle.mesh_model.specs.Knowledge.Pairs.{after_arp, after_question}
 use Rattle.mesh_model.specs.Knowledge.PutTogether.{after_part}
 use Rattle.mesh_model.specs.Knowledge.Served.{after_set, no_services, with_offer}
-use Rattle.mesh_model.specs.Knowledge.Told.{Message, TableMessage, Asks, Answers, Neither, message_changes, message_in, message_of, stamp_told}
+use Rattle.mesh_model.specs.Knowledge.Told.{Message, TableMessage, Asks, Answers, Neither, message_changes, message_in, message_of, part_told, stamp_told}
 use Rattle.mesh_model.specs.Marks.Advertisements.{too_many}
 use Rattle.mesh_model.specs.Marks.Calls.{Calls, Marked, Released, Unmarked, Advised, Asked, Forgotten}
 use Rattle.mesh_model.specs.Marks.Requests.{too_soon}
 use Rattle.mesh_model.specs.Packets.ArpMessages.{arp_came}
 use Rattle.mesh_model.specs.Packets.Containers.{containers_of}
-use Rattle.mesh_model.specs.Packets.Contents.{first_roaming, first_table}
+use Rattle.mesh_model.specs.Packets.Contents.{first_part, first_roaming, first_table}
 use Rattle.mesh_model.specs.Packets.FactMessages.{CameFact, fact_message_of}
 use Rattle.mesh_model.specs.Packets.FirstPacket.{Packet}
 use Rattle.mesh_model.specs.Packets.LanFrames.{client_frame_in, lan_message_of}
@@ -162,7 +162,8 @@ after_roaming q now src (Some key) known = record known {
 abbrev pub after_containers : Queries → ℕ → Mac → List ℕ → Knowledge → Knowledge
 after_containers q now src tail known =
     after_roaming q now src (first_roaming (containers_of tail))
-    (after_answer q now src (message_in (first_table (containers_of tail))) known)
+    (after_answer q now src (part_told (first_part (containers_of tail)))
+    (after_answer q now src (message_in (first_table (containers_of tail))) known))
 
 -- ---- ping and traceroute
 

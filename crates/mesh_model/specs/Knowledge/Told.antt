@@ -1,18 +1,18 @@
 -- What packets tell a node: an originator message with a translation table that can be read; a
--- request for a table, or an answer to one; a client that roamed; a broadcast. The main words are
--- `message_of` and `table_message`.
-use Rattle.std.specs.Prelude.{Bool, List, [], map, fold, Option, Some, None, option_map, if◌then◌else◌}
+-- request for a table, or an answer to one, which may come in parts; a client that roamed; a
+-- broadcast. The main words are `message_of`, `table_message` and `part_told`.
+use Rattle.std.specs.Prelude.{◌&&◌, Bool, List, [], map, fold, Option, Some, None, option_map, if◌then◌else◌}
 use Rattle.mesh_base.specs.declared.address.Mac.{Mac}
 use Rattle.mesh_model.specs.declared.packet.Head.{Head}
 use Rattle.mesh_model.specs.declared.packet.Head.TheVariants.{IvOgm, Bcast, Elp, Ogm2, Unicast, Frag, Unicast4, Icmp, Utvlv}
 use Rattle.mesh_model.specs.declared.table_change.Change.{Change}
-use Rattle.mesh_model.specs.Packets.Bodies.{TtChange, TtData, VlanSum, entry_of_change, is_deletion}
+use Rattle.mesh_model.specs.Packets.Bodies.{TtChange, TtData, TtPart, VlanSum, entry_of_change, is_deletion}
 use Rattle.mesh_model.specs.Packets.Containers.{containers_of}
 use Rattle.mesh_model.specs.Packets.Contents.{first_table}
 use Rattle.mesh_model.specs.Packets.FirstPacket.{Packet}
 use Rattle.mesh_model.specs.Packets.Numbers.{full_table_flag, request_flag, response_flag}
 use Rattle.mesh_model.specs.Routes.Ogm.{has_flag}
-use Rattle.mesh_model.specs.Tables.Judging.{Carried, InFull, InChanges}
+use Rattle.mesh_model.specs.Tables.Judging.{Carried, InFull, InPart, InChanges}
 use Rattle.mesh_model.specs.Tables.Sums.{with_sum}
 use Rattle.mesh_model.specs.Tables.Versions.{Stamp}
 
@@ -82,3 +82,17 @@ table_message table =
 abbrev pub message_in : Option TtData → TableMessage
 message_in None = Neither
 message_in (Some table) = table_message table
+
+-- what a part of a translation table for one node is, by its flags: an answer, where it is told to
+-- be one with a whole table
+abbrev pub part_answer : TtPart → TableMessage
+part_answer part =
+    if has_flag response_flag part.table.flags && has_flag full_table_flag part.table.flags
+    then Answers (stamp_told part.table)
+    (InPart part.number part.count (message_changes part.table))
+    else Neither
+
+-- the same, where there is a part
+abbrev pub part_told : Option TtPart → TableMessage
+part_told None = Neither
+part_told (Some part) = part_answer part

@@ -1,8 +1,10 @@
 -- What an announcement or an answer makes of the table that is held: its outcome and, where another
 -- table is held then, that table, both in one value, so that neither can be without the other. The
--- first case that applies decides. The main words are `announcement_row` and `answer_row`;
+-- first case that applies decides. A part of a full answer waits for those that are missing; with
+-- the last one it is as though all their records had come at once. The main words are
+-- `announcement_row` and `answer_row`;
 -- `wanted_request` is what a node asks for after an announcement.
-use Rattle.std.specs.Prelude.{◌==◌, List, [], ◌∷◌, Option, Some, None, Result, Ok, Err, if◌then◌else◌}
+use Rattle.std.specs.Prelude.{ℕ, ◌==◌, List, [], ◌∷◌, Option, Some, None, Result, Ok, Err, if◌then◌else◌}
 use Rattle.mesh_base.specs.declared.client.Entry.{Entry}
 use Rattle.mesh_model.specs.Packets.Bodies.{VlanSum}
 use Rattle.mesh_model.specs.declared.table_change.Change.{Change}
@@ -12,8 +14,9 @@ use Rattle.mesh_model.specs.declared.table_outcome.Heard.TheVariants.{Emptied, U
 use Rattle.mesh_model.specs.declared.table_outcome.Request.{Request}
 use Rattle.mesh_model.specs.declared.table_outcome.Request.TheVariants.{Full, Changes}
 use Rattle.mesh_model.specs.declared.table_outcome.Taken.{Taken}
-use Rattle.mesh_model.specs.declared.table_outcome.Taken.TheVariants.{NotTold, SumDiffers as SumsDiffer, Unheld as NothingHeld, Gap as NotNext, Clash as NotStrict, Taken as IsTaken}
+use Rattle.mesh_model.specs.declared.table_outcome.Taken.TheVariants.{BadPart, NotTold, SumDiffers as SumsDiffer, Part, Unheld as NothingHeld, Gap as NotNext, Clash as NotStrict, Taken as IsTaken}
 use Rattle.mesh_model.specs.Tables.Differences.{first_difference}
+use Rattle.mesh_model.specs.Tables.Gathered.{Gathered, gathered_count, gathered_records, is_bad_part, missing_part, with_table_part}
 use Rattle.mesh_model.specs.Tables.Strict.{apply_strictly}
 use Rattle.mesh_model.specs.Tables.Sums.{sums_of}
 use Rattle.mesh_model.specs.Tables.Versions.{Version, Stamp, next_byte}
@@ -105,9 +108,11 @@ wanted_request (Clash entry) = Some Full
 wanted_request Applied = None
 
 -- ---- answers
--- what an answer carries: a whole table, as additions, or changes
+-- what an answer carries: a whole table, as additions; a part of one, by its number, of so many; or
+-- changes
 pub data Carried : Type 0 where
   InFull : (records : List Change) → Carried
+  InPart : (number count : ℕ) → (records : List Change) → Carried
   InChanges : (records : List Change) → Carried
 
 -- the records are tried
@@ -117,6 +122,16 @@ taken_trial (Differs difference) =
     stays (SumsDiffer difference.vid difference.kept difference.told)
 taken_trial (Leads table) = becomes IsTaken table
 
+-- what is gathered is tried, unless a part is missing
+abbrev pub unless_missing : Option ℕ → Stamp → Gathered → Row Taken
+unless_missing None told gathered =
+    taken_trial (trial [] (gathered_records gathered) told.sums)
+unless_missing (Some want) told gathered = stays (Part (gathered_count gathered) want)
+
+-- a part came, and this is gathered with it
+abbrev pub part_row : Stamp → Gathered → Row Taken
+part_row told gathered = unless_missing (missing_part gathered) told gathered
+
 -- changes came
 abbrev pub changes_row : Option Version → Stamp → List Change → Row Taken
 changes_row None told records = stays NothingHeld
@@ -125,9 +140,11 @@ changes_row (Some held) told records =
     else stays (NotNext held.byte told.byte)
 
 -- the answer has the announced byte and sums
-abbrev pub carried_row : Option Version → Stamp → Carried → Row Taken
-carried_row held told (InFull records) = taken_trial (trial [] records told.sums)
-carried_row held told (InChanges records) = changes_row held told records
+abbrev pub carried_row : Option Version → Gathered → Stamp → Carried → Row Taken
+carried_row held gathered told (InFull records) = taken_trial (trial [] records told.sums)
+carried_row held gathered told (InPart number count records) =
+    part_row told (with_table_part number count records gathered)
+carried_row held gathered told (InChanges records) = changes_row held told records
 
 -- the same, unless a carried sum differs from the announced one
 abbrev pub unless_carried_differs : Option Difference → Row Taken → Row Taken
@@ -136,13 +153,25 @@ unless_carried_differs (Some difference) row =
     stays (SumsDiffer difference.vid difference.kept difference.told)
 
 -- something was announced
-abbrev pub told_row : Stamp → Option Version → Stamp → Carried → Row Taken
-told_row told held stamp carried =
-    if told.byte == stamp.byte then
-    unless_carried_differs (first_difference told.sums stamp.sums) (carried_row held told carried)
+abbrev pub told_row : Stamp → Option Version → Gathered → Stamp → Carried → Row Taken
+told_row told held gathered stamp carried =
+    if told.byte == stamp.byte then unless_carried_differs
+    (first_difference told.sums stamp.sums) (carried_row held gathered told carried)
     else stays (NotTold stamp.byte (Some told.byte))
 
--- what an answer makes of what was told and what is held
-abbrev pub answer_row : Option Stamp → Option Version → Stamp → Carried → Row Taken
-answer_row None held stamp carried = stays (NotTold stamp.byte None)
-answer_row (Some told) held stamp carried = told_row told held stamp carried
+-- the answer is no bad part
+abbrev pub good_row : Option Stamp → Option Version → Gathered → Stamp → Carried → Row Taken
+good_row None held gathered stamp carried = stays (NotTold stamp.byte None)
+good_row (Some told) held gathered stamp carried = told_row told held gathered stamp carried
+
+-- the same, unless the answer is a bad part
+abbrev pub unless_bad_part : Carried → Row Taken → Row Taken
+unless_bad_part (InFull records) row = row
+unless_bad_part (InPart number count records) row =
+    if is_bad_part number count then stays (BadPart number count) else row
+unless_bad_part (InChanges records) row = row
+
+-- what an answer makes of what was told, what is held and what is gathered
+abbrev pub answer_row : Option Stamp → Option Version → Gathered → Stamp → Carried → Row Taken
+answer_row told held gathered stamp carried =
+    unless_bad_part carried (good_row told held gathered stamp carried)

@@ -1,7 +1,9 @@
--- What a node knows of an originator's table: what was announced last, and what is held. An
--- announcement and an answer each change it by one step; a life of the originator that ends drops
--- all of it. It is asked of the list of all that came, newest first. The main words are `known_by`
--- and `is_agreed`; `originators_by` are the originators of which something was announced.
+-- What a node knows of an originator's table: what was announced last, what is held, and the parts of
+-- a full answer that are gathered. An announcement and an answer each change it by one step; a life
+-- of the originator that ends drops all of it. Parts are gathered under one byte and sums that were
+-- told, and until none is missing. It is asked of the list of all that came, newest first. The main
+-- words are `known_by` and `is_agreed`; `originators_by` are the originators of which something was
+-- announced.
 use Rattle.std.specs.Prelude.{ℕ, ◌==◌, ◌&&◌, Bool, false, not, List, [], ◌∷◌, filter, Option, Some, None, option_map, is_none, is_some, if◌then◌else◌}
 use Rattle.mesh_base.specs.declared.address.Mac.{Mac}
 use Rattle.mesh_base.specs.declared.client.Entry.{Entry}
@@ -11,7 +13,8 @@ use Rattle.mesh_model.specs.declared.table_row.GlobalRow.{GlobalRow}
 use Rattle.mesh_model.specs.Routes.Addresses.{insert_mac, same_mac}
 use Rattle.mesh_model.specs.Tables.Changes.{flags_at}
 use Rattle.mesh_model.specs.Tables.Differences.{first_difference}
-use Rattle.mesh_model.specs.Tables.Judging.{Carried, announcement_row, answer_row}
+use Rattle.mesh_model.specs.Tables.Gathered.{Gathered, is_bad_part, missing_part, none_gathered, with_table_part}
+use Rattle.mesh_model.specs.Tables.Judging.{Carried, InFull, InPart, InChanges, announcement_row, answer_row}
 use Rattle.mesh_model.specs.Tables.Sums.{sums_of}
 use Rattle.mesh_model.specs.Tables.Versions.{Version, Stamp}
 
@@ -20,14 +23,15 @@ pub record LastTold : Type 0 where
   pub frame : ℕ
   pub stamp : Stamp
 
--- what was told and what is held, each of them or none
+-- what was told and what is held, each of them or none, and the parts that are gathered
 pub record Known : Type 0 where
   pub told : Option LastTold
   pub held : Option Version
+  pub gathered : Gathered
 
--- nothing was told and nothing is held
+-- nothing was told, nothing is held and nothing is gathered
 abbrev pub nothing : Known
-nothing = record { told = None; held = None }
+nothing = record { told = None; held = None; gathered = none_gathered }
 
 -- what was told, without its frame
 abbrev pub stamp_of : Known → Option Stamp
@@ -38,19 +42,47 @@ abbrev pub held_after : ℕ → Option (List Entry) → Option Version → Optio
 held_after byte None held = held
 held_after byte (Some table) held = Some (record { byte = byte; table = table })
 
+-- whether a byte and sums are those that were told
+abbrev pub matches_told : Option Stamp → Stamp → Bool
+matches_told None stamp = false
+matches_told (Some told) stamp = (told.byte == stamp.byte)
+    && is_none (first_difference told.sums stamp.sums)
+
+-- what is gathered once this byte and these sums are told
+abbrev pub kept_under : Option Stamp → Stamp → Gathered → Gathered
+kept_under told stamp gathered = if matches_told told stamp then gathered else none_gathered
+
 -- a frame brought an announcement with these changes, or with none
 abbrev pub announced : ℕ → Stamp → List Change → Known → Known
 announced frame stamp changes known = record {
   told = Some (record { frame = frame; stamp = stamp });
   held = held_after stamp.byte (announcement_row known.held stamp changes).table known.held;
+  gathered = kept_under (stamp_of known) stamp known.gathered;
 }
+
+-- what is gathered, while a part is missing
+abbrev pub while_missing : Gathered → Gathered
+while_missing gathered = if is_some (missing_part gathered) then gathered else none_gathered
+
+-- what is gathered once an answer came under the told byte and sums that carries this
+abbrev pub gathered_from : Carried → Gathered → Gathered
+gathered_from (InFull records) before = before
+gathered_from (InPart number count records) before = if is_bad_part number count then before
+    else while_missing (with_table_part number count records before)
+gathered_from (InChanges records) before = before
+
+-- what is gathered once an answer came, by what was told
+abbrev pub gathered_after : Option Stamp → Stamp → Carried → Gathered → Gathered
+gathered_after told stamp carried before =
+    if matches_told told stamp then gathered_from carried before else before
 
 -- an answer came
 abbrev pub answered : Stamp → Carried → Known → Known
 answered stamp carried known = record {
   told = known.told;
-  held = held_after stamp.byte (answer_row (stamp_of known) known.held stamp carried).table
-      known.held;
+  held = held_after stamp.byte
+      (answer_row (stamp_of known) known.held known.gathered stamp carried).table known.held;
+  gathered = gathered_after (stamp_of known) stamp carried known.gathered;
 }
 
 -- whether what is held has the told byte and sums
