@@ -52,7 +52,7 @@ pub enum LimitName {
     Links,
     /// `lans`: 16 LANs.
     Lans,
-    /// `clients`: 1,024 clients present at a node, joined groups included.
+    /// `clients`: 4,096 clients present at a node, joined groups included.
     Clients,
     /// `vlans`: 16 VLANs with clients present at a node.
     Vlans,

@@ -12,12 +12,12 @@ use Rattle.mesh_model.specs.declared.table_change.Change.{Change}
 use Rattle.mesh_model.specs.declared.table_outcome.Request.{Request}
 use Rattle.mesh_model.specs.declared.table_outcome.Request.TheVariants.{Full, Changes}
 use Rattle.mesh_model.specs.Commits.Announcements.{record_of_change}
-use Rattle.mesh_model.specs.Packets.Bodies.{TtData}
-use Rattle.mesh_model.specs.Packets.BodySpellings.{key_spelling, tt_spelling}
+use Rattle.mesh_model.specs.Packets.Bodies.{TtData, TtPart}
+use Rattle.mesh_model.specs.Packets.BodySpellings.{key_spelling, tt_part_spelling, tt_spelling}
 use Rattle.mesh_model.specs.Packets.Containers.{Container, containers_spelling}
 use Rattle.mesh_model.specs.Packets.Layout.{spelling}
-use Rattle.mesh_model.specs.Packets.Numbers.{full_table_flag, request_flag, response_flag, roaming_tvlv, tt_tvlv, tvlv_version}
-use Rattle.mesh_model.specs.Tables.Answers.{Reply}
+use Rattle.mesh_model.specs.Packets.Numbers.{full_table_flag, request_flag, response_flag, roaming_tvlv, tt_part_version, tt_tvlv, tvlv_version}
+use Rattle.mesh_model.specs.Tables.Answers.{PartPlace, Reply, ReplyPart}
 use Rattle.mesh_model.specs.Tables.Versions.{Stamp}
 
 -- a packet to a neighbour
@@ -43,6 +43,11 @@ abbrev pub table_container : TtData → Container
 table_container table =
     record { kind = tt_tvlv; version = tvlv_version; body = tt_spelling table }
 
+-- the container of a part of a translation table
+abbrev pub part_container : TtPart → Container
+part_container part =
+    record { kind = tt_tvlv; version = tt_part_version; body = tt_part_spelling part }
+
 -- a translation table of a version with these flags and changes
 abbrev pub table_told : ℕ → Stamp → List Change → TtData
 table_told flags stamp changes = record {
@@ -66,7 +71,20 @@ abbrev pub request_containers : Request → Stamp → List ℕ
 request_containers request stamp =
     containers_spelling (table_container (table_told (request_flags request) stamp []) ∷ [])
 
+-- the translation table of an answer
+abbrev pub reply_table : Reply → TtData
+reply_table reply = table_told (with_full response_flag reply.full) reply.stamp reply.records
+
 -- the containers of an answer
 abbrev pub reply_containers : Reply → List ℕ
-reply_containers reply = containers_spelling (table_container
-    (table_told (with_full response_flag reply.full) reply.stamp reply.records) ∷ [])
+reply_containers reply = containers_spelling (table_container (reply_table reply) ∷ [])
+
+-- the containers of what one packet brings of an answer, by its place where it is a part
+abbrev pub containers_at : Option PartPlace → Reply → List ℕ
+containers_at None reply = reply_containers reply
+containers_at (Some place) reply = containers_spelling (part_container
+    (record { table = reply_table reply; number = place.number; count = place.count }) ∷ [])
+
+-- the containers of what one packet brings of an answer
+abbrev pub part_containers : ReplyPart → List ℕ
+part_containers part = containers_at part.place part.reply

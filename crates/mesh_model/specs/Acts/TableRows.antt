@@ -1,23 +1,23 @@
 -- The rows of tables: what a node puts for an originator message that it takes, and for containers
 -- that are for one node. An announcement may lead to a request. A request is answered by its
 -- originator, or on the way by a node that holds the table; else it is passed on, as all containers
--- for another node are, while hops are left and a route leads there. Without a route to the asker
--- nothing is sent. The main words are `request_acts`, `own_answer` and `passed_containers`.
+-- for another node are, while hops are left and a route leads there. A large table goes in parts, a
+-- packet each. Without a route to the asker nothing is sent. The main words are `request_acts`, `own_answer` and `passed_containers`.
 use Rattle.mesh_model.specs.Packets.Numbers.{first_ttl}
-use Rattle.std.specs.Prelude.{ℕ, ◌-◌, ◌&&◌, nat_le, Bool, List, [], length, Option, Some, None, if◌then◌else◌}
+use Rattle.std.specs.Prelude.{ℕ, ◌-◌, ◌&&◌, nat_le, Bool, List, [], length, flat_map, Option, Some, None, if◌then◌else◌}
 use Rattle.mesh_base.specs.declared.address.Mac.{Mac}
 use Rattle.mesh_model.specs.declared.act.Act.{Act}
 use Rattle.mesh_model.specs.declared.packet.Head.TheVariants.{Utvlv}
 use Rattle.mesh_model.specs.declared.table_change.Change.{Change}
 use Rattle.mesh_model.specs.declared.table_outcome.Request.{Request}
-use Rattle.mesh_model.specs.Acts.Packing.{reply_containers, request_containers, sent_over}
+use Rattle.mesh_model.specs.Acts.Packing.{part_containers, request_containers, sent_over}
 use Rattle.mesh_model.specs.Clients.Limits.{clients_limit, vlans_limit}
 use Rattle.mesh_model.specs.Knowledge.Known.{Knowledge, known_at}
 use Rattle.mesh_model.specs.Knowledge.Told.{Message, TableMessage, Asks, Answers, Neither, message_in, stamp_told}
 use Rattle.mesh_model.specs.Packets.Containers.{containers_of}
 use Rattle.mesh_model.specs.Packets.Contents.{first_table}
 use Rattle.mesh_model.specs.Routes.Queries.{Queries}
-use Rattle.mesh_model.specs.Tables.Answers.{Reply, held_reply, own_reply}
+use Rattle.mesh_model.specs.Tables.Answers.{Reply, ReplyPart, held_reply, own_reply, parts_of_reply}
 use Rattle.mesh_model.specs.Tables.Sums.{sums_of}
 use Rattle.mesh_model.specs.Tables.Versions.{Version}
 
@@ -31,10 +31,16 @@ request_acts me next message (Some request) = sent_over next (Utvlv first_ttl me
 
 -- ---- answers
 
+-- what one packet brings of an answer in the name of an originator to the node that asked, where
+-- there is a way
+abbrev pub part_acts : Option Mac → Mac → Mac → ReplyPart → List Act
+part_acts next orig asker part =
+    sent_over next (Utvlv first_ttl asker orig) (part_containers part)
+
 -- an answer in the name of an originator to the node that asked
 abbrev pub answer_acts : Queries → Knowledge → ℕ → Mac → Mac → Reply → List Act
-answer_acts q known now orig asker reply = sent_over (q.route known.routes now asker)
-    (Utvlv first_ttl asker orig) (reply_containers reply)
+answer_acts q known now orig asker reply =
+    flat_map (part_acts (q.route known.routes now asker) orig asker) (parts_of_reply reply)
 
 -- what the addressed node puts for a table that it is sent, by its last commit and the changes that
 -- are told of that: the answer to a request

@@ -1,4 +1,4 @@
--- How many clients a node may have: 1,024 that are present at once, joined groups included, in 16
+-- How many clients a node may have: 4,096 that are present at once, joined groups included, in 16
 -- VLANs. A sighting or a joining of a key that isn't present passes a limit where there would be
 -- more; `clients` is looked at before `vlans`. The main word is `passed_limit`.
 use Rattle.std.specs.Prelude.{ℕ, ◌==◌, ◌&&◌, nat_lt, nat_le, Bool, true, false, List, [], ◌∷◌, ◌++◌, length, map, Option, Some, None, is_none, if◌then◌else◌}
@@ -15,7 +15,7 @@ use Rattle.mesh_model.specs.Clients.Present.{present_clients, present_row}
 
 -- the most clients that are present at a node
 abbrev pub clients_limit : ℕ
-clients_limit = 1024
+clients_limit = 4096
 
 -- the most VLANs with clients that are present at a node
 abbrev pub vlans_limit : ℕ

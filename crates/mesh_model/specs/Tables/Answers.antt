@@ -2,13 +2,15 @@
 -- commit: with the changes of that commit, where the request asks for changes under its byte and
 -- there are some that an announcement may carry; else with the whole table. A node on the way
 -- answers with the table that it holds, whole, where the table is under the asked byte and has the
--- asked sums. The main words are `own_reply` and `other_answer`.
-use Rattle.std.specs.Prelude.{ℕ, ◌==◌, ◌&&◌, Bool, true, false, not, List, map, Option, Some, None, Result, Ok, Err, if◌then◌else◌}
+-- asked sums. A whole table of more than 1,024 entries goes in parts, which are its pieces. The main
+-- words are `own_reply`, `other_answer` and `parts_of_reply`.
+use Rattle.std.specs.Prelude.{ℕ, ◌==◌, ◌&&◌, nat_lt, Bool, true, false, not, List, [], ◌∷◌, length, map, Option, Some, None, Result, Ok, Err, if◌then◌else◌}
 use Rattle.mesh_base.specs.declared.client.Vid.{Vid}
 use Rattle.mesh_model.specs.declared.table_change.Change.{Change}
 use Rattle.mesh_model.specs.declared.table_outcome.Difference.{Difference}
 use Rattle.mesh_model.specs.Tables.Changes.{addition}
 use Rattle.mesh_model.specs.Tables.Differences.{first_difference}
+use Rattle.mesh_model.specs.Tables.Pieces.{piece_at, piece_count, piece_size, places}
 use Rattle.mesh_model.specs.Tables.Sums.{sums_of}
 use Rattle.mesh_model.specs.Tables.Versions.{Stamp, Version}
 
@@ -71,3 +73,32 @@ reply_in (Err not_held) = None
 -- the answer of a node that holds a version to a request under a byte and sums, where it has one
 abbrev pub held_reply : Stamp → Option Version → Option Reply
 held_reply asked held = reply_in (other_answer held asked)
+
+-- ---- in parts
+-- the number of a part, and how many there are
+pub record PartPlace : Type 0 where
+  pub number : ℕ
+  pub count : ℕ
+
+-- what one packet brings of an answer: all of it, or the part at a place, with the records of that
+pub record ReplyPart : Type 0 where
+  pub reply : Reply
+  pub place : Option PartPlace
+
+-- an answer that goes whole
+abbrev pub whole_part : Reply → ReplyPart
+whole_part reply = record { reply = reply; place = None }
+
+-- the part of an answer with a number
+abbrev pub numbered_part : Reply → ℕ → ReplyPart
+numbered_part reply number = record {
+  reply = record reply { records = piece_at number reply.records };
+  place = Some (record { number = number; count = piece_count reply.records });
+}
+
+-- what an answer goes as, first to last: its parts, where it is a whole table of more than 1,024
+-- entries
+abbrev pub parts_of_reply : Reply → List ReplyPart
+parts_of_reply reply = if reply.full && nat_lt piece_size (length reply.records)
+    then map (numbered_part reply) (places (piece_count reply.records))
+    else whole_part reply ∷ []
