@@ -9,6 +9,8 @@ pub mod ServingLines
 pub mod AlgorithmLines
 pub mod TableRows
 pub mod CommitRows
+-- A large table that goes in parts.
+pub mod PartRows
 -- What is said of a worked scenario, of bytes that are decoded, and of a single line.
 pub mod LineRows
 pub mod RouteRows

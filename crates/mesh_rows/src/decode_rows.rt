@@ -60,7 +60,7 @@ pub fn each_container_has_its_line()
         ++ codes "010100080000006400000100" ++ codes "03010002abcd"
         ++ codes "0401002b14070003010203040000000000000000800000000000002a0005ffff"
         ++ codes "230000000200000001018007aabbcc"
-        ++ codes "050100080200000001010000" ++ codes "0602000403000000" ++ codes "04020000"
+        ++ codes "050100080200000001010000" ++ codes "0602000403000000" ++ codes "04030000"
         ++ codes "020100")
         (codes "packet utvlv ttl=50 dst=02:00:00:00:00:0b src=02:00:00:00:00:0a tvlv=92"
         ∷ codes "tvlv 1 version=1 len=8 down=100 up=256"
@@ -72,7 +72,7 @@ pub fn each_container_has_its_line()
         ∷ codes "change 23 02:00:00:00:01:01 7"
         ∷ codes "tvlv 5 version=1 len=8 mac=02:00:00:00:01:01 vid=-"
         ∷ codes "tvlv 6 version=2 len=4 flags=03"
-        ∷ codes "tvlv 4 version=2 len=0"
+        ∷ codes "tvlv 4 version=3 len=0"
         ∷ codes "bad cut place=89" ∷ []) }
 {}
 

@@ -21,6 +21,7 @@ pub mod line_rows;
 pub mod loop_rows;
 pub mod mark_rows;
 pub mod net_rows;
+pub mod part_rows;
 pub mod picture_rows;
 pub mod probe_rows;
 pub mod restart_rows;

@@ -160,12 +160,12 @@ pub fn a_17th_vlan_passes_the_limit()
         (Limit Vlans) }
 {}
 
-/// There are at most 512 links, and at most 1,024 clients at a node.
-pub fn a_513th_link_and_a_1025th_client_pass_the_limits()
+/// There are at most 512 links, and at most 4,096 clients at a node.
+pub fn a_513th_link_and_a_4097th_client_pass_the_limits()
     ensures links { is_full_after 511 ≡ false }
     ensures past { is_full_after 512 ≡ true }
-    ensures clients { limit_after 1023 ≡ None }
-    ensures client { limit_after 1024 ≡ Some Clients }
+    ensures clients { limit_after 4095 ≡ None }
+    ensures client { limit_after 4096 ≡ Some Clients }
 {}
 
 /// Where a limit ends a run in its middle, what happened before is printed, and nothing of the

@@ -1,6 +1,6 @@
 use Rattle.std.proofs.Common.{refl}
 use Rattle.mesh_rows.proofs.NetOnLiterals.{net_on_literals}
-use Rattle.mesh_rows.proofs.net_rows.a_513th_link_and_a_1025th_client_pass_the_limits.Goals as goal
+use Rattle.mesh_rows.proofs.net_rows.a_513th_link_and_a_4097th_client_pass_the_limits.Goals as goal
 
 pub returns-clause-links : goal.returns-clause-links
 unfolding net_on_literals
