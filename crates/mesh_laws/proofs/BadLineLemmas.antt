@@ -8,15 +8,15 @@ use Rattle.mesh_model.specs.declared.link_frame.Ending.{Ending}
 use Rattle.mesh_model.specs.declared.link_frame.Ending.TheVariants.{Rest, BadPacket, BadContainer}
 use Rattle.mesh_model.specs.Packets.Shapes.{TailKind, shape_of}
 use Rattle.mesh_model.specs.Packets.Shapes.TailKind.{containers, all_the_rest, nothing}
-use Rattle.mesh_model.specs.Packets.Bodies.{VlanSum, TtChange, TtData}
+use Rattle.mesh_model.specs.Packets.Bodies.{VlanSum, TtChange, TtData, TtPart}
 use Rattle.mesh_model.specs.Packets.Containers.{Container}
 use Rattle.mesh_model.specs.Packets.Contents.{Content, content_of, sound_containers}
-use Rattle.mesh_model.specs.Packets.Contents.Content.{gateway, translation, roaming, multicast, unread}
+use Rattle.mesh_model.specs.Packets.Contents.Content.{gateway, translation, part, roaming, multicast, unread}
 use Rattle.mesh_model.specs.Packets.FirstPacket.{Packet}
 use Rattle.mesh_model.specs.Packets.LinkFrame.{link_frame}
 use Rattle.mesh_model.specs.Text.PacketLines.{packet_line}
 use Rattle.mesh_model.specs.Text.Tables.{vlan_line}
-use Rattle.mesh_model.specs.Text.ContainerLines.{plain_line, gateway_line, roaming_line, multicast_line, table_start, change_line, table_lines, content_lines, container_lines}
+use Rattle.mesh_model.specs.Text.ContainerLines.{plain_line, gateway_line, roaming_line, multicast_line, table_start, part_start, change_line, table_lines, part_lines, rows_of_table, content_lines, container_lines}
 use Rattle.mesh_model.specs.Text.Decode.{ending_lines, rest_line, tail_lines, packet_lines}
 use Rattle.mesh_laws.specs.PacketLaws.{IsBad, BadIsLast}
 
@@ -63,16 +63,23 @@ fine-change : (change : TtChange) → IsFine (change_line change)
 unfolding change_line
 fine-change change bad = absurd (omega (arith, ap first bad))
 
+fine-rows : (table : TtData) → AreFine (rows_of_table table)
+fine-rows table = fine-append (map vlan_line table.vlans) (map change_line table.changes) (fine-map vlan_line fine-vlan table.vlans) (fine-map change_line fine-change table.changes)
+
 fine-table : (container : Container) (table : TtData) → AreFine (table_lines container table)
 unfolding table_start
-fine-table container table =
-    ((λ bad. absurd (omega (arith, ap first bad))), fine-append (map vlan_line table.vlans) (map change_line table.changes) (fine-map vlan_line fine-vlan table.vlans) (fine-map change_line fine-change table.changes))
+fine-table container table = ((λ bad. absurd (omega (arith, ap first bad))), fine-rows table)
+
+fine-part : (container : Container) (told : TtPart) → AreFine (part_lines container told)
+unfolding part_start
+fine-part container told = ((λ bad. absurd (omega (arith, ap first bad))), fine-rows told.table)
 
 fine-content : (container : Container) (content : Option Content) → AreFine (content_lines container content)
 unfolding plain_line gateway_line roaming_line multicast_line
 fine-content container None = tt
 fine-content container (Some (gateway bandwidth)) = ((λ bad. absurd (omega (arith, ap first bad))), tt)
 fine-content container (Some (translation table)) = fine-table container table
+fine-content container (Some (part told)) = fine-part container told
 fine-content container (Some (roaming client)) = ((λ bad. absurd (omega (arith, ap first bad))), tt)
 fine-content container (Some (multicast flags)) = ((λ bad. absurd (omega (arith, ap first bad))), tt)
 fine-content container (Some unread) = ((λ bad. absurd (omega (arith, ap first bad))), tt)

@@ -19,11 +19,11 @@ use Rattle.mesh_model.specs.Knowledge.PutTogether.{after_part}
 use Rattle.mesh_model.specs.Knowledge.Pairs.{after_arp}
 use Rattle.mesh_model.specs.Knowledge.Served.{PrimaryCall}
 use Rattle.mesh_model.specs.Knowledge.Steps.{Coming, after_announcement, after_answer, after_bridged, after_broadcast, after_reply, after_call, after_containers, after_frame, after_head, after_message, after_passed, after_roaming, after_sighting, after_sent, after_taken, after_tick, announced_by, before_announcement, before_round, is_flooded, stays_on_lan, with_head, with_life, with_offered}
-use Rattle.mesh_model.specs.Knowledge.Told.{Message, TableMessage, Asks, Answers, Neither, message_in}
+use Rattle.mesh_model.specs.Knowledge.Told.{Message, TableMessage, Asks, Answers, Neither, message_in, part_told}
 use Rattle.mesh_model.specs.Commits.History.{is_commit_tick}
 use Rattle.mesh_model.specs.Packets.ArpMessages.{ArpCame, arp_came}
 use Rattle.mesh_model.specs.Packets.Containers.{containers_of}
-use Rattle.mesh_model.specs.Packets.Contents.{first_roaming, first_table}
+use Rattle.mesh_model.specs.Packets.Contents.{first_part, first_roaming, first_table}
 use Rattle.mesh_model.specs.Packets.FactMessages.{CameFact, FactMessage, HasPart, Primary, Requests, HasEnd, fact_message_of}
 use Rattle.mesh_model.specs.Packets.Payload.{ClientFrame}
 use Rattle.mesh_model.specs.Probes.OpenProbes.{is_answer}
@@ -102,7 +102,9 @@ containers_kept : (q : Queries) (now : ℕ) (src : Mac) (tail : List ℕ) (known
     → kept_of (after_containers q now src tail known) ≡ kept_of known
 containers_kept q now src tail known =
     let message = message_in (first_table (containers_of tail)) in
-    roaming_kept q now src (first_roaming (containers_of tail)) (after_answer q now src message known) ∙ answer_kept q now src message known
+    let part = part_told (first_part (containers_of tail)) in
+    roaming_kept q now src (first_roaming (containers_of tail)) (after_answer q now src part (after_answer q now src message known))
+    ∙ answer_kept q now src part (after_answer q now src message known) ∙ answer_kept q now src message known
 
 -- whether a packet may bring a payload
 abbrev pub has_payload : Head → Bool

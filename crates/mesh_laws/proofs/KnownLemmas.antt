@@ -16,15 +16,16 @@ use Rattle.mesh_model.specs.declared.table_outcome.Difference.{Difference}
 use Rattle.mesh_model.specs.declared.table_outcome.Heard.{Heard}
 use Rattle.mesh_model.specs.declared.table_outcome.Heard.TheVariants.{Emptied, Unheld, Same, SumDiffers, Gap, Bare, Clash, Applied}
 use Rattle.mesh_model.specs.declared.table_outcome.Taken.{Taken}
-use Rattle.mesh_model.specs.declared.table_outcome.Taken.TheVariants.{NotTold, Gap as NotNext, Taken as IsTaken}
+use Rattle.mesh_model.specs.declared.table_outcome.Taken.TheVariants.{BadPart, NotTold, Part, Gap as NotNext, Taken as IsTaken}
 use Rattle.mesh_model.specs.Tables.Changes.{addition, changed_entries}
 use Rattle.mesh_model.specs.Tables.Differences.{first_difference}
-use Rattle.mesh_model.specs.Tables.Judging.{Carried, Fails, Differs, InChanges, InFull, Leads, Row, Trial, answer_row, becomes, carried_row, changes_row, heard_trial, named_row, next_byte_row, row_by_vlans, same_byte_row, stays, taken_trial, trial, trial_of, unless_carried_differs, unless_differs}
+use Rattle.mesh_model.specs.Tables.Gathered.{Gathered, gathered_records, is_bad_part, missing_part, with_table_part}
+use Rattle.mesh_model.specs.Tables.Judging.{Carried, Fails, Differs, InChanges, InFull, InPart, Leads, Row, Trial, answer_row, becomes, carried_row, changes_row, good_row, heard_trial, named_row, next_byte_row, part_row, row_by_vlans, same_byte_row, stays, taken_trial, trial, trial_of, unless_bad_part, unless_carried_differs, unless_differs, unless_missing}
 use Rattle.mesh_model.specs.Tables.Known.{agrees, held_after, stamp_of}
 use Rattle.mesh_model.specs.Tables.Strict.{and_then, apply_strictly, change_each, with_entry}
 use Rattle.mesh_model.specs.Tables.Sums.{checksums, sum_at, sums_of}
 use Rattle.mesh_model.specs.Tables.Versions.{Stamp, Version, next_byte}
-use Rattle.mesh_laws.specs.KnownLaws.{ChangesAsHeard, ChangesAsTaken, FullAnswerIsTaken, HaveDistinctKeys, IsAppliedOnward, IsEmptiedByNone, IsTakenOnward, IsTakenWhole, IsTold, LeadsOn, MakeWhole, heard_another, took_another}
+use Rattle.mesh_laws.specs.KnownLaws.{ChangesAsHeard, ChangesAsTaken, ComeTogether, FullAnswerIsTaken, HaveDistinctKeys, IsAppliedOnward, IsEmptiedByNone, IsTakenInParts, IsTakenOnward, IsTakenWhole, IsTold, LeadsOn, MakeWhole, heard_another, took_another}
 use Rattle.mesh_laws.proofs.AnnouncedSums.{announces_checksums}
 use Rattle.mesh_laws.proofs.AscendingKeys.{swap_test}
 use Rattle.mesh_laws.proofs.DifferenceLemmas.{agrees_by_checksums, finds_each_difference}
@@ -73,10 +74,16 @@ taken_says (Fails entry) = refl
 taken_says (Differs difference) = refl
 taken_says (Leads table) = refl
 
-carried_says : (held : Option Version) (told : Stamp) (carried : Carried) → SaysTaken (carried_row held told carried)
-carried_says held told (InFull records) = taken_says (trial [] records told.sums)
-carried_says None told (InChanges records) = refl
-carried_says (Some held) told (InChanges records) = go (nat_eq (next_byte held.byte) told.byte)
+missing_says : (want : Option ℕ) (told : Stamp) (gathered : Gathered) → SaysTaken (unless_missing want told gathered)
+missing_says None told gathered = taken_says (trial [] (gathered_records gathered) told.sums)
+missing_says (Some want) told gathered = refl
+
+carried_says : (held : Option Version) (gathered : Gathered) (told : Stamp) (carried : Carried) → SaysTaken (carried_row held gathered told carried)
+carried_says held gathered told (InFull records) = taken_says (trial [] records told.sums)
+carried_says held gathered told (InPart number count records) =
+    missing_says (missing_part (with_table_part number count records gathered)) told (with_table_part number count records gathered)
+carried_says None gathered told (InChanges records) = refl
+carried_says (Some held) gathered told (InChanges records) = go (nat_eq (next_byte held.byte) told.byte)
   where
     go : (next : Bool) → SaysTaken (cond next (taken_trial (trial held.table records told.sums)) (stays (NotNext held.byte told.byte)))
     go true = taken_says (trial held.table records told.sums)
@@ -86,13 +93,25 @@ unless_says : (difference : Option Difference) (row : Row Taken) → SaysTaken r
 unless_says None row says = says
 unless_says (Some difference) row says = refl
 
-pub changes_as_taken : ChangesAsTaken
-changes_as_taken None held stamp carried = refl
-changes_as_taken (Some told) held stamp carried = go (nat_eq told.byte stamp.byte)
+good_says : (told : Option Stamp) (held : Option Version) (gathered : Gathered) (stamp : Stamp) (carried : Carried) → SaysTaken (good_row told held gathered stamp carried)
+good_says None held gathered stamp carried = refl
+good_says (Some told) held gathered stamp carried = go (nat_eq told.byte stamp.byte)
   where
-    go : (same : Bool) → SaysTaken (cond same (unless_carried_differs (first_difference told.sums stamp.sums) (carried_row held told carried)) (stays (NotTold stamp.byte (Some told.byte))))
-    go true = unless_says (first_difference told.sums stamp.sums) (carried_row held told carried) (carried_says held told carried)
+    go : (same : Bool) → SaysTaken (cond same (unless_carried_differs (first_difference told.sums stamp.sums) (carried_row held gathered told carried)) (stays (NotTold stamp.byte (Some told.byte))))
+    go true = unless_says (first_difference told.sums stamp.sums) (carried_row held gathered told carried) (carried_says held gathered told carried)
     go false = refl
+
+unless_bad_says : (carried : Carried) (row : Row Taken) → SaysTaken row → SaysTaken (unless_bad_part carried row)
+unless_bad_says (InFull records) row says = says
+unless_bad_says (InPart number count records) row says = go (is_bad_part number count)
+  where
+    go : (bad : Bool) → SaysTaken (cond bad (stays (BadPart number count)) row)
+    go true = refl
+    go false = says
+unless_bad_says (InChanges records) row says = says
+
+pub changes_as_taken : ChangesAsTaken
+changes_as_taken told held gathered stamp carried = unless_bad_says carried (good_row told held gathered stamp carried) (good_says told held gathered stamp carried)
 
 -- ---- how it changes
 -- which outcome it is
@@ -227,16 +246,16 @@ trial_taken P before records told is made =
     (λ entry e. not_taken (sym (ap (λ t. took_another (taken_trial t).outcome) e) ∙ ap took_another is))
     (λ difference e. not_taken (sym (ap (λ t. took_another (taken_trial t).outcome) e) ∙ ap took_another is))
 
--- an answer that is taken has what was told, and its row is that of what it carries
-answer_told : (P : Stamp → Row Taken → Type 0) (told : Option Stamp) (held : Option Version) (stamp : Stamp) (carried : Carried) → (answer_row told held stamp carried).outcome ≡ IsTaken
-    → ((wanted : Stamp) → IsTold told stamp wanted → (carried_row held wanted carried).outcome ≡ IsTaken → P wanted (carried_row held wanted carried))
-    → (wanted : Stamp) × IsTold told stamp wanted × P wanted (answer_row told held stamp carried)
-answer_told P None held stamp carried is made = not_taken (ap took_another is)
-answer_told P (Some told) held stamp carried is made = go (nat_eq told.byte stamp.byte) refl (first_difference told.sums stamp.sums) refl is
+-- an answer that is taken, and is no bad part, has what was told, and its row is that of what it carries
+answer_told : (P : Stamp → Row Taken → Type 0) (told : Option Stamp) (held : Option Version) (gathered : Gathered) (stamp : Stamp) (carried : Carried) → (good_row told held gathered stamp carried).outcome ≡ IsTaken
+    → ((wanted : Stamp) → IsTold told stamp wanted → (carried_row held gathered wanted carried).outcome ≡ IsTaken → P wanted (carried_row held gathered wanted carried))
+    → (wanted : Stamp) × IsTold told stamp wanted × P wanted (good_row told held gathered stamp carried)
+answer_told P None held gathered stamp carried is made = not_taken (ap took_another is)
+answer_told P (Some told) held gathered stamp carried is made = go (nat_eq told.byte stamp.byte) refl (first_difference told.sums stamp.sums) refl is
   where
     go : (same : Bool) → nat_eq told.byte stamp.byte ≡ same → (difference : Option Difference) → first_difference told.sums stamp.sums ≡ difference
-        → (cond same (unless_carried_differs difference (carried_row held told carried)) (stays (NotTold stamp.byte (Some told.byte)))).outcome ≡ IsTaken
-        → (wanted : Stamp) × IsTold (Some told) stamp wanted × P wanted (cond same (unless_carried_differs difference (carried_row held told carried)) (stays (NotTold stamp.byte (Some told.byte))))
+        → (cond same (unless_carried_differs difference (carried_row held gathered told carried)) (stays (NotTold stamp.byte (Some told.byte)))).outcome ≡ IsTaken
+        → (wanted : Stamp) × IsTold (Some told) stamp wanted × P wanted (cond same (unless_carried_differs difference (carried_row held gathered told carried)) (stays (NotTold stamp.byte (Some told.byte))))
     go true t None none is =
         let is_told : IsTold (Some told) stamp told = record { told_is = refl; byte_is = same_number _ _ t; sums_are = (finds_each_difference told.sums stamp.sums).0 none } in
         (told, is_told, made told is_told is)
@@ -254,14 +273,38 @@ changes_lead (Some held) told records is = go (nat_eq (next_byte held.byte) told
         (λ after l. record { before = held; after = after; held_is = refl; byte_is = sym (same_number _ _ t); applied = l.applied; sums_are = l.sums_are; table_is = refl })
     go false t is = not_taken (ap took_another is)
 
+makes_whole : (told : Stamp) (records : List Change) → (taken_trial (trial [] records told.sums)).outcome ≡ IsTaken → MakeWhole told records (taken_trial (trial [] records told.sums)).table
+makes_whole told records is = trial_taken (MakeWhole told records) [] records told.sums is (λ after l. record { whole = after; applied = l.applied; sums_are = l.sums_are; table_is = refl })
+
 pub taken_onward : IsTakenOnward
-taken_onward told held stamp records is =
-    answer_told (λ wanted row. LeadsOn held wanted records row.table) told held stamp (InChanges records) is (λ wanted is_told taken. changes_lead held wanted records taken)
+taken_onward told held gathered stamp records is =
+    answer_told (λ wanted row. LeadsOn held wanted records row.table) told held gathered stamp (InChanges records) is (λ wanted is_told taken. changes_lead held wanted records taken)
 
 pub taken_whole : IsTakenWhole
-taken_whole told held stamp records is =
-    answer_told (λ wanted row. MakeWhole wanted records row.table) told held stamp (InFull records) is
-    (λ wanted is_told taken. trial_taken (MakeWhole wanted records) [] records wanted.sums taken (λ after l. record { whole = after; applied = l.applied; sums_are = l.sums_are; table_is = refl }))
+taken_whole told held gathered stamp records is =
+    answer_told (λ wanted row. MakeWhole wanted records row.table) told held gathered stamp (InFull records) is (λ wanted is_told taken. makes_whole wanted records taken)
+
+-- parts that are taken are complete, and make a whole table
+parts_make : (want : Option ℕ) (told : Stamp) (gathered : Gathered) → (unless_missing want told gathered).outcome ≡ IsTaken → (want ≡ None) × MakeWhole told (gathered_records gathered) (unless_missing want told gathered).table
+parts_make None told gathered is = (refl, makes_whole told (gathered_records gathered) is)
+parts_make (Some want) told gathered is = not_taken (ap took_another is)
+
+pub taken_in_parts : IsTakenInParts
+taken_in_parts told held gathered stamp number count records is = go (is_bad_part number count) is
+  where
+    gone : Gathered
+    gone = with_table_part number count records gathered
+
+    together : (good_row told held gathered stamp (InPart number count records)).outcome ≡ IsTaken → ComeTogether told stamp gone (good_row told held gathered stamp (InPart number count records)).table
+    together taken =
+        let t = answer_told (λ wanted row. (missing_part gone ≡ None) × MakeWhole wanted (gathered_records gone) row.table) told held gathered stamp (InPart number count records) taken
+        (λ wanted is_told with_parts. parts_make (missing_part gone) wanted gone with_parts) in
+        record { wanted = t.0; is_told = t.1; complete = t.2.0; make = t.2.1 }
+
+    go : (bad : Bool) → (cond bad (stays (BadPart number count)) (good_row told held gathered stamp (InPart number count records))).outcome ≡ IsTaken
+        → (bad ≡ false) × ComeTogether told stamp gone (cond bad (stays (BadPart number count)) (good_row told held gathered stamp (InPart number count records))).table
+    go true taken = not_taken (ap took_another taken)
+    go false taken = (refl, together taken)
 
 -- ---- additions of distinct keys
 -- no entry of a table has the key
@@ -320,22 +363,40 @@ added_sums : (entries after : List Entry) → apply_strictly [] (map addition en
 added_sums entries after is = fun_ext (λ vid. checksums_xored [] after (map addition entries) is vid ∙ xor_zero_l _ ∙ ap (λ l. checksums l vid) (entries_again entries))
 
 -- ---- the right answer is taken
+-- a table with these checksums, to which records lead
+pub record LedTo (told : Stamp) (records : List Change) : Type 0 where
+  pub table : List Entry
+  pub tried : trial [] records told.sums ≡ Leads table
+  pub sums_are : checksums table ≡ sum_at told.sums
+
+-- additions of distinct keys lead to a table with their checksums
+pub led_whole : (told : Stamp) (records : List Change) (entries : List Entry) → records ≡ map addition entries → HaveDistinctKeys entries → checksums entries ≡ sum_at told.sums → LedTo told records
+led_whole told records entries are distinct has =
+    let made = additions_applied entries distinct in
+    let table = made.0 in
+    let applied : apply_strictly [] records ≡ Ok table = ap (apply_strictly []) are ∙ made.1 in
+    let sums : checksums table ≡ sum_at told.sums = added_sums entries table made.1 ∙ has in
+    let none : first_difference (sums_of table) told.sums ≡ None = (finds_each_difference (sums_of table) told.sums).1 (announces_checksums table ∙ sums) in
+    record { table = table; tried = ap (trial_of told.sums) applied ∙ ap (λ d. unless_differs d table) none; sums_are = sums }
+
+-- the row of an answer with what was told is that of what it carries
+pub told_good : (told : Option Stamp) (held : Option Version) (gathered : Gathered) (stamp wanted : Stamp) (carried : Carried) → IsTold told stamp wanted → good_row told held gathered stamp carried ≡ carried_row held gathered wanted carried
+told_good told held gathered stamp wanted carried is =
+    let same : first_difference wanted.sums stamp.sums ≡ None = (finds_each_difference wanted.sums stamp.sums).1 is.sums_are in
+    ap (λ t. good_row t held gathered stamp carried) is.told_is
+    ∙ ap (λ b. cond b (unless_carried_differs (first_difference wanted.sums stamp.sums) (carried_row held gathered wanted carried)) (stays (NotTold stamp.byte (Some wanted.byte)))) (eq-eqb wanted.byte stamp.byte is.byte_is)
+    ∙ ap (λ d. unless_carried_differs d (carried_row held gathered wanted carried)) same
+
+-- what is held then agrees with what was told
+pub agrees_then : (told : Option Stamp) (held : Option Version) (stamp wanted : Stamp) (table : List Entry) → IsTold told stamp wanted → checksums table ≡ sum_at wanted.sums → agrees told (held_after stamp.byte (Some table) held) ≡ true
+agrees_then told held stamp wanted table is sums =
+    ap (λ t. agrees t (held_after stamp.byte (Some table) held)) is.told_is ∙ (agrees_by_checksums wanted (record { byte = stamp.byte; table = table })).1 (sym is.byte_is, sums)
+
 pub full_answer_is_taken : FullAnswerIsTaken
 full_answer_is_taken known stamp records whole =
-    let made = additions_applied whole.entries whole.distinct in
-    let told = whole.wanted in
-    let table = made.0 in
-    let applied : apply_strictly [] records ≡ Ok table = ap (apply_strictly []) whole.records_are ∙ made.1 in
-    let sums : checksums table ≡ sum_at told.sums = added_sums whole.entries table made.1 ∙ whole.sums_are in
-    let none : first_difference (sums_of table) told.sums ≡ None = (finds_each_difference (sums_of table) told.sums).1 (announces_checksums table ∙ sums) in
-    let tried : trial [] records told.sums ≡ Leads table = ap (trial_of told.sums) applied ∙ ap (λ d. unless_differs d table) none in
-    let same : first_difference told.sums stamp.sums ≡ None = (finds_each_difference told.sums stamp.sums).1 whole.is_told.sums_are in
-    let row : answer_row (stamp_of known) known.held stamp (InFull records) ≡ becomes IsTaken table =
-    ap (λ t. answer_row t known.held stamp (InFull records)) whole.is_told.told_is
-    ∙ ap (λ b. cond b (unless_carried_differs (first_difference told.sums stamp.sums) (carried_row known.held told (InFull records))) (stays (NotTold stamp.byte (Some told.byte)))) (eq-eqb told.byte stamp.byte whole.is_told.byte_is)
-    ∙ ap (λ d. unless_carried_differs d (carried_row known.held told (InFull records))) same
-    ∙ ap taken_trial tried in (
+    let led = led_whole whole.wanted records whole.entries whole.records_are whole.distinct whole.sums_are in
+    let row : answer_row (stamp_of known) known.held known.gathered stamp (InFull records) ≡ becomes IsTaken led.table =
+    told_good (stamp_of known) known.held known.gathered stamp whole.wanted (InFull records) whole.is_told ∙ ap taken_trial led.tried in (
       ap (λ r. r.outcome) row,
-      ap₂ (λ t h. agrees t h) whole.is_told.told_is (ap (λ r. held_after stamp.byte r.table known.held) row)
-          ∙ (agrees_by_checksums told (record { byte = stamp.byte; table = table })).1 (sym whole.is_told.byte_is, sums),
+      ap (λ r. agrees (stamp_of known) (held_after stamp.byte r.table known.held)) row ∙ agrees_then (stamp_of known) known.held stamp whole.wanted led.table whole.is_told led.sums_are,
     )

@@ -26,7 +26,9 @@ pub mod AnnouncedSums
 pub mod TableChanges
 pub mod PieceLemmas
 pub mod DifferenceLemmas
+pub mod GatheredLemmas
 pub mod KnownLemmas
+pub mod PartLemmas
 pub mod StoreLemmas
 pub mod KeptLemmas
 pub mod FactLemmas

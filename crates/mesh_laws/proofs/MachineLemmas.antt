@@ -17,7 +17,7 @@ use Rattle.mesh_laws.specs.Machine.Agreement.{HasNoAlias, AreOf, LeadTo, Agrees}
 use Rattle.mesh_laws.specs.Machine.MachineLaws.{SayingsAgree, HeldAreCommits, ToldAreCommits, AgreedHoldTheTold}
 use Rattle.mesh_laws.proofs.AnnouncedSums.{announces_checksums, announces_none_of_empty}
 use Rattle.mesh_laws.proofs.CommitLemmas.{led_to_commit, made_of_commit}
-use Rattle.mesh_laws.proofs.PieceLemmas.{pieces_make_table}
+use Rattle.mesh_laws.proofs.PieceLemmas.{pieces_make_table, same_together}
 use Rattle.mesh_laws.proofs.MachineInvariant.{Good, IsToldOf, good_start, good_commit, good_saying, good_node, commit_kept, last_numbered, last_lead}
 
 -- ---- what a node is told
@@ -83,10 +83,6 @@ piece_agrees w byte sums place count records g said =
       count_is = a.3;
       records_are = a.5;
     }
-
-same_together : (f g : ℕ → List Change) (first count : ℕ) → ((i : ℕ) → i < first + count → f i ≡ g i) → flat_map f (range_with_len first count) ≡ flat_map g (range_with_len first count)
-same_together f g first zero same = refl
-same_together f g first (suc count) same = ap₂ (λ x y. x ++ y) (same first (omega arith)) (same_together f g (first + 1) count (λ i below. same i (omega arith)))
 
 -- what is taken from a full answer is a commit
 taken_in_full : (w : World) (t : Told) (count : ℕ) (pieces : ℕ → List Change) (table : List Entry) → Good w → HasNoAlias w.commits → 0 < count → ((place : ℕ) → place < count → PieceWasSaid w.said t.byte (sum_at t.sums) place count (pieces place)) → apply_strictly [] (put_together count pieces) ≡ Ok table → IsCommit w.commits (record { byte = t.byte; table = table })

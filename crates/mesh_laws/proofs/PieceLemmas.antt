@@ -1,8 +1,9 @@
 -- The pieces of a table, put together.
-use Rattle.std.proofs.Common.{◌≡◌, ℕ, zero, suc, ◌+◌, ◌*◌, ◌<◌, ◌≤◌, List, [], ◌∷◌, ◌++◌, length, take, drop, map, flat_map, refl, sym, ap, ◌∙◌, arith, take-add, drop-drop, take_all, zero-mul}
+use Rattle.std.proofs.Common.{◌≡◌, ℕ, zero, suc, ◌+◌, ◌*◌, ◌<◌, ◌≤◌, List, [], ◌∷◌, ◌++◌, length, take, drop, map, flat_map, refl, sym, ap, ap₂, ◌∙◌, arith, take-add, drop-drop, take_all, zero-mul}
 use Rattle.std.proofs.lemmas.List.{map-append}
 use Rattle.std.specs.List.{range_with_len}
 use Rattle.mesh_base.specs.declared.client.Entry.{Entry}
+use Rattle.mesh_model.specs.declared.table_change.Change.{Change}
 use Rattle.mesh_model.specs.Tables.Changes.{addition}
 use Rattle.mesh_laws.specs.Machine.Pieces.{piece_size, piece_count, places}
 use Rattle.mesh_laws.specs.Machine.MachineLaws.{PiecesAreCounted, PiecesMakeTable, SmallTablesAreOnePiece}
@@ -20,6 +21,11 @@ joined size xs first (suc count) =
 additions_joined : {X : Type 0} (f : X → List Entry) (is : List X) → flat_map (λ i. map addition (f i)) is ≡ map addition (flat_map f is)
 additions_joined f [] = refl
 additions_joined f (i ∷ is) = ap (λ x. map addition (f i) ++ x) (additions_joined f is) ∙ sym (map-append addition (f i) (flat_map f is))
+
+-- pieces that are the same at each place make the same
+pub same_together : (f g : ℕ → List Change) (first count : ℕ) → ((i : ℕ) → i < first + count → f i ≡ g i) → flat_map f (range_with_len first count) ≡ flat_map g (range_with_len first count)
+same_together f g first zero same = refl
+same_together f g first (suc count) same = ap₂ (λ x y. x ++ y) (same first (omega arith)) (same_together f g (first + 1) count (λ i below. same i (omega arith)))
 
 -- so many pieces have room for the whole table
 enough : (t : List Entry) → length t ≤ piece_count t * piece_size

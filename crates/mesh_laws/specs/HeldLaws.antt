@@ -1,14 +1,16 @@
 -- What is known of an originator's table where all that came for it tells of commits that it made,
 -- and no two of these are an alias: what is held is a commit under its byte, and where it agrees,
--- the commit that was told last. What came may be late, repeated or lack something. The main words
--- are `CameFrom` and `AreOfCommits`.
+-- the commit that was told last; the parts that are gathered are pieces of that commit. What came may
+-- be late, repeated or lack something. The main words are `CameFrom` and `AreOfCommits`.
 use Rattle.std.specs.Prelude.{◌≡◌, ◌⊎◌, ◌<◌, ℕ, List, [], map, Option, Some, IsTrue, ⊤}
 use Rattle.std.specs.List.{AllByRecursion}
 use Rattle.mesh_base.specs.declared.address.Mac.{Mac}
 use Rattle.mesh_model.specs.declared.table_change.Change.{Change}
 use Rattle.mesh_model.specs.Tables.Changes.{IsInKeyOrder, addition}
-use Rattle.mesh_model.specs.Tables.Judging.{Carried, InFull, InChanges}
+use Rattle.mesh_model.specs.Tables.Gathered.{Gathered, records_at}
+use Rattle.mesh_model.specs.Tables.Judging.{Carried, InFull, InPart, InChanges}
 use Rattle.mesh_model.specs.Tables.Known.{TableCall, TableCalls, Announced, Answered, Dropped, agrees, known_by, stamp_of}
+use Rattle.mesh_model.specs.Tables.Pieces.{piece, piece_count}
 use Rattle.mesh_model.specs.Tables.Sums.{sums_of}
 use Rattle.mesh_model.specs.Tables.Versions.{Stamp, Version}
 use Rattle.mesh_laws.specs.KnownLaws.{IsToldWhole}
@@ -26,10 +28,14 @@ TellsCommit made stamp changes = (number : ℕ) × (commit : Version)
     × (commit_numbered number made ≡ Some commit) × (stamp ≡ stamp_of_commit commit)
     × ((changes ≡ []) ⊎ LeadTo made number commit changes)
 
--- an answer carries a commit in full, or the changes that lead to a commit, under its byte and sums
+-- an answer carries a commit in full, a piece of one, or the changes that lead to a commit, under
+-- its byte and sums
 abbrev pub CarriesCommit : List Version → Stamp → Carried → Type 0
 CarriesCommit made stamp (InFull records) = (commit : Version) × IsCommit made commit
     × (stamp ≡ stamp_of_commit commit) × (records ≡ map addition commit.table)
+CarriesCommit made stamp (InPart number count records) = (commit : Version)
+    × IsCommit made commit × (stamp ≡ stamp_of_commit commit)
+    × (count ≡ piece_count commit.table) × (number < count) × (records ≡ piece number commit.table)
 CarriesCommit made stamp (InChanges records) = (number : ℕ) × (commit : Version)
     × (commit_numbered number made ≡ Some commit) × (stamp ≡ stamp_of_commit commit)
     × LeadTo made number commit records
@@ -72,11 +78,25 @@ pub record AreOfCommits (made : List Version) (told : Option Stamp) (held : Opti
   pub held_is : (version : Version) → held ≡ Some version → IsCommit made version
   pub agreed_is : IsTrue (agrees told held) → HoldsTold made told held
 
+-- the parts that are gathered are pieces of the commit that was told, of as many as it has
+abbrev pub ArePiecesOfCommits : List Version → Option Stamp → Gathered → Type 0
+ArePiecesOfCommits made told gathered = (number : ℕ) (records : List Change) →
+    records_at number gathered ≡ Some records →
+    (commit : Version) × IsCommit made commit × (told ≡ Some (stamp_of_commit commit))
+    × (gathered.count ≡ piece_count commit.table) × (number < gathered.count)
+    × (records ≡ piece number commit.table)
+
 -- so it is of what is known of an originator
 abbrev pub KnownAreOfCommits : Type 0
 KnownAreOfCommits = (made : List Version) (orig : Mac) (calls : TableCalls) →
     CameFrom made orig calls →
     AreOfCommits made (stamp_of (known_by calls orig)) (known_by calls orig).held
+
+-- and of what is gathered of its table
+abbrev pub GatheredAreOfCommits : Type 0
+GatheredAreOfCommits = (made : List Version) (orig : Mac) (calls : TableCalls) →
+    CameFrom made orig calls →
+    ArePiecesOfCommits made (stamp_of (known_by calls orig)) (known_by calls orig).gathered
 
 -- a commit in full is the whole table that was told, where that commit was told
 abbrev pub CommitsAreToldWhole : Type 0

@@ -1,6 +1,6 @@
 //! What holds of what a node knows of an originator's table.
 
-ghost use Rattle.mesh_laws.specs.KnownLaws.{AgreesByChecksums, ChangesAsHeard, ChangesAsTaken, FindsEachDifference, FindsLeastDifference, FullAnswerIsTaken, IsAppliedOnward, IsEmptiedByNone, IsTakenOnward, IsTakenWhole};
+ghost use Rattle.mesh_laws.specs.KnownLaws.{AgreesByChecksums, ChangesAsHeard, ChangesAsTaken, FindsEachDifference, FindsLeastDifference, FullAnswerIsTaken, IsAppliedOnward, IsEmptiedByNone, IsTakenInParts, IsTakenOnward, IsTakenWhole, PartsAreTaken};
 
 /// The difference that is found of two lists of sums is the least, and none is found only where the
 /// checksums are the same.
@@ -27,9 +27,16 @@ pub fn held_tables_are_led_to()
     ensures applied { IsAppliedOnward }
     ensures onward { IsTakenOnward }
     ensures whole { IsTakenWhole }
+    ensures in_parts { IsTakenInParts }
 {}
 
 /// A full answer of the told table is taken, and the tables agree then.
 pub fn the_told_table_is_taken()
     ensures { FullAnswerIsTaken }
+{}
+
+/// The parts of the told table are taken with the last one that was missing, and the tables agree
+/// then.
+pub fn the_parts_of_the_told_table_are_taken()
+    ensures { PartsAreTaken }
 {}

@@ -21,7 +21,7 @@ SmallTablesAreOnePiece = (table : List Entry) → length table ≤ 1024 →
 
 -- an empty table is one piece, 1,024 entries are one and 1,025 two, of which the second has one
 abbrev pub PiecesAreCounted : Type 0
-PiecesAreCounted = (entry : Entry) → (piece_count [] ≡ 1)
+PiecesAreCounted = (entry : Entry) → (piece_count {X = Entry} [] ≡ 1)
     × (piece_count (replicate 1024 entry) ≡ 1)
     × (piece_count (replicate 1025 entry) ≡ 2)
     × (piece 1 (replicate 1025 entry) ≡ addition entry ∷ [])

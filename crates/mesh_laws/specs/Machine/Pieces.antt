@@ -1,5 +1,6 @@
 -- Pieces of a table, put together in order. The main word is `put_together`.
-pub use Rattle.mesh_model.specs.Tables.Pieces.{piece_size, piece_count, piece, places}
+unfoldable pub use Rattle.mesh_model.specs.Tables.Pieces.{piece_size, piece_count}
+pub use Rattle.mesh_model.specs.Tables.Pieces.{piece, places}
 use Rattle.std.specs.Prelude.{ℕ, List, flat_map}
 use Rattle.mesh_model.specs.declared.table_change.Change.{Change}
 
