@@ -4,15 +4,15 @@ use Rattle.std.proofs.lemmas.Bool.{le-ltb}
 use Rattle.std.proofs.lemmas.List.{take_at, drop_at, drop-drop}
 use Rattle.std.proofs.lemmas.Nat.{and_assoc, and_or_apart, and_or_self}
 use Rattle.std.specs.Int.Bits.{and_zero_r, or_zero_r}
-use Rattle.std.specs.Prelude.{Bool, cond, nat_lt, map, flat_map, bit_and, ◌==◌, Some, None, All}
+use Rattle.std.specs.Prelude.{option_map, slice_index, Bool, cond, nat_lt, map, flat_map, bit_and, ◌==◌, Some, None, All}
 use Rattle.byteorder.specs.Endian.{big_bytes, big_number}
 use Rattle.byteorder.specs.Numbers.{big_number-reads_back}
 use Rattle.mesh_base.specs.declared.client.Key.{Key}
 use Rattle.mesh_base.specs.declared.client.Entry.{Entry}
-use Rattle.mesh_model.specs.Packets.Bodies.{VlanSum, TtChange, TtData, Bandwidth, pieces, whole_pieces, vlan_of_bytes, key_of_bytes, change_of_bytes, told_vlans, tt_data, client_flags, change_of, entry_of_change, is_deletion}
+use Rattle.mesh_model.specs.Packets.Bodies.{VlanSum, TtChange, TtData, TtPart, Bandwidth, part_with, pieces, tt_of_body, whole_pieces, vlan_of_bytes, key_of_bytes, change_of_bytes, told_vlans, tt_data, client_flags, change_of, entry_of_change, is_deletion}
 use Rattle.mesh_model.specs.Packets.Contents.{table_of_body}
-use Rattle.mesh_model.specs.Packets.BodySpellings.{vlan_spelling, key_spelling, change_spelling, tt_spelling}
-use Rattle.mesh_tvlv.specs.Laws.{FitsKey, FitsVlan, FitsTable, RecordIsReadBack, BodiesAreReadBack}
+use Rattle.mesh_model.specs.Packets.BodySpellings.{vlan_spelling, key_spelling, change_spelling, tt_spelling, tt_part_spelling}
+use Rattle.mesh_tvlv.specs.Laws.{FitsKey, FitsVlan, FitsTable, PartIsReadBack, RecordIsReadBack, BodiesAreReadBack}
 use Rattle.mesh_tvlv.proofs.SpellingLemmas.{All-tail}
 
 -- items that are spelled in so many bytes each, and read back from them
@@ -75,33 +75,72 @@ pub whole_back : {X : Type 0} (size : ℕ) (text : X → List ℕ) (read : List 
 whole_back size text read Fits codec xs fits count =
     ap (λ k. map read (pieces k size (flat_map text xs))) count ∙ items_back size text read Fits codec xs fits
 
--- a translation table is read back
-pub table_back : (table : TtData) → FitsTable table → table_of_body (tt_spelling table) ≡ Some table
-table_back table fits =
-    let body : List ℕ = tt_spelling table in
+-- the rows of a translation table, as they are spelled
+abbrev rows : TtData → List ℕ
+rows table = flat_map vlan_spelling table.vlans ++ flat_map change_spelling table.changes
+
+-- a body that begins so, and has the rows of a translation table behind its head
+record Begins (head : ℕ) (body : List ℕ) (table : TtData) : Type 0 where
+  flags : slice_index body 0 ≡ table.flags
+  ttvn : slice_index body 1 ≡ table.ttvn
+  told : told_vlans body ≡ length table.vlans
+  rest : drop head body ≡ rows table
+  long : length body ≡ head + length (rows table)
+
+-- the table is read of it
+body_back : (head : ℕ) (body : List ℕ) (table : TtData) → FitsTable table → Begins head body table → tt_of_body head body ≡ Some table
+body_back head body table fits begins =
     let vlans : List ℕ = flat_map vlan_spelling table.vlans in
     let changes : List ℕ = flat_map change_spelling table.changes in
     let FitsClient : TtChange → Type 0 = λ change. FitsKey change.key in
-    let told : told_vlans body ≡ length table.vlans =
-    big_number-reads_back 2 (length table.vlans) (vlans ++ changes) fits.vlans in
+    let told = begins.told in
     let long = length-items 8 vlan_spelling vlan_of_bytes FitsVlan vlan_back table.vlans fits.each_vlan in
     let longer = length-items 12 change_spelling change_of_bytes FitsClient change_back table.changes fits.each_change in
-    let whole : nat_lt (length body) (4 + 8 * told_vlans body) ≡ false =
-    le-ltb (length body) (4 + 8 * told_vlans body) (omega (arith, told, long, length-append vlans changes)) in
-    let first : take (8 * told_vlans body) (vlans ++ changes) ≡ vlans =
-    take_at vlans changes (8 * told_vlans body) (omega (arith, told, long)) in
-    let second : drop (4 + 8 * told_vlans body) body ≡ changes =
-    sym (drop-drop (8 * told_vlans body) 4 body) ∙ drop_at vlans changes (8 * told_vlans body) (omega (arith, told, long)) in
-    let vlans_back : map vlan_of_bytes (whole_pieces 8 (take (8 * told_vlans body) (vlans ++ changes))) ≡ table.vlans =
+    let whole : nat_lt (length body) (head + 8 * told_vlans body) ≡ false =
+    le-ltb (length body) (head + 8 * told_vlans body) (omega (arith, told, long, begins.long, length-append vlans changes)) in
+    let first : take (8 * told_vlans body) (drop head body) ≡ vlans =
+    ap (take (8 * told_vlans body)) begins.rest ∙ take_at vlans changes (8 * told_vlans body) (omega (arith, told, long)) in
+    let second : drop (head + 8 * told_vlans body) body ≡ changes =
+    sym (drop-drop (8 * told_vlans body) head body) ∙ ap (drop (8 * told_vlans body)) begins.rest
+    ∙ drop_at vlans changes (8 * told_vlans body) (omega (arith, told, long)) in
+    let vlans_back : map vlan_of_bytes (whole_pieces 8 (take (8 * told_vlans body) (drop head body))) ≡ table.vlans =
     ap (λ bytes. map vlan_of_bytes (whole_pieces 8 bytes)) first
     ∙ whole_back 8 vlan_spelling vlan_of_bytes FitsVlan vlan_back table.vlans fits.each_vlan (omega (arith, long)) in
-    let changes_back : map change_of_bytes (whole_pieces 12 (drop (4 + 8 * told_vlans body) body)) ≡ table.changes =
+    let changes_back : map change_of_bytes (whole_pieces 12 (drop (head + 8 * told_vlans body) body)) ≡ table.changes =
     ap (λ bytes. map change_of_bytes (whole_pieces 12 bytes)) second
     ∙ whole_back 12 change_spelling change_of_bytes FitsClient change_back table.changes fits.each_change
     (omega (arith, longer)) in
-    ap (λ (b : Bool). cond b None (Some (tt_data 4 body))) whole
+    ap (λ (b : Bool). cond b None (Some (tt_data head body))) whole
+    ∙ ap₂ (λ (flags ttvn : ℕ). let t : TtData =
+    record { flags = flags; ttvn = ttvn; vlans = map vlan_of_bytes (whole_pieces 8 (take (8 * told_vlans body) (drop head body))); changes = map change_of_bytes (whole_pieces 12 (drop (head + 8 * told_vlans body) body)) } in Some t) begins.flags begins.ttvn
     ∙ ap₂ (λ (vs : List VlanSum) (cs : List TtChange). let t : TtData =
     record { flags = table.flags; ttvn = table.ttvn; vlans = vs; changes = cs } in Some t) vlans_back changes_back
+
+-- a translation table is read back
+pub table_back : (table : TtData) → FitsTable table → table_of_body (tt_spelling table) ≡ Some table
+table_back table fits = body_back 4 (tt_spelling table) table fits (record {
+  flags = refl;
+  ttvn = refl;
+  told = big_number-reads_back 2 (length table.vlans) (rows table) fits.vlans;
+  rest = refl;
+  long = omega arith;
+})
+
+-- a part of a translation table is read back
+pub part_back : PartIsReadBack
+part_back part fits number count =
+    let body : List ℕ = tt_part_spelling part in
+    let behind_number : List ℕ = big_bytes 2 part.count ++ rows part.table in
+    let begins : Begins 8 body part.table = record {
+      flags = refl;
+      ttvn = refl;
+      told = big_number-reads_back 2 (length part.table.vlans) (big_bytes 2 part.number ++ behind_number) fits.vlans;
+      rest = refl;
+      long = omega arith;
+    } in
+    ap (option_map (part_with body)) (body_back 8 body part.table fits begins)
+    ∙ ap₂ (λ (n c : ℕ). let p : TtPart = record { table = part.table; number = n; count = c } in Some p)
+    (big_number-reads_back 2 part.number behind_number number) (big_number-reads_back 2 part.count (rows part.table) count)
 
 -- the other spelled bodies are read back
 pub bodies_back : BodiesAreReadBack

@@ -4,9 +4,9 @@ use Rattle.std.specs.Prelude.{◌≡◌, ℕ, ◌^◌, ◌<◌, Bool, List, [], 
 use Rattle.mesh_base.specs.declared.client.Key.{Key}
 use Rattle.mesh_base.specs.declared.client.Entry.{Entry}
 use Rattle.mesh_model.specs.Packets.Containers.{Container, FitsLength, AreContainers, containers_spelling, containers_of, rest_of}
-use Rattle.mesh_model.specs.Packets.Bodies.{VlanSum, TtData, Bandwidth, roaming_of_body, gateway_of_body, multicast_of_body, client_flags, change_of, entry_of_change, is_deletion}
+use Rattle.mesh_model.specs.Packets.Bodies.{VlanSum, TtData, TtPart, Bandwidth, part_of_body, roaming_of_body, gateway_of_body, multicast_of_body, client_flags, change_of, entry_of_change, is_deletion}
 use Rattle.mesh_model.specs.Packets.Contents.{table_of_body}
-use Rattle.mesh_model.specs.Packets.BodySpellings.{tt_spelling, key_spelling, gateway_spelling, multicast_spelling}
+use Rattle.mesh_model.specs.Packets.BodySpellings.{tt_spelling, tt_part_spelling, key_spelling, gateway_spelling, multicast_spelling}
 
 -- spelled containers are these containers again, and nothing is left
 abbrev pub ContainersAreReadBack : Type 0
@@ -46,6 +46,11 @@ pub record FitsTable (table : TtData) : Type 0 where
 abbrev pub TableIsReadBack : Type 0
 TableIsReadBack =
     (table : TtData) → FitsTable table → table_of_body (tt_spelling table) ≡ Some table
+
+-- a spelled part of a translation table is read back, whose number and count fit two bytes each
+abbrev pub PartIsReadBack : Type 0
+PartIsReadBack = (part : TtPart) → FitsTable part.table → part.number < 2 ^ 16 →
+    part.count < 2 ^ 16 → part_of_body (tt_part_spelling part) ≡ Some part
 
 -- a record for a client tells the client, with the flags that it keeps, and whether it is gone
 abbrev pub RecordIsReadBack : Type 0

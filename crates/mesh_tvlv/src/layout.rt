@@ -11,8 +11,11 @@ pub const ROAMING: u8 = 5;
 /// The type of the container of multicast flags (`BATADV_TVLV_MCAST`).
 pub const MULTICAST: u8 = 6;
 
-/// The version that the containers are written with, but for multicast.
+/// The version that the containers are written with, but for multicast and parts of a translation
+/// table.
 pub const VERSION: u8 = 1;
+/// The version that a container with a part of a translation table is written with.
+pub const TT_PART_VERSION: u8 = 2;
 /// The version that a multicast container is written with.
 pub const MULTICAST_VERSION: u8 = 2;
 
@@ -45,6 +48,13 @@ pub(crate) const LENGTH_OFFSET: usize = 2;
 pub(crate) const TT_HEAD_SIZE: usize = 4;
 /// The offset of the number of VLANs in a translation table.
 pub(crate) const VLANS_OFFSET: usize = 2;
+/// The bytes of a part of a translation table before its VLANs: those of a table, then number 2,
+/// count 2.
+pub(crate) const TT_PART_HEAD_SIZE: usize = 8;
+/// The offset of the number in a part of a translation table.
+pub(crate) const PART_NUMBER_OFFSET: usize = 4;
+/// The offset of the count in a part of a translation table.
+pub(crate) const PART_COUNT_OFFSET: usize = 6;
 /// The bytes of a VLAN: checksum 4, wire number 2, reserved 2.
 pub(crate) const VLAN_SIZE: usize = 8;
 /// The offset of the wire number in a VLAN.

@@ -5,8 +5,8 @@ ghost use Rattle.mesh_model.specs.Packets.Contents.{is_long_enough, flaw_of};
 ghost use Rattle.mesh_tvlv.specs.Walk.{seen};
 
 use crate::bodies::{read_gw, read_mcast, read_roam};
-use crate::layout::{GATEWAY, MULTICAST, MULTICAST_VERSION, ROAMING, TT, VERSION};
-use crate::translation::read_tt;
+use crate::layout::{GATEWAY, MULTICAST, MULTICAST_VERSION, ROAMING, TT, TT_PART_VERSION, VERSION};
+use crate::translation::{read_tt, read_tt_part};
 use crate::walk::{Container, TvlvIter};
 use mesh_model::TvlvErr;
 
@@ -17,6 +17,7 @@ pub fn is_long_enough(container: &Container<'_>) -> bool
     match (container.kind, container.version) {
         (GATEWAY, VERSION) => read_gw(container.body).is_ok(),
         (TT, VERSION) => read_tt(container.body).is_ok(),
+        (TT, TT_PART_VERSION) => read_tt_part(container.body).is_ok(),
         (ROAMING, VERSION) => read_roam(container.body).is_ok(),
         (MULTICAST, MULTICAST_VERSION) => read_mcast(container.body).is_ok(),
         _ => true,

@@ -1,13 +1,13 @@
 ghost use Rattle.std.specs.Prelude.{◌≡◌, ◌+◌, ◌^◌, ◌<◌, ◌≤◌, ◌↔◌, length, IsErr, ok_or, option_map, slice_get};
-ghost use Rattle.mesh_model.specs.Packets.Bodies.{tt_head_size, tt_of_body, vlans_size, vlan_of_bytes, change_of_bytes};
+ghost use Rattle.mesh_model.specs.Packets.Bodies.{tt_head_size, tt_part_head_size, tt_of_body, part_of_body, vlans_size, vlan_of_bytes, change_of_bytes};
 ghost use Rattle.mesh_model.specs.Packets.Contents.{table_of_body};
 ghost use Rattle.mesh_model.specs.Packets.Numbers.{tt_tvlv};
-ghost use Rattle.mesh_tvlv.specs.Translation.{vid_and_sum, entry_and_deletion};
+ghost use Rattle.mesh_tvlv.specs.Translation.{vid_and_sum, entry_and_deletion, table_and_place};
 
 use crate::bodies::key_in;
 use crate::layout::{
-    CHANGE_KEY_OFFSET, CHANGE_SIZE, CLIENT_FLAGS, DEL, TT, TT_HEAD_SIZE, VLAN_SIZE,
-    VLAN_VID_OFFSET, VLANS_OFFSET,
+    CHANGE_KEY_OFFSET, CHANGE_SIZE, CLIENT_FLAGS, DEL, PART_COUNT_OFFSET, PART_NUMBER_OFFSET, TT,
+    TT_HEAD_SIZE, TT_PART_HEAD_SIZE, VLAN_SIZE, VLAN_VID_OFFSET, VLANS_OFFSET,
 };
 use crate::piece::piece;
 use byteorder::{BigEndian, ByteOrder};
@@ -75,6 +75,19 @@ pub fn read_tt(body: &[u8]) -> Result<TtView<'_>, TvlvErr>
     ensures short { IsErr result ↔ (length body.now < tt_head_size + vlans_size body.now) }
 {
     table_behind(TT_HEAD_SIZE, body)
+}
+
+/// The part of a translation table in a body, its number, from 0, and how many parts there are.
+/// `BadLength` where the body has fewer bytes than 8 and 8 for each VLAN that it tells.
+pub fn read_tt_part(body: &[u8]) -> Result<(TtView<'_>, u16, u16), TvlvErr>
+    ensures reads { result ≡ ok_or (option_map table_and_place (part_of_body body.now))
+        (TvlvErr.BadLength tt_tvlv (length body.now)) }
+    ensures short { IsErr result ↔ (length body.now < tt_part_head_size + vlans_size body.now) }
+{
+    let table = table_behind(TT_PART_HEAD_SIZE, body)?;
+    let number = BigEndian::read_u16(&body[PART_NUMBER_OFFSET..]);
+    let count = BigEndian::read_u16(&body[PART_COUNT_OFFSET..]);
+    Ok((table, number, count))
 }
 
 fn vlan_in(bytes: &[u8]) -> (Vid, u32)

@@ -1,11 +1,12 @@
 ghost use Rattle.std.specs.Prelude.{◌≡◌, ◌+◌, ◌≤◌, ◌++◌, length, OnOk, OnErr};
 ghost use Rattle.mesh_model.specs.Packets.Containers.{container_spelling};
 ghost use Rattle.mesh_model.specs.Packets.Bodies.{change_of};
-ghost use Rattle.mesh_model.specs.Packets.BodySpellings.{tt_head_spelling, key_spelling, vlan_spelling, change_spelling};
+ghost use Rattle.mesh_model.specs.Packets.BodySpellings.{tt_head_spelling, tt_part_head_spelling, key_spelling, vlan_spelling, change_spelling};
 
 use crate::layout::{
     CHANGE_KEY_OFFSET, CHANGE_SIZE, CLIENT_FLAGS, DEL, HEADER_SIZE, KEY_SIZE, LENGTH_OFFSET,
-    TT_HEAD_SIZE, VLAN_SIZE, VLAN_VID_OFFSET, VLANS_OFFSET,
+    PART_COUNT_OFFSET, PART_NUMBER_OFFSET, TT_HEAD_SIZE, TT_PART_HEAD_SIZE, VLAN_SIZE,
+    VLAN_VID_OFFSET, VLANS_OFFSET,
 };
 use byteorder::{BigEndian, ByteOrder};
 use mesh_base::{Entry, Key, NoMemory, Vid};
@@ -42,6 +43,30 @@ pub fn write_tt_head(out: &mut Vec<u8>, flags: u8, ttvn: u8, vlans: u16) -> Resu
     head[0] = flags;
     head[1] = ttvn;
     BigEndian::write_u16(&mut head[VLANS_OFFSET..], vlans);
+    out.extend_from_slice(&head)?;
+    Ok(())
+}
+
+/// Appends the head of a part of a translation table: as that of a table, then the part's number
+/// and how many parts there are, in 2 bytes each.
+pub fn write_tt_part_head(
+    out: &mut Vec<u8>,
+    flags: u8,
+    ttvn: u8,
+    vlans: u16,
+    number: u16,
+    count: u16,
+) -> Result<(), NoMemory>
+    ensures ok { OnOk result (out.new.items ≡ out.old.items
+        ++ tt_part_head_spelling flags ttvn vlans number count) }
+    ensures err { OnErr result (out.new.items ≡ out.old.items) }
+{
+    let mut head = [0; TT_PART_HEAD_SIZE];
+    head[0] = flags;
+    head[1] = ttvn;
+    BigEndian::write_u16(&mut head[VLANS_OFFSET..], vlans);
+    BigEndian::write_u16(&mut head[PART_NUMBER_OFFSET..], number);
+    BigEndian::write_u16(&mut head[PART_COUNT_OFFSET..], count);
     out.extend_from_slice(&head)?;
     Ok(())
 }

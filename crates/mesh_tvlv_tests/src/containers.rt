@@ -1,6 +1,7 @@
 use mesh_base::{Entry, Key, Mac, NoMemory, Vid};
 use mesh_tvlv::{
-    TvlvErr, TvlvIter, layout, read_roam, write_change, write_container, write_tt_head, write_vlan,
+    TvlvErr, TvlvIter, layout, read_roam, read_tt_part, write_change, write_container,
+    write_tt_head, write_tt_part_head, write_vlan,
 };
 
 fn entry(last: u8, vid: u16, flags: u8) -> Entry {
@@ -46,5 +47,28 @@ fn a_container_is_written_byte_by_byte(rt: HostRuntime) -> Result<(), NoMemory> 
         0x10, 0, 0, 0, 2, 0, 0, 0, 1, 2, 0, 0,
     ];
     assert_eq!(rt; out.as_slice(), expected.as_slice());
+    Ok(())
+}
+
+#[test]
+fn a_part_is_written_byte_by_byte_and_read(rt: HostRuntime) -> Result<(), NoMemory> {
+    let mut part = Vec::new(rt.alloc());
+    write_tt_part_head(&mut part, 0x14, 1, 1, 1, 0x0203)?;
+    write_vlan(&mut part, Vid(0), 0x3d4131cb)?;
+    write_change(&mut part, &entry(5, 0, 0), false)?;
+    let expected = [
+        0x14, 1, 0, 1, 0, 1, 2, 3, //
+        0x3d, 0x41, 0x31, 0xcb, 0, 0, 0, 0, //
+        0, 0, 0, 0, 2, 0, 0, 0, 1, 5, 0, 0,
+    ];
+    assert_eq!(rt; part.as_slice(), expected.as_slice());
+    let Ok((table, number, count)) = read_tt_part(&expected) else {
+        assert!(rt; false);
+        return Ok(());
+    };
+    assert_eq!(rt; (number, count), (1, 0x0203));
+    assert_eq!(rt; table.vlan_at(0), Some((Vid(0), 0x3d4131cb)));
+    assert_eq!(rt; table.change_at(0), Some((entry(5, 0, 0), false)));
+    assert!(rt; read_tt_part(&expected[..7]).is_err());
     Ok(())
 }
