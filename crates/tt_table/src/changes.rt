@@ -39,6 +39,15 @@ impl Changes {
         Ok(())
     }
 
+    /// Adds other changes behind these.
+    pub fn add(&mut self, others: &Changes) -> Result<(), NoMemory>
+        ensures ok { OnOk result (self.new ≡ self.old ++ others.now) }
+        ensures err { OnErr result (self.new ≡ self.old) }
+    {
+        self.changes.extend_from_slice(others.changes.as_slice())?;
+        Ok(())
+    }
+
     /// The same changes once more.
     pub fn copy(&self) -> Result<Changes, NoMemory>
         ensures { IfOk result (λ copy. copy ≡ self.now) }
