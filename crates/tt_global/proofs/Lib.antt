@@ -1,5 +1,6 @@
 -- What the methods of `Globals` rest on.
 pub mod KeyLemmas
+pub mod PartLemmas
 pub mod StandLemmas
 pub mod CommitLemmas
 pub mod PlaceLemmas

@@ -10,15 +10,19 @@ use Rattle.mesh_base.specs.declared.client.Entry.{Entry}
 use Rattle.mesh_model.specs.declared.table_change.Change.{Change}
 use Rattle.mesh_model.specs.declared.table_outcome.Heard.{Heard}
 use Rattle.mesh_model.specs.declared.table_outcome.Taken.{Taken}
+use Rattle.mesh_model.specs.declared.table_outcome.Taken.TheVariants.{BadPart, NotTold}
 use Rattle.mesh_model.specs.Routes.Addresses.{insert_mac, mac_order, same_mac}
-use Rattle.mesh_model.specs.Tables.Judging.{Carried, Row, announcement_row, answer_row}
-use Rattle.mesh_model.specs.Tables.Known.{Announced, Answered, Dropped, Known, TableCalls, announced, answered, held_after, known_by, nothing, stamp_of}
+use Rattle.mesh_model.specs.Tables.Gathered.{Gathered, is_bad_part, none_gathered, with_table_part}
+use Rattle.mesh_model.specs.Tables.Judging.{Carried, InFull, InChanges, InPart, Row, announcement_row, answer_row, stays}
+use Rattle.mesh_model.specs.Tables.Known.{Announced, Answered, Dropped, Known, TableCalls, announced, answered, gathered_after, gathered_from, held_after, kept_under, known_by, matches_told, nothing, stamp_of}
 use Rattle.mesh_model.specs.Tables.Versions.{Stamp, Version}
 use Rattle.mesh_laws.proofs.AscendingKeys.{ascend_inserted, ascend_removed}
 use Rattle.mesh_laws.proofs.MacLemmas.{mac_exact, mac_total, same_equiv, same_exact, same_self}
 use Rattle.tt_global.specs.Globals.{GlobalsStand, Kept}
-use Rattle.tt_global.specs.Kept.{HoldsThen, IsHeld, IsTold, answer_of, held_in, row_in, told_in, version_of}
+use Rattle.tt_global.specs.Kept.{GathersAs, GathersBy, HoldsThen, IsGathered, IsHeld, IsTold, answer_of, gathered_in, held_in, row_in, told_in, version_of}
 use Rattle.tt_global.specs.declared.judging.Judged.{Judged}
+use Rattle.tt_global.specs.declared.judging.Parts.{Parts}
+use Rattle.tt_global.specs.declared.judging.Parts.TheVariants as becomes
 use Rattle.tt_global.specs.declared.known.HeldTable.{HeldTable}
 use Rattle.tt_global.specs.declared.known.KnownTable.{KnownTable}
 use Rattle.tt_global.proofs.KeyLemmas.{key_again, keys_inserted, keys_removed}
@@ -30,7 +34,7 @@ at orig kept = lookup (same_mac orig) kept
 -- nothing is kept
 pub nothing_stands : (kept : Kept) → kept ≡ [] → GlobalsStand kept []
 unfolding IsStrictlySortedBy
-nothing_stands kept is = subst (λ k. GlobalsStand k []) (sym is) (record { told = λ orig. refl; held = λ orig. refl; originators = refl; rise = tt })
+nothing_stands kept is = subst (λ k. GlobalsStand k []) (sym is) (record { told = λ orig. refl; held = λ orig. refl; gathered = λ orig. refl; originators = refl; rise = tt })
 
 -- where something was told, something is kept
 told_there : (orig : Mac) (told : Stamp) (old new : Kept) → IsTold orig told old new → IsSome (at orig new)
@@ -54,6 +58,14 @@ module _ (calls : TableCalls) (orig : Mac) (frame : ℕ) (stamp : Stamp) (change
         | false ↦ stands.told other
       ]
 
+  gathered_then : (other : Mac) → gathered_in (at other mid) ≡ (after other (known_by calls other)).gathered
+  gathered_then other =
+      is_told.gathered_is other
+      ∙ elim (same_mac orig other) as (λ b. cond b (kept_under (told_in (at other old)) stamp (gathered_in (at other old))) (gathered_in (at other old)) ≡ (cond b (announced frame stamp changes (known_by calls other)) (known_by calls other)).gathered) [
+        | true ↦ ap₂ (λ t g. kept_under t stamp g) (stands.told other) (stands.gathered other)
+        | false ↦ stands.gathered other
+      ]
+
   -- what is held once the row is known
   abbrev row : Option Version → Row Heard
   row held = announcement_row held stamp changes
@@ -72,6 +84,7 @@ module _ (calls : TableCalls) (orig : Mac) (frame : ℕ) (stamp : Stamp) (change
   announced_kept is = record {
     told = told_then;
     held = λ other. is_told.held_stays other ∙ unchanged (same_mac orig other) _ ∙ held_then None is other;
+    gathered = gathered_then;
     originators = is_told.keys_are stands.rise ∙ ap (insert_mac orig) stands.originators;
     rise = is_told.rise stands.rise;
   }
@@ -84,6 +97,7 @@ module _ (calls : TableCalls) (orig : Mac) (frame : ℕ) (stamp : Stamp) (change
   announced_held table new is held = record {
     told = λ other. held.told_stays other ∙ told_then other;
     held = λ other. held.held_is other ∙ ap (cond (same_mac orig other) (Some (record { byte = stamp.byte; table = table }))) (is_told.held_stays other) ∙ held_then (Some table) is other;
+    gathered = λ other. held.gathered_stays other ∙ gathered_then other;
     originators = held.keys_stay ∙ is_told.keys_are stands.rise ∙ ap (insert_mac orig) stands.originators;
     rise = subst (IsStrictlySortedBy mac_order) (sym held.keys_stay) (is_told.rise stands.rise);
   }
@@ -104,7 +118,13 @@ module _ (calls : TableCalls) (orig : Mac) (frame : ℕ) (stamp : Stamp) (change
 -- ---- answers
 -- an answer is taken only where something was told
 kept_taken : (kept : Option KnownTable) (stamp : Stamp) (carried : Carried) (table : List Entry) → (answer_of kept stamp carried).table ≡ Some table → IsSome kept
-kept_taken None stamp carried table is = absurd (false≢true (ap is_some is))
+kept_taken None stamp (InFull records) table is = absurd (false≢true (ap is_some is))
+kept_taken None stamp (InPart number count records) table is = absurd (go (is_bad_part number count) is)
+  where
+    go : (bad : Bool) → (cond bad (stays (BadPart number count)) (stays (NotTold stamp.byte None))).table ≡ Some table → ⊥
+    go true is = false≢true (ap is_some is)
+    go false is = false≢true (ap is_some is)
+kept_taken None stamp (InChanges records) table is = absurd (false≢true (ap is_some is))
 kept_taken (Some known) stamp carried table is = refl
 
 module _ (calls : TableCalls) (orig : Mac) (stamp : Stamp) (carried : Carried) (old : Kept) (stands : GlobalsStand old calls) where
@@ -118,46 +138,113 @@ module _ (calls : TableCalls) (orig : Mac) (stamp : Stamp) (carried : Carried) (
       → cond (same_mac orig other) (held_after stamp.byte table (held_in (at other old))) (held_in (at other old)) ≡ (then other (known_by calls other)).held
   held_answered table is other = go (same_mac orig other) refl
     where
+      row_is : (kept : Option KnownTable) (known : Known) → told_in kept ≡ stamp_of known → held_in kept ≡ known.held → gathered_in kept ≡ known.gathered → held_after stamp.byte (answer_of kept stamp carried).table (held_in kept) ≡ (answered stamp carried known).held
+      row_is kept known told held gathered =
+          ap₂ (λ t h. held_after stamp.byte (answer_row t h (gathered_in kept) stamp carried).table h) told held
+          ∙ ap (λ g. held_after stamp.byte (answer_row (stamp_of known) known.held g stamp carried).table known.held) gathered
+
       go : (b : Bool) → same_mac orig other ≡ b → cond b (held_after stamp.byte table (held_in (at other old))) (held_in (at other old)) ≡ (cond b (answered stamp carried (known_by calls other)) (known_by calls other)).held
       go true t =
           ap (λ x. held_after stamp.byte x (held_in (at other old))) (sym is ∙ ap (λ o. (answer_of (at o old) stamp carried).table) (same_exact orig other t))
-          ∙ ap₂ (λ s h. held_after stamp.byte (answer_row s h stamp carried).table h) (stands.told other) (stands.held other)
+          ∙ row_is (at other old) (known_by calls other) (stands.told other) (stands.held other) (stands.gathered other)
       go false t = stands.held other
 
-  answered_kept : (answer_of (at orig old) stamp carried).table ≡ None → GlobalsStand old (Answered orig stamp carried ∷ calls)
-  answered_kept is = record {
-    told = λ other. stands.told other ∙ stays_told other;
-    held = λ other. unchanged (same_mac orig other) _ ∙ held_answered None is other;
-    originators = stands.originators;
-    rise = stands.rise;
+  -- what is gathered of the originator then
+  abbrev parts_of : Mac → Gathered
+  parts_of other = gathered_after (told_in (at other old)) stamp carried (gathered_in (at other old))
+
+  -- the parts are noted first, then the table
+  module _ (mid : Kept) (is_gathered : IsGathered orig (parts_of orig) old mid) where
+    gathered_answered : (other : Mac) → gathered_in (at other mid) ≡ (then other (known_by calls other)).gathered
+    gathered_answered other = is_gathered.gathered_is other ∙ go (same_mac orig other) refl
+      where
+        go : (b : Bool) → same_mac orig other ≡ b → cond b (parts_of orig) (gathered_in (at other old)) ≡ (cond b (answered stamp carried (known_by calls other)) (known_by calls other)).gathered
+        go true t = ap parts_of (same_exact orig other t) ∙ ap₂ (λ s g. gathered_after s stamp carried g) (stands.told other) (stands.gathered other)
+        go false t = stands.gathered other
+
+    answered_kept : (answer_of (at orig old) stamp carried).table ≡ None → GlobalsStand mid (Answered orig stamp carried ∷ calls)
+    answered_kept is = record {
+      told = λ other. is_gathered.told_stays other ∙ stands.told other ∙ stays_told other;
+      held = λ other. is_gathered.held_stays other ∙ unchanged (same_mac orig other) _ ∙ held_answered None is other;
+      gathered = gathered_answered;
+      originators = is_gathered.keys_stay ∙ stands.originators;
+      rise = subst (IsStrictlySortedBy mac_order) (sym is_gathered.keys_stay) stands.rise;
+    }
+      where
+        unchanged : (b : Bool) (h : Option Version) → h ≡ cond b (held_after stamp.byte None h) h
+        unchanged true h = refl
+        unchanged false h = refl
+
+    answered_held : (table : List Entry) (new : Kept) → (answer_of (at orig old) stamp carried).table ≡ Some table → IsHeld orig (record { byte = stamp.byte; table = table }) mid new → GlobalsStand new (Answered orig stamp carried ∷ calls)
+    answered_held table new is held = record {
+      told = λ other. held.told_stays other ∙ is_gathered.told_stays other ∙ stands.told other ∙ stays_told other;
+      held = λ other.
+          held.held_is other ∙ ap (cond (same_mac orig other) (Some (record { byte = stamp.byte; table = table }))) (is_gathered.held_stays other) ∙ held_answered (Some table) is other;
+      gathered = λ other. held.gathered_stays other ∙ gathered_answered other;
+      originators = held.keys_stay ∙ is_gathered.keys_stay ∙ stands.originators;
+      rise = subst (IsStrictlySortedBy mac_order) (sym (held.keys_stay ∙ is_gathered.keys_stay)) stands.rise;
+    }
+
+    -- something is kept of the originator still
+    there_still : IsSome (at orig old) → IsSome (at orig mid)
+    there_still some = some_told (at orig mid) (told_some (at orig old) some ∙ ap is_some (sym (is_gathered.told_stays orig)))
+      where
+        told_some : (kept : Option KnownTable) → IsSome kept → true ≡ is_some (told_in kept)
+        told_some None some = sym some
+        told_some (Some known) some = refl
+
+        some_told : (kept : Option KnownTable) → true ≡ is_some (told_in kept) → IsSome kept
+        some_told None is = sym is
+        some_told (Some known) is = refl
+
+    answered_then : (table : Option (List Entry)) (new : Kept) → (answer_of (at orig old) stamp carried).table ≡ table → HoldsThen orig stamp.byte table mid new → GlobalsStand new (Answered orig stamp carried ∷ calls)
+    answered_then None new is holds = subst (λ k. GlobalsStand k (Answered orig stamp carried ∷ calls)) (sym holds) (answered_kept is)
+    answered_then (Some table) new is holds = answered_held table new is (holds (there_still (kept_taken (at orig old) stamp carried table is)))
+
+    -- the answer is noted, by what was judged of it
+    pub answered_behind : (judged : Judged Taken) (kept : Option KnownTable) → kept ≡ at orig old → row_in judged ≡ answer_of kept stamp carried → (new : Kept) → HoldsThen orig stamp.byte (row_in judged).table mid new
+        → GlobalsStand new (Answered orig stamp carried ∷ calls)
+    answered_behind judged kept was is new holds = answered_then (row_in judged).table new (ap (λ k. (answer_of k stamp carried).table) (sym was) ∙ ap (λ r. r.table) (sym is)) holds
+
+  -- parts that stay as they are
+  pub parts_stay : parts_of orig ≡ gathered_in (at orig old) → IsGathered orig (parts_of orig) old old
+  parts_stay same = record {
+    told_stays = λ other. refl;
+    held_stays = λ other. refl;
+    gathered_is = λ other. go other (same_mac orig other) refl;
+    keys_stay = refl;
   }
     where
-      unchanged : (b : Bool) (h : Option Version) → h ≡ cond b (held_after stamp.byte None h) h
-      unchanged true h = refl
-      unchanged false h = refl
+      go : (other : Mac) (b : Bool) → same_mac orig other ≡ b → gathered_in (at other old) ≡ cond b (parts_of orig) (gathered_in (at other old))
+      go other true t = ap (λ o. gathered_in (at o old)) (sym (same_exact orig other t)) ∙ sym same
+      go other false t = refl
 
-  answered_held : (table : List Entry) (new : Kept) → (answer_of (at orig old) stamp carried).table ≡ Some table → IsHeld orig (record { byte = stamp.byte; table = table }) old new → GlobalsStand new (Answered orig stamp carried ∷ calls)
-  answered_held table new is held = record {
-    told = λ other. held.told_stays other ∙ stands.told other ∙ stays_told other;
-    held = λ other. held.held_is other ∙ held_answered (Some table) is other;
-    originators = held.keys_stay ∙ stands.originators;
-    rise = subst (IsStrictlySortedBy mac_order) (sym held.keys_stay) stands.rise;
-  }
+  -- an answer that leaves the parts is noted, by what was judged of it
+  pub answered_stands : gathered_from carried (gathered_in (at orig old)) ≡ gathered_in (at orig old) → (judged : Judged Taken) (kept : Option KnownTable) → kept ≡ at orig old → row_in judged ≡ answer_of kept stamp carried → (new : Kept)
+      → HoldsThen orig stamp.byte (row_in judged).table old new → GlobalsStand new (Answered orig stamp carried ∷ calls)
+  answered_stands leaves judged kept was is new holds = answered_behind old (parts_stay same) judged kept was is new holds
+    where
+      same : parts_of orig ≡ gathered_in (at orig old)
+      same = elim (matches_told (told_in (at orig old)) stamp) as (λ b. cond b (gathered_from carried (gathered_in (at orig old))) (gathered_in (at orig old)) ≡ gathered_in (at orig old)) [ true ↦ leaves | false ↦ refl ]
 
-  answered_then : (table : Option (List Entry)) (new : Kept) → (answer_of (at orig old) stamp carried).table ≡ table → HoldsThen orig stamp.byte table old new → GlobalsStand new (Answered orig stamp carried ∷ calls)
-  answered_then None new is holds = subst (λ k. GlobalsStand k (Answered orig stamp carried ∷ calls)) (sym holds) (answered_kept is)
-  answered_then (Some table) new is holds = answered_held table new is (holds (kept_taken (at orig old) stamp carried table is))
-
-  -- the answer is noted, by what was judged of it
-  pub answered_stands : (judged : Judged Taken) (kept : Option KnownTable) → kept ≡ at orig old → row_in judged ≡ answer_of kept stamp carried → (new : Kept) → HoldsThen orig stamp.byte (row_in judged).table old new
-      → GlobalsStand new (Answered orig stamp carried ∷ calls)
-  answered_stands judged kept was is new holds = answered_then (row_in judged).table new (ap (λ k. (answer_of k stamp carried).table) (sym was) ∙ ap (λ r. r.table) (sym is)) holds
+  -- what becomes of the parts, by what was judged of them
+  pub parts_become : (parts : Parts) (with_it : Gathered) (kept : Option KnownTable) → kept ≡ at orig old → GathersBy parts kept with_it (gathered_after (told_in kept) stamp carried (gathered_in kept)) → (mid : Kept) → GathersAs parts orig with_it old mid
+      → IsGathered orig (parts_of orig) old mid
+  parts_become becomes.Stay with_it kept was by mid as_it =
+      subst (λ k. IsGathered orig (parts_of orig) old k) (sym as_it)
+      (parts_stay (ap (λ k. gathered_after (told_in k) stamp carried (gathered_in k)) (sym was) ∙ by ∙ ap gathered_in was))
+  parts_become becomes.Grow with_it kept was by mid as_it =
+      subst (λ g. IsGathered orig g old mid) (sym by.1 ∙ ap (λ k. gathered_after (told_in k) stamp carried (gathered_in k)) was) (as_it (subst IsSome was by.0))
+  parts_become becomes.End with_it kept was by mid as_it =
+      subst (λ g. IsGathered orig g old mid) (sym by.1 ∙ ap (λ k. gathered_after (told_in k) stamp carried (gathered_in k)) was) (as_it (subst IsSome was by.0))
 
   -- its outcome
   pub taken_is : (judged : Judged Taken) (kept : Option KnownTable) → kept ≡ at orig old → row_in judged ≡ answer_of kept stamp carried
-      → judged.outcome ≡ (answer_row (stamp_of (known_by calls orig)) (known_by calls orig).held stamp carried).outcome
+      → judged.outcome ≡ (answer_row (stamp_of (known_by calls orig)) (known_by calls orig).held (known_by calls orig).gathered stamp carried).outcome
   taken_is judged kept was is =
-      ap (λ r. r.outcome) is ∙ ap (λ k. (answer_of k stamp carried).outcome) was ∙ ap₂ (λ s h. (answer_row s h stamp carried).outcome) (stands.told orig) (stands.held orig)
+      ap (λ r. r.outcome) is ∙ ap (λ k. (answer_of k stamp carried).outcome) was
+      ∙ ap₂ (λ s h. (answer_row s h (gathered_in (at orig old)) stamp carried).outcome) (stands.told orig) (stands.held orig)
+      ∙ ap (λ g. (answer_row (stamp_of (known_by calls orig)) (known_by calls orig).held g stamp carried).outcome) (stands.gathered orig)
 
 -- ---- a life that ended
 pub dropped : (calls : TableCalls) (orig : Mac) (old new : Kept) → GlobalsStand old calls → new ≡ remove_entry (same_mac orig) old
@@ -165,6 +252,7 @@ pub dropped : (calls : TableCalls) (orig : Mac) (old new : Kept) → GlobalsStan
 dropped calls orig old new stands is updates = record {
   told = λ other. ap told_in (updates other) ∙ elim (same_mac orig other) as (λ b. told_in (cond b None (at other old)) ≡ stamp_of (cond b nothing (known_by calls other))) [ true ↦ refl | false ↦ stands.told other ];
   held = λ other. ap held_in (updates other) ∙ elim (same_mac orig other) as (λ b. held_in (cond b None (at other old)) ≡ (cond b nothing (known_by calls other)).held) [ true ↦ refl | false ↦ stands.held other ];
+  gathered = λ other. ap gathered_in (updates other) ∙ elim (same_mac orig other) as (λ b. gathered_in (cond b None (at other old)) ≡ (cond b nothing (known_by calls other)).gathered) [ true ↦ refl | false ↦ stands.gathered other ];
   originators = ap keys_of is ∙ keys_removed orig old stands.rise ∙ ap (filter (λ other. not (same_mac orig other))) stands.originators;
   rise = subst (λ es. IsStrictlySortedBy mac_order (keys_of es)) (sym is) (ascend_removed mac_total mac_exact (same_mac orig) old stands.rise);
 }
@@ -172,48 +260,82 @@ dropped calls orig old new stands is updates = record {
 -- ---- what is written
 -- of a row that is found this table is held
 pub held_written : (orig : Mac) (old new : Kept) (known : KnownTable) (held : HeldTable) → lookup (same_mac orig) old ≡ Some known
-    → new ≡ set_value (same_mac orig) old (record { byte = known.byte; sums = known.sums; held = Some held }) → IsHeld orig (version_of held) old new
+    → new ≡ set_value (same_mac orig) old (record { byte = known.byte; sums = known.sums; held = Some held; gathered = known.gathered }) → IsHeld orig (version_of held) old new
 held_written orig old new known held found is =
-    let row : KnownTable = record { byte = known.byte; sums = known.sums; held = Some held } in
+    let row : KnownTable = record { byte = known.byte; sums = known.sums; held = Some held; gathered = known.gathered } in
     let some : IsSome (lookup (same_mac orig) old) = ap is_some found in
     let updates : (other : Mac) → at other new ≡ cond (same_mac orig other) (Some row) (at other old) = λ other. ap (at other) is ∙ lookup-set_value same_equiv (same_mac orig) (same_equiv.congr orig) other row old some in record {
       told_stays = λ other. ap told_in (updates other) ∙ go other (same_mac orig other) refl;
       held_is = λ other. ap held_in (updates other) ∙ elim (same_mac orig other) as (λ b. held_in (cond b (Some row) (at other old)) ≡ cond b (Some (version_of held)) (held_in (at other old))) [ true ↦ refl | false ↦ refl ];
+      gathered_stays = λ other. ap gathered_in (updates other) ∙ parts_stay other (same_mac orig other) refl;
       keys_stay = ap keys_of is ∙ keys-set_value (same_mac orig) old row;
     }
   where
-    go : (other : Mac) → (b : Bool) → same_mac orig other ≡ b → told_in (cond b (Some (record { byte = known.byte; sums = known.sums; held = Some held })) (at other old)) ≡ told_in (at other old)
+    parts_stay : (other : Mac) → (b : Bool) → same_mac orig other ≡ b → gathered_in (cond b (Some (record { byte = known.byte; sums = known.sums; held = Some held; gathered = known.gathered })) (at other old)) ≡ gathered_in (at other old)
+    parts_stay other true t = ap gathered_in (sym found ∙ ap (λ o. at o old) (same_exact orig other t))
+    parts_stay other false t = refl
+
+    go : (other : Mac) → (b : Bool) → same_mac orig other ≡ b → told_in (cond b (Some (record { byte = known.byte; sums = known.sums; held = Some held; gathered = known.gathered })) (at other old)) ≡ told_in (at other old)
     go other true t = ap told_in (sym found ∙ ap (λ o. at o old) (same_exact orig other t))
     go other false t = refl
 
 -- of a row that is found this was told
 pub told_written : (orig : Mac) (old new : Kept) (known row : KnownTable) (told : Stamp) → lookup (same_mac orig) old ≡ Some known → told_in (Some row) ≡ Some told → row.held ≡ known.held
-    → new ≡ set_value (same_mac orig) old row → IsTold orig told old new
-told_written orig old new known row told found row_told row_held is =
+    → row.gathered ≡ kept_under (told_in (Some known)) told known.gathered → new ≡ set_value (same_mac orig) old row → IsTold orig told old new
+told_written orig old new known row told found row_told row_held row_gathered is =
     let some : IsSome (lookup (same_mac orig) old) = ap is_some found in
     let updates : (other : Mac) → at other new ≡ cond (same_mac orig other) (Some row) (at other old) = λ other. ap (at other) is ∙ lookup-set_value same_equiv (same_mac orig) (same_equiv.congr orig) other row old some in
     let keys : keys_of new ≡ keys_of old = ap keys_of is ∙ keys-set_value (same_mac orig) old row in record {
       told_is = λ other. ap told_in (updates other) ∙ elim (same_mac orig other) as (λ b. told_in (cond b (Some row) (at other old)) ≡ cond b (Some told) (told_in (at other old))) [ true ↦ row_told | false ↦ refl ];
       held_stays = λ other. ap held_in (updates other) ∙ go other (same_mac orig other) refl;
+      gathered_is = λ other. ap gathered_in (updates other) ∙ parts other (same_mac orig other) refl;
       keys_are = λ rise. keys ∙ sym (key_again orig old rise some);
       rise = λ rise. subst (IsStrictlySortedBy mac_order) (sym keys) rise;
     }
   where
+    parts : (other : Mac) → (b : Bool) → same_mac orig other ≡ b → gathered_in (cond b (Some row) (at other old)) ≡ cond b (kept_under (told_in (at other old)) told (gathered_in (at other old))) (gathered_in (at other old))
+    parts other true t = row_gathered ∙ ap (λ k. kept_under (told_in k) told (gathered_in k)) (sym found ∙ ap (λ o. at o old) (same_exact orig other t))
+    parts other false t = refl
+
     go : (other : Mac) → (b : Bool) → same_mac orig other ≡ b → held_in (cond b (Some row) (at other old)) ≡ held_in (at other old)
     go other true t = ap (option_map version_of) row_held ∙ ap held_in (sym found ∙ ap (λ o. at o old) (same_exact orig other t))
     go other false t = refl
 
 -- of a new originator this was told
-pub told_inserted : (orig : Mac) (old new : Kept) (row : KnownTable) (told : Stamp) → lookup (same_mac orig) old ≡ None → told_in (Some row) ≡ Some told → row.held ≡ None
+pub told_inserted : (orig : Mac) (old new : Kept) (row : KnownTable) (told : Stamp) → lookup (same_mac orig) old ≡ None → told_in (Some row) ≡ Some told → row.held ≡ None → row.gathered ≡ none_gathered
     → ((other : Mac) → at other new ≡ cond (same_mac orig other) (Some row) (at other old))
     → (IsStrictlySortedBy mac_order (keys_of old) → new ≡ insert_entry mac_order old orig row) → IsTold orig told old new
-told_inserted orig old new row told absent row_told row_held updates inserted = record {
+told_inserted orig old new row told absent row_told row_held row_gathered updates inserted = record {
   told_is = λ other. ap told_in (updates other) ∙ elim (same_mac orig other) as (λ b. told_in (cond b (Some row) (at other old)) ≡ cond b (Some told) (told_in (at other old))) [ true ↦ row_told | false ↦ refl ];
   held_stays = λ other. ap held_in (updates other) ∙ go other (same_mac orig other) refl;
+  gathered_is = λ other. ap gathered_in (updates other) ∙ parts other (same_mac orig other) refl;
   keys_are = λ rise. ap keys_of (inserted rise) ∙ keys_inserted old orig row;
   rise = λ rise. subst (λ es. IsStrictlySortedBy mac_order (keys_of es)) (sym (inserted rise)) (ascend_inserted mac_total mac_exact old orig row rise);
 }
   where
+    parts : (other : Mac) → (b : Bool) → same_mac orig other ≡ b → gathered_in (cond b (Some row) (at other old)) ≡ cond b (kept_under (told_in (at other old)) told (gathered_in (at other old))) (gathered_in (at other old))
+    parts other true t = row_gathered ∙ ap (λ k. kept_under (told_in k) told (gathered_in k)) (sym absent ∙ ap (λ o. at o old) (same_exact orig other t))
+    parts other false t = refl
+
     go : (other : Mac) → (b : Bool) → same_mac orig other ≡ b → held_in (cond b (Some row) (at other old)) ≡ held_in (at other old)
     go other true t = ap (option_map version_of) row_held ∙ ap held_in (sym absent ∙ ap (λ o. at o old) (same_exact orig other t))
     go other false t = refl
+
+-- of a row that is found these parts are gathered
+pub gathered_written : (orig : Mac) (old new : Kept) (known row : KnownTable) → lookup (same_mac orig) old ≡ Some known → told_in (Some row) ≡ told_in (Some known) → row.held ≡ known.held → new ≡ set_value (same_mac orig) old row → IsGathered orig row.gathered old new
+gathered_written orig old new known row found row_told row_held is =
+    let some : IsSome (lookup (same_mac orig) old) = ap is_some found in
+    let updates : (other : Mac) → at other new ≡ cond (same_mac orig other) (Some row) (at other old) = λ other. ap (at other) is ∙ lookup-set_value same_equiv (same_mac orig) (same_equiv.congr orig) other row old some in record {
+      told_stays = λ other. ap told_in (updates other) ∙ told other (same_mac orig other) refl;
+      held_stays = λ other. ap held_in (updates other) ∙ held other (same_mac orig other) refl;
+      gathered_is = λ other. ap gathered_in (updates other) ∙ elim (same_mac orig other) as (λ b. gathered_in (cond b (Some row) (at other old)) ≡ cond b row.gathered (gathered_in (at other old))) [ true ↦ refl | false ↦ refl ];
+      keys_stay = ap keys_of is ∙ keys-set_value (same_mac orig) old row;
+    }
+  where
+    told : (other : Mac) → (b : Bool) → same_mac orig other ≡ b → told_in (cond b (Some row) (at other old)) ≡ told_in (at other old)
+    told other true t = row_told ∙ ap told_in (sym found ∙ ap (λ o. at o old) (same_exact orig other t))
+    told other false t = refl
+
+    held : (other : Mac) → (b : Bool) → same_mac orig other ≡ b → held_in (cond b (Some row) (at other old)) ≡ held_in (at other old)
+    held other true t = ap (option_map version_of) row_held ∙ ap held_in (sym found ∙ ap (λ o. at o old) (same_exact orig other t))
+    held other false t = refl

@@ -9,7 +9,7 @@ use Rattle.mesh_model.specs.Routes.Addresses.{mac_order, same_mac}
 use Rattle.mesh_model.specs.Tables.Known.{TableCalls, agrees, known_by, originators_by, stamp_of}
 use Rattle.mesh_model.specs.Tables.Versions.{Version}
 use Rattle.mesh_laws.specs.HeldLaws.{AreOfCommits}
-use Rattle.tt_global.specs.Kept.{held_in, told_in}
+use Rattle.tt_global.specs.Kept.{gathered_in, held_in, told_in}
 use Rattle.tt_global.specs.declared.known.KnownTable.{KnownTable}
 use Rattle.tt_table.specs.Table.{TableView}
 
@@ -17,12 +17,14 @@ use Rattle.tt_table.specs.Table.{TableView}
 abbrev pub Kept : Type 0
 Kept = List (Mac × KnownTable)
 
--- what is kept is what came for each originator: what was told last, whatever frame told it, and
--- what is held; those of which something was told stand in the order of their addresses
+-- what is kept is what came for each originator: what was told last, whatever frame told it, what is
+-- held, and the parts that are gathered; those of which something was told stand in the order of their addresses
 pub record GlobalsStand (kept : Kept) (calls : TableCalls) : Type 0 where
   pub told : (orig : Mac) →
       told_in (lookup (same_mac orig) kept) ≡ stamp_of (known_by calls orig)
   pub held : (orig : Mac) → held_in (lookup (same_mac orig) kept) ≡ (known_by calls orig).held
+  pub gathered : (orig : Mac) →
+      gathered_in (lookup (same_mac orig) kept) ≡ (known_by calls orig).gathered
   pub originators : keys_of kept ≡ originators_by calls
   pub rise : IsStrictlySortedBy mac_order (keys_of kept)
 

@@ -1,7 +1,6 @@
--- What is kept of an originator, as the definitions see it: what was told, and what is held. No
--- public clause cites this file but for `stamp` and `stamp_in`.
+-- What is kept of an originator, as the definitions see it: what was told, what is held and what is
+-- gathered. No public clause cites this file but for `stamp` and `stamp_in`.
 use Rattle.std.specs.Prelude.{◌≡◌, ℕ, List, Option, Some, None, IsSome, option_map, if◌then◌else◌}
-use Rattle.std.specs.Borrow.{Bor}
 use Rattle.std.specs.List.Sorted.{IsStrictlySortedBy}
 use Rattle.std.specs.Map.{keys_of, lookup}
 use Rattle.mesh_base.specs.declared.address.Mac.{Mac}
@@ -9,10 +8,13 @@ use Rattle.mesh_base.specs.declared.client.Entry.{Entry}
 use Rattle.mesh_model.specs.Routes.Addresses.{insert_mac, mac_order, same_mac}
 use Rattle.mesh_model.specs.declared.table_row.GlobalRow.{GlobalRow}
 use Rattle.mesh_model.specs.declared.table_outcome.Taken.{Taken}
-use Rattle.mesh_model.specs.Tables.Judging.{Carried, Row, Trial, Fails, Differs, Leads, answer_row}
-use Rattle.mesh_model.specs.Tables.Known.{agrees}
+use Rattle.mesh_model.specs.Tables.Gathered.{Gathered, none_gathered, with_table_part}
+use Rattle.mesh_model.specs.Tables.Judging.{Carried, Row, Trial, Fails, Differs, Leads, answer_row, good_row}
+use Rattle.mesh_model.specs.Tables.Known.{agrees, kept_under}
 use Rattle.mesh_model.specs.Tables.Versions.{Stamp, Version}
 use Rattle.tt_global.specs.declared.judging.Judged.{Judged}
+use Rattle.tt_global.specs.declared.judging.Parts.{Parts}
+use Rattle.tt_global.specs.declared.judging.Parts.TheVariants as becomes
 use Rattle.tt_global.specs.declared.judging.Trial.{Trial as TableTrial}
 use Rattle.tt_global.specs.declared.judging.Trial.TheVariants as tried
 use Rattle.tt_global.specs.declared.known.HeldTable.{HeldTable}
@@ -42,9 +44,10 @@ abbrev pub held_in : Option KnownTable → Option Version
 held_in None = None
 held_in (Some known) = option_map version_of known.held
 
--- what is lent, as a value
-abbrev pub lent : {X : Type 0} → Option (Bor X) → Option X
-lent given = option_map (λ reference. reference.now) given
+-- the parts that are gathered
+abbrev pub gathered_in : Option KnownTable → Gathered
+gathered_in None = none_gathered
+gathered_in (Some known) = known.gathered
 
 -- an originator's row, by what is kept
 abbrev pub kept_row : Mac → KnownTable → GlobalRow
@@ -57,7 +60,25 @@ kept_row orig known = record {
 
 -- what an answer makes of what is kept of an originator
 abbrev pub answer_of : Option KnownTable → Stamp → Carried → Row Taken
-answer_of kept stamp carried = answer_row (told_in kept) (held_in kept) stamp carried
+answer_of kept stamp carried =
+    answer_row (told_in kept) (held_in kept) (gathered_in kept) stamp carried
+
+-- the same, where the answer is no bad part
+abbrev pub good_of : Option KnownTable → Stamp → Carried → Row Taken
+good_of kept stamp carried =
+    good_row (told_in kept) (held_in kept) (gathered_in kept) stamp carried
+
+-- what is gathered then, from what was before and what is with the part that came
+abbrev pub parts_then : Parts → Gathered → Gathered → Gathered
+parts_then becomes.Stay before with_it = before
+parts_then becomes.Grow before with_it = with_it
+parts_then becomes.End before with_it = none_gathered
+
+-- parts are gathered of what is kept, or are dropped, only where something is kept
+abbrev pub GathersBy : Parts → Option KnownTable → Gathered → Gathered → Type 0
+GathersBy becomes.Stay kept with_it gathered = gathered ≡ gathered_in kept
+GathersBy becomes.Grow kept with_it gathered = IsSome kept × (gathered ≡ with_it)
+GathersBy becomes.End kept with_it gathered = IsSome kept × (gathered ≡ none_gathered)
 
 -- an outcome with its table
 abbrev pub row_in : {T : Type 0} → Judged T → Row T
@@ -78,6 +99,9 @@ pub record IsTold (orig : Mac) (told : Stamp) (old new : List (Mac × KnownTable
       ≡ (if same_mac orig other then Some told else told_in (lookup (same_mac other) old))
   pub held_stays : (other : Mac) →
       held_in (lookup (same_mac other) new) ≡ held_in (lookup (same_mac other) old)
+  pub gathered_is : (other : Mac) → gathered_in (lookup (same_mac other) new)
+      ≡ (if same_mac orig other then kept_under (told_in (lookup (same_mac other) old)) told
+      (gathered_in (lookup (same_mac other) old)) else gathered_in (lookup (same_mac other) old))
   pub keys_are : IsStrictlySortedBy mac_order (keys_of old) →
       keys_of new ≡ insert_mac orig (keys_of old)
   pub rise : IsStrictlySortedBy mac_order (keys_of old) →
@@ -90,6 +114,8 @@ pub record IsHeld (orig : Mac) (version : Version) (old new : List (Mac × Known
       told_in (lookup (same_mac other) new) ≡ told_in (lookup (same_mac other) old)
   pub held_is : (other : Mac) → held_in (lookup (same_mac other) new)
       ≡ (if same_mac orig other then Some version else held_in (lookup (same_mac other) old))
+  pub gathered_stays : (other : Mac) →
+      gathered_in (lookup (same_mac other) new) ≡ gathered_in (lookup (same_mac other) old)
   pub keys_stay : keys_of new ≡ keys_of old
 
 -- of one originator of which something is kept a table, if one came, is held under a byte, and all
@@ -99,3 +125,27 @@ abbrev pub HoldsThen : Mac → ℕ → Option (List Entry) → List (Mac × Know
 HoldsThen orig byte None old new = new ≡ old
 HoldsThen orig byte (Some table) old new = IsSome (lookup (same_mac orig) old) →
     IsHeld orig (record { byte = byte; table = table }) old new
+
+-- of one originator these parts are gathered, and all else is as before
+pub record IsGathered (orig : Mac) (gathered : Gathered) (old new : List (Mac × KnownTable))
+    : Type 0 where
+  pub told_stays : (other : Mac) →
+      told_in (lookup (same_mac other) new) ≡ told_in (lookup (same_mac other) old)
+  pub held_stays : (other : Mac) →
+      held_in (lookup (same_mac other) new) ≡ held_in (lookup (same_mac other) old)
+  pub gathered_is : (other : Mac) → gathered_in (lookup (same_mac other) new)
+      ≡ (if same_mac orig other then gathered else gathered_in (lookup (same_mac other) old))
+  pub keys_stay : keys_of new ≡ keys_of old
+
+-- the same, where something is kept of the originator
+abbrev pub GathersThen : Mac → Gathered → List (Mac × KnownTable) → List (Mac × KnownTable)
+    → Type 0
+GathersThen orig gathered old new =
+    IsSome (lookup (same_mac orig) old) → IsGathered orig gathered old new
+
+-- what the parts of one originator become, so many being there with the one that came
+abbrev pub GathersAs : Parts → Mac → Gathered → List (Mac × KnownTable) → List (Mac × KnownTable)
+    → Type 0
+GathersAs becomes.Stay orig with_it old new = new ≡ old
+GathersAs becomes.Grow orig with_it old new = GathersThen orig with_it old new
+GathersAs becomes.End orig with_it old new = GathersThen orig none_gathered old new

@@ -1,17 +1,20 @@
-ghost use Rattle.std.specs.Prelude.{◌≡◌, ◌↔◌, ◌+◌, ◌≤◌, ℕ, List, [], ◌∷◌, length, slice_get, option_map, option_and_then, IfOk, IfSome, IsNone, IsOk, IsTrue, OnErr, OnOk, Some};
+ghost use Rattle.std.specs.Prelude.{◌≡◌, ◌↔◌, ◌+◌, ◌≤◌, ℕ, List, [], ◌∷◌, ◌++◌, length, slice_get, option_map, option_and_then, IfOk, IfSome, IsNone, IsOk, IsTrue, OnErr, OnOk, Some};
 ghost use Rattle.std.specs.Map.{lookup};
 ghost use Rattle.mesh_base.specs.declared.address.Mac.{Mac};
+ghost use Rattle.mesh_model.specs.declared.table_change.Change.{Change};
 ghost use Rattle.mesh_model.specs.Routes.Addresses.{same_mac};
-ghost use Rattle.mesh_model.specs.Tables.Judging.{InChanges, InFull, announcement_row, answer_row};
+ghost use Rattle.mesh_model.specs.Tables.Judging.{InChanges, InFull, InPart, announcement_row, answer_row};
 ghost use Rattle.mesh_model.specs.Tables.Known.{Announced, Answered, Dropped, TableCalls, holders_by, is_agreed, known_by, originators_by, global_row, stamp_of};
-ghost use Rattle.mesh_model.specs.Tables.Versions.{Version};
+ghost use Rattle.mesh_model.specs.Tables.Gathered.{gathered_records, with_table_part};
+ghost use Rattle.mesh_model.specs.Tables.Versions.{Stamp, Version};
 ghost use Rattle.mesh_model.specs.declared.table_outcome.Taken.TheVariants.{Taken as IsTaken};
 ghost use Rattle.mesh_laws.specs.HeldLaws.{CameFrom, HoldsTold};
-ghost use Rattle.mesh_laws.specs.KnownLaws.{IsToldWhole};
+ghost use Rattle.mesh_laws.specs.KnownLaws.{ArePartsOf, IsLastPart, IsToldWhole};
 ghost use Rattle.tt_global.specs.Globals.{GlobalsStand, KeepsAgreed, KeepsCommits, asked_version};
-ghost use Rattle.tt_global.specs.Kept.{HoldsThen, IsTold, stamp, stamp_in, told_in};
+ghost use Rattle.tt_global.specs.Kept.{GathersAs, HoldsThen, IsTold, gathered_in, stamp, stamp_in, told_in};
 
-use crate::judging::{Judged, judge_announcement, judge_changes, judge_full};
+use crate::gathered::GatheredParts;
+use crate::judging::{Judged, Parts, judge_announcement, judge_changes, judge_full, judge_part};
 use crate::known::{HeldTable, KnownTable};
 use indexmap::IndexMap;
 use mesh_base::{Key, Mac, NoMemory, Steps};
@@ -100,7 +103,8 @@ impl Globals {
             (Answered orig (stamp byte sums.now) (InFull records.now) ∷ calls)) }
         ensures taken { (calls : TableCalls) → GlobalsStand self.old calls →
             IfOk result (λ taken. taken ≡ (answer_row (stamp_of (known_by calls orig))
-            (known_by calls orig).held (stamp byte sums.now) (InFull records.now)).outcome) }
+            (known_by calls orig).held (known_by calls orig).gathered (stamp byte sums.now)
+            (InFull records.now)).outcome) }
         ensures err { OnErr result (self.new ≡ self.old) }
         ensures steps { steps.new ≤ steps.old + length records.now }
 
@@ -124,6 +128,56 @@ impl Globals {
         Ok(outcome)
     }
 
+    /// Takes a part of an answer with a whole table of an originator, by its number, of so many,
+    /// under a byte and sums.
+    pub fn take_part<L: Ledger>(
+        &mut self,
+        orig: Mac,
+        byte: u8,
+        sums: &Sums,
+        number: u16,
+        count: u16,
+        records: &Changes,
+        steps: &mut Steps<L>,
+    ) -> Result<Taken, NoMemory>
+        ensures ok { (calls : TableCalls) → GlobalsStand self.old calls →
+            OnOk result (GlobalsStand self.new
+            (Answered orig (stamp byte sums.now) (InPart number count records.now) ∷ calls)) }
+        ensures taken { (calls : TableCalls) → GlobalsStand self.old calls →
+            IfOk result (λ taken. taken ≡ (answer_row (stamp_of (known_by calls orig))
+            (known_by calls orig).held (known_by calls orig).gathered (stamp byte sums.now)
+            (InPart number count records.now)).outcome) }
+        ensures err { OnErr result (self.new ≡ self.old) }
+        ensures steps { (calls : TableCalls) → GlobalsStand self.old calls →
+            steps.new ≤ steps.old + length (gathered_records
+            (with_table_part number count records.now (known_by calls orig).gathered)) }
+
+        // As after an announcement.
+        ensures commits { (calls : TableCalls) (made : List Version) →
+            GlobalsStand self.old calls → CameFrom made orig
+            (Answered orig (stamp byte sums.now) (InPart number count records.now) ∷ calls) →
+            OnOk result (KeepsCommits made orig self.new) }
+
+        // The last part that was missing of the table that was told last is taken, and what is held
+        // agrees then, whatever came.
+        ensures last { (before came : TableCalls) (wanted : Stamp) (parts : ℕ → List Change) →
+            GlobalsStand self.old (came ++ before) → ArePartsOf wanted count parts →
+            IsLastPart orig before came wanted (stamp byte sums.now) count number parts →
+            records.now ≡ parts number → IfOk result (λ taken. taken ≡ IsTaken) }
+        ensures agreed { (before came : TableCalls) (wanted : Stamp) (parts : ℕ → List Change) →
+            GlobalsStand self.old (came ++ before) → ArePartsOf wanted count parts →
+            IsLastPart orig before came wanted (stamp byte sums.now) count number parts →
+            records.now ≡ parts number → OnOk result (KeepsAgreed orig self.new) }
+    {
+        let kept = self.known.get(&orig);
+        let (judged, parts) = judge_part(
+            self.alloc, kept, byte, sums, number, count, records, steps,
+        )?;
+        self.gather(orig, parts, number, count, records)?;
+        self.hold(orig, byte, judged.table);
+        Ok(judged.outcome)
+    }
+
     /// Takes an answer with changes of an originator's table, which lead to a byte and sums.
     pub fn take_changes<L: Ledger>(
         &mut self,
@@ -138,7 +192,8 @@ impl Globals {
             (Answered orig (stamp byte sums.now) (InChanges records.now) ∷ calls)) }
         ensures taken { (calls : TableCalls) → GlobalsStand self.old calls →
             IfOk result (λ taken. taken ≡ (answer_row (stamp_of (known_by calls orig))
-            (known_by calls orig).held (stamp byte sums.now) (InChanges records.now)).outcome) }
+            (known_by calls orig).held (known_by calls orig).gathered (stamp byte sums.now)
+            (InChanges records.now)).outcome) }
         ensures err { OnErr result (self.new ≡ self.old) }
         ensures steps { steps.new ≤ steps.old + length records.now }
 
@@ -246,11 +301,44 @@ impl Globals {
             None => {
                 let sums = sums.copy()?;
                 let held = None;
-                self.known
-                    .insert_sorted(orig, KnownTable { byte, sums, held })?;
+                let gathered = GatheredParts::new(self.alloc);
+                let known = KnownTable {
+                    byte,
+                    sums,
+                    held,
+                    gathered,
+                };
+                self.known.insert_sorted(orig, known)?;
                 Ok(())
             }
         }
+    }
+
+    // Notes what becomes of the parts of an originator which announced something, where one came.
+    fn gather(
+        &mut self,
+        orig: Mac,
+        parts: Parts,
+        number: u16,
+        count: u16,
+        records: &Changes,
+    ) -> Result<(), NoMemory>
+        ensures ok { OnOk result (GathersAs parts orig (with_table_part number count records.now
+            (gathered_in (lookup (same_mac orig) self.old))) self.old self.new) }
+        ensures err { OnErr result (self.new ≡ self.old) }
+    {
+        if parts == Parts::Stay {
+            return Ok(());
+        }
+        let Some(known) = self.known.get_mut(&orig) else {
+            return Ok(());
+        };
+        match parts {
+            Parts::Stay => {}
+            Parts::Grow => known.gathered.note(number, count, records)?,
+            Parts::End => known.gathered.clear(),
+        }
+        Ok(())
     }
 
     // Notes the table that came, if one did, of an originator which announced something.

@@ -1,16 +1,23 @@
-ghost use Rattle.std.specs.Prelude.{◌≡◌, ◌+◌, ◌≤◌, [], length, option_map, IfErr, IfOk, IfSome, IsOk, None, Some};
+ghost use Rattle.std.specs.Prelude.{◌≡◌, ◌+◌, ◌≤◌, [], length, option_map, IfErr, IfOk, IfSome, IsOk, None, Some, ◌≢◌, true, false};
 ghost use Rattle.mesh_model.specs.Tables.Differences.{first_difference};
-ghost use Rattle.mesh_model.specs.Tables.Judging.{Carried, InChanges, InFull, announcement_row, becomes, carried_row, heard_trial, held_row, next_byte_row, same_byte_row, stays, taken_trial, trial, wanted_request};
+ghost use Rattle.mesh_model.specs.Tables.Gathered.{Gathered, gathered_records, is_bad_part, with_table_part};
+ghost use Rattle.mesh_model.specs.Tables.Judging.{Carried, InChanges, InFull, InPart, announcement_row, becomes, carried_row, heard_trial, held_row, next_byte_row, part_row, same_byte_row, stays, taken_trial, trial, wanted_request};
+ghost use Rattle.mesh_model.specs.Tables.Known.{gathered_after, matches_told, while_missing};
 ghost use Rattle.mesh_model.specs.Tables.Sums.{sums_of};
-ghost use Rattle.tt_global.specs.Kept.{answer_of, held_in, lent, row_in, stamp, stamp_in, trial_in, version_of};
+ghost use Rattle.tt_global.specs.Kept.{GathersBy, answer_of, gathered_in, good_of, held_in, parts_then, row_in, stamp, stamp_in, told_in, trial_in, version_of};
+ghost use Rattle.tt_global.specs.Lent.{lent};
 ghost use Rattle.tt_table.specs.Sums.{named_sums};
 
+use crate::gathered::PartBeside;
 use crate::known::{HeldTable, KnownTable};
 use mesh_base::{Entry, NoMemory, Steps};
 use mesh_model::{Difference, Heard, Request, Taken};
 use std::alloc::Global;
 use std::sync::ledger::Ledger;
 use tt_table::{Announcement, Changes, Sums, Table};
+
+/// The most pieces of a table that are put together.
+const MOST_PIECES: u16 = 4;
 
 /// An outcome, and the table that is held then where it is another than before.
 #[derive(Debug, Drop)]
@@ -26,6 +33,17 @@ pub(crate) enum Trial {
     Fails { entry: Entry },
     Differs { difference: Difference },
     Leads { table: Table },
+}
+
+/// What becomes of the parts that are gathered.
+#[derive(Clone, Copy, Debug, PartialEq, Eq)]
+pub(crate) enum Parts {
+    /// They stay as they were.
+    Stay,
+    /// The part that came is noted.
+    Grow,
+    /// They are dropped, since none is missing.
+    End,
 }
 
 /// What a node asks for after an announcement.
@@ -160,6 +178,79 @@ pub(crate) fn judge_full<L: Ledger>(
     }
 }
 
+/// What a part of an answer in full makes of what is kept of an originator, and of the parts that
+/// are gathered.
+pub(crate) fn judge_part<L: Ledger>(
+    alloc: Global,
+    kept: Option<&KnownTable>,
+    byte: u8,
+    sums: &Sums,
+    number: u16,
+    count: u16,
+    records: &Changes,
+    steps: &mut Steps<L>,
+) -> Result<(Judged<Taken>, Parts), NoMemory>
+    ensures row { IfOk result (λ judged. row_in judged.0
+        ≡ answer_of (lent kept.entry) (stamp byte sums.now) (InPart number count records.now)) }
+    ensures parts { IfOk result (λ judged. GathersBy judged.1 (lent kept.entry)
+        (with_table_part number count records.now (gathered_in (lent kept.entry)))
+        (gathered_after (told_in (lent kept.entry)) (stamp byte sums.now)
+        (InPart number count records.now) (gathered_in (lent kept.entry)))) }
+    ensures steps { steps.new ≤ steps.old + length (gathered_records
+        (with_table_part number count records.now (gathered_in (lent kept.entry)))) }
+{
+    if is_bad_part(number, count) {
+        return Ok((stays(Taken::BadPart { number, count }), Parts::Stay));
+    }
+    match announced(kept, byte, sums) {
+        Err(outcome) => Ok((stays(outcome), Parts::Stay)),
+        Ok(known) => {
+            let beside = PartBeside {
+                gathered: &known.gathered,
+                number,
+                count,
+                records,
+            };
+            let judged = judge_beside(alloc, known, &beside, steps)?;
+            Ok(judged)
+        }
+    }
+}
+
+// Whether no part has this number, of so many.
+fn is_bad_part(number: u16, count: u16) -> bool
+    ensures { result ≡ is_bad_part number count }
+{
+    count == 0 || count > MOST_PIECES || number >= count
+}
+
+// The same where the part has the announced byte and sums, and a number that can be.
+fn judge_beside<L: Ledger>(
+    alloc: Global,
+    known: &KnownTable,
+    beside: &PartBeside<'_>,
+    steps: &mut Steps<L>,
+) -> Result<(Judged<Taken>, Parts), NoMemory>
+    ensures row { IfOk result (λ judged. row_in judged.0
+        ≡ part_row (stamp known.now.byte known.now.sums) beside.now) }
+    ensures parts { IfOk result (λ judged. (before : Gathered) →
+        parts_then judged.1 before beside.now ≡ while_missing beside.now) }
+    ensures others { IfOk result (λ judged. judged.1 ≢ Parts.Stay) }
+    ensures steps { steps.new ≤ steps.old + length (gathered_records beside.now) }
+{
+    match beside.missing() {
+        Some(want) => {
+            let have = beside.have();
+            Ok((stays(Taken::Part { have, want }), Parts::Grow))
+        }
+        None => {
+            let records = beside.all(alloc)?;
+            let tried = try_changes(Table::new(alloc), &records, &known.sums, steps)?;
+            Ok((taken_of(tried), Parts::End))
+        }
+    }
+}
+
 /// What an answer in changes makes of what is kept of an originator.
 pub(crate) fn judge_changes<L: Ledger>(
     kept: Option<&KnownTable>,
@@ -188,8 +279,8 @@ fn judge_carried<L: Ledger>(
     steps: &mut Steps<L>,
 ) -> Result<Judged<Taken>, NoMemory>
     ensures row { IfOk result (λ judged. row_in judged
-        ≡ carried_row (held_in (Some known.now)) (stamp known.now.byte known.now.sums)
-        (InChanges records.now)) }
+        ≡ carried_row (held_in (Some known.now)) known.now.gathered
+        (stamp known.now.byte known.now.sums) (InChanges records.now)) }
     ensures steps { steps.new ≤ steps.old + length records.now }
 {
     let Some(held) = &known.held else {
@@ -213,10 +304,16 @@ fn announced<'a>(
     sums: &Sums,
 ) -> Result<&'a KnownTable, Taken>
     ensures other { IfErr result (λ outcome. (carried : Carried) → stays outcome
-        ≡ answer_of (lent kept.entry) (stamp byte sums.now) carried) }
+        ≡ good_of (lent kept.entry) (stamp byte sums.now) carried) }
     ensures announced { IfOk result (λ known. (carried : Carried) →
-        carried_row (held_in (Some known.now)) (stamp known.now.byte known.now.sums) carried
-        ≡ answer_of (lent kept.entry) (stamp byte sums.now) carried) }
+        carried_row (held_in (Some known.now)) known.now.gathered
+        (stamp known.now.byte known.now.sums) carried
+        ≡ good_of (lent kept.entry) (stamp byte sums.now) carried) }
+    ensures not_told { IfErr result (λ outcome.
+        matches_told (told_in (lent kept.entry)) (stamp byte sums.now) ≡ false) }
+    ensures told { IfOk result (λ known.
+        matches_told (told_in (lent kept.entry)) (stamp byte sums.now) ≡ true) }
+    ensures kept { IfOk result (λ known. lent kept.entry ≡ Some known.now) }
 {
     let told = byte;
     let Some(known) = kept else {

@@ -1,8 +1,9 @@
-//! What a node knows of the tables of others: what each originator announced last, and the table
-//! that is held of it, changed by announcements and by answers.
+//! What a node knows of the tables of others: what each originator announced last, the table
+//! that is held of it and the parts of a full answer, changed by announcements and by answers.
 
 #![tactic(auto)]
 
+mod gathered;
 mod globals;
 mod judging;
 mod known;

@@ -1,7 +1,8 @@
 use Rattle.std.proofs.Common.{rules, ap, subst, sym, IfSome, ◌∙◌, ◌≡◌, option_map}
 use Rattle.std.specs.Map.{lookup}
 use Rattle.mesh_model.specs.Routes.Addresses.{same_mac}
-use Rattle.tt_global.specs.Kept.{held_in, lent, stamp_in, version_of}
+use Rattle.tt_global.specs.Kept.{held_in, stamp_in, version_of}
+use Rattle.tt_global.specs.Lent.{lent}
 use Rattle.tt_global.proofs.CommitLemmas.{announced_commits}
 use Rattle.tt_global.proofs.PlaceLemmas.{not_refused}
 use Rattle.tt_global.proofs.StandLemmas.{announced_stands, heard_is}

@@ -20,12 +20,12 @@ returns c =
       | in-Some-get_mut+in-Some-1 w ↦
           let known = w.in-Some-get_mut.known.now in
           let found : lookup (same_mac c.args.orig) old ≡ Some known = search rules in
-          let written : new ≡ set_value (same_mac c.args.orig) old (record { byte = known.byte; sums = known.sums; held = Some held }) = search rules in
+          let written : new ≡ set_value (same_mac c.args.orig) old (record { byte = known.byte; sums = known.sums; held = Some held; gathered = known.gathered }) = search rules in
           held_written c.args.orig old new known held found written
       | in-Some-get_mut+in-None-1 w ↦
           let known = w.in-Some-get_mut.known.now in
           let found : lookup (same_mac c.args.orig) old ≡ Some known = search rules in
-          let written : new ≡ set_value (same_mac c.args.orig) old (record { byte = known.byte; sums = known.sums; held = Some held }) = search rules in
+          let written : new ≡ set_value (same_mac c.args.orig) old (record { byte = known.byte; sums = known.sums; held = Some held; gathered = known.gathered }) = search rules in
           held_written c.args.orig old new known held found written
       | in_default-get_mut w ↦
           let absent : lookup (same_mac c.args.orig) old ≡ None = search rules in

@@ -1,8 +1,9 @@
-use Rattle.std.proofs.Common.{ap, ◌∙◌, ◌≡◌}
+use Rattle.std.proofs.Common.{ap, refl, ◌∙◌, ◌≡◌}
 use Rattle.std.specs.Map.{lookup}
 use Rattle.mesh_model.specs.Routes.Addresses.{same_mac}
 use Rattle.mesh_model.specs.Tables.Judging.{InFull}
-use Rattle.tt_global.specs.Kept.{lent, stamp}
+use Rattle.tt_global.specs.Kept.{stamp}
+use Rattle.tt_global.specs.Lent.{lent}
 use Rattle.tt_global.proofs.CommitLemmas.{answered_commits, whole_agrees, whole_taken}
 use Rattle.tt_global.proofs.StandLemmas.{answered_stands, taken_is}
 use Rattle.tt_global.proofs.globals.Globals.take_full.Goals as goal
@@ -11,7 +12,7 @@ pub returns-clause-ok : goal.returns-clause-ok
 returns-clause-ok g c =
     λ calls stands.
     let kept : lent c.get-kept.result ≡ lookup (same_mac c.args.orig) c.args.self.now = c.get-kept.ensures.value ∙ ap (lookup (same_mac c.args.orig)) c.self.view_is in
-    answered_stands calls c.args.orig (stamp c.args.byte c.args.sums.now) (InFull c.args.records.now) c.args.self.now stands _ _ kept c.in_ok-outcome.ensures.row c.hold.new.self c.hold.ensures
+    answered_stands calls c.args.orig (stamp c.args.byte c.args.sums.now) (InFull c.args.records.now) c.args.self.now stands refl _ _ kept c.in_ok-outcome.ensures.row c.hold.new.self c.hold.ensures
 
 pub returns-clause-taken : goal.returns-clause-taken
 returns-clause-taken g c =
@@ -23,7 +24,8 @@ pub returns-clause-commits : goal.returns-clause-commits
 returns-clause-commits g c =
     λ calls made stands came.
     let kept : lent c.get-kept.result ≡ lookup (same_mac c.args.orig) c.args.self.now = c.get-kept.ensures.value ∙ ap (lookup (same_mac c.args.orig)) c.self.view_is in
-    answered_commits calls c.args.orig (stamp c.args.byte c.args.sums.now) (InFull c.args.records.now) c.args.self.now stands _ _ kept c.in_ok-outcome.ensures.row c.hold.new.self c.hold.ensures made came
+    answered_commits calls c.args.orig (stamp c.args.byte c.args.sums.now) (InFull c.args.records.now) c.hold.new.self
+    (answered_stands calls c.args.orig (stamp c.args.byte c.args.sums.now) (InFull c.args.records.now) c.args.self.now stands refl _ _ kept c.in_ok-outcome.ensures.row c.hold.new.self c.hold.ensures) made came
 
 pub returns-clause-whole : goal.returns-clause-whole
 returns-clause-whole g c =
@@ -35,4 +37,5 @@ pub returns-clause-agreed : goal.returns-clause-agreed
 returns-clause-agreed g c =
     λ calls stands whole.
     let kept : lent c.get-kept.result ≡ lookup (same_mac c.args.orig) c.args.self.now = c.get-kept.ensures.value ∙ ap (lookup (same_mac c.args.orig)) c.self.view_is in
-    whole_agrees calls c.args.orig (stamp c.args.byte c.args.sums.now) c.args.records.now c.args.self.now stands _ _ kept c.in_ok-outcome.ensures.row c.hold.new.self c.hold.ensures whole
+    whole_agrees calls c.args.orig (stamp c.args.byte c.args.sums.now) c.args.records.now c.hold.new.self
+    (answered_stands calls c.args.orig (stamp c.args.byte c.args.sums.now) (InFull c.args.records.now) c.args.self.now stands refl _ _ kept c.in_ok-outcome.ensures.row c.hold.new.self c.hold.ensures) whole

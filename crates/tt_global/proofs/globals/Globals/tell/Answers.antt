@@ -27,13 +27,13 @@ returns-in_ok-tell-in-Some-clause-ok c =
     let old = c.args.self.now in
     let found : lookup (same_mac c.args.orig) old ≡ Some c.in-Some.known.now = search rules in
     let written : (c.get_mut.follows.lender c.tell.new.self).entries ≡ set_value (same_mac c.args.orig) old c.tell.new.self = search rules in
-    told_written c.args.orig old _ c.in-Some.known.now c.tell.new.self (stamp c.args.byte c.args.sums.now) found (ap (λ s. Some s) c.in_ok-tell-in-Some.ensures.told) c.tell.ensures.held written
+    told_written c.args.orig old _ c.in-Some.known.now c.tell.new.self (stamp c.args.byte c.args.sums.now) found (ap (λ s. Some s) c.in_ok-tell-in-Some.ensures.told) c.tell.ensures.held c.in_ok-tell-in-Some.ensures.gathered written
 
 pub returns-in_ok-insert_sorted-in-None-clause-ok : goal.returns-in_ok-insert_sorted-in-None-clause-ok
 returns-in_ok-insert_sorted-in-None-clause-ok c =
     let old = c.args.self.now in
     let new = c.insert_sorted.new.self.entries in
-    let row : KnownTable = record { byte = c.args.byte; sums = c.in_ok-sums-in-None.sums; held = None } in
+    let row : KnownTable = record { byte = c.args.byte; sums = c.in_ok-sums-in-None.sums; held = None; gathered = c.new-gathered.result } in
     let absent : lookup (same_mac c.args.orig) old ≡ None = search rules in
     let told : told_in (Some row) ≡ Some (stamp c.args.byte c.args.sums.now) = search rules in
     let same : c.get_mut.follows.lender-at-none.entries ≡ old = search rules in
@@ -41,7 +41,7 @@ returns-in_ok-insert_sorted-in-None-clause-ok c =
     let sorted : IsSorted mac_order (keys_of old) → IsSorted mac_order (keys_of new) = λ s. c.in_ok-insert_sorted-in-None.ensures.sorted (subst (λ es. IsSorted mac_order (keys_of es)) (sym same) s) in
     let updates : (other : Mac) → lookup (same_mac other) new ≡ cond (same_mac c.args.orig other) (Some row) (lookup (same_mac other) old) = λ other.
     c.in_ok-insert_sorted-in-None.ensures.updates.0 other ∙ ap (λ es. cond (same_mac c.args.orig other) (Some row) (lookup (same_mac other) es)) same in
-    told_inserted c.args.orig old new row (stamp c.args.byte c.args.sums.now) absent told refl updates
+    told_inserted c.args.orig old new row (stamp c.args.byte c.args.sums.now) absent told refl c.new-gathered.ensures updates
     (λ rise. inserted mac_total mac_exact same_mac (λ x y. sym (same_by_order x y)) old new c.args.orig row rise (sorted (sorted_from mac_total mac_exact old rise)) once updates)
 
 pub returns-in_err-tell-in-Some-clause-same : goal.returns-in_err-tell-in-Some-clause-same
