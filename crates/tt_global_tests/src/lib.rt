@@ -9,4 +9,6 @@ mod late_answers;
 #[cfg(test)]
 mod outcomes;
 #[cfg(test)]
+mod parts;
+#[cfg(test)]
 mod telling;

@@ -109,3 +109,16 @@ pub fn take_changes<L: Ledger>(
     let sums = untagged(alloc, told.sum)?;
     globals.take_changes(TENTH, told.byte, &sums, records, steps)
 }
+
+/// Takes one of two parts of an answer with a whole table.
+pub fn take_part<L: Ledger>(
+    alloc: Global,
+    globals: &mut Globals,
+    told: Told,
+    number: u16,
+    records: &Changes,
+    steps: &mut Steps<L>,
+) -> Result<Taken, NoMemory> {
+    let sums = untagged(alloc, told.sum)?;
+    globals.take_part(TENTH, told.byte, &sums, number, 2, records, steps)
+}
