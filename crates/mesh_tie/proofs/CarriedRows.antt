@@ -1,5 +1,5 @@
 -- What the rows send carries payloads that came, or that a line begins.
-use Rattle.std.proofs.Common.{◌≡◌, ◌≤◌, ◌-◌, ℕ, suc, Bool, true, false, cond, ◌||◌, ◌==◌, nat_le, List, [], ◌∷◌, ◌++◌, length, drop, Option, Some, None, refl, subst}
+use Rattle.std.proofs.Common.{◌≡◌, ◌≤◌, ◌-◌, ℕ, suc, Bool, true, false, cond, ◌||◌, ◌==◌, nat_le, List, [], ◌∷◌, ◌++◌, length, drop, Option, Some, None, flat_map, refl, subst}
 use Rattle.std.specs.List.{AllByRecursion}
 use Rattle.std.specs.Option.{unwrap_or}
 use Rattle.mesh_base.specs.Address.{is_broadcast, is_group}
@@ -22,10 +22,10 @@ use Rattle.mesh_model.specs.Acts.FactRows.{fact_acts}
 use Rattle.mesh_model.specs.Acts.FragmentRows.{carried_here, passed_fragment, unicast_here}
 use Rattle.mesh_model.specs.Acts.FrameRows.{advert_acts, arrived, broadcast_acts, broadcast_on, frame_acts, handed_out_if, here_acts, is_present, lost, lost_if, on_route, on_way, passed_frame, readdressed}
 use Rattle.mesh_model.specs.Acts.OwnContainers.{own_containers}
-use Rattle.mesh_model.specs.Acts.Packing.{reply_containers, request_containers, roaming_container, sent_over, sent_to_all}
+use Rattle.mesh_model.specs.Acts.Packing.{part_containers, request_containers, roaming_container, sent_over, sent_to_all}
 use Rattle.mesh_model.specs.Acts.ProbeRows.{IcmpMessage, icmp_head, session_acts}
 use Rattle.mesh_model.specs.Acts.Rows.{Own, accepted_acts, alias_acts, alias_event, commit_acts, elp_acts, head_acts, icmp_acts, message_acts, ogm_acts, packet_acts, place_at, taken_acts, tick_acts}
-use Rattle.mesh_model.specs.Acts.TableRows.{on_the_way, other_containers, own_answer, request_acts, way_reply}
+use Rattle.mesh_model.specs.Acts.TableRows.{on_the_way, other_containers, own_answer, part_acts, request_acts, way_reply}
 use Rattle.mesh_model.specs.Clients.Lans.{Bridge}
 use Rattle.mesh_model.specs.Clients.Mentions.{Mention, key_of}
 use Rattle.mesh_model.specs.Clients.Settings.{Settings}
@@ -49,13 +49,13 @@ use Rattle.mesh_model.specs.Routes.Addresses.{same_mac}
 use Rattle.mesh_model.specs.Routes.Queries.{Queries, is_elp}
 use Rattle.mesh_model.specs.Routes.RouteLog.{RouteLog}
 use Rattle.mesh_model.specs.Tables.Versions.{Version}
-use Rattle.mesh_model.specs.Tables.Answers.{Reply, own_reply}
+use Rattle.mesh_model.specs.Tables.Answers.{Reply, own_reply, parts_of_reply}
 use Rattle.mesh_laws.proofs.KeptLemmas.{kept_of}
 use Rattle.mesh_tie.specs.Sources.{HasWholeAddresses, IsMessageOf, IsWhole, KeepsOriginators, MessageOf, word_of}
 use Rattle.mesh_tie.specs.Tie.{KnowsWhole}
 use Rattle.mesh_tie.proofs.ArpActs.{IsAsking, each_asking, puts_packet, puts_told, question_puts, unicast4_acts, unicast4_puts}
 use Rattle.mesh_tie.proofs.CarriedLans.{out_has, round_has, unclaim_has}
-use Rattle.mesh_tie.proofs.EntryLemmas.{each_appended}
+use Rattle.mesh_tie.proofs.EntryLemmas.{each_appended, each_flat, each_of_any}
 use Rattle.mesh_tie.proofs.FactActs.{AreStoring, Came, IsNoFact, IsStoring, each_storing, fact_puts, sends_announcement, sends_message, tells_fact, tells_none}
 use Rattle.mesh_tie.proofs.FactLemmas.{Stores}
 use Rattle.mesh_tie.proofs.FactReading.{sender_whole}
@@ -133,9 +133,15 @@ pub advert_has : (P : Kept) (me : Mac) (key : Key) (o : Option Way) → ActsHave
 advert_has P me key None = tt
 advert_has P me key (Some way) = (utvlv_none P (drop 1 (spelling (Utvlv 50 way.orig me) (containers_spelling (roaming_container key ∷ [])))), tt)
 
+-- an answer, in however many packets
+answer_has : (P : Kept) (next : Option Mac) (orig asker : Mac) (reply : Reply) → ActsHave P (flat_map (part_acts next orig asker) (parts_of_reply reply))
+answer_has P next orig asker reply =
+    each_flat (ActHas P) (part_acts next orig asker) (parts_of_reply reply)
+    (each_of_any (λ part. ActsHave P (part_acts next orig asker part)) (parts_of_reply reply) (λ part. over_none P next 50 asker orig (part_containers part)))
+
 own_has : (P : Kept) (q : Queries) (me : Mac) (known : Knowledge) (now : ℕ) (own : Own) (asker : Mac) (message : TableMessage) → ActsHave P (own_answer q me known now own.last own.told asker message)
 unfolding own_answer
-own_has P q me known now own asker (Asks full stamp) = over_none P (q.route known.routes now asker) 50 asker me (reply_containers (own_reply full stamp.byte own.last own.told))
+own_has P q me known now own asker (Asks full stamp) = answer_has P (q.route known.routes now asker) me asker (own_reply full stamp.byte own.last own.told)
 own_has P q me known now own asker (Answers stamp carried) = tt
 own_has P q me known now own asker Neither = tt
 
@@ -145,7 +151,7 @@ other_has P q known now ttl dst src tail = go (way_reply q known now dst (messag
   where
     go : (o : Option Reply) → ActsHave P (on_the_way q known now ttl dst src tail o)
     go None = have_if P (nat_le ttl 1) [] (sent_over (q.route known.routes now dst) (Utvlv (ttl - 1) dst src) tail) tt (over_none P (q.route known.routes now dst) (ttl - 1) dst src tail)
-    go (Some reply) = over_none P (q.route known.routes now src) 50 src dst (reply_containers reply)
+    go (Some reply) = answer_has P (q.route known.routes now src) dst src reply
 
 ogm_has : (P : Kept) (q : Queries) (me : Mac) (came : Coming) (head : Head) (source : Mac) (message : Message) (tail : List ℕ) (known : Knowledge) → KeepsOriginators me q → IsWhole came.from → IsMessageOf source head
     → ActsHave P (ogm_acts q me came head message tail known)

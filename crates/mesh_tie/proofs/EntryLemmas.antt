@@ -28,6 +28,18 @@ pub each_appended : {X : Type 0} (P : X → Type 0) (xs ys : List X) → AllByRe
 each_appended P [] ys all more = more
 each_appended P (x ∷ xs) ys all more = (all.0, each_appended P xs ys all.1 more)
 
+pub each_flat : {X Y : Type 0} (P : Y → Type 0) (f : X → List Y) (xs : List X) → AllByRecursion (λ x. AllByRecursion P (f x)) xs → AllByRecursion P (flat_map f xs)
+each_flat P f [] all = tt
+each_flat P f (x ∷ xs) all = each_appended P (f x) (flat_map f xs) all.0 (each_flat P f xs all.1)
+
+pub each_of_any : {X : Type 0} (P : X → Type 0) (xs : List X) → ((x : X) → P x) → AllByRecursion P xs
+each_of_any P [] any = tt
+each_of_any P (x ∷ xs) any = (any x, each_of_any P xs any)
+
+pub each_numbered : {X : Type 0} (P : X → Type 0) (f : ℕ → X) (first count : ℕ) → ((place : ℕ) → place < first + count → P (f place)) → AllByRecursion P (map f (range_with_len first count))
+each_numbered P f first zero all = tt
+each_numbered P f first (suc count) all = (all first (omega arith), each_numbered P f (first + 1) count (λ place below. all place (omega (arith, below))))
+
 each_taken : {X : Type 0} (P : X → Type 0) (n : ℕ) (xs : List X) → AllByRecursion P xs → AllByRecursion P (take n xs)
 each_taken P zero xs all = tt
 each_taken P (suc n) [] all = tt
@@ -127,7 +139,7 @@ changes_of P made last (before ∷ older) changes all is are =
     (all (length older) before (ap (commit_numbered (length older)) is ∙ numbered_kept last (length older) (before ∷ older) before (last_numbered before older)))
     (last_of P made last (before ∷ older) all is))
 
-piece_of_table : (P : Entry → Type 0) (place : ℕ) (table : List Entry) → AllByRecursion P table → AllByRecursion (OfChange P) (piece place table)
+pub piece_of_table : (P : Entry → Type 0) (place : ℕ) (table : List Entry) → AllByRecursion P table → AllByRecursion (OfChange P) (piece place table)
 piece_of_table P place table all = each_addition P (take piece_size (drop (place * piece_size) table)) (each_taken P piece_size (drop (place * piece_size) table) (each_dropped P (place * piece_size) table all))
 
 with_said : (P : Entry → Type 0) (said : List Saying) (x : Saying) → OfSaying P x → ((y : Saying) → WasSaid said y → OfSaying P y) → (y : Saying) → WasSaid (x ∷ said) y → OfSaying P y

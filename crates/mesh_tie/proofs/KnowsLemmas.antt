@@ -19,13 +19,13 @@ use Rattle.mesh_model.specs.Knowledge.Known.{Broadcast, Knowledge, agreed_byte, 
 use Rattle.mesh_model.specs.Fragments.Assembly.{part_of}
 use Rattle.mesh_model.specs.Knowledge.PutTogether.{fact_carried, put_together, with_part}
 use Rattle.mesh_model.specs.Knowledge.Steps.{Coming, advertised, after_announcement, after_answer, after_broadcast, after_containers, after_head, after_message, after_packet, after_reply, after_roaming, after_sighting, after_taken, announced_by, announced_table, asked_by_request, before_announcement, released_under, request_out, sighting_calls, with_announcement, with_head, with_life}
-use Rattle.mesh_model.specs.Knowledge.Told.{Message, TableMessage, Asks, Answers, Neither, message_in, message_of, message_with}
+use Rattle.mesh_model.specs.Knowledge.Told.{Message, TableMessage, Asks, Answers, Neither, message_in, message_of, message_with, part_told}
 use Rattle.mesh_model.specs.Marks.Calls.{Call, Calls, Marked, Released, Unmarked, Advised, Asked, Forgotten}
 use Rattle.mesh_model.specs.Marks.RoamingMarks.{is_ended, is_young, mark_by, mark_of, mark_to, next_mark, target_by}
 use Rattle.mesh_model.specs.Packets.ArpMessages.{arp_came}
 use Rattle.mesh_model.specs.Packets.Bodies.{TtData}
 use Rattle.mesh_model.specs.Packets.Containers.{containers_of}
-use Rattle.mesh_model.specs.Packets.Contents.{first_roaming, first_table}
+use Rattle.mesh_model.specs.Packets.Contents.{first_part, first_roaming, first_table}
 use Rattle.mesh_model.specs.Packets.FactMessages.{fact_message_of}
 use Rattle.mesh_model.specs.Packets.FirstPacket.{Packet}
 use Rattle.mesh_model.specs.Probes.OpenProbes.{is_answer}
@@ -122,8 +122,10 @@ packet_knows q me came packet known whole k = go packet.head packet.tail whole
     go (Icmp ttl msg dst o uid seq) tail whole = knows_if (same_mac dst me && is_answer msg) (after_reply q came.now msg seq known) known (record { tables = k.tables; marks = k.marks; services = k.services }) k
     go (Utvlv ttl dst src) tail whole =
         let answer : Knowledge = after_answer q came.now src (message_in (first_table (containers_of tail))) known in
+        let part : Knowledge = after_answer q came.now src (part_told (first_part (containers_of tail))) answer in
         knows_if (same_mac dst me) (after_containers q came.now src tail known) known
-        (roaming_knows q came.now src (first_roaming (containers_of tail)) answer whole.1 (answer_knows q came.now src (message_in (first_table (containers_of tail))) known k)) k
+        (roaming_knows q came.now src (first_roaming (containers_of tail)) part whole.1
+        (answer_knows q came.now src (part_told (first_part (containers_of tail))) answer (answer_knows q came.now src (message_in (first_table (containers_of tail))) known k))) k
 
 -- ---- sightings
 sighting_whole : (now : ℕ) (key : Key) (o : Option Way) (calls : Calls) → AllByRecursion HasWholeTarget calls → AllByRecursion HasWholeTarget (sighting_calls now key o calls)

@@ -6,8 +6,10 @@ pub mod AddressLemmas
 pub mod SumLemmas
 pub mod TableLemmas
 pub mod EntryLemmas
+pub mod GatheredSaid
 pub mod NodeMoves
 pub mod CommitLemmas
+pub mod LogLemmas
 pub mod Sayable
 pub mod ProbeActs
 pub mod BridgeActs
@@ -22,7 +24,6 @@ pub mod KnowsLemmas
 pub mod NodeSteps
 pub mod LanSteps
 pub mod SentLemmas
-pub mod LogLemmas
 pub mod NodeLists
 pub mod OrderSteps
 pub mod EtherReading

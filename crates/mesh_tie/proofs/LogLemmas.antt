@@ -7,7 +7,7 @@ use Rattle.mesh_model.specs.Net.Due.{ticks_in}
 use Rattle.mesh_model.specs.Net.Inputs.{noted_at, noting}
 use Rattle.mesh_model.specs.Net.Mesh.{NodeLog, SentFrame}
 use Rattle.mesh_model.specs.Routes.Addresses.{same_mac}
-use Rattle.mesh_model.specs.Tables.Known.{Known, LastTold}
+use Rattle.mesh_model.specs.Tables.Known.{Known, LastTold, stamp_of}
 use Rattle.mesh_laws.specs.Machine.World.{Node, Saying, Told, WasSaid}
 use Rattle.mesh_laws.proofs.MacLemmas.{same_exact, same_self}
 use Rattle.mesh_laws.proofs.Schedule.Steps.{get_front}
@@ -16,6 +16,7 @@ use Rattle.mesh_tie.specs.Sayings.{FrameSays, IsAnnounced, WordSays, announcemen
 use Rattle.mesh_tie.specs.Sources.{ContainersOf, MessageOf, Nothing, Word, word_of}
 use Rattle.mesh_tie.specs.Tie.{IsToldBy, NodeIsTied}
 use Rattle.mesh_tie.proofs.CommitLemmas.{Follows, commit_stays, number_stays}
+use Rattle.mesh_tie.proofs.GatheredSaid.{gathered_more}
 
 -- ---- the log of an originator
 -- no two nodes have one address
@@ -110,13 +111,17 @@ told_grows orig log after frames (Some last) told g is = (
   is.3 ∙ ap (λ n. Some (record { number = n; byte = last.stamp.byte; sums = last.stamp.sums })) (sym (g.numbers is.0.root is.2)),
 )
 
-pub node_grows : (orig : Mac) (log after : Log) (frames : List SentFrame) (known : Known) (node : Node) → Grows orig log after → NodeIsTied orig log frames known node → NodeIsTied orig after frames known node
-node_grows orig log after frames known node g t = record { held = t.held; told = told_grows orig log after frames known.told node.told g t.told }
+pub node_grows : (orig : Mac) (log after : Log) (frames : List SentFrame) (said : List Saying) (known : Known) (node : Node) → Grows orig log after → NodeIsTied orig log frames said known node → NodeIsTied orig after frames said known node
+node_grows orig log after frames said known node g t = record { held = t.held; told = told_grows orig log after frames known.told node.told g t.told; gathered = t.gathered }
 
 -- more frames
 told_later : (orig : Mac) (log : Log) (frames more : List SentFrame) (last : Option LastTold) (told : Option Told) → IsToldBy orig log frames last told → IsToldBy orig log (frames ++ more) last told
 told_later orig log frames more None told is = is
 told_later orig log frames more (Some last) told is = (is.0, get_front frames more (last.frame - 1) is.0 is.1, is.2, is.3)
 
-pub node_later : (orig : Mac) (log : Log) (frames more : List SentFrame) (known : Known) (node : Node) → NodeIsTied orig log frames known node → NodeIsTied orig log (frames ++ more) known node
-node_later orig log frames more known node t = record { held = t.held; told = told_later orig log frames more known.told node.told t.told }
+pub node_later : (orig : Mac) (log : Log) (frames more : List SentFrame) (said : List Saying) (known : Known) (node : Node) → NodeIsTied orig log frames said known node → NodeIsTied orig log (frames ++ more) said known node
+node_later orig log frames more said known node t = record { held = t.held; told = told_later orig log frames more known.told node.told t.told; gathered = t.gathered }
+
+-- more sayings
+pub node_more : (orig : Mac) (log : Log) (frames : List SentFrame) (s t : List Saying) (known : Known) (node : Node) → ((x : Saying) → WasSaid s x → WasSaid t x) → NodeIsTied orig log frames s known node → NodeIsTied orig log frames t known node
+node_more orig log frames s t known node more tied = record { held = tied.held; told = tied.told; gathered = gathered_more s t (stamp_of known) known.gathered more tied.gathered }

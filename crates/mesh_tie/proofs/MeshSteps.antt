@@ -43,7 +43,8 @@ use Rattle.mesh_tie.proofs.CutActs.{cut_any}
 use Rattle.mesh_tie.proofs.FactActs.{round_stores}
 use Rattle.mesh_tie.proofs.EntryLemmas.{OfCommits, changes_of, each_appended}
 use Rattle.mesh_tie.proofs.LanSteps.{BringsClient, lan_row, lan_same}
-use Rattle.mesh_tie.proofs.LogLemmas.{Grows, log_first, log_rest, frame_grows, grows_entry, grows_same, log_found, log_itself, log_other, node_grows, node_later}
+use Rattle.mesh_tie.proofs.GatheredSaid.{none_said}
+use Rattle.mesh_tie.proofs.LogLemmas.{Grows, log_first, log_rest, frame_grows, grows_entry, grows_same, log_found, log_itself, log_other, node_grows, node_later, node_more}
 use Rattle.mesh_tie.proofs.NodeLists.{Renewed, another, got_front, got_noted, itself, none_front, noted_none, other_place, renewed}
 use Rattle.mesh_tie.proofs.NodeSteps.{Announcer, Goes, Ready, goes_by, line_comes, line_row, packets_go, stays_tied, tick_row, tick_same}
 use Rattle.mesh_tie.proofs.NodeMoves.{Comes}
@@ -105,7 +106,7 @@ pub record IsMidway (queries : Mac → Queries) (orig : Mac) (mesh : Mesh) (log 
   pub base : Reaches start v
   pub commits : v.commits ≡ made
   pub frames : (place : ℕ) (frame : SentFrame) → slice_get mesh.frames place ≡ Some frame → FrameSays orig log v.said frame.root frame.bytes
-  pub nodes : (place : ℕ) (node : NodeLog) → slice_get mesh.nodes place ≡ Some node → NodeIsTied orig log mesh.frames (known_by (known_at_node queries node).tables orig) (v.nodes place)
+  pub nodes : (place : ℕ) (node : NodeLog) → slice_get mesh.nodes place ≡ Some node → NodeIsTied orig log mesh.frames v.said (known_by (known_at_node queries node).tables orig) (v.nodes place)
   pub absent : (place : ℕ) → slice_get mesh.nodes place ≡ None → v.nodes place ≡ silent_node
 
 -- how the log of the originator is after an input at a node
@@ -146,8 +147,9 @@ midway_of queries orig mesh node entry log w l next base tied = (
     base = then_path start w c.world base c.path;
     commits = c.commits;
     frames = λ at frame got. subst (λ s. FrameSays orig log s frame.root frame.bytes) (sym c.said) (frame_grows orig (log_of orig mesh.nodes) log w.said frame.root frame.bytes grows (tied.frames at frame got));
-    nodes = λ at n got. subst (λ (ns : ℕ → Node). NodeIsTied orig log mesh.frames (known_by (known_at_node queries n).tables orig) (ns at)) (sym c.nodes)
-        (node_grows orig (log_of orig mesh.nodes) log mesh.frames (known_by (known_at_node queries n).tables orig) (w.nodes at) grows (tied.nodes at n got));
+    nodes = λ at n got. subst (λ (ns : ℕ → Node). NodeIsTied orig log mesh.frames c.world.said (known_by (known_at_node queries n).tables orig) (ns at)) (sym c.nodes)
+        (subst (λ s. NodeIsTied orig log mesh.frames s (known_by (known_at_node queries n).tables orig) (w.nodes at)) (sym c.said)
+        (node_grows orig (log_of orig mesh.nodes) log mesh.frames w.said (known_by (known_at_node queries n).tables orig) (w.nodes at) grows (tied.nodes at n got)));
     absent = λ at none. ap (λ (ns : ℕ → Node). ns at) c.nodes ∙ tied.absent at none;
   },
 )
@@ -200,9 +202,9 @@ given_step queries orig mesh after place now root node given w o found next is d
   tied = record {
     commits = g.commits ∙ c.commits ∙ ap (commits orig) logs;
     frames = λ at frame got. subst (λ l. FrameSays orig l g.world.said frame.root frame.bytes) logs (frame_either at frame (get_either mesh.frames given_has.more at frame (subst (λ fs. slice_get fs at ≡ Some frame) given_has.frames got)));
-    nodes = λ at node_after got. subst (λ l. NodeIsTied orig l after.frames (known_by (known_at_node queries node_after).tables orig) (g.world.nodes at)) logs
-        (subst (λ fs. NodeIsTied orig log fs (known_by (known_at_node queries node_after).tables orig) (g.world.nodes at)) (sym given_has.frames)
-        (node_later orig log mesh.frames given_has.more (known_by (known_at_node queries node_after).tables orig) (g.world.nodes at)
+    nodes = λ at node_after got. subst (λ l. NodeIsTied orig l after.frames g.world.said (known_by (known_at_node queries node_after).tables orig) (g.world.nodes at)) logs
+        (subst (λ fs. NodeIsTied orig log fs g.world.said (known_by (known_at_node queries node_after).tables orig) (g.world.nodes at)) (sym given_has.frames)
+        (node_later orig log mesh.frames given_has.more g.world.said (known_by (known_at_node queries node_after).tables orig) (g.world.nodes at)
         (node_either at node_after (renewed place entry mesh.nodes at node_after (subst (λ ns. slice_get ns at ≡ Some node_after) given_has.nodes got)))));
     absent = λ at none. let was = noted_none place entry mesh.nodes at (subst (λ ns. slice_get ns at ≡ None) given_has.nodes none) in
         g.others at (other_place place at (λ same. let both : ◌≡◌ {A = Option NodeLog} (Some node) None = sym found ∙ ap (slice_get mesh.nodes) same ∙ was in absurd cc)) ∙ midway.absent at was;
@@ -235,8 +237,9 @@ given_step queries orig mesh after place now root node given w o found next is d
       base = then_path start w c.world base c.path;
       commits = c.commits;
       frames = λ at frame got. subst (λ s. FrameSays orig log s frame.root frame.bytes) (sym c.said) (frame_grows orig (log_of orig mesh.nodes) log w.said frame.root frame.bytes grows (tied.frames at frame got));
-      nodes = λ at n got. subst (λ (ns : ℕ → Node). NodeIsTied orig log mesh.frames (known_by (known_at_node queries n).tables orig) (ns at)) (sym c.nodes)
-          (node_grows orig (log_of orig mesh.nodes) log mesh.frames (known_by (known_at_node queries n).tables orig) (w.nodes at) grows (tied.nodes at n got));
+      nodes = λ at n got. subst (λ (ns : ℕ → Node). NodeIsTied orig log mesh.frames c.world.said (known_by (known_at_node queries n).tables orig) (ns at)) (sym c.nodes)
+          (subst (λ s. NodeIsTied orig log mesh.frames s (known_by (known_at_node queries n).tables orig) (w.nodes at)) (sym c.said)
+          (node_grows orig (log_of orig mesh.nodes) log mesh.frames w.said (known_by (known_at_node queries n).tables orig) (w.nodes at) grows (tied.nodes at n got)));
       absent = λ at none. ap (λ (ns : ℕ → Node). ns at) c.nodes ∙ tied.absent at none;
     }
 
@@ -248,12 +251,13 @@ given_step queries orig mesh after place now root node given w o found next is d
     frame_either at frame (inl old) = frame_more orig log c.world.said g.world.said frame.root frame.bytes g.more (midway.frames at frame old)
     frame_either at frame (inr new) = from_act orig log g.world.said root entry.acts frame g.says (given_has.made frame new)
 
-    node_either : (at : ℕ) (n : NodeLog) → Renewed place entry mesh.nodes at n → NodeIsTied orig log mesh.frames (known_by (known_at_node queries n).tables orig) (g.world.nodes at)
-    node_either at n (another d got) = subst (NodeIsTied orig log mesh.frames (known_by (known_at_node queries n).tables orig)) (sym (g.others at (other_place place at d))) (midway.nodes at n got)
+    node_either : (at : ℕ) (n : NodeLog) → Renewed place entry mesh.nodes at n → NodeIsTied orig log mesh.frames g.world.said (known_by (known_at_node queries n).tables orig) (g.world.nodes at)
+    node_either at n (another d got) = subst (NodeIsTied orig log mesh.frames g.world.said (known_by (known_at_node queries n).tables orig)) (sym (g.others at (other_place place at d)))
+        (node_more orig log mesh.frames c.world.said g.world.said (known_by (known_at_node queries n).tables orig) (c.world.nodes at) g.more (midway.nodes at n got))
     node_either at n (itself before same got noted) =
         let one : node ≡ before = one_some node before (sym found ∙ ap (slice_get mesh.nodes) same ∙ got) in
-        subst (λ (x : NodeLog). NodeIsTied orig log mesh.frames (known_by (known_at_node queries x).tables orig) (g.world.nodes at)) (ap (noting entry) one ∙ sym noted)
-        (subst (λ p. NodeIsTied orig log mesh.frames (known_by (known_at_node queries (noting entry node)).tables orig) (g.world.nodes p)) same g.tied)
+        subst (λ (x : NodeLog). NodeIsTied orig log mesh.frames g.world.said (known_by (known_at_node queries x).tables orig) (g.world.nodes at)) (ap (noting entry) one ∙ sym noted)
+        (subst (λ p. NodeIsTied orig log mesh.frames g.world.said (known_by (known_at_node queries (noting entry node)).tables orig) (g.world.nodes p)) same g.tied)
 
 -- ---- the kinds of inputs
 -- the commits of an originator, where those of each node fit
@@ -421,17 +425,17 @@ joined_tied : (queries : Mac → Queries) (orig : Mac) (mesh : Mesh) (new : Node
 joined_tied queries orig mesh new w empty tied = record {
   commits = tied.commits ∙ ap (commits orig) (sym logs);
   frames = λ at frame got. subst (λ l. FrameSays orig l w.said frame.root frame.bytes) (sym logs) (tied.frames at frame got);
-  nodes = λ at n got. subst (λ l. NodeIsTied orig l mesh.frames (known_by (known_at_node queries n).tables orig) (w.nodes at)) (sym logs) (node_at at n (got_front mesh.nodes new at n got));
+  nodes = λ at n got. subst (λ l. NodeIsTied orig l mesh.frames w.said (known_by (known_at_node queries n).tables orig) (w.nodes at)) (sym logs) (node_at at n (got_front mesh.nodes new at n got));
   absent = λ at none. tied.absent at (none_front mesh.nodes new at none);
 }
   where
     logs : log_of orig (mesh.nodes ++ new ∷ []) ≡ log_of orig mesh.nodes
     logs = log_joined orig mesh.nodes new empty
 
-    node_at : (at : ℕ) (n : NodeLog) → (slice_get mesh.nodes at ≡ Some n) ⊎ ((n ≡ new) × (slice_get mesh.nodes at ≡ None)) → NodeIsTied orig (log_of orig mesh.nodes) mesh.frames (known_by (known_at_node queries n).tables orig) (w.nodes at)
+    node_at : (at : ℕ) (n : NodeLog) → (slice_get mesh.nodes at ≡ Some n) ⊎ ((n ≡ new) × (slice_get mesh.nodes at ≡ None)) → NodeIsTied orig (log_of orig mesh.nodes) mesh.frames w.said (known_by (known_at_node queries n).tables orig) (w.nodes at)
     node_at at n (inl old) = tied.nodes at n old
-    node_at at n (inr is) = subst (λ l. NodeIsTied orig (log_of orig mesh.nodes) mesh.frames (known_by (knowledge (queries n.mac) n.mac l).tables orig) (w.nodes at)) (sym (ap (λ (x : NodeLog). x.log) is.0 ∙ empty))
-        (subst (NodeIsTied orig (log_of orig mesh.nodes) mesh.frames Rattle.mesh_model.specs.Tables.Known.nothing) (sym (tied.absent at is.1)) (record { held = refl; told = refl }))
+    node_at at n (inr is) = subst (λ l. NodeIsTied orig (log_of orig mesh.nodes) mesh.frames w.said (known_by (knowledge (queries n.mac) n.mac l).tables orig) (w.nodes at)) (sym (ap (λ (x : NodeLog). x.log) is.0 ∙ empty))
+        (subst (NodeIsTied orig (log_of orig mesh.nodes) mesh.frames w.said Rattle.mesh_model.specs.Tables.Known.nothing) (sym (tied.absent at is.1)) (record { held = refl; told = refl; gathered = none_said w.said None }))
 
 pub noted_fits : (queries : Mac → Queries) (mesh after : Mesh) (place now root : ℕ) (node : NodeLog) (given : Given) → slice_get mesh.nodes place ≡ Some node → given_to (scenario_setup queries) place now root given mesh ≡ Ok after
     → CommitsFit after → FitsLog node (entry_of (scenario_setup queries) node now given)

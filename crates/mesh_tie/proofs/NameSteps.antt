@@ -60,7 +60,7 @@ use Rattle.mesh_tie.proofs.Sayable.{one_or_two, packet_more}
 use Rattle.mesh_tie.proofs.SentLemmas.{HasGiven, given_is}
 
 -- ---- packets
-can_name : (looks : Act → TableCalls → Type 0) (orig : Mac) (log : Log) (frames : List SentFrame) (w : World) (m : ℕ) (known : Knowledge) → ((act : Act) → looks act known.tables) → KnowsWhole known → IsClear orig log w → NodeIsTied orig log frames (known_by known.tables orig) (w.nodes m) → CanName looks orig log frames known
+can_name : (looks : Act → TableCalls → Type 0) (orig : Mac) (log : Log) (frames : List SentFrame) (w : World) (m : ℕ) (known : Knowledge) → ((act : Act) → looks act known.tables) → KnowsWhole known → IsClear orig log w → NodeIsTied orig log frames w.said (known_by known.tables orig) (w.nodes m) → CanName looks orig log frames known
 can_name looks orig log frames w m known looked whole clear tied = record {
   whole = whole;
   looked = looked;
@@ -89,7 +89,7 @@ acts_look P Q orig log frames [] more a = tt
 acts_look P Q orig log frames (act ∷ acts) more a = (act_looks P Q orig log frames act (more act (inl refl)) a.0, acts_look P Q orig log frames acts (λ other has. more other (inr has)) a.1)
 
 packets_name : (orig : Mac) (log : Log) (frames : List SentFrame) (root : ℕ) (w : World) (m : ℕ) (q : Queries) (me : Mac) (own : Own) (came : Coming) (packets : List Packet) (known : Knowledge)
-    → KeepsOriginators me q → IsWhole came.from → CameIn frames root came.number → Ready orig w m me own → NodeIsTied orig log frames (known_by known.tables orig) (w.nodes m)
+    → KeepsOriginators me q → IsWhole came.from → CameIn frames root came.number → Ready orig w m me own → NodeIsTied orig log frames w.said (known_by known.tables orig) (w.nodes m)
     → ((packet : Packet) → Has packets packet → PacketSays orig log w.said root packet) → HasNoAlias w.commits → w.commits ≡ commits orig log → KnowsWhole known
     → AllByRecursion (ActNames (IsOfPacket q me own came known packets) orig log frames) (packets_acts q me own came known packets)
 unfolding packets_acts
@@ -116,7 +116,7 @@ Before q me mine act came = came ≡ (knowledge q me mine).tables
 
 -- the acts of an input, from the world midway
 line_names : (orig : Mac) (log : Log) (frames : List SentFrame) (v : World) (m : ℕ) (q : Queries) (me : Mac) (mine : Log) (now : ℕ) (line : LineGiven) → TellsClient line → KnowsWhole (knowledge q me mine) → IsClear orig log v
-    → NodeIsTied orig log frames (known_by (knowledge q me mine).tables orig) (v.nodes m) → AllByRecursion (ActNames (Before q me mine) orig log frames) (whole_acts q me mine now (Line line))
+    → NodeIsTied orig log frames v.said (known_by (knowledge q me mine).tables orig) (v.nodes m) → AllByRecursion (ActNames (Before q me mine) orig log frames) (whole_acts q me mine now (Line line))
 line_names orig log frames v m q me mine now (Attach lan gateways) of k clear tied = tt
 line_names orig log frames v m q me mine now (Frame src dst vid text) of k clear tied =
     let client : ClientFrame = record { dst = dst; src = src; vid = vid; text = text } in
@@ -159,7 +159,7 @@ line_names orig log frames v m q me mine now Reboot of k clear tied = let old = 
 
 -- a frame of a LAN
 lan_names : (orig : Mac) (log : Log) (frames : List SentFrame) (v : World) (m : ℕ) (q : Queries) (me : Mac) (mine : Log) (now : ℕ) (bytes : List ℕ) → KnowsWhole (knowledge q me mine) → IsClear orig log v
-    → NodeIsTied orig log frames (known_by (knowledge q me mine).tables orig) (v.nodes m) → AllByRecursion (ActNames (Before q me mine) orig log frames) (whole_acts q me mine now (LanFrame bytes))
+    → NodeIsTied orig log frames v.said (known_by (knowledge q me mine).tables orig) (v.nodes m) → AllByRecursion (ActNames (Before q me mine) orig log frames) (whole_acts q me mine now (LanFrame bytes))
 lan_names orig log frames v m q me mine now bytes k clear tied =
     each_appended Names (claimed_first me mine now came) (from_lan_acts q me mine now ms (passed_from_lan me mine now came))
     (plain_names (Before q me mine) orig log frames (claimed_first me mine now came) (plain_bridges (claimed_first me mine now came) (claimed_puts me mine now came)))

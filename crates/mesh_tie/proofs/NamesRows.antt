@@ -1,5 +1,5 @@
 -- What acts send by table: no row does but those of client frames.
-use Rattle.std.proofs.Common.{◌≡◌, ◌⊎◌, inl, inr, ◌≤◌, ◌-◌, ◌&&◌, ◌||◌, ◌==◌, ℕ, Bool, true, false, cond, nat_eq, nat_lt, nat_le, List, [], ◌∷◌, ◌++◌, length, filter, slice_get, Option, Some, None, option_map, option_and_then, is_some, IsTrue, refl, sym, ap, subst, ◌∙◌}
+use Rattle.std.proofs.Common.{◌≡◌, ◌⊎◌, inl, inr, ◌≤◌, ◌-◌, ◌&&◌, ◌||◌, ◌==◌, ℕ, Bool, true, false, cond, nat_eq, nat_lt, nat_le, List, [], ◌∷◌, ◌++◌, length, filter, slice_get, Option, Some, None, option_map, option_and_then, is_some, IsTrue, flat_map, refl, sym, ap, subst, ◌∙◌}
 use Rattle.std.specs.List.{AllByRecursion}
 use Rattle.std.specs.Option.{option_or, unwrap_or}
 use Rattle.mesh_base.specs.Address.{is_broadcast, is_group}
@@ -23,10 +23,10 @@ use Rattle.mesh_model.specs.Acts.FactRows.{fact_acts}
 use Rattle.mesh_model.specs.Acts.FragmentRows.{carried_here, passed_fragment, unicast_here}
 use Rattle.mesh_model.specs.Acts.FrameRows.{advert_acts, arrived, broadcast_acts, broadcast_on, frame_acts, handed_out_if, here_acts, is_present, lost, lost_if, on_route, on_way, passed_frame, readdressed}
 use Rattle.mesh_model.specs.Acts.OwnContainers.{own_containers}
-use Rattle.mesh_model.specs.Acts.Packing.{reply_containers, request_containers, sent_over, sent_to_all}
+use Rattle.mesh_model.specs.Acts.Packing.{part_containers, request_containers, sent_over, sent_to_all}
 use Rattle.mesh_model.specs.Acts.ProbeRows.{IcmpMessage, session_acts}
 use Rattle.mesh_model.specs.Acts.Rows.{Own, accepted_acts, alias_acts, alias_event, commit_acts, elp_acts, head_acts, icmp_acts, message_acts, ogm_acts, packet_acts, place_at, taken_acts, tick_acts}
-use Rattle.mesh_model.specs.Acts.TableRows.{on_the_way, other_containers, own_answer, request_acts, way_reply}
+use Rattle.mesh_model.specs.Acts.TableRows.{on_the_way, other_containers, own_answer, part_acts, request_acts, way_reply}
 use Rattle.mesh_model.specs.Clients.Lans.{Bridge}
 use Rattle.mesh_model.specs.Clients.Mentions.{Mention, key_of}
 use Rattle.mesh_model.specs.Clients.Settings.{Settings}
@@ -53,7 +53,7 @@ use Rattle.mesh_model.specs.Routes.Addresses.{is_smaller, same_mac}
 use Rattle.mesh_model.specs.Routes.BestRoute.{best, better}
 use Rattle.mesh_model.specs.Routes.Queries.{Queries}
 use Rattle.mesh_model.specs.Routes.RouteLog.{RouteLog}
-use Rattle.mesh_model.specs.Tables.Answers.{Reply}
+use Rattle.mesh_model.specs.Tables.Answers.{Reply, own_reply, parts_of_reply}
 use Rattle.mesh_model.specs.Tables.Changes.{flags_at}
 use Rattle.mesh_model.specs.Tables.Known.{Known, LastTold, TableCalls, agrees, holders_by, is_agreed, known_by, names, nothing, originators_by}
 use Rattle.mesh_model.specs.Tables.Versions.{Version}
@@ -70,7 +70,7 @@ use Rattle.mesh_tie.specs.Tie.{IsToldBy, KnowsWhole, NodeIsTied}
 use Rattle.mesh_tie.proofs.ArpActs.{IsAsking, each_asking, puts_packet, puts_told, question_puts, unicast4_acts, unicast4_puts}
 use Rattle.mesh_tie.proofs.BridgeActs.{AreBridging, IsBridging, hands_out, out_puts, puts_on_lan, round_puts, unclaim_puts}
 use Rattle.mesh_tie.proofs.CommitLemmas.{at_root}
-use Rattle.mesh_tie.proofs.EntryLemmas.{each_appended}
+use Rattle.mesh_tie.proofs.EntryLemmas.{each_appended, each_flat, each_of_any}
 use Rattle.mesh_tie.proofs.FactActs.{IsStoring, Storing, came_stores, each_storing, sends_announcement, sends_message, tells_fact, tells_none}
 use Rattle.mesh_tie.proofs.KnowsLemmas.{addressee_whole}
 use Rattle.mesh_tie.proofs.ServingActs.{IsServing, call_serves, each_serving, for_gateway, for_group, group_serves, serves_all, serves_here, serves_one}
@@ -103,9 +103,15 @@ plain_request : (me : Mac) (next : Option Mac) (message : Message) (o : Option R
 plain_request me next message None = tt
 plain_request me next message (Some request) = plain_over next (Utvlv 50 message.orig me) (request_containers request (stamp_told message.table))
 
+-- an answer, in however many packets
+plain_answer : (next : Option Mac) (orig asker : Mac) (reply : Reply) → AllByRecursion IsPlain (flat_map (part_acts next orig asker) (parts_of_reply reply))
+plain_answer next orig asker reply =
+    each_flat IsPlain (part_acts next orig asker) (parts_of_reply reply)
+    (each_of_any (λ part. AllByRecursion IsPlain (part_acts next orig asker part)) (parts_of_reply reply) (λ part. plain_over next (Utvlv 50 asker orig) (part_containers part)))
+
 pub plain_own : (q : Queries) (me : Mac) (known : Knowledge) (now : ℕ) (own : Own) (asker : Mac) (message : TableMessage) → AllByRecursion IsPlain (own_answer q me known now own.last own.told asker message)
 unfolding own_answer
-plain_own q me known now own asker (Asks full stamp) = plain_over (q.route known.routes now asker) (Utvlv 50 asker me) (reply_containers (Rattle.mesh_model.specs.Tables.Answers.own_reply full stamp.byte own.last own.told))
+plain_own q me known now own asker (Asks full stamp) = plain_answer (q.route known.routes now asker) me asker (own_reply full stamp.byte own.last own.told)
 plain_own q me known now own asker (Answers stamp carried) = tt
 plain_own q me known now own asker Neither = tt
 
@@ -115,7 +121,7 @@ plain_other q known now ttl dst src tail = go (way_reply q known now dst (messag
   where
     go : (o : Option Reply) → AllByRecursion IsPlain (on_the_way q known now ttl dst src tail o)
     go None = plain_if (nat_le ttl 1) [] (sent_over (q.route known.routes now dst) (Utvlv (ttl - 1) dst src) tail) tt (plain_over (q.route known.routes now dst) (Utvlv (ttl - 1) dst src) tail)
-    go (Some reply) = plain_over (q.route known.routes now src) (Utvlv 50 src dst) (reply_containers reply)
+    go (Some reply) = plain_answer (q.route known.routes now src) dst src reply
 
 pub plain_ogm : (q : Queries) (me : Mac) (came : Coming) (head : Head) (message : Message) (tail : List ℕ) (known : Knowledge) → AllByRecursion IsPlain (ogm_acts q me came head message tail known)
 unfolding ogm_acts
@@ -304,7 +310,7 @@ pub record IsClear (orig : Mac) (log : Log) (w : World) : Type 0 where
   pub none : HasNoAlias w.commits
   pub commits : w.commits ≡ commits orig log
 
-pub found_told : (orig : Mac) (log : Log) (frames : List SentFrame) (w : World) (m : ℕ) (came : TableCalls) (key : Key) → IsClear orig log w → NodeIsTied orig log frames (known_by came orig) (w.nodes m)
+pub found_told : (orig : Mac) (log : Log) (frames : List SentFrame) (w : World) (m : ℕ) (came : TableCalls) (key : Key) → IsClear orig log w → NodeIsTied orig log frames w.said (known_by came orig) (w.nodes m)
     → is_agreed (known_by came orig) ≡ true → names key (known_by came orig).held ≡ true → FoundTold orig log frames came key
 found_told orig log frames w m came key clear tied agreed named = by_told (known_by came orig).told (known_by came orig).held refl refl agreed named tied.told
   where

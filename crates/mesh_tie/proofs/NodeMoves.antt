@@ -12,20 +12,23 @@ use Rattle.mesh_model.specs.Clients.Log.{Log}
 use Rattle.mesh_model.specs.Net.Due.{ticks_in}
 use Rattle.mesh_model.specs.Net.Mesh.{SentFrame}
 use Rattle.mesh_model.specs.Packets.Bodies.{VlanSum}
-use Rattle.mesh_model.specs.Tables.Judging.{Carried, InFull, InChanges, announcement_row, answer_row}
-use Rattle.mesh_model.specs.Tables.Known.{Known, LastTold, announced, answered, held_after, nothing, stamp_of}
+use Rattle.mesh_model.specs.Tables.Gathered.{Gathered, with_table_part}
+use Rattle.mesh_model.specs.Tables.Judging.{Carried, InFull, InPart, InChanges, announcement_row, answer_row}
+use Rattle.mesh_model.specs.Tables.Known.{Known, LastTold, announced, answered, gathered_after, held_after, kept_under, nothing, stamp_of}
 use Rattle.mesh_model.specs.Tables.Strict.{apply_strictly}
 use Rattle.mesh_model.specs.Tables.Sums.{checksums, sum_at}
 use Rattle.mesh_model.specs.Tables.Versions.{Stamp, Version, next_byte}
 use Rattle.mesh_laws.specs.KnownLaws.{LeadsOn}
-use Rattle.mesh_laws.specs.Machine.Moves.{Move, is_told, takes_changes, takes_full, drops, Reaches, no_move, then_move, WereOffered, agreed_node, held_when_told}
+use Rattle.mesh_laws.specs.Machine.Moves.{Move, PieceWasSaid, is_told, takes_changes, takes_full, drops, Reaches, no_move, then_move, WereOffered, agreed_node, held_when_told}
 use Rattle.mesh_laws.specs.Machine.Pieces.{put_together}
 use Rattle.mesh_laws.specs.Machine.World.{Announcement, Differences, Node, Piece, Saying, Told, World, WasSaid, silent_node, with_node}
+use Rattle.mesh_laws.proofs.GatheredLemmas.{counted_with}
 use Rattle.mesh_laws.proofs.HeldLemmas.{another_heard, another_taken}
-use Rattle.mesh_laws.proofs.KnownLemmas.{applied_onward, changes_as_heard, changes_as_taken, emptied_by_none, taken_onward, taken_whole}
+use Rattle.mesh_laws.proofs.KnownLemmas.{applied_onward, changes_as_heard, changes_as_taken, emptied_by_none, taken_in_parts, taken_onward, taken_whole}
 use Rattle.mesh_tie.specs.Originators.{number_at_root}
 use Rattle.mesh_tie.specs.Sayings.{saying_of}
-use Rattle.mesh_tie.specs.Tie.{IsToldBy, NodeIsTied}
+use Rattle.mesh_tie.specs.Tie.{GatheredWereSaid, IsToldBy, NodeIsTied}
+use Rattle.mesh_tie.proofs.GatheredSaid.{answered_said, beside_said, each_said, gathered_piece, good_below, kept_said, none_said}
 
 -- ---- moves that change one node alone
 pub record At (w : World) (m : ℕ) (node : Node) : Type 0 where
@@ -52,14 +55,14 @@ at_next w m node next a move = record {
 pub record Comes (orig : Mac) (log : Log) (frames : List SentFrame) (w : World) (m : ℕ) (known : Known) : Type 0 where
   pub node : Node
   pub moved : At w m node
-  pub tied : NodeIsTied orig log frames known node
+  pub tied : NodeIsTied orig log frames w.said known node
 
 -- ---- a life that begins
 pub forgets : (orig : Mac) (log : Log) (frames : List SentFrame) (w : World) (m : ℕ) (known : Known) → Comes orig log frames w m known → Comes orig log frames w m nothing
 forgets orig log frames w m known c = record {
   node = silent_node;
   moved = at_next w m c.node silent_node c.moved (drops c.moved.world m);
-  tied = record { held = refl; told = refl };
+  tied = record { held = refl; told = refl; gathered = none_said w.said None };
 }
 
 -- ---- changes that lead on
@@ -96,13 +99,13 @@ some_one x y e = cc
 tells_named : (orig : Mac) (log : Log) (frames : List SentFrame) (w : World) (m : ℕ) (known : Known) (number byte : ℕ) (first : VlanSum) (others : List VlanSum) (changes : List Change) (table : Option (List Entry))
     → (announcement_row known.held (record { byte = byte; sums = first ∷ others }) changes).table ≡ table
     → Comes orig log frames w m known → IsBrought orig log frames w.said number (record { byte = byte; sums = first ∷ others }) changes
-    → Comes orig log frames w m (record { told = Some (record { frame = number; stamp = record { byte = byte; sums = first ∷ others } }); held = held_after byte table known.held })
+    → Comes orig log frames w m (record { told = Some (record { frame = number; stamp = record { byte = byte; sums = first ∷ others } }); held = held_after byte table known.held; gathered = kept_under (stamp_of known) (record { byte = byte; sums = first ∷ others }) known.gathered })
 tells_named orig log frames w m known number byte first others changes None is c b =
     let told : Told = record { number = number_at_root orig log b.frame.root; byte = byte; sums = first ∷ others } in
     record {
       node = record { told = Some told; held = c.node.held };
       moved = told_now w m c.node told.number byte (first ∷ others) changes c.moved b.was_said;
-      tied = record { held = c.tied.held; told = told_tied orig log frames w.said number byte (first ∷ others) changes b };
+      tied = record { held = c.tied.held; told = told_tied orig log frames w.said number byte (first ∷ others) changes b; gathered = kept_said w.said (stamp_of known) (record { byte = byte; sums = first ∷ others }) known.gathered c.tied.gathered };
     }
 tells_named orig log frames w m known number byte first others changes (Some table) is c b =
     go (another_heard (announcement_row known.held stamp changes).outcome (sym (changes_as_heard known.held stamp changes) ∙ ap is_some is))
@@ -119,7 +122,7 @@ tells_named orig log frames w m known number byte first others changes (Some tab
         (inl (told.number, b.was_said, some)) refl l.byte_is l.applied l.sums_are
 
     go : ((announcement_row known.held stamp changes).outcome ≡ Emptied) ⊎ ((announcement_row known.held stamp changes).outcome ≡ Applied)
-        → Comes orig log frames w m (record { told = Some (record { frame = number; stamp = stamp }); held = held_after byte (Some table) known.held })
+        → Comes orig log frames w m (record { told = Some (record { frame = number; stamp = stamp }); held = held_after byte (Some table) known.held; gathered = kept_under (stamp_of known) stamp known.gathered })
     go (inl emptied) = absurd (let none : first ∷ others ≡ [] = (emptied_by_none known.held stamp changes emptied).0 in cc)
     go (inr applied) =
         let led = applied_onward known.held stamp changes applied in
@@ -127,7 +130,7 @@ tells_named orig log frames w m known number byte first others changes (Some tab
         record {
           node = agreed_node told led.1.after;
           moved = taken led.1 led.0;
-          tied = record { held = ap (λ t. Some (record { byte = byte; table = t })) same; told = told_tied orig log frames w.said number byte (first ∷ others) changes b };
+          tied = record { held = ap (λ t. Some (record { byte = byte; table = t })) same; told = told_tied orig log frames w.said number byte (first ∷ others) changes b; gathered = kept_said w.said (stamp_of known) stamp known.gathered c.tied.gathered };
         }
 
 tells_by : (orig : Mac) (log : Log) (frames : List SentFrame) (w : World) (m : ℕ) (known : Known) (number byte : ℕ) (sums : List VlanSum) (changes : List Change)
@@ -138,7 +141,7 @@ tells_by orig log frames w m known number byte [] changes c b =
     record {
       node = record { told = Some told; held = held_when_told byte [] c.node.held };
       moved = told_now w m c.node told.number byte [] changes c.moved b.was_said;
-      tied = record { held = refl; told = told_tied orig log frames w.said number byte [] changes b };
+      tied = record { held = refl; told = told_tied orig log frames w.said number byte [] changes b; gathered = kept_said w.said (stamp_of known) (record { byte = byte; sums = [] }) known.gathered c.tied.gathered };
     }
 tells_by orig log frames w m known number byte (first ∷ others) changes c b =
     tells_named orig log frames w m known number byte first others changes (announcement_row known.held (record { byte = byte; sums = first ∷ others }) changes).table refl c b
@@ -181,10 +184,10 @@ record Took (w : World) (m : ℕ) (node : Node) (stamp : Stamp) (table : Option 
   table_is : table ≡ Some after
 
 took : (orig : Mac) (log : Log) (frames : List SentFrame) (w : World) (m : ℕ) (known : Known) (stamp : Stamp) (carried : Carried) (c : Comes orig log frames w m known)
-    → WasSaid w.said (saying_of stamp carried) → (answer_row (stamp_of known) known.held stamp carried).outcome ≡ IsTaken
-    → Took w m c.node stamp (answer_row (stamp_of known) known.held stamp carried).table
+    → WasSaid w.said (saying_of stamp carried) → (answer_row (stamp_of known) known.held known.gathered stamp carried).outcome ≡ IsTaken
+    → Took w m c.node stamp (answer_row (stamp_of known) known.held known.gathered stamp carried).table
 took orig log frames w m known stamp (InChanges records) c said is =
-    let t = taken_onward (stamp_of known) known.held stamp records is in
+    let t = taken_onward (stamp_of known) known.held known.gathered stamp records is in
     let node = was_told orig log frames known.told c.node t.0 c.tied.told t.1.told_is in
     let l = t.2 in
     record {
@@ -198,7 +201,7 @@ took orig log frames w m known stamp (InChanges records) c said is =
       table_is = l.table_is;
     }
 took orig log frames w m known stamp (InFull records) c said is =
-    let t = taken_whole (stamp_of known) known.held stamp records is in
+    let t = taken_whole (stamp_of known) known.held known.gathered stamp records is in
     let node = was_told orig log frames known.told c.node t.0 c.tied.told t.1.told_is in
     let whole = t.2 in
     record {
@@ -218,25 +221,55 @@ took orig log frames w m known stamp (InFull records) c said is =
       byte = node.byte ∙ t.1.byte_is;
       table_is = whole.table_is;
     }
+took orig log frames w m known stamp (InPart number count records) c said is =
+    let t = taken_in_parts (stamp_of known) known.held known.gathered stamp number count records is in
+    let come = t.1 in
+    let gone : Gathered = with_table_part number count records known.gathered in
+    let below = good_below number count t.0 in
+    let counted = counted_with number count records known.gathered in
+    let node = was_told orig log frames known.told c.node come.wanted c.tied.told come.is_told.told_is in
+    let were : GatheredWereSaid w.said (stamp_of known) gone =
+    beside_said w.said (stamp_of known) known.gathered c.tied.gathered come.wanted stamp number count records come.is_told.told_is come.is_told.byte_is come.is_told.sums_are below said in
+    let whole = come.make in
+    record {
+      told = node.told;
+      after = whole.whole;
+      moved = at_next w m c.node (agreed_node node.told whole.whole) c.moved (takes_full c.moved.world m node.told gone.count (gathered_piece gone) whole.whole
+          (ap (λ (n : Node). n.told) c.moved.at ∙ node.is) (omega (arith, below, counted))
+          (λ place lt. subst (λ s. PieceWasSaid s node.told.byte (sum_at node.told.sums) place gone.count (gathered_piece gone place)) (sym c.moved.said)
+          (subst (λ b. PieceWasSaid w.said b (sum_at node.told.sums) place gone.count (gathered_piece gone place)) (sym node.byte)
+          (subst (λ ss. PieceWasSaid w.said come.wanted.byte (sum_at ss) place gone.count (gathered_piece gone place)) (sym node.sums)
+          (each_said w.said (stamp_of known) gone were come.complete come.wanted come.is_told.told_is place lt))))
+          whole.applied (whole.sums_are ∙ ap sum_at (sym node.sums)));
+      was = node.is;
+      byte = node.byte ∙ come.is_told.byte_is;
+      table_is = whole.table_is;
+    }
 
 -- an answer is taken, or leaves all as it is
 pub answers_come : (orig : Mac) (log : Log) (frames : List SentFrame) (w : World) (m : ℕ) (known : Known) (stamp : Stamp) (carried : Carried)
     → Comes orig log frames w m known → WasSaid w.said (saying_of stamp carried) → Comes orig log frames w m (answered stamp carried known)
-answers_come orig log frames w m known stamp carried c said = go (answer_row (stamp_of known) known.held stamp carried).table refl
+answers_come orig log frames w m known stamp carried c said = go (answer_row (stamp_of known) known.held known.gathered stamp carried).table refl
   where
-    taken : (table : List Entry) → (answer_row (stamp_of known) known.held stamp carried).table ≡ Some table
-        → Took w m c.node stamp (answer_row (stamp_of known) known.held stamp carried).table
-        → Comes orig log frames w m (record { told = known.told; held = Some (record { byte = stamp.byte; table = table }) })
+    gathered : Gathered
+    gathered = gathered_after (stamp_of known) stamp carried known.gathered
+
+    were : GatheredWereSaid w.said (stamp_of known) gathered
+    were = answered_said w.said (stamp_of known) stamp carried known.gathered c.tied.gathered said
+
+    taken : (table : List Entry) → (answer_row (stamp_of known) known.held known.gathered stamp carried).table ≡ Some table
+        → Took w m c.node stamp (answer_row (stamp_of known) known.held known.gathered stamp carried).table
+        → Comes orig log frames w m (record { told = known.told; held = Some (record { byte = stamp.byte; table = table }); gathered = gathered })
     taken table is t =
         let same : t.after ≡ table = some_one t.after table (sym t.table_is ∙ is) in
         record {
           node = agreed_node t.told t.after;
           moved = t.moved;
-          tied = record { held = ap₂ (λ b x. Some (record { byte = b; table = x })) t.byte same; told = subst (IsToldBy orig log frames known.told) t.was c.tied.told };
+          tied = record { held = ap₂ (λ b x. Some (record { byte = b; table = x })) t.byte same; told = subst (IsToldBy orig log frames known.told) t.was c.tied.told; gathered = were };
         }
 
-    go : (table : Option (List Entry)) → (answer_row (stamp_of known) known.held stamp carried).table ≡ table
-        → Comes orig log frames w m (record { told = known.told; held = held_after stamp.byte table known.held })
-    go None is = c
+    go : (table : Option (List Entry)) → (answer_row (stamp_of known) known.held known.gathered stamp carried).table ≡ table
+        → Comes orig log frames w m (record { told = known.told; held = held_after stamp.byte table known.held; gathered = gathered })
+    go None is = record { node = c.node; moved = c.moved; tied = record { held = c.tied.held; told = c.tied.told; gathered = were } }
     go (Some table) is = taken table is (took orig log frames w m known stamp carried c said
-        (another_taken (answer_row (stamp_of known) known.held stamp carried).outcome (sym (changes_as_taken (stamp_of known) known.held stamp carried) ∙ ap is_some is)))
+        (another_taken (answer_row (stamp_of known) known.held known.gathered stamp carried).outcome (sym (changes_as_taken (stamp_of known) known.held known.gathered stamp carried) ∙ ap is_some is)))

@@ -54,6 +54,7 @@ use Rattle.mesh_tie.proofs.CalmRows.{calm_call, calm_elps, calm_frame, calm_ques
 use Rattle.mesh_tie.proofs.FactActs.{get_stores}
 use Rattle.mesh_tie.proofs.CommitLemmas.{Chain, announced_are, last_and_older}
 use Rattle.mesh_tie.proofs.EntryLemmas.{OfCommits, each_appended, reached_entries}
+use Rattle.mesh_tie.proofs.LogLemmas.{node_more}
 use Rattle.mesh_tie.proofs.KnowsLemmas.{advertised_whole, packet_knows, sighting_knows}
 use Rattle.mesh_tie.proofs.NodeMoves.{Comes, at_same, forgets}
 use Rattle.mesh_tie.proofs.PairLemmas.{Leaves, question_leaves, rest_leaves}
@@ -71,7 +72,7 @@ pub record Goes (orig : Mac) (log : Log) (frames : List SentFrame) (root : ℕ) 
   pub others : (k : ℕ) → (k == m) ≡ false → world.nodes k ≡ w.nodes k
   pub more : Within w.said world.said
   pub says : AllByRecursion (ActSays orig log world.said root) acts
-  pub tied : NodeIsTied orig log frames (known_by calls orig) (world.nodes m)
+  pub tied : NodeIsTied orig log frames world.said (known_by calls orig) (world.nodes m)
 
 -- the acts are said, and then the node moves
 pub goes_by : (orig : Mac) (log : Log) (frames : List SentFrame) (root : ℕ) (w : World) (m : ℕ) (acts : List Act) (calls : TableCalls) → AllByRecursion (Sayable orig log root w) acts
@@ -86,7 +87,7 @@ goes_by orig log frames root w m acts calls row comes =
       others = λ k other. c.moved.others k other ∙ ap (λ (ns : ℕ → Node). ns k) s.nodes;
       more = λ x was. subst (λ t. WasSaid t x) (sym c.moved.said) (s.more x was);
       says = subst (λ t. AllByRecursion (ActSays orig log t root) acts) (sym c.moved.said) s.said;
-      tied = subst (NodeIsTied orig log frames (known_by calls orig)) (sym c.moved.at) c.tied;
+      tied = subst (NodeIsTied orig log frames c.moved.world.said (known_by calls orig)) (sym c.moved.at) (subst (λ t. NodeIsTied orig log frames t (known_by calls orig) c.node) (sym c.moved.said) c.tied);
     }
 
 each_act_more : (orig : Mac) (log : Log) (s t : List Saying) (root : ℕ) (acts : List Act) → Within s t → AllByRecursion (ActSays orig log s root) acts → AllByRecursion (ActSays orig log t root) acts
@@ -106,12 +107,12 @@ goes_then orig log frames root w m first second one two g h = record {
 }
 
 -- a node that knows no more of tables
-pub stays_tied : (orig : Mac) (log : Log) (frames : List SentFrame) (w : World) (m : ℕ) (calls : TableCalls) → NodeIsTied orig log frames (known_by calls orig) (w.nodes m)
+pub stays_tied : (orig : Mac) (log : Log) (frames : List SentFrame) (w : World) (m : ℕ) (calls : TableCalls) → NodeIsTied orig log frames w.said (known_by calls orig) (w.nodes m)
     → (v : World) → IsLater w v → Comes orig log frames v m (known_by calls orig)
 stays_tied orig log frames w m calls tied v later = record {
   node = w.nodes m;
   moved = at_same v m (w.nodes m) (ap (λ (ns : ℕ → Node). ns m) later.nodes);
-  tied = tied;
+  tied = node_more orig log frames w.said v.said (known_by calls orig) (w.nodes m) later.more tied;
 }
 
 -- ---- packets
@@ -134,7 +135,7 @@ ready_later orig w v m me own r path same = record {
   };
 }
 
-holder_of : (orig : Mac) (log : Log) (frames : List SentFrame) (w : World) (m : ℕ) (me : Mac) (own : Own) (known : Knowledge) → Ready orig w m me own → NodeIsTied orig log frames (known_by known.tables orig) (w.nodes m) → Holder orig w m known
+holder_of : (orig : Mac) (log : Log) (frames : List SentFrame) (w : World) (m : ℕ) (me : Mac) (own : Own) (known : Knowledge) → Ready orig w m me own → NodeIsTied orig log frames w.said (known_by known.tables orig) (w.nodes m) → Holder orig w m known
 holder_of orig log frames w m me own known r tied = record {
   held = tied.held;
   fits = λ version is. (reached_entries FitsEntry w r.base r.fits).held m version is;
@@ -142,7 +143,7 @@ holder_of orig log frames w m me own known r tied = record {
 
 -- one packet
 pub packet_goes : (orig : Mac) (log : Log) (frames : List SentFrame) (root : ℕ) (w : World) (m : ℕ) (q : Queries) (me : Mac) (own : Own) (came : Coming) (packet : Packet) (known : Knowledge)
-    → KeepsOriginators me q → IsWhole came.from → CameIn frames root came.number → Ready orig w m me own → NodeIsTied orig log frames (known_by known.tables orig) (w.nodes m) → PacketSays orig log w.said root packet
+    → KeepsOriginators me q → IsWhole came.from → CameIn frames root came.number → Ready orig w m me own → NodeIsTied orig log frames w.said (known_by known.tables orig) (w.nodes m) → PacketSays orig log w.said root packet
     → Goes orig log frames root w m (packet_acts q me own came known packet) (after_packet q me came known packet).tables
 packet_goes orig log frames root w m q me own came packet known keeps from f r tied says =
     goes_by orig log frames root w m (packet_acts q me own came known packet) (after_packet q me came known packet).tables
@@ -150,7 +151,7 @@ packet_goes orig log frames root w m q me own came packet known keeps from f r t
     (λ v later. packet_comes orig log frames v m q me root came packet known f (packet_more orig log w.said v.said root packet later.more says) (stays_tied orig log frames w m known.tables tied v later))
 
 pub packets_go : (orig : Mac) (log : Log) (frames : List SentFrame) (root : ℕ) (w : World) (m : ℕ) (q : Queries) (me : Mac) (own : Own) (came : Coming) (packets : List Packet) (known : Knowledge)
-    → KeepsOriginators me q → IsWhole came.from → CameIn frames root came.number → Ready orig w m me own → NodeIsTied orig log frames (known_by known.tables orig) (w.nodes m)
+    → KeepsOriginators me q → IsWhole came.from → CameIn frames root came.number → Ready orig w m me own → NodeIsTied orig log frames w.said (known_by known.tables orig) (w.nodes m)
     → ((packet : Packet) → Has packets packet → PacketSays orig log w.said root packet)
     → Goes orig log frames root w m (packets_acts q me own came known packets) (after_packets q me came known packets).tables
 unfolding packets_acts

@@ -1,5 +1,5 @@
 -- A packet that comes to a node: its acts are said, and what the node knows then is tied again.
-use Rattle.std.proofs.Common.{◌≡◌, ◌≤◌, ◌<◌, ◌-◌, ◌&&◌, ℕ, Bool, true, false, cond, List, ◌∷◌, ◌++◌, length, slice_get, Option, Some, None, refl, sym, ap, subst, ◌∙◌}
+use Rattle.std.proofs.Common.{◌≡◌, inl, inr, ◌≤◌, ◌<◌, ◌-◌, ◌&&◌, ℕ, Bool, true, false, cond, List, ◌∷◌, ◌++◌, length, slice_get, Option, Some, None, refl, sym, ap, subst, ◌∙◌}
 use Rattle.std.specs.List.{AllByRecursion}
 use Rattle.mesh_base.specs.declared.address.Mac.{Mac}
 use Rattle.mesh_base.specs.declared.client.Key.{Key}
@@ -19,12 +19,12 @@ use Rattle.mesh_model.specs.Knowledge.FactStore.{after_fact_message}
 use Rattle.mesh_model.specs.Knowledge.Known.{Broadcast, Knowledge, is_new_broadcast, taken_at}
 use Rattle.mesh_model.specs.Knowledge.PutTogether.{after_part, fact_carried, put_together, with_part}
 use Rattle.mesh_model.specs.Knowledge.Steps.{Coming, after_announcement, after_answer, after_broadcast, after_containers, after_head, after_message, after_packet, after_reply, after_roaming, after_taken, announced_by, announced_table, before_announcement, request_out, with_announcement, with_head, with_life}
-use Rattle.mesh_model.specs.Knowledge.Told.{Message, TableMessage, Asks, Answers, Neither, message_changes, message_in, message_of, message_with, stamp_told}
+use Rattle.mesh_model.specs.Knowledge.Told.{Message, TableMessage, Asks, Answers, Neither, message_changes, message_in, message_of, message_with, part_told, stamp_told}
 use Rattle.mesh_model.specs.Net.Mesh.{SentFrame}
 use Rattle.mesh_model.specs.Packets.ArpMessages.{arp_came}
 use Rattle.mesh_model.specs.Packets.Bodies.{TtData}
 use Rattle.mesh_model.specs.Packets.Containers.{containers_of}
-use Rattle.mesh_model.specs.Packets.Contents.{first_roaming, first_table}
+use Rattle.mesh_model.specs.Packets.Contents.{first_part, first_roaming, first_table}
 use Rattle.mesh_model.specs.Packets.FactMessages.{CameFact, fact_message_of}
 use Rattle.mesh_model.specs.Packets.FirstPacket.{Packet}
 use Rattle.mesh_model.specs.Probes.OpenProbes.{is_answer}
@@ -134,12 +134,16 @@ containers_come : (orig : Mac) (log : Log) (frames : List SentFrame) (w : World)
     → (src ≡ orig → IsAnswered w.said tail) → Tied orig log frames w m known.tables → Tied orig log frames w m (cond (same_mac dst me) (after_containers q now src tail known) known).tables
 containers_come orig log frames w m q me now dst src tail known says c = go (same_mac dst me)
   where
-    answer : Knowledge
-    answer = after_answer q now src (message_in (first_table (containers_of tail))) known
+    whole : Knowledge
+    whole = after_answer q now src (message_in (first_table (containers_of tail))) known
+
+    part : Knowledge
+    part = after_answer q now src (part_told (first_part (containers_of tail))) whole
 
     go : (b : Bool) → Tied orig log frames w m (cond b (after_containers q now src tail known) known).tables
-    go true = subst (Tied orig log frames w m) (sym (roamed_same q now src (first_roaming (containers_of tail)) answer))
-        (answer_comes orig log frames w m q now src (message_in (first_table (containers_of tail))) known (λ same stamp carried is. (says same).was_said stamp carried is) c)
+    go true = subst (Tied orig log frames w m) (sym (roamed_same q now src (first_roaming (containers_of tail)) part))
+        (answer_comes orig log frames w m q now src (part_told (first_part (containers_of tail))) whole (λ same stamp carried is. (says same).was_said stamp carried (inr is))
+        (answer_comes orig log frames w m q now src (message_in (first_table (containers_of tail))) known (λ same stamp carried is. (says same).was_said stamp carried (inl is)) c))
     go false = c
 
 -- a broadcast

@@ -11,25 +11,27 @@ use Rattle.mesh_model.specs.declared.packet.Head.TheVariants.{IvOgm, Bcast, Elp,
 use Rattle.mesh_model.specs.declared.table_change.Change.{Change}
 use Rattle.mesh_model.specs.Acts.Packing.{sent_over, sent_to, with_full}
 use Rattle.mesh_model.specs.Clients.Log.{Log}
-use Rattle.mesh_model.specs.Knowledge.Told.{Answers, carried_told}
+use Rattle.mesh_model.specs.Knowledge.Told.{Answers, carried_told, message_in, part_told}
+use Rattle.mesh_model.specs.Packets.Containers.{containers_of}
+use Rattle.mesh_model.specs.Packets.Contents.{first_part, first_table}
 use Rattle.mesh_model.specs.Net.Next.{Has}
 use Rattle.mesh_model.specs.Packets.FirstPacket.{Packet}
 use Rattle.mesh_model.specs.Packets.Layout.{spelling}
 use Rattle.mesh_model.specs.Packets.LinkFrame.{link_frame}
 use Rattle.mesh_model.specs.Packets.Numbers.{response_flag}
 use Rattle.mesh_model.specs.Routes.Addresses.{same_mac}
-use Rattle.mesh_model.specs.Tables.Judging.{Carried}
+use Rattle.mesh_model.specs.Tables.Judging.{Carried, InPart}
 use Rattle.mesh_model.specs.Tables.Versions.{Stamp, Version}
 use Rattle.mesh_laws.specs.Machine.Moves.{Move, Reaches, no_move, then_move}
 use Rattle.mesh_laws.specs.Machine.World.{Saying, World, WasSaid, with_saying}
 use Rattle.mesh_laws.proofs.MacLemmas.{same_exact, same_self}
 use Rattle.std.proofs.lemmas.Bool.{true≢false}
-use Rattle.mesh_tie.specs.Sayings.{FrameSays, IsAnnounced, IsAnswered, PacketSays, WordSays, saying_of}
+use Rattle.mesh_tie.specs.Sayings.{FrameSays, HoldsAnswer, IsAnnounced, IsAnswered, PacketSays, WordSays, saying_of}
 use Rattle.mesh_tie.specs.Sources.{ContainersOf, HasWholeAddresses, IsMessageOf, IsWhole, MessageOf, Nothing, Word, word_of}
 use Rattle.mesh_laws.specs.HeldLaws.{stamp_of_commit}
 use Rattle.mesh_tie.proofs.HeadLemmas.{IsOnePacket, iv_frame, ogm2_frame, utvlv_frame}
 use Rattle.mesh_tie.proofs.KindLemmas.{TellsNothing}
-use Rattle.mesh_tie.proofs.TableLemmas.{HoldsNoAnswer, IsToldAgain, answers_again}
+use Rattle.mesh_tie.proofs.TableLemmas.{HoldsNoAnswer, IsPartAgain, IsToldAgain, answers_again, no_part_answers, no_table_answers}
 
 -- two addresses are one, or they aren't
 pub one_or_two : (a b : Mac) → (a ≡ b) ⊎ (a ≢ b)
@@ -137,13 +139,25 @@ answer_one s t c d is = (cc, cc)
 
 -- containers with an answer that was said
 pub an_answer : (said : List Saying) (full : Bool) (version : Version) (records : List Change) (tail : List ℕ) → IsToldAgain (with_full response_flag full) version records tail
-    → WasSaid said (saying_of (stamp_of_commit version) (carried_told full records)) → IsAnswered said tail
-an_answer said full version records tail again was = record {
-  small = again.small;
-  was_said = λ stamp carried is.
-      let same = answer_one (stamp_of_commit version) stamp (carried_told full records) carried (sym (answers_again full version records tail again) ∙ is) in
-      subst (WasSaid said) (ap₂ saying_of same.0 same.1) was;
-}
+    → first_part (containers_of tail) ≡ None → WasSaid said (saying_of (stamp_of_commit version) (carried_told full records)) → IsAnswered said tail
+an_answer said full version records tail again none was = record { small = again.small; was_said = was_said }
+  where
+    was_said : (stamp : Stamp) (carried : Carried) → HoldsAnswer tail stamp carried → WasSaid said (saying_of stamp carried)
+    was_said stamp carried (inl is) =
+        let same = answer_one (stamp_of_commit version) stamp (carried_told full records) carried (sym (answers_again full version records tail again) ∙ is) in
+        subst (WasSaid said) (ap₂ saying_of same.0 same.1) was
+    was_said stamp carried (inr is) = absurd (no_part_answers tail none stamp carried is)
+
+-- containers with a part of an answer that was said
+pub a_part : (said : List Saying) (version : Version) (number count : ℕ) (records : List Change) (tail : List ℕ) → IsPartAgain version number count records tail
+    → WasSaid said (saying_of (stamp_of_commit version) (InPart number count records)) → IsAnswered said tail
+a_part said version number count records tail again was = record { small = again.small; was_said = was_said }
+  where
+    was_said : (stamp : Stamp) (carried : Carried) → HoldsAnswer tail stamp carried → WasSaid said (saying_of stamp carried)
+    was_said stamp carried (inl is) = absurd (no_table_answers tail again.no_table stamp carried is)
+    was_said stamp carried (inr is) =
+        let same = answer_one (stamp_of_commit version) stamp (InPart number count records) carried (sym again.found ∙ is) in
+        subst (WasSaid said) (ap₂ saying_of same.0 same.1) was
 
 -- ---- acts that can be said
 -- moves after which something was said; commits and nodes are as before

@@ -25,6 +25,7 @@ use Rattle.mesh_model.specs.Scenario.Commands.{command_of_line}
 use Rattle.mesh_model.specs.Scenario.Halt.{Halt}
 use Rattle.mesh_model.specs.Scenario.Lines.{content}
 use Rattle.mesh_model.specs.Scenario.Readings.{Reading}
+use Rattle.mesh_model.specs.Tables.Gathered.{Gathered}
 use Rattle.mesh_model.specs.Tables.Known.{Known, LastTold, agrees, is_agreed, known_by, nothing, originators_by}
 use Rattle.mesh_model.specs.Tables.Versions.{Version}
 use Rattle.mesh_model.specs.Text.GlobalTables.{GlobalPart}
@@ -130,10 +131,10 @@ record PartSays (orig : Mac) (known : Known) (part : GlobalPart) : Type 0 where
   entries : part.entries ≡ held.table
   agreed : is_agreed known ≡ true
 
-part_from : (orig : Mac) (told : Option LastTold) (held : Option Version) (part : GlobalPart) → part_of orig (record { told = told; held = held }) ≡ Some part → part.row.ok ≡ true → PartSays orig (record { told = told; held = held }) part
-part_from orig None held part is ok = cc
-part_from orig (Some last) None part is ok = absurd (false≢true (ap (λ (p : GlobalPart). p.row.ok) (some_one (record { row = record { orig = orig; held = None; told = last.stamp.byte; ok = false }; entries = [] }) part is) ∙ ok))
-part_from orig (Some last) (Some held) part is ok =
+part_from : (orig : Mac) (told : Option LastTold) (held : Option Version) (gathered : Gathered) (part : GlobalPart) → part_of orig (record { told = told; held = held; gathered = gathered }) ≡ Some part → part.row.ok ≡ true → PartSays orig (record { told = told; held = held; gathered = gathered }) part
+part_from orig None held gathered part is ok = cc
+part_from orig (Some last) None gathered part is ok = absurd (false≢true (ap (λ (p : GlobalPart). p.row.ok) (some_one (record { row = record { orig = orig; held = None; told = last.stamp.byte; ok = false }; entries = [] }) part is) ∙ ok))
+part_from orig (Some last) (Some held) gathered part is ok =
     let same = some_one (record { row = record { orig = orig; held = Some held.byte; told = last.stamp.byte; ok = agrees (Some last.stamp) (Some held) }; entries = held.table }) part is in
     record {
       last = last;
@@ -148,7 +149,7 @@ part_from orig (Some last) (Some held) part is ok =
     }
 
 part_live : (live : Bool) (orig : Mac) (known : Known) (part : GlobalPart) → part_of orig (cond live known nothing) ≡ Some part → part.row.ok ≡ true → PartSays orig known part
-part_live true orig known part is ok = part_from orig known.told known.held part is ok
+part_live true orig known part is ok = part_from orig known.told known.held known.gathered part is ok
 part_live false orig known part is ok = cc
 
 -- something that a function gave

@@ -1,6 +1,6 @@
 -- What is put of a table is read again: an announcement, an answer; a request and an advertisement
 -- are no answers.
-use Rattle.std.proofs.Common.{◌≡◌, ◌≤◌, ◌<◌, ◌+◌, ◌*◌, ◌/◌, ◌%◌, ℕ, suc, Bool, true, false, cond, List, [], ◌∷◌, ◌++◌, ◌==◌, filter, filter_map, length, map, flat_map, refl, sym, ap, ap₂, ◌∙◌, append_assoc, arith, Option, Some, None, nat_lt, length-append}
+use Rattle.std.proofs.Common.{◌≡◌, ◌⊎◌, inl, inr, ◌≤◌, ◌<◌, ◌+◌, ◌*◌, ◌/◌, ◌%◌, ℕ, suc, Bool, true, false, cond, List, [], ◌∷◌, ◌++◌, ◌==◌, filter, filter_map, length, map, flat_map, refl, sym, ap, ap₂, ◌∙◌, append_assoc, arith, Option, Some, None, nat_lt, length-append}
 use Rattle.std.specs.List.{All, AllByRecursion, cons_option}
 use Rattle.std.proofs.lemmas.List.Elements.{All-append, All-from_recursion, All-cons, All-nil}
 use Rattle.std.proofs.lemmas.Grind.{flat_map-append}
@@ -10,21 +10,22 @@ use Rattle.mesh_model.specs.declared.table_change.Change.{Change}
 use Rattle.mesh_model.specs.declared.table_outcome.Request.{Request}
 use Rattle.mesh_model.specs.declared.table_outcome.Request.TheVariants.{Full, Changes}
 use Rattle.mesh_model.specs.Acts.OwnContainers.{arp_table_container, arp_table_part, gateway_container, gateway_part, multicast_container, multicast_part, own_containers}
-use Rattle.mesh_model.specs.Acts.Packing.{request_containers, request_flags, roaming_container, table_container, table_told, with_full}
+use Rattle.mesh_model.specs.Acts.Packing.{part_container, request_containers, request_flags, roaming_container, table_container, table_told, with_full}
 use Rattle.mesh_model.specs.Clients.Settings.{GatewayPart, NoPart, Serves, Chooses, Settings}
 use Rattle.mesh_model.specs.Commits.Announcements.{record_of_change}
-use Rattle.mesh_model.specs.Knowledge.Told.{Answers, Neither, carried_told, change_told, message_changes, message_in, stamp_told, table_message}
-use Rattle.mesh_model.specs.Packets.Bodies.{TtChange, TtData, VlanSum, change_of, entry_of_change, tt_data, vlans_size}
-use Rattle.mesh_model.specs.Packets.BodySpellings.{change_spelling, tt_spelling, vlan_spelling}
+use Rattle.mesh_model.specs.Knowledge.Told.{Answers, Neither, TableMessage, carried_told, change_told, message_changes, message_in, part_told, stamp_told, table_message}
+use Rattle.mesh_model.specs.Packets.Bodies.{TtChange, TtData, TtPart, VlanSum, change_of, entry_of_change, tt_data, vlans_size}
+use Rattle.mesh_model.specs.Packets.BodySpellings.{change_spelling, tt_part_spelling, tt_spelling, vlan_spelling}
 use Rattle.mesh_model.specs.Packets.Containers.{Container, FitsLength, container_spelling, containers_of, containers_spelling}
-use Rattle.mesh_model.specs.Packets.Contents.{first_of, first_table, is_of, table_of_body}
-use Rattle.mesh_model.specs.Packets.Numbers.{ogm_diff_flag, response_flag, tt_tvlv, tvlv_version}
-use Rattle.mesh_model.specs.Tables.Judging.{Carried}
+use Rattle.mesh_model.specs.Packets.Contents.{first_of, first_part, first_table, is_of, table_of_body}
+use Rattle.mesh_model.specs.Packets.Numbers.{full_table_flag, ogm_diff_flag, response_flag, tt_tvlv, tvlv_version}
+use Rattle.mesh_model.specs.Tables.Judging.{Carried, InPart}
 use Rattle.mesh_model.specs.Tables.Sums.{sums_of}
 use Rattle.mesh_model.specs.Tables.Versions.{Stamp, Version}
 use Rattle.mesh_tvlv.specs.Laws.{FitsKey, FitsTable, FitsVlan}
 use Rattle.mesh_tvlv.proofs.SpellingLemmas.{read_back}
-use Rattle.mesh_tvlv.proofs.TableLemmas.{record_back, table_back}
+use Rattle.mesh_tvlv.proofs.TableLemmas.{part_back, record_back, table_back}
+use Rattle.mesh_tie.specs.Sayings.{HoldsAnswer}
 use Rattle.mesh_tie.specs.Tie.{FitsAnswer, FitsEntry}
 use Rattle.mesh_laws.specs.HeldLaws.{stamp_of_commit}
 use Rattle.mesh_laws.proofs.RoomLemmas.{sums_few, table_fits}
@@ -70,6 +71,12 @@ body_long table fits =
     let changes = changes_long table.changes fits in
     omega (arith, vlans, changes, length-append (flat_map vlan_spelling table.vlans) (flat_map change_spelling table.changes))
 
+part_body_long : (part : TtPart) → AllByRecursion (λ (c : TtChange). FitsKey c.key) part.table.changes → length (tt_part_spelling part) ≡ 8 + 8 * length part.table.vlans + 12 * length part.table.changes
+part_body_long part fits =
+    let vlans = vlans_long part.table.vlans in
+    let changes = changes_long part.table.changes fits in
+    omega (arith, vlans, changes, length-append (flat_map vlan_spelling part.table.vlans) (flat_map change_spelling part.table.changes))
+
 -- ---- tables
 -- what is told of a version with these records is told again
 pub record IsToldAgain (flags : ℕ) (version : Version) (records : List Change) (tail : List ℕ) : Type 0 where
@@ -90,7 +97,7 @@ fits_table flags version records table changes = record {
 }
 
 body_small : (flags : ℕ) (version : Version) (records : List Change) → FitsAnswer version.table → AllByRecursion FitsChange records → length records ≤ 1024
-    → length (tt_spelling (table_told flags (stamp_of_commit version) records)) ≤ 20484
+    → length (tt_spelling (table_told flags (stamp_of_commit version) records)) ≤ 45060
 body_small flags version records table changes few =
     let long = body_long (table_told flags (stamp_of_commit version) records) (keys_fit records changes) in
     let sums = sums_few_of version.table in
@@ -111,6 +118,43 @@ reply_again flags version records table changes few =
           ∙ ap (λ (o : Option TtData). first_of (cons_option o [])) (table_back told (fits_table flags version records table changes));
       stamp = ap (λ sums. record { byte = version.byte; sums = sums }) (sums_told_same version.table);
       changes = changes_same records changes;
+    }
+
+-- a table alone has no part beside it
+pub no_part_beside : (flags : ℕ) (version : Version) (records : List Change) → FitsAnswer version.table → AllByRecursion FitsChange records → length records ≤ 1024
+    → first_part (containers_of (containers_spelling (table_container (table_told flags (stamp_of_commit version) records) ∷ []))) ≡ None
+no_part_beside flags version records table changes few =
+    let told = table_told flags (stamp_of_commit version) records in
+    let small = body_small flags version records table changes few in
+    ap first_part (read_back (table_container told ∷ []) (All-cons FitsLength (table_container told) [] (omega (arith, small)) (All-nil FitsLength))).0
+
+-- ---- parts
+-- the part of a version's table with these records, by its number, of so many
+abbrev pub told_part : Version → ℕ → ℕ → List Change → TtPart
+told_part version number count records = record { table = table_told (with_full response_flag true) (stamp_of_commit version) records; number = number; count = count }
+
+-- what is told of a part is told again
+pub record IsPartAgain (version : Version) (number count : ℕ) (records : List Change) (tail : List ℕ) : Type 0 where
+  pub small : length tail < 65536
+  pub no_table : first_table (containers_of tail) ≡ None
+  pub found : part_told (first_part (containers_of tail)) ≡ Answers (stamp_of_commit version) (InPart number count records)
+
+pub part_again : (version : Version) (number count : ℕ) (records : List Change) → FitsAnswer version.table → AllByRecursion FitsChange records → length records ≤ 1024 → number < 65536 → count < 65536
+    → IsPartAgain version number count records (containers_spelling (part_container (told_part version number count records) ∷ []))
+part_again version number count records table changes few low some =
+    let part = told_part version number count records in
+    let container = part_container part in
+    let long = part_body_long part (keys_fit records changes) in
+    let sums = sums_few_of version.table in
+    let most = table.few in
+    let small : length (tt_part_spelling part) ≤ 45064 = omega (arith, long, sums, most, few, length_mapped record_of_change records) in
+    let read = (read_back (container ∷ []) (All-cons FitsLength container [] (omega (arith, small)) (All-nil FitsLength))).0 in
+    record {
+      small = omega (arith, one_long container, small);
+      no_table = ap first_table read;
+      found = ap (λ cs. part_told (first_part cs)) read
+          ∙ ap (λ (o : Option TtPart). part_told (first_of (cons_option o []))) (part_back part (fits_table (with_full response_flag true) version records table changes) (omega (arith, low)) (omega (arith, some)))
+          ∙ ap₂ (λ (s : Stamp) cs. Answers s (InPart number count cs)) (ap (λ sums. record { byte = version.byte; sums = sums }) (sums_told_same version.table)) (changes_same records changes);
     }
 
 -- ---- beside other containers
@@ -188,15 +232,26 @@ answers_again false version records tail told = ap message_in told.found ∙ ap�
 -- ---- what is no answer
 -- no answer is among containers
 abbrev pub HoldsNoAnswer : List ℕ → Type 0
-HoldsNoAnswer tail = (stamp : Stamp) (carried : Carried) → message_in (first_table (containers_of tail)) ≡ Answers stamp carried → ⊥
+HoldsNoAnswer tail = (stamp : Stamp) (carried : Carried) → HoldsAnswer tail stamp carried → ⊥
+
+pub no_part_answers : (tail : List ℕ) → first_part (containers_of tail) ≡ None → (stamp : Stamp) (carried : Carried) → part_told (first_part (containers_of tail)) ≡ Answers stamp carried → ⊥
+no_part_answers tail none stamp carried is = let both : Neither ≡ Answers stamp carried = sym (ap part_told none) ∙ is in absurd cc
+
+pub no_table_answers : (tail : List ℕ) → first_table (containers_of tail) ≡ None → (stamp : Stamp) (carried : Carried) → message_in (first_table (containers_of tail)) ≡ Answers stamp carried → ⊥
+no_table_answers tail none stamp carried is = let both : Neither ≡ Answers stamp carried = sym (ap message_in none) ∙ is in absurd cc
+
+-- nor where no table is an answer, and no part is among them
+neither_answers : (tail : List ℕ) → ((stamp : Stamp) (carried : Carried) → message_in (first_table (containers_of tail)) ≡ Answers stamp carried → ⊥) → first_part (containers_of tail) ≡ None → HoldsNoAnswer tail
+neither_answers tail table none stamp carried (inl is) = table stamp carried is
+neither_answers tail table none stamp carried (inr is) = no_part_answers tail none stamp carried is
 
 pub advert_answers_none : (key : Key) → FitsKey key → HoldsNoAnswer (containers_spelling (roaming_container key ∷ []))
-advert_answers_none key fits stamp carried is =
+advert_answers_none key fits =
+    let tail = containers_spelling (roaming_container key ∷ []) in
     let six = fits.address in
     let small : FitsLength (roaming_container key) = omega (arith, length-append key.mac.0 (key.vid.0 / 256 % 256 ∷ key.vid.0 % 256 ∷ []), six) in
-    let none : message_in (first_table (containers_of (containers_spelling (roaming_container key ∷ [])))) ≡ Neither =
-    ap (λ cs. message_in (first_table cs)) (read_back (roaming_container key ∷ []) (All-cons FitsLength (roaming_container key) [] small (All-nil FitsLength))).0 in
-    let both = sym none ∙ is in absurd cc
+    let read = (read_back (roaming_container key ∷ []) (All-cons FitsLength (roaming_container key) [] small (All-nil FitsLength))).0 in
+    neither_answers tail (no_table_answers tail (ap first_table read)) (ap first_part read)
 
 pub advert_small : (key : Key) → FitsKey key → length (containers_spelling (roaming_container key ∷ [])) < 65536
 advert_small key fits =
@@ -218,12 +273,13 @@ asked request stamp false told carried is =
 
 -- a request is no answer
 pub request_answers_none : (request : Request) (stamp : Stamp) → 8 + 8 * length stamp.sums < 65536 → HoldsNoAnswer (request_containers request stamp)
-request_answers_none request stamp room told carried is =
+request_answers_none request stamp room =
+    let tail = request_containers request stamp in
     let body = tt_spelling (table_told (request_flags request) stamp []) in
     let c = table_container (table_told (request_flags request) stamp []) in
     let long : length body ≡ 4 + 8 * length stamp.sums = (let vlans = vlans_long stamp.sums in omega (arith, vlans, length-append (flat_map vlan_spelling stamp.sums) [])) in
     let read : containers_of (request_containers request stamp) ≡ c ∷ [] = (read_back (c ∷ []) (All-cons FitsLength c [] (omega (arith, long, room)) (All-nil FitsLength))).0 in
-    asked request stamp (nat_lt (length body) (4 + vlans_size body)) told carried (ap (λ cs. message_in (first_table cs)) (sym read) ∙ is)
+    neither_answers tail (λ told carried is. asked request stamp (nat_lt (length body) (4 + vlans_size body)) told carried (ap (λ cs. message_in (first_table cs)) (sym read) ∙ is)) (ap first_part read)
 
 pub request_small : (request : Request) (stamp : Stamp) → 8 + 8 * length stamp.sums < 65536 → length (request_containers request stamp) < 65536
 request_small request stamp room =

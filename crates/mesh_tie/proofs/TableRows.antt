@@ -1,43 +1,46 @@
 -- The rows of tables: requests, answers and containers that are passed on.
-use Rattle.std.proofs.Common.{◌≡◌, ◌≢◌, ◌⊎◌, inl, inr, ◌≤◌, ◌<◌, ◌-◌, ◌&&◌, ℕ, suc, Bool, true, false, cond, not, ◌==◌, nat_le, List, [], ◌∷◌, length, map, Option, Some, None, Err, refl, sym, ap, ap₂, subst, ◌∙◌, arith}
+use Rattle.std.proofs.Common.{◌≡◌, ◌≢◌, ◌⊎◌, inl, inr, ◌≤◌, ◌<◌, ◌+◌, ◌-◌, ◌*◌, ◌/◌, ◌&&◌, ℕ, suc, max, Bool, true, false, cond, not, ◌==◌, nat_le, nat_lt, List, [], ◌∷◌, length, map, flat_map, take, drop, Option, Some, None, Err, refl, sym, ap, ap₂, subst, ◌∙◌, arith}
 use Rattle.std.specs.List.{AllByRecursion}
 use Rattle.std.proofs.lemmas.Bool.{leb-true}
+use Rattle.std.proofs.lemmas.Bool.Decides.{nat_tests}
+use Rattle.std.proofs.lemmas.List.{drop-map, length-take, take-map}
 use Rattle.mesh_base.specs.declared.address.Mac.{Mac}
+use Rattle.mesh_base.specs.declared.client.Entry.{Entry}
 use Rattle.mesh_model.specs.declared.packet.Head.{Head}
 use Rattle.mesh_model.specs.declared.packet.Head.TheVariants.{IvOgm, Bcast, Elp, Ogm2, Unicast, Frag, Unicast4, Icmp, Utvlv}
 use Rattle.mesh_model.specs.declared.table_change.Change.{Change}
 use Rattle.mesh_model.specs.declared.table_outcome.Difference.{Difference}
 use Rattle.mesh_model.specs.declared.table_outcome.Request.{Request}
-use Rattle.mesh_model.specs.Acts.Packing.{reply_containers, request_containers, sent_over, sent_to, with_full}
+use Rattle.mesh_model.specs.Acts.Packing.{part_container, part_containers, reply_containers, request_containers, sent_over, sent_to, with_full}
 use Rattle.mesh_model.specs.Acts.Rows.{Own, accepted_acts, message_acts, ogm_acts}
-use Rattle.mesh_model.specs.Acts.TableRows.{held_within, is_within_limits, on_the_way, other_containers, own_answer, passed_containers, request_acts, way_reply}
+use Rattle.mesh_model.specs.Acts.TableRows.{held_within, is_within_limits, on_the_way, other_containers, own_answer, part_acts, passed_containers, request_acts, way_reply}
 use Rattle.mesh_model.specs.Clients.Limits.{clients_limit, vlans_limit}
 use Rattle.mesh_model.specs.Clients.Log.{Log}
 use Rattle.mesh_model.specs.Knowledge.Known.{Knowledge, known_at}
 use Rattle.mesh_model.specs.Knowledge.Steps.{Coming, before_announcement, request_out}
 use Rattle.mesh_model.specs.Knowledge.Told.{Message, TableMessage, Asks, Answers, Neither, carried_told, message_in, stamp_told}
-use Rattle.mesh_model.specs.Packets.Containers.{containers_of}
+use Rattle.mesh_model.specs.Packets.Containers.{containers_of, containers_spelling}
 use Rattle.mesh_model.specs.Packets.Contents.{first_table}
 use Rattle.mesh_model.specs.Packets.Layout.{spelling}
 use Rattle.mesh_model.specs.Packets.Numbers.{response_flag}
 use Rattle.mesh_model.specs.Routes.Queries.{Queries}
-use Rattle.mesh_model.specs.Tables.Answers.{Reply, changes_reply, full_reply, held_reply, own_reply, reply_in, unless_asked_differs}
+use Rattle.mesh_model.specs.Tables.Answers.{Reply, ReplyPart, changes_reply, full_reply, held_reply, numbered_part, own_reply, parts_of_reply, reply_in, unless_asked_differs, whole_part}
 use Rattle.mesh_model.specs.Tables.Changes.{addition}
 use Rattle.mesh_model.specs.Tables.Differences.{first_difference}
 use Rattle.mesh_model.specs.Tables.Known.{Known, known_by, nothing}
+use Rattle.mesh_model.specs.Tables.Pieces.{piece, piece_at, piece_count, piece_size, places}
 use Rattle.mesh_model.specs.Tables.Sums.{sums_of}
 use Rattle.mesh_model.specs.Tables.Versions.{Stamp, Version}
-use Rattle.mesh_laws.specs.Machine.Moves.{answers_changes, answers_piece, differences_to, passes, piece_of, AreLastChanges}
-use Rattle.mesh_laws.specs.Machine.Pieces.{piece_count}
-use Rattle.mesh_laws.specs.Machine.World.{Piece, Saying, World, WasSaid}
-use Rattle.mesh_laws.proofs.PieceLemmas.{small_tables_are_one_piece}
+use Rattle.mesh_laws.specs.Machine.Moves.{Move, answers_changes, answers_piece, differences_to, passes, piece_of, AreLastChanges}
+use Rattle.mesh_laws.specs.Machine.World.{Piece, Saying, World, WasSaid, with_saying}
+use Rattle.mesh_laws.proofs.PieceLemmas.{small_tables_are_one_piece, some_piece}
 use Rattle.mesh_tie.specs.Sayings.{FrameSays, IsAnnounced, IsAnswered, saying_of}
 use Rattle.mesh_tie.specs.Sources.{IsMessageOf, IsWhole, KeepsOriginators, MessageOf}
 use Rattle.mesh_tie.specs.Tie.{FitsAnswer, FitsEntry}
 use Rattle.mesh_laws.specs.HeldLaws.{stamp_of_commit}
-use Rattle.mesh_tie.proofs.EntryLemmas.{each_addition, each_appended}
-use Rattle.mesh_tie.proofs.Sayable.{Sayable, Speaks, an_answer, answered_more, containers_say, frame_sayable, message_says, no_answer, one_or_two, over_row, says_one, silent}
-use Rattle.mesh_tie.proofs.TableLemmas.{FitsChange, reply_again, request_answers_none, request_small, told_room}
+use Rattle.mesh_tie.proofs.EntryLemmas.{each_addition, each_appended, each_flat, each_numbered, each_of_any, piece_of_table}
+use Rattle.mesh_tie.proofs.Sayable.{IsLater, Sayable, Speaks, a_part, an_answer, answered_more, containers_say, frame_sayable, message_says, no_answer, one_or_two, over_row, says_one, silent}
+use Rattle.mesh_tie.proofs.TableLemmas.{FitsChange, IsPartAgain, no_part_beside, part_again, reply_again, request_answers_none, request_small, told_part, told_room}
 
 -- ---- what a node says of its own table
 pub record Speaker (orig : Mac) (w : World) (me : Mac) (own : Own) : Type 0 where
@@ -48,46 +51,120 @@ pub record Speaker (orig : Mac) (w : World) (me : Mac) (own : Own) : Type 0 wher
   pub commits : me ≡ orig → w.commits ≡ own.last ∷ older
   pub told_last : me ≡ orig → (changes : List Change) → own.told ≡ Some changes → AreLastChanges (own.last ∷ older) changes
 
--- a whole table that is small is one piece
-one_piece_said : (version : Version) → FitsAnswer version.table → piece_of version 0 ≡ saying_of (stamp_of_commit version) (carried_told true (map addition version.table))
-one_piece_said version fits =
-    let one = small_tables_are_one_piece version.table fits.few in
-    ap₂ (λ n records. Piece version.byte (sums_of version.table) 0 n records) one.0 one.1
-
-some_piece : (version : Version) → FitsAnswer version.table → 0 < piece_count version.table
-some_piece version fits =
-    let one = (small_tables_are_one_piece version.table fits.few).0 in
-    omega (arith, one)
+-- what a node can say of a version, by itself or as it holds it
+abbrev pub CanSay : Mac → Mac → World → Version → Type 0
+CanSay orig me w version = (y : World) → IsLater w y → me ≡ orig → (place : ℕ) → place < piece_count version.table → Move y (with_saying (piece_of version place) y)
 
 length_mapped : {X Y : Type 0} (f : X → Y) (xs : List X) → length (map f xs) ≡ length xs
 length_mapped f [] = refl
 length_mapped f (x ∷ xs) = ap suc (length_mapped f xs)
 
+-- ---- pieces
+-- the records of a whole table go in pieces as the table does
+pub piece_mapped : (place : ℕ) (table : List Entry) → piece_at place (map addition table) ≡ piece place table
+piece_mapped place table = ap (take piece_size) (drop-map addition (place * piece_size) table) ∙ take-map addition piece_size (drop (place * piece_size) table)
+
+pub count_mapped : (table : List Entry) → piece_count (map addition table) ≡ piece_count table
+unfolding piece_count
+count_mapped table = ap (λ n. max 1 ((n + 1023) / 1024)) (length_mapped addition table)
+
+pub few_pieces : (table : List Entry) → length table ≤ clients_limit → piece_count table ≤ 4
+unfolding piece_count
+few_pieces table few = omega (arith, few)
+
+piece_short : (place : ℕ) (table : List Entry) → length (piece place table) ≤ 1024
+unfolding piece_size
+piece_short place table =
+    let from = drop (place * 1024) table in
+    omega (arith, length_mapped addition (take 1024 from), length-take 1024 from)
+
+-- a table that doesn't go in parts is small, and one piece
+is_short : (table : List Entry) → nat_lt piece_size (length (map addition table)) ≡ false → length table ≤ 1024
+unfolding piece_size
+is_short table is = let long = length_mapped addition table in grind (arith, nat_tests, is, long)
+
+one_piece_said : (version : Version) → length version.table ≤ 1024 → piece_of version 0 ≡ saying_of (stamp_of_commit version) (carried_told true (map addition version.table))
+one_piece_said version short =
+    let one = small_tables_are_one_piece version.table short in
+    ap₂ (λ n records. Piece version.byte (sums_of version.table) 0 n records) one.0 one.1
+
 -- what a whole table says, once it was said
-full_says : (orig : Mac) (log : Log) (said : List Saying) (root : ℕ) (dst src : Mac) (version : Version) → IsWhole dst → IsWhole src → FitsAnswer version.table
+full_says : (orig : Mac) (log : Log) (said : List Saying) (root : ℕ) (dst src : Mac) (version : Version) → IsWhole dst → IsWhole src → FitsAnswer version.table → length version.table ≤ 1024
     → WasSaid said (piece_of version 0) → FrameSays orig log said root (spelling (Utvlv 50 dst src) (reply_containers (full_reply version)))
-full_says orig log said root dst src version d s fits was =
-    let few = fits.few in
-    containers_say orig log said root 50 dst src (reply_containers (full_reply version)) d s (λ same. an_answer said true version (map addition version.table) (reply_containers (full_reply version))
-    (reply_again (with_full response_flag true) version (map addition version.table) fits (each_addition FitsEntry version.table fits.each) (omega (arith, few, length_mapped addition version.table)))
-    (subst (WasSaid said) (one_piece_said version fits) was))
+full_says orig log said root dst src version d s fits short was =
+    let records = map addition version.table in
+    let each = each_addition FitsEntry version.table fits.each in
+    let few : length records ≤ 1024 = omega (arith, short, length_mapped addition version.table) in
+    containers_say orig log said root 50 dst src (reply_containers (full_reply version)) d s (λ same. an_answer said true version records (reply_containers (full_reply version))
+    (reply_again (with_full response_flag true) version records fits each few)
+    (no_part_beside (with_full response_flag true) version records fits each few)
+    (subst (WasSaid said) (one_piece_said version short) was))
+
+-- what a part of one says, once it was said
+part_says : (orig : Mac) (log : Log) (said : List Saying) (root : ℕ) (dst src : Mac) (version : Version) (place : ℕ) → IsWhole dst → IsWhole src → FitsAnswer version.table → place < piece_count version.table
+    → WasSaid said (piece_of version place) → FrameSays orig log said root (spelling (Utvlv 50 dst src) (part_containers (numbered_part (full_reply version) place)))
+part_says orig log said root dst src version place d s fits below was =
+    subst (λ n. FrameSays orig log said root (spelling (Utvlv 50 dst src) (tail n (piece_at place (map addition version.table))))) (sym (count_mapped version.table))
+    (subst (λ rs. FrameSays orig log said root (spelling (Utvlv 50 dst src) (tail (piece_count version.table) rs))) (sym (piece_mapped place version.table))
+    (containers_say orig log said root 50 dst src (tail (piece_count version.table) (piece place version.table)) d s (λ same.
+    a_part said version place (piece_count version.table) (piece place version.table) (tail (piece_count version.table) (piece place version.table)) again was)))
+  where
+    tail : ℕ → List Change → List ℕ
+    tail count records = containers_spelling (part_container (told_part version place count records) ∷ [])
+
+    again : IsPartAgain version place (piece_count version.table) (piece place version.table) (tail (piece_count version.table) (piece place version.table))
+    again =
+        let few = few_pieces version.table fits.few in
+        part_again version place (piece_count version.table) (piece place version.table) fits (piece_of_table FitsEntry place version.table fits.each) (piece_short place version.table) (omega (arith, few, below)) (omega (arith, few))
 
 -- an answer by another node says nothing
 other_says : (orig : Mac) (log : Log) (said : List Saying) (root : ℕ) (dst src : Mac) (tail : List ℕ) → IsWhole dst → IsWhole src → src ≢ orig → FrameSays orig log said root (spelling (Utvlv 50 dst src) tail)
 other_says orig log said root dst src tail d s other = containers_say orig log said root 50 dst src tail d s (λ same. absurd (other same))
 
-own_full : (orig : Mac) (log : Log) (root : ℕ) (w : World) (me : Mac) (own : Own) (asker to : Mac) → Speaker orig w me own → IsWhole asker
-    → Sayable orig log root w (sent_to to None (Utvlv 50 asker me) (reply_containers (full_reply own.last)))
-own_full orig log root w me own asker to s whole y later = go (one_or_two me orig)
+-- containers that carry a piece can be said
+piece_sayable : (orig : Mac) (log : Log) (root : ℕ) (w : World) (dst src to : Mac) (version : Version) (place : ℕ) (tail : List ℕ) → IsWhole dst → IsWhole src → CanSay orig src w version → place < piece_count version.table
+    → ((said : List Saying) → WasSaid said (piece_of version place) → FrameSays orig log said root (spelling (Utvlv 50 dst src) tail)) → Sayable orig log root w (sent_to to None (Utvlv 50 dst src) tail)
+piece_sayable orig log root w dst src to version place tail d s can below says y later = go (one_or_two src orig)
   where
-    tail : List ℕ
-    tail = reply_containers (full_reply own.last)
+    Said : List Saying → Type 0
+    Said said = FrameSays orig log said root (spelling (Utvlv 50 dst src) tail)
 
-    go : (me ≡ orig) ⊎ (me ≢ orig) → Speaks y (λ said. FrameSays orig log said root (spelling (Utvlv 50 asker me) tail))
-    go (inr other) = silent y (λ said. FrameSays orig log said root (spelling (Utvlv 50 asker me) tail)) (other_says orig log y.said root asker me tail whole s.whole other)
-    go (inl same) = says_one y (λ said. FrameSays orig log said root (spelling (Utvlv 50 asker me) tail)) (piece_of own.last 0)
-        (answers_piece y own.last s.older 0 (later.commits ∙ s.commits same) (some_piece own.last s.fits))
-        (λ was. full_says orig log (piece_of own.last 0 ∷ y.said) root asker me own.last whole s.whole s.fits was)
+    go : (src ≡ orig) ⊎ (src ≢ orig) → Speaks y Said
+    go (inr other) = silent y Said (other_says orig log y.said root dst src tail d s other)
+    go (inl same) = says_one y Said (piece_of version place) (can y later same place below) (λ was. says (piece_of version place ∷ y.said) was)
+
+-- a whole table, in one piece or in parts
+full_row : (orig : Mac) (log : Log) (root : ℕ) (w : World) (next : Option Mac) (dst src : Mac) (version : Version) → IsWhole dst → IsWhole src → FitsAnswer version.table → CanSay orig src w version
+    → AllByRecursion (Sayable orig log root w) (flat_map (part_acts next src dst) (parts_of_reply (full_reply version)))
+full_row orig log root w next dst src version d s fits can =
+    each_flat (Sayable orig log root w) (part_acts next src dst) (parts_of_reply (full_reply version)) (go (nat_lt piece_size (length (map addition version.table))) refl)
+  where
+    One : ReplyPart → Type 0
+    One part = AllByRecursion (Sayable orig log root w) (part_acts next src dst part)
+
+    numbered : (place : ℕ) → place < 0 + piece_count (map addition version.table) → One (numbered_part (full_reply version) place)
+    numbered place lt =
+        let same = count_mapped version.table in
+        let below : place < piece_count version.table = omega (arith, lt, same) in
+        over_row orig log root w next (Utvlv 50 dst src) (part_containers (numbered_part (full_reply version) place)) (λ to.
+        piece_sayable orig log root w dst src to version place (part_containers (numbered_part (full_reply version) place)) d s can below (λ said was.
+        part_says orig log said root dst src version place d s fits below was))
+
+    go : (b : Bool) → nat_lt piece_size (length (map addition version.table)) ≡ b
+        → AllByRecursion One (cond b (map (numbered_part (full_reply version)) (places (piece_count (map addition version.table)))) (whole_part (full_reply version) ∷ []))
+    go true is = each_numbered One (numbered_part (full_reply version)) 0 (piece_count (map addition version.table)) numbered
+    go false is = (
+      over_row orig log root w next (Utvlv 50 dst src) (reply_containers (full_reply version)) (λ to.
+          piece_sayable orig log root w dst src to version 0 (reply_containers (full_reply version)) d s can (some_piece version.table) (λ said was.
+          full_says orig log said root dst src version d s fits (is_short version.table is) was)),
+      tt,
+    )
+
+-- ---- what the originator answers
+own_full : (orig : Mac) (log : Log) (root : ℕ) (w : World) (next : Option Mac) (me : Mac) (own : Own) (asker : Mac) → Speaker orig w me own → IsWhole asker
+    → AllByRecursion (Sayable orig log root w) (flat_map (part_acts next me asker) (parts_of_reply (full_reply own.last)))
+own_full orig log root w next me own asker s whole =
+    full_row orig log root w next asker me own.last whole s.whole s.fits (λ y later same place below. answers_piece y own.last s.older place (later.commits ∙ s.commits same) below)
 
 own_changes : (orig : Mac) (log : Log) (root : ℕ) (w : World) (me : Mac) (own : Own) (asker to : Mac) (changes : List Change) → Speaker orig w me own → IsWhole asker → own.told ≡ Some changes
     → Sayable orig log root w (sent_to to None (Utvlv 50 asker me) (reply_containers (changes_reply own.last changes)))
@@ -99,29 +176,33 @@ own_changes orig log root w me own asker to changes s whole told y later = go (o
     go : (me ≡ orig) ⊎ (me ≢ orig) → Speaks y (λ said. FrameSays orig log said root (spelling (Utvlv 50 asker me) tail))
     go (inr other) = silent y (λ said. FrameSays orig log said root (spelling (Utvlv 50 asker me) tail)) (other_says orig log y.said root asker me tail whole s.whole other)
     go (inl same) =
-        let few = (s.told_fit changes told).1 in
+        let each = (s.told_fit changes told).0 in
+        let at_most = (s.told_fit changes told).1 in
+        let few : length changes ≤ 1024 = omega (arith, at_most) in
         says_one y (λ said. FrameSays orig log said root (spelling (Utvlv 50 asker me) tail)) (differences_to own.last changes)
         (answers_changes y own.last s.older changes (later.commits ∙ s.commits same) (s.told_last same changes told))
         (λ was. containers_say orig log (differences_to own.last changes ∷ y.said) root 50 asker me tail whole s.whole (λ again.
         an_answer (differences_to own.last changes ∷ y.said) false own.last changes tail
-        (reply_again (with_full response_flag false) own.last changes s.fits (s.told_fit changes told).0 (omega (arith, few))) was))
+        (reply_again (with_full response_flag false) own.last changes s.fits each few)
+        (no_part_beside (with_full response_flag false) own.last changes s.fits each few) was))
 
-own_reply_said : (orig : Mac) (log : Log) (root : ℕ) (w : World) (me : Mac) (own : Own) (asker to : Mac) (full : Bool) (byte : ℕ) (told : Option (List Change)) → own.told ≡ told → Speaker orig w me own → IsWhole asker
-    → Sayable orig log root w (sent_to to None (Utvlv 50 asker me) (reply_containers (own_reply full byte own.last told)))
-own_reply_said orig log root w me own asker to full byte None is s whole = own_full orig log root w me own asker to s whole
-own_reply_said orig log root w me own asker to full byte (Some changes) is s whole = go (not full && (byte == own.last.byte))
+own_reply_row : (orig : Mac) (log : Log) (root : ℕ) (w : World) (next : Option Mac) (me : Mac) (own : Own) (asker : Mac) (full : Bool) (byte : ℕ) (told : Option (List Change)) → own.told ≡ told → Speaker orig w me own → IsWhole asker
+    → AllByRecursion (Sayable orig log root w) (flat_map (part_acts next me asker) (parts_of_reply (own_reply full byte own.last told)))
+own_reply_row orig log root w next me own asker full byte None is s whole = own_full orig log root w next me own asker s whole
+own_reply_row orig log root w next me own asker full byte (Some changes) is s whole = go (not full && (byte == own.last.byte))
   where
-    go : (b : Bool) → Sayable orig log root w (sent_to to None (Utvlv 50 asker me) (reply_containers (cond b (changes_reply own.last changes) (full_reply own.last))))
-    go true = own_changes orig log root w me own asker to changes s whole is
-    go false = own_full orig log root w me own asker to s whole
+    go : (b : Bool) → AllByRecursion (Sayable orig log root w) (flat_map (part_acts next me asker) (parts_of_reply (cond b (changes_reply own.last changes) (full_reply own.last))))
+    go true = each_flat (Sayable orig log root w) (part_acts next me asker) (whole_part (changes_reply own.last changes) ∷ []) (
+      over_row orig log root w next (Utvlv 50 asker me) (reply_containers (changes_reply own.last changes)) (λ to. own_changes orig log root w me own asker to changes s whole is),
+      tt,
+    )
+    go false = own_full orig log root w next me own asker s whole
 
 -- an answer to what a node is asked
 pub own_row : (orig : Mac) (log : Log) (root : ℕ) (w : World) (q : Queries) (me : Mac) (known : Knowledge) (now : ℕ) (own : Own) (asker : Mac) (message : TableMessage) → Speaker orig w me own → IsWhole asker
     → AllByRecursion (Sayable orig log root w) (own_answer q me known now own.last own.told asker message)
 unfolding own_answer
-own_row orig log root w q me known now own asker (Asks full stamp) s whole =
-    over_row orig log root w (q.route known.routes now asker) (Utvlv 50 asker me) (reply_containers (own_reply full stamp.byte own.last own.told))
-    (λ to. own_reply_said orig log root w me own asker to full stamp.byte own.told refl s whole)
+own_row orig log root w q me known now own asker (Asks full stamp) s whole = own_reply_row orig log root w (q.route known.routes now asker) me own asker full stamp.byte own.told refl s whole
 own_row orig log root w q me known now own asker (Answers stamp carried) s whole = tt
 own_row orig log root w q me known now own asker Neither s whole = tt
 
@@ -166,23 +247,23 @@ pub record Holder (orig : Mac) (w : World) (m : ℕ) (known : Knowledge) : Type 
   pub held : (w.nodes m).held ≡ (known_by known.tables orig).held
   pub fits : (version : Version) → (w.nodes m).held ≡ Some version → AllByRecursion FitsEntry version.table
 
-way_said : (orig : Mac) (log : Log) (root : ℕ) (w : World) (m : ℕ) (q : Queries) (known : Knowledge) (now : ℕ) (dst src to : Mac) (reply : Reply) → Holder orig w m known → IsWhole dst → IsWhole src
-    → IsOfHeld (known_at q known now dst).held reply → Sayable orig log root w (sent_to to None (Utvlv 50 src dst) (reply_containers reply))
-way_said orig log root w m q known now dst src to reply h d s of y later =
-    subst (λ (r : Reply). Speaks y (λ said. FrameSays orig log said root (spelling (Utvlv 50 src dst) (reply_containers r)))) (sym of.reply_is) (go (one_or_two dst orig))
+way_row : (orig : Mac) (log : Log) (root : ℕ) (w : World) (m : ℕ) (q : Queries) (known : Knowledge) (now : ℕ) (next : Option Mac) (dst src : Mac) (reply : Reply) → Holder orig w m known → IsWhole dst → IsWhole src
+    → IsOfHeld (known_at q known now dst).held reply → dst ≡ orig → AllByRecursion (Sayable orig log root w) (flat_map (part_acts next dst src) (parts_of_reply reply))
+way_row orig log root w m q known now next dst src reply h d s of same =
+    subst (λ (r : Reply). AllByRecursion (Sayable orig log root w) (flat_map (part_acts next dst src) (parts_of_reply r))) (sym of.reply_is)
+    (full_row orig log root w next src dst of.version s d (record { few = of.few; each = h.fits of.version at }) (λ y later is place below.
+    passes y m of.version place (ap (λ (nodes : ℕ → Rattle.mesh_laws.specs.Machine.World.Node). (nodes m).held) later.nodes ∙ at) below))
   where
-    tail : List ℕ
-    tail = reply_containers (full_reply of.version)
+    at : (w.nodes m).held ≡ Some of.version
+    at = h.held ∙ held_known (q.live known.routes now orig) (known_by known.tables orig) of.version (ap (λ o. (known_at q known now o).held) (sym same) ∙ of.is)
 
-    go : (dst ≡ orig) ⊎ (dst ≢ orig) → Speaks y (λ said. FrameSays orig log said root (spelling (Utvlv 50 src dst) tail))
-    go (inr other) = silent y (λ said. FrameSays orig log said root (spelling (Utvlv 50 src dst) tail)) (other_says orig log y.said root src dst tail s d other)
-    go (inl same) =
-        let known_is : (known_by known.tables orig).held ≡ Some of.version = held_known (q.live known.routes now orig) (known_by known.tables orig) of.version (ap (λ o. (known_at q known now o).held) (sym same) ∙ of.is) in
-        let at : (w.nodes m).held ≡ Some of.version = h.held ∙ known_is in
-        let fits : FitsAnswer of.version.table = record { few = of.few; each = h.fits of.version at } in
-        says_one y (λ said. FrameSays orig log said root (spelling (Utvlv 50 src dst) tail)) (piece_of of.version 0)
-        (passes y m of.version 0 (ap (λ (nodes : ℕ → Rattle.mesh_laws.specs.Machine.World.Node). (nodes m).held) later.nodes ∙ at) (some_piece of.version fits))
-        (λ was. full_says orig log (piece_of of.version 0 ∷ y.said) root src dst of.version s d fits was)
+-- an answer in the name of another originator says nothing of this one
+other_parts : (orig : Mac) (log : Log) (root : ℕ) (w : World) (next : Option Mac) (dst src : Mac) (reply : Reply) → IsWhole dst → IsWhole src → dst ≢ orig → AllByRecursion (Sayable orig log root w) (flat_map (part_acts next dst src) (parts_of_reply reply))
+other_parts orig log root w next dst src reply d s other =
+    each_flat (Sayable orig log root w) (part_acts next dst src) (parts_of_reply reply)
+    (each_of_any (λ part. AllByRecursion (Sayable orig log root w) (part_acts next dst src part)) (parts_of_reply reply) (λ part.
+    over_row orig log root w next (Utvlv 50 src dst) (part_containers part) (λ to y later.
+    silent y (λ said. FrameSays orig log said root (spelling (Utvlv 50 src dst) (part_containers part))) (other_says orig log y.said root src dst (part_containers part) s d other))))
 
 -- containers that are passed on say what they said
 passed_row : (orig : Mac) (log : Log) (root : ℕ) (w : World) (q : Queries) (known : Knowledge) (now ttl : ℕ) (dst src : Mac) (tail : List ℕ) → IsWhole dst → IsWhole src → (src ≡ orig → IsAnswered w.said tail)
@@ -203,8 +284,11 @@ other_row orig log root w m q known now ttl dst src tail h d s says =
   where
     go : (o : Option Reply) → ((reply : Reply) → o ≡ Some reply → IsOfHeld (known_at q known now dst).held reply) → AllByRecursion (Sayable orig log root w) (on_the_way q known now ttl dst src tail o)
     go None of = passed_row orig log root w q known now ttl dst src tail d s says
-    go (Some reply) of = over_row orig log root w (q.route known.routes now src) (Utvlv 50 src dst) (reply_containers reply)
-        (λ to. way_said orig log root w m q known now dst src to reply h d s (of reply refl))
+    go (Some reply) of = by_name (one_or_two dst orig)
+      where
+        by_name : (dst ≡ orig) ⊎ (dst ≢ orig) → AllByRecursion (Sayable orig log root w) (flat_map (part_acts (q.route known.routes now src) dst src) (parts_of_reply reply))
+        by_name (inl same) = way_row orig log root w m q known now (q.route known.routes now src) dst src reply h d s (of reply refl) same
+        by_name (inr other) = other_parts orig log root w (q.route known.routes now src) dst src reply d s other
 
 -- ---- originator messages
 -- a message that a node takes

@@ -1,6 +1,6 @@
 -- How a mesh is tied to a world of the table machine, for one originator: the commits are those in
 -- its log, every frame that was sent says what was said, and each node was told and holds what it
--- knows of the originator. The main word is `IsTied`.
+-- knows of the originator, and gathers parts that were said. The main word is `IsTied`.
 use Rattle.std.specs.Prelude.{◌≡◌, ◌≤◌, ◌<◌, ◌-◌, ◌^◌, ℕ, List, length, slice_get, Option, Some, None, ⊤}
 use Rattle.std.specs.List.{AllByRecursion}
 use Rattle.mesh_base.specs.declared.address.Mac.{Mac}
@@ -16,10 +16,13 @@ use Rattle.mesh_model.specs.Net.Due.{ticks_in}
 use Rattle.mesh_model.specs.Net.Mesh.{NodeLog, SentFrame, Mesh}
 use Rattle.mesh_model.specs.Packets.Bodies.{client_flags}
 use Rattle.mesh_model.specs.Routes.Queries.{Queries}
-use Rattle.mesh_model.specs.Tables.Known.{Known, LastTold, TableCall, Announced, Answered, Dropped, known_by}
-use Rattle.mesh_model.specs.Tables.Sums.{entry_sum}
-use Rattle.mesh_model.specs.Tables.Versions.{Version}
-use Rattle.mesh_laws.specs.Machine.World.{Node, Told, World, IsCommit, silent_node}
+use Rattle.mesh_model.specs.Tables.Gathered.{Gathered, records_at}
+use Rattle.mesh_model.specs.Tables.Known.{Known, LastTold, TableCall, Announced, Answered, Dropped, known_by, stamp_of}
+use Rattle.mesh_model.specs.Tables.Sums.{entry_sum, sum_at}
+use Rattle.mesh_model.specs.Tables.Versions.{Stamp, Version}
+use Rattle.mesh_model.specs.declared.table_change.Change.{Change}
+use Rattle.mesh_laws.specs.Machine.Moves.{PieceWasSaid}
+use Rattle.mesh_laws.specs.Machine.World.{Node, Saying, Told, World, IsCommit, silent_node}
 use Rattle.mesh_tvlv.specs.Laws.{FitsKey}
 use Rattle.mesh_tie.specs.Originators.{commits_of, log_of, number_at_root}
 use Rattle.mesh_tie.specs.Sayings.{FrameSays}
@@ -44,11 +47,20 @@ IsToldBy orig log frames (Some last) told = (frame : SentFrame)
       sums = last.stamp.sums;
     }))
 
--- the world's node was told and holds what a node knows
-pub record NodeIsTied (orig : Mac) (log : Log) (frames : List SentFrame) (known : Known)
-    (node : Node) : Type 0 where
+-- the parts that are gathered were said under the byte and sums that were told last, each by its
+-- number as a piece of so many
+abbrev pub GatheredWereSaid : List Saying → Option Stamp → Gathered → Type 0
+GatheredWereSaid said told gathered = (number : ℕ) (records : List Change) →
+    records_at number gathered ≡ Some records →
+    (wanted : Stamp) × (told ≡ Some wanted) × (number < gathered.count)
+    × PieceWasSaid said wanted.byte (sum_at wanted.sums) number gathered.count records
+
+-- the world's node was told and holds what a node knows, and what that gathers was said
+pub record NodeIsTied (orig : Mac) (log : Log) (frames : List SentFrame) (said : List Saying)
+    (known : Known) (node : Node) : Type 0 where
   pub held : node.held ≡ known.held
   pub told : IsToldBy orig log frames known.told node.told
+  pub gathered : GatheredWereSaid said (stamp_of known) known.gathered
 
 -- ---- the mesh
 pub record IsTied (queries : Mac → Queries) (orig : Mac) (mesh : Mesh) (world : World) : Type 0
@@ -57,7 +69,7 @@ pub record IsTied (queries : Mac → Queries) (orig : Mac) (mesh : Mesh) (world 
     pub frames : (place : ℕ) (frame : SentFrame) → slice_get mesh.frames place ≡ Some frame →
         FrameSays orig (log_of orig mesh.nodes) world.said frame.root frame.bytes
     pub nodes : (place : ℕ) (node : NodeLog) → slice_get mesh.nodes place ≡ Some node →
-        NodeIsTied orig (log_of orig mesh.nodes) mesh.frames
+        NodeIsTied orig (log_of orig mesh.nodes) mesh.frames world.said
         (known_by (known_at_node queries node).tables orig) (world.nodes place)
     pub absent : (place : ℕ) → slice_get mesh.nodes place ≡ None → world.nodes place ≡ silent_node
 

@@ -11,8 +11,8 @@ pub fn messages_announce_their_commits()
     ensures { MessagesAnnounce }
 {}
 
-/// Every answer carries a commit of its source in full, or the changes that lead to one, under that
-/// commit's byte and sums.
+/// Every answer carries a commit of its source in full, a piece of one by its number and of as many
+/// as it has, or the changes that lead to one, under that commit's byte and sums.
 pub fn answers_carry_commits()
     ensures { AnswersCarry }
 {}

@@ -1,5 +1,8 @@
-use Rattle.mesh_tie.proofs.RepairLemmas.{full_answers_repair}
+use Rattle.mesh_tie.proofs.RepairLemmas.{full_answers_repair, parts_repair}
 use Rattle.mesh_tie.proofs.held_laws.full_answers_repair.Goals as goal
 
-pub returns : goal.returns
-returns c = full_answers_repair
+pub returns-clause-whole : goal.returns-clause-whole
+returns-clause-whole c = full_answers_repair
+
+pub returns-clause-parts : goal.returns-clause-parts
+returns-clause-parts c = parts_repair
