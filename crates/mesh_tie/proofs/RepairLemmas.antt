@@ -1,9 +1,8 @@
 -- An answer in full from a commit that was told last is taken, in one piece or in parts.
-use Rattle.std.proofs.Common.{◌≡◌, ◌≤◌, ◌<◌, ℕ, map, sym, ap, subst, ◌∙◌, arith}
+use Rattle.std.proofs.Common.{◌≡◌, map, sym, ap, subst, ◌∙◌, arith}
 use Rattle.std.proofs.lemmas.Map.Keys.{IsDistinct-from_sorted}
 use Rattle.mesh_base.specs.KeyOrder.{key_order}
 use Rattle.mesh_base.specs.declared.client.Entry.{Entry}
-use Rattle.mesh_model.specs.Clients.Limits.{clients_limit}
 use Rattle.mesh_model.specs.Commits.History.{history}
 use Rattle.mesh_model.specs.Tables.Changes.{addition}
 use Rattle.mesh_model.specs.Tables.Pieces.{piece, piece_count}
@@ -13,7 +12,7 @@ use Rattle.mesh_laws.proofs.HeldLemmas.{commits_are_told_whole}
 use Rattle.mesh_laws.proofs.KnownLemmas.{full_answer_is_taken}
 use Rattle.mesh_laws.proofs.PartLemmas.{parts_are_taken}
 use Rattle.mesh_laws.proofs.PieceLemmas.{pieces_make_table, same_together, some_piece}
-use Rattle.mesh_laws.specs.KnownLaws.{ArePartsOf, HaveDistinctKeys, IsToldWhole}
+use Rattle.mesh_laws.specs.KnownLaws.{IsToldWhole}
 use Rattle.mesh_laws.specs.Machine.Pieces.{put_together}
 use Rattle.mesh_tie.specs.FullAnswers.{FullAnswersRepair, PartsRepair, full_part, parts_of_full}
 use Rattle.mesh_laws.specs.HeldLaws.{stamp_of_commit}

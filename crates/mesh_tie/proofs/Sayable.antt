@@ -11,9 +11,9 @@ use Rattle.mesh_model.specs.declared.packet.Head.TheVariants.{IvOgm, Bcast, Elp,
 use Rattle.mesh_model.specs.declared.table_change.Change.{Change}
 use Rattle.mesh_model.specs.Acts.Packing.{sent_over, sent_to, with_full}
 use Rattle.mesh_model.specs.Clients.Log.{Log}
-use Rattle.mesh_model.specs.Knowledge.Told.{Answers, carried_told, message_in, part_told}
+use Rattle.mesh_model.specs.Knowledge.Told.{Answers, carried_told}
 use Rattle.mesh_model.specs.Packets.Containers.{containers_of}
-use Rattle.mesh_model.specs.Packets.Contents.{first_part, first_table}
+use Rattle.mesh_model.specs.Packets.Contents.{first_part}
 use Rattle.mesh_model.specs.Net.Next.{Has}
 use Rattle.mesh_model.specs.Packets.FirstPacket.{Packet}
 use Rattle.mesh_model.specs.Packets.Layout.{spelling}

@@ -1,6 +1,6 @@
 -- What is put of a table is read again: an announcement, an answer; a request and an advertisement
 -- are no answers.
-use Rattle.std.proofs.Common.{◌≡◌, ◌⊎◌, inl, inr, ◌≤◌, ◌<◌, ◌+◌, ◌*◌, ◌/◌, ◌%◌, ℕ, suc, Bool, true, false, cond, List, [], ◌∷◌, ◌++◌, ◌==◌, filter, filter_map, length, map, flat_map, refl, sym, ap, ap₂, ◌∙◌, append_assoc, arith, Option, Some, None, nat_lt, length-append}
+use Rattle.std.proofs.Common.{◌≡◌, inl, inr, ◌≤◌, ◌<◌, ◌+◌, ◌*◌, ◌/◌, ◌%◌, ℕ, suc, Bool, true, false, cond, List, [], ◌∷◌, ◌++◌, ◌==◌, filter, filter_map, length, map, flat_map, refl, sym, ap, ap₂, ◌∙◌, append_assoc, arith, Option, Some, None, nat_lt, length-append}
 use Rattle.std.specs.List.{All, AllByRecursion, cons_option}
 use Rattle.std.proofs.lemmas.List.Elements.{All-append, All-from_recursion, All-cons, All-nil}
 use Rattle.std.proofs.lemmas.Grind.{flat_map-append}
@@ -13,12 +13,12 @@ use Rattle.mesh_model.specs.Acts.OwnContainers.{arp_table_container, arp_table_p
 use Rattle.mesh_model.specs.Acts.Packing.{part_container, request_containers, request_flags, roaming_container, table_container, table_told, with_full}
 use Rattle.mesh_model.specs.Clients.Settings.{GatewayPart, NoPart, Serves, Chooses, Settings}
 use Rattle.mesh_model.specs.Commits.Announcements.{record_of_change}
-use Rattle.mesh_model.specs.Knowledge.Told.{Answers, Neither, TableMessage, carried_told, change_told, message_changes, message_in, part_told, stamp_told, table_message}
+use Rattle.mesh_model.specs.Knowledge.Told.{Answers, Neither, carried_told, change_told, message_changes, message_in, part_told, stamp_told, table_message}
 use Rattle.mesh_model.specs.Packets.Bodies.{TtChange, TtData, TtPart, VlanSum, change_of, entry_of_change, tt_data, vlans_size}
 use Rattle.mesh_model.specs.Packets.BodySpellings.{change_spelling, tt_part_spelling, tt_spelling, vlan_spelling}
 use Rattle.mesh_model.specs.Packets.Containers.{Container, FitsLength, container_spelling, containers_of, containers_spelling}
 use Rattle.mesh_model.specs.Packets.Contents.{first_of, first_part, first_table, is_of, table_of_body}
-use Rattle.mesh_model.specs.Packets.Numbers.{full_table_flag, ogm_diff_flag, response_flag, tt_tvlv, tvlv_version}
+use Rattle.mesh_model.specs.Packets.Numbers.{ogm_diff_flag, response_flag, tt_tvlv, tvlv_version}
 use Rattle.mesh_model.specs.Tables.Judging.{Carried, InPart}
 use Rattle.mesh_model.specs.Tables.Sums.{sums_of}
 use Rattle.mesh_model.specs.Tables.Versions.{Stamp, Version}
