@@ -66,17 +66,17 @@ pub byte_small : (orig : Mac) (mesh : Mesh) (version : Version) → IsCommit (co
 byte_small orig mesh version is = small_one (commits_of orig mesh) is.0 version (commits_small orig (log_of orig mesh.nodes)) is.1
 
 -- ---- tables
-first_short : (number : ℕ) (version : Version) → commit_numbered number (first_commit ∷ []) ≡ Some version → length version.table ≤ 1024
+first_short : (number : ℕ) (version : Version) → commit_numbered number (first_commit ∷ []) ≡ Some version → length version.table ≤ 4096
 first_short number version is = go (number == 0) is
   where
-    go : (b : Bool) → cond b (Some first_commit) None ≡ Some version → length version.table ≤ 1024
-    go true e = let same : first_commit ≡ version = cc in subst (λ (v : Version). length v.table ≤ 1024) same (omega arith)
+    go : (b : Bool) → cond b (Some first_commit) None ≡ Some version → length version.table ≤ 4096
+    go true e = let same : first_commit ≡ version = cc in subst (λ (v : Version). length v.table ≤ 4096) same (omega arith)
     go false e = cc
 
-pub table_short : (algorithm : Algorithm) (mesh : Mesh) → IsReachable (queries_of algorithm) mesh → (orig : Mac) (version : Version) → IsCommit (commits_of orig mesh) version → length version.table ≤ 1024
+pub table_short : (algorithm : Algorithm) (mesh : Mesh) → IsReachable (queries_of algorithm) mesh → (orig : Mac) (version : Version) → IsCommit (commits_of orig mesh) version → length version.table ≤ 4096
 table_short algorithm mesh r orig version is = go (among_or_none orig mesh.nodes)
   where
-    go : IsAmong mesh.nodes orig ⊎ (log_of orig mesh.nodes ≡ []) → length version.table ≤ 1024
+    go : IsAmong mesh.nodes orig ⊎ (log_of orig mesh.nodes ≡ []) → length version.table ≤ 4096
     go (inl a) =
         let q = queries_of algorithm in
         let all = reached q (algorithms_keep algorithm) mesh r in

@@ -10,15 +10,15 @@ use Rattle.mesh_model.specs.declared.link_frame.TvlvErr.{TvlvErr}
 use Rattle.mesh_model.specs.declared.link_frame.TvlvErr.TheVariants.{Cut, BadLength}
 use Rattle.mesh_model.specs.declared.packet.Head.{Head}
 use Rattle.mesh_model.specs.declared.packet.Head.TheVariants.{IvOgm, Bcast, Elp, Ogm2, Unicast, Frag, Unicast4, Icmp, Utvlv}
-use Rattle.mesh_model.specs.Packets.Bodies.{Bandwidth, TtChange, TtData}
+use Rattle.mesh_model.specs.Packets.Bodies.{Bandwidth, TtChange, TtData, TtPart}
 use Rattle.mesh_model.specs.Packets.Containers.{Container}
 use Rattle.mesh_model.specs.Packets.Contents.{Content, content_of, sound_containers}
-use Rattle.mesh_model.specs.Packets.Contents.Content.{gateway, translation, roaming, multicast, unread}
+use Rattle.mesh_model.specs.Packets.Contents.Content.{gateway, translation, part, roaming, multicast, unread}
 use Rattle.mesh_model.specs.Packets.FirstPacket.{Packet}
 use Rattle.mesh_model.specs.Packets.LinkFrame.{LinkFrame, link_frame}
 use Rattle.mesh_model.specs.Packets.Shapes.{TailKind, shape_of, iv_ogm, bcast, elp, ogm2, unicast, frag, unicast4, icmp, utvlv}
 use Rattle.mesh_model.specs.Packets.Shapes.TailKind.{containers, all_the_rest, nothing}
-use Rattle.mesh_model.specs.Text.ContainerLines.{change_line, container_line, container_lines, container_start, content_lines, gateway_line, multicast_line, plain_line, roaming_line, table_start}
+use Rattle.mesh_model.specs.Text.ContainerLines.{change_line, container_line, container_lines, container_start, content_lines, gateway_line, multicast_line, part_start, plain_line, roaming_line, rows_of_table, table_start}
 use Rattle.mesh_model.specs.Text.Decode.{bad_container_line, bad_packet_line, decode_lines, ending_lines, frame_lines, packet_lines, rest_line, tail_lines}
 use Rattle.mesh_model.specs.Text.PacketLines.{named_address, named_flags, named_number, packet_line}
 use Rattle.mesh_model.specs.Text.Tables.{vid_text, vlan_line}
@@ -87,15 +87,40 @@ table_told c table = container_told c
     (named_flags (codes " flags=") table.flags ∷ named_number (codes " ttvn=") table.ttvn ∷ named_number (codes " vlans=") (length table.vlans) ∷ named_number (codes " changes=") (length table.changes) ∷ [])
     (byte_flags (codes " flags=") table.flags refl, (number (codes " ttvn=") table.ttvn refl, (number (codes " vlans=") (length table.vlans) refl, (number (codes " changes=") (length table.changes) refl, tt))))
 
+part_told : (c : Container) (one : TtPart) → Told of_other (part_start c one)
+unfolding part_start
+part_told c one = container_told c
+    (named_flags (codes " flags=") one.table.flags ∷ named_number (codes " ttvn=") one.table.ttvn ∷ named_number (codes " vlans=") (length one.table.vlans) ∷ named_number (codes " part=") one.number ∷ named_number (codes " of=") one.count
+    ∷ named_number (codes " changes=") (length one.table.changes) ∷ []) (
+      byte_flags (codes " flags=") one.table.flags refl,
+      (
+        number (codes " ttvn=") one.table.ttvn refl,
+        (
+          number (codes " vlans=") (length one.table.vlans) refl,
+          (
+            number (codes " part=") one.number refl,
+            (
+              number (codes " of=") one.count refl,
+              (number (codes " changes=") (length one.table.changes) refl, tt),
+            ),
+          ),
+        ),
+      ),
+    )
+
 change_told : (change : TtChange) → Told of_other (change_line change)
 unfolding change_line
 change_told change = told of_other (named_flags (codes "change ") change.flags ∷ named_address (codes " ") change.key.mac ∷ codes " " ∷ vid_text change.key.vid ∷ [])
     (byte_flags (codes "change ") change.flags refl, (mac (codes " ") change.key.mac refl, (said (codes " ") refl, (unbroken_word (vid_text change.key.vid) (vid_word change.key.vid), tt)))) refl
 
+rows_other : (table : TtData) → AllOther (rows_of_table table)
+rows_other table = other_both (map vlan_line table.vlans) (map change_line table.changes) (other_map vlan_line vlan_told table.vlans) (other_map change_line change_told table.changes)
+
 content_other : (c : Container) (o : Option Content) → AllOther (content_lines c o)
 content_other c None = tt
 content_other c (Some (gateway b)) = (gateway_told c b, tt)
-content_other c (Some (translation table)) = (table_told c table, other_both (map vlan_line table.vlans) (map change_line table.changes) (other_map vlan_line vlan_told table.vlans) (other_map change_line change_told table.changes))
+content_other c (Some (translation table)) = (table_told c table, rows_other table)
+content_other c (Some (part one)) = (part_told c one, rows_other one.table)
 content_other c (Some (roaming key)) = (roaming_told c key, tt)
 content_other c (Some (multicast flags)) = (multicast_told c flags, tt)
 content_other c (Some unread) = (plain_told c, tt)

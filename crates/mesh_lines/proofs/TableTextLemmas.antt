@@ -196,7 +196,7 @@ ok_lines_are_committed choice lines text plain f before after orig held told ent
     low : of.commit.byte < 2 ^ 8
     low = byte_small source.part.row.orig run.state.mesh of.commit of.is_commit
 
-    short : length of.commit.table ≤ 1024
+    short : length of.commit.table ≤ 4096
     short = table_short run.state.algorithm run.state.mesh (lines_hold (start choice) committed.done (first_holds choice)).reachable source.part.row.orig of.commit of.is_commit
 
     held_same : of.commit.byte ≡ held
