@@ -6,15 +6,16 @@ use Rattle.std.proofs.lemmas.List.{append-nil}
 use Rattle.std.proofs.lemmas.List.Sums.{take_while-cons}
 use Rattle.mesh_model.specs.declared.link_frame.Ending.{Ending}
 use Rattle.mesh_model.specs.declared.link_frame.TvlvErr.{TvlvErr}
-use Rattle.mesh_model.specs.Packets.Bodies.{TtData}
+use Rattle.mesh_model.specs.Packets.Bodies.{TtData, TtPart}
 use Rattle.mesh_model.specs.Packets.Containers.{Container, containers_of}
 use Rattle.mesh_model.specs.Packets.Contents.{Content, content_of, is_long_enough}
-use Rattle.mesh_model.specs.Packets.Contents.Content.{translation}
+use Rattle.mesh_model.specs.Packets.Contents.Content.{part, translation}
 use Rattle.mesh_model.specs.Packets.FirstPacket.{Packet}
 use Rattle.mesh_model.specs.Packets.LinkFrame.{LinkFrame, link_frame, only_ending, put_before}
 use Rattle.mesh_model.specs.Text.Tables.{vlan_line}
-use Rattle.mesh_model.specs.Text.ContainerLines.{table_start, change_line, content_lines, container_lines}
+use Rattle.mesh_model.specs.Text.ContainerLines.{table_start, part_start, change_line, content_lines, container_lines, rows_of_table}
 use Rattle.mesh_model.specs.Text.Decode.{decode_text, ending_lines, frame_lines, packet_lines}
+use Rattle.mesh_tvlv.specs.Translation.{table_and_place}
 use Rattle.mesh_tvlv.specs.Walk.{Walk, walk_over, to_come}
 use Rattle.batctl_text.specs.Inner.Parts.{Grows}
 use Rattle.batctl_text.specs.Inner.Printed.{IsPrinted}
@@ -34,22 +35,41 @@ grows-trans old text new grown more = grows-more old text new more.more grown mo
 
 -- ---- a translation table
 
+-- a first line, and the lines of the VLANs and the records
+rows_printed : (old head first second new : List ℕ) (table : TtData) → first ≡ old ++ head → second ≡ first ++ flat_map vlan_line table.vlans → new ≡ second ++ flat_map change_line table.changes
+    → new ≡ old ++ (head ++ concat (rows_of_table table))
+rows_printed old head first second new table start vlans changes =
+    let middle = flat_map vlan_line table.vlans in
+    let last = flat_map change_line table.changes in
+    let lines : concat (map vlan_line table.vlans ++ map change_line table.changes) ≡ middle ++ last =
+    concat-append (map vlan_line table.vlans) (map change_line table.changes) ∙ ap₂ (λ (a b : List ℕ). a ++ b) (concat-map vlan_line table.vlans) (concat-map change_line table.changes) in
+    changes ∙ ap (λ (t : List ℕ). t ++ last) (vlans ∙ ap (λ (t : List ℕ). t ++ middle) start)
+    ∙ ap (λ (t : List ℕ). t ++ last) (append_assoc old head middle) ∙ append_assoc old (head ++ middle) last
+    ∙ ap (λ (t : List ℕ). old ++ t) (append_assoc head middle last ∙ ap (λ (t : List ℕ). head ++ t) (sym lines))
+
 pub table_printed : (old first second new : List ℕ) (container : Container) (body : Option TtData) (fault : TvlvErr) (table : TtData) → Ok table ≡ ok_or body fault
     → first ≡ old ++ table_start container table → second ≡ first ++ flat_map vlan_line table.vlans → new ≡ second ++ flat_map change_line table.changes
     → IsPrinted old new container (option_map translation body) true
 table_printed old first second new container None fault table is start vlans changes = absurd cc
 table_printed old first second new container (Some told) fault table is start vlans changes =
     let same : told ≡ table = cc in
-    let head = table_start container table in
-    let middle = flat_map vlan_line table.vlans in
-    let last = flat_map change_line table.changes in
-    let lines : concat (map vlan_line table.vlans ++ map change_line table.changes) ≡ middle ++ last =
-    concat-append (map vlan_line table.vlans) (map change_line table.changes) ∙ ap₂ (λ (a b : List ℕ). a ++ b) (concat-map vlan_line table.vlans) (concat-map change_line table.changes) in
     record {
       whole_is = refl;
-      text_is = rw same (changes ∙ ap (λ (t : List ℕ). t ++ last) (vlans ∙ ap (λ (t : List ℕ). t ++ middle) start)
-          ∙ ap (λ (t : List ℕ). t ++ last) (append_assoc old head middle) ∙ append_assoc old (head ++ middle) last
-          ∙ ap (λ (t : List ℕ). old ++ t) (append_assoc head middle last ∙ ap (λ (t : List ℕ). head ++ t) (sym lines)));
+      text_is = rw same (rows_printed old (table_start container table) first second new table start vlans changes);
+    }
+
+pub part_printed : (old first second new : List ℕ) (container : Container) (body : Option TtPart) (fault : TvlvErr) (table : TtData) (number count : ℕ)
+    → Ok (table, number, count) ≡ ok_or (option_map table_and_place body) fault
+    → first ≡ old ++ part_start container (record { table = table; number = number; count = count }) → second ≡ first ++ flat_map vlan_line table.vlans
+    → new ≡ second ++ flat_map change_line table.changes → IsPrinted old new container (option_map part body) true
+part_printed old first second new container None fault table number count is start vlans changes = absurd cc
+part_printed old first second new container (Some told) fault table number count is start vlans changes =
+    let places : table_and_place told ≡ (table, number, count) = cc in
+    let same : told ≡ record { table = table; number = number; count = count } =
+    ap (λ (p : TtData × ℕ × ℕ). let one : TtPart = record { table = p.0; number = p.1; count = p.2 } in one) places in
+    record {
+      whole_is = refl;
+      text_is = rw same (rows_printed old (part_start container (record { table = table; number = number; count = count })) first second new table start vlans changes);
     }
 
 -- ---- containers

@@ -1,9 +1,9 @@
 //! The lines of a container, by its type and version.
 
 ghost use Rattle.std.specs.Prelude.{◌≡◌, ◌++◌, IfOk, OnOk, OnErr, Some, option_map, slice_get, flat_map};
-ghost use Rattle.mesh_model.specs.Packets.Bodies.{gateway_of_body, multicast_of_body, roaming_of_body};
+ghost use Rattle.mesh_model.specs.Packets.Bodies.{gateway_of_body, multicast_of_body, part_of_body, roaming_of_body};
 ghost use Rattle.mesh_model.specs.Packets.Contents.{content_of, table_of_body};
-ghost use Rattle.mesh_model.specs.Packets.Contents.Content.{gateway, translation, roaming, multicast, unread};
+ghost use Rattle.mesh_model.specs.Packets.Contents.Content.{gateway, translation, part, roaming, multicast, unread};
 ghost use Rattle.mesh_model.specs.Text.ContainerLines.{change_line};
 ghost use Rattle.mesh_model.specs.Text.Tables.{vlan_line};
 ghost use Rattle.mesh_tvlv.specs.Walk.{seen};
@@ -11,11 +11,14 @@ ghost use Rattle.batctl_text.specs.Inner.Parts.{Grows};
 ghost use Rattle.batctl_text.specs.Inner.Printed.{IsPrinted, flags_and_client};
 
 use crate::container_line::{
-    change_line, gateway_line, multicast_line, plain_line, roaming_line, table_start, vlan_line,
+    change_line, gateway_line, multicast_line, part_start, plain_line, roaming_line, table_start,
+    vlan_line,
 };
 use mesh_base::{Key, NoMemory};
-use mesh_tvlv::layout::{GATEWAY, MULTICAST, MULTICAST_VERSION, ROAMING, TT, VERSION};
-use mesh_tvlv::{Container, TtView, read_gw, read_mcast, read_roam, read_tt};
+use mesh_tvlv::layout::{
+    GATEWAY, MULTICAST, MULTICAST_VERSION, ROAMING, TT, TT_PART_VERSION, VERSION,
+};
+use mesh_tvlv::{Container, TtView, read_gw, read_mcast, read_roam, read_tt, read_tt_part};
 
 // Appends the lines of the VLANs of a translation table.
 fn put_vlans(out: &mut Vec<u8>, table: &TtView<'_>) -> Result<(), NoMemory>
@@ -120,6 +123,21 @@ fn put_table(out: &mut Vec<u8>, container: &Container<'_>) -> Result<bool, NoMem
     Ok(true)
 }
 
+// Appends the lines of a part of a translation table. Answers whether it is long enough.
+fn put_part(out: &mut Vec<u8>, container: &Container<'_>) -> Result<bool, NoMemory>
+    ensures ok { IfOk result (λ whole. IsPrinted out.old.items out.new.items (seen container.now)
+        (option_map part (part_of_body container.now.body.now)) whole) }
+    ensures err { OnErr result (Grows out.old.items out.new.items) }
+{
+    let Ok((table, number, count)) = read_tt_part(container.body) else {
+        return Ok(false);
+    };
+    part_start(out, container, &table, number, count)?;
+    put_vlans(out, &table)?;
+    put_changes(out, &table)?;
+    Ok(true)
+}
+
 /// Appends the lines of a container, of which there are none where it is too short for its type.
 /// Answers whether it is long enough.
 pub fn put_container(out: &mut Vec<u8>, container: &Container<'_>) -> Result<bool, NoMemory>
@@ -130,6 +148,7 @@ pub fn put_container(out: &mut Vec<u8>, container: &Container<'_>) -> Result<boo
     match (container.kind, container.version) {
         (GATEWAY, VERSION) => put_gateway(out, container),
         (TT, VERSION) => put_table(out, container),
+        (TT, TT_PART_VERSION) => put_part(out, container),
         (ROAMING, VERSION) => put_roaming(out, container),
         (MULTICAST, MULTICAST_VERSION) => put_multicast(out, container),
         _ => put_plain(out, container),

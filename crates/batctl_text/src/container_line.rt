@@ -1,7 +1,7 @@
 //! The lines of containers.
 
 ghost use Rattle.std.specs.Prelude.{◌≡◌, ◌++◌, OnOk, OnErr};
-ghost use Rattle.mesh_model.specs.Text.ContainerLines.{container_start, plain_line, gateway_line, roaming_line, multicast_line, table_start, change_line};
+ghost use Rattle.mesh_model.specs.Text.ContainerLines.{container_start, plain_line, gateway_line, roaming_line, multicast_line, table_start, part_start, change_line};
 ghost use Rattle.mesh_model.specs.Text.Tables.{vlan_line};
 ghost use Rattle.mesh_tvlv.specs.Walk.{seen};
 ghost use Rattle.batctl_text.specs.Inner.Parts.{part_text};
@@ -103,6 +103,33 @@ pub fn table_start(
             Flags(b" flags=", table.flags()),
             Number(b" ttvn=", u64::from(table.ttvn())),
             Number(b" vlans=", table.vlans() as u64),
+            Number(b" changes=", table.changes() as u64),
+        ],
+    )
+}
+
+/// Appends the first line of a part of a translation table, with its number, of so many.
+#[tactic(auto, unfolding(mesh_model::specs::Text::ContainerLines::part_start))]
+pub fn part_start(
+    out: &mut Vec<u8>,
+    container: &Container<'_>,
+    table: &TtView<'_>,
+    number: u16,
+    count: u16,
+) -> Result<(), NoMemory>
+    ensures ok { OnOk result (out.new.items ≡ out.old.items ++ part_start (seen container.now)
+        (record { table = table.now; number = number; count = count })) }
+    ensures err { OnErr result (out.new.items ≡ out.old.items) }
+{
+    put_line(
+        out,
+        &[
+            start(container),
+            Flags(b" flags=", table.flags()),
+            Number(b" ttvn=", u64::from(table.ttvn())),
+            Number(b" vlans=", table.vlans() as u64),
+            Number(b" part=", u64::from(number)),
+            Number(b" of=", u64::from(count)),
             Number(b" changes=", table.changes() as u64),
         ],
     )

@@ -5,11 +5,12 @@ use mesh_base::NoMemory;
 use std::alloc::Global;
 use std::test::Fail;
 
-/// A container of each type: gateway, ARP table, translation table with two VLANs and two changes,
-/// roaming, multicast.
+/// A container of each type: gateway, ARP table, translation table with two VLANs and two changes, a
+/// part of one, roaming, multicast.
 const CONTAINERS: &str = "01010008000000640000001402010000\
     0401002c0105000281a0d31400000000529adaa980070000\
-    00000000020000000101000010000000020000000102800705010008020000000101800706020004\
+    0000000002000000010100001000000002000000010280070402001c1405000100010002\
+    81a0d3140000000000000000020000000101000005010008020000000101800706020004\
     05000000";
 
 /// Their text.
@@ -20,11 +21,14 @@ const CONTAINER_LINES: &str = "tvlv 1 version=1 len=8 down=100 up=20\n\
     vlan 7 sum=529adaa9\n\
     change 00 02:00:00:00:01:01 -\n\
     change 10 02:00:00:00:01:02 7\n\
+    tvlv 4 version=2 len=28 flags=14 ttvn=5 vlans=1 part=1 of=2 changes=1\n\
+    vlan - sum=81a0d314\n\
+    change 00 02:00:00:00:01:01 -\n\
     tvlv 5 version=1 len=8 mac=02:00:00:00:01:01 vid=7\n\
     tvlv 6 version=2 len=4 flags=05\n";
 
-/// Where lengths stand in them: that of each, and how many VLANs the third has.
-const CONTAINER_LENGTHS: [usize; 6] = [2, 14, 18, 22, 66, 78];
+/// Where lengths stand in them: that of each, and how many VLANs the third and the fourth have.
+const CONTAINER_LENGTHS: [usize; 8] = [2, 14, 18, 22, 66, 70, 98, 110];
 
 /// A packet, without its containers.
 #[derive(Clone, Copy)]
@@ -42,11 +46,11 @@ struct Packet {
 /// A packet of each kind.
 const PACKETS: [Packet; 9] = [
     Packet {
-        hex: "000f32000000000102000000000a02000000000a00ff0054",
+        hex: "000f32000000000102000000000a02000000000a00ff0074",
         containers: Some(24),
         length: Some(22),
         line: "packet iv_ogm ttl=50 flags=00 seq=1 orig=02:00:00:00:00:0a \
-            prev=02:00:00:00:00:0a tq=255 tvlv=84\n",
+            prev=02:00:00:00:00:0a tq=255 tvlv=116\n",
     },
     Packet {
         hex: "010f32000000000102000000000affffffffffff02000000010188b56869",
@@ -61,10 +65,10 @@ const PACKETS: [Packet; 9] = [
         line: "packet elp orig=02:00:00:00:00:0b seq=3 interval=500\n",
     },
     Packet {
-        hex: "040f32000000000402000000000a0054ffffffff",
+        hex: "040f32000000000402000000000a0074ffffffff",
         containers: Some(20),
         length: Some(14),
-        line: "packet ogm2 ttl=50 flags=00 seq=4 orig=02:00:00:00:00:0a tvlv=84 tp=4294967295\n",
+        line: "packet ogm2 ttl=50 flags=00 seq=4 orig=02:00:00:00:00:0a tvlv=116 tp=4294967295\n",
     },
     Packet {
         hex: "400f320502000000000b02000000010102000000010288b56869",
@@ -93,10 +97,10 @@ const PACKETS: [Packet; 9] = [
         line: "packet icmp ttl=50 msg=8 dst=02:00:00:00:00:0b orig=02:00:00:00:00:0a uid=1 seq=1\n",
     },
     Packet {
-        hex: "440f320002000000000b02000000000a00540000",
+        hex: "440f320002000000000b02000000000a00740000",
         containers: Some(20),
         length: Some(16),
-        line: "packet utvlv ttl=50 dst=02:00:00:00:00:0b src=02:00:00:00:00:0a tvlv=84\n",
+        line: "packet utvlv ttl=50 dst=02:00:00:00:00:0b src=02:00:00:00:00:0a tvlv=116\n",
     },
 ];
 
