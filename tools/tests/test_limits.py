@@ -7,7 +7,7 @@ from scenarios import (
     DUO, client, finished, frame, limited, node_mac, run_bytes, run_lines, text_of,
 )
 
-CLIENTS = 1024
+CLIENTS = 4096
 VLANS = 16
 NODES = 64
 LINKS = 512

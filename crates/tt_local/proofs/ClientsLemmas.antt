@@ -1,5 +1,6 @@
 -- What a list of clients by key says of the present clients, and how a mention changes it.
 use Rattle.std.proofs.Common.{map, filter_map, ◌≡◌, ◌↔◌, ◌≤◌, IsNone, IsSome, ◌+◌, length, slice_get, arith, ℕ, ◌-◌, Bool, true, false, cond, not, ◌&&◌, List, ◌∷◌, [], IfSome, Option, Some, None, option_and_then, option_map, refl, sym, ap, ap₂, subst, ◌∙◌}
+use Rattle.std.specs.List.{cons_option}
 use Rattle.std.specs.List.Sorted.{IsStrictlySortedBy}
 use Rattle.std.specs.Option.{option_or}
 use Rattle.std.proofs.lemmas.Cmp.{eq_by_cmp_equiv}
@@ -67,6 +68,21 @@ rows_kept clients mentions since now stands late =
     present_from_rows now mentions (client_rows now clients)
     (rows_sorted now clients stands.ordered)
     (λ q. row_in_rows now clients stands.ordered q ∙ row_kept clients mentions since now stands late q)
+
+-- what is taken of each that is found
+found_mapped : {X Y Z : Type 0} (f : X → Option Y) (g : Y → Z) (xs : List X) → filter_map (λ x. option_map g (f x)) xs ≡ map g (filter_map f xs)
+found_mapped f g [] = refl
+found_mapped f g (x ∷ xs) = elim (f x) as (λ o. cons_option (option_map g o) (filter_map (λ x. option_map g (f x)) xs) ≡ map g (cons_option o (filter_map f xs))) [
+  | None ↦ found_mapped f g xs
+  | Some y ↦ ap (λ zs. g y ∷ zs) (found_mapped f g xs)
+]
+
+-- the VLANs of the clients that are present are those of the present clients
+pub vids_kept : (clients : List (Key × Client)) (mentions : List Mention) (since now : ℕ) → ClientsStand clients mentions since → since ≤ now
+    → filter_map (λ e. option_map (λ row. row.entry.key.vid) (client_row now e.0 e.1)) clients ≡ map (λ row. row.entry.key.vid) (present_clients mentions now)
+vids_kept clients mentions since now stands late =
+    found_mapped (λ (e : Key × Client). client_row now e.0 e.1) (λ (row : LocalRow). row.entry.key.vid) clients
+    ∙ ap (map (λ (row : LocalRow). row.entry.key.vid)) (rows_kept clients mentions since now stands late)
 
 -- no clients are in order
 pub none_in_order : AreInOrder []

@@ -1,10 +1,10 @@
-ghost use Rattle.std.specs.Prelude.{◌≡◌, None};
+ghost use Rattle.std.specs.Prelude.{◌≡◌, None, option_map};
 ghost use Rattle.tt_local.specs.Clients.{client_row, with_sighting};
 ghost use Rattle.tt_local.specs.Moments.{moment_of};
 ghost use Rattle.tt_local.specs.Roster.{is_aged};
 
 use crate::sighting::{Sighting, counts};
-use mesh_base::{Entry, Key, Millis};
+use mesh_base::{Entry, Key, Millis, Vid};
 use mesh_model::LocalRow;
 
 /// What is known of a client: its last sighting, and whether it is a joined group.
@@ -24,6 +24,13 @@ impl Client {
             return Some(LocalRow { entry, age: None });
         }
         self.sighting?.row(now, key)
+    }
+
+    /// The VLAN of the client of this key, where it is present.
+    pub(crate) fn vid(self, now: Millis, key: Key) -> Option<Vid>
+        ensures { result ≡ option_map (λ row. row.entry.key.vid) (client_row now key self) }
+    {
+        self.row(now, key).map(|row| row.entry.key.vid)
     }
 
     /// The moment of its last sighting.

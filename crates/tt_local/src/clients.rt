@@ -1,4 +1,4 @@
-ghost use Rattle.std.specs.Prelude.{◌≡◌, ◌+◌, ◌<◌, ◌≤◌, ◌^◌, ◌↔◌, ℕ, List, [], length, option_and_then, true, if◌then◌else◌, slice_get, None, Some, IfOk, OnOk, OnErr, IsNone, IsOk, IsSome};
+ghost use Rattle.std.specs.Prelude.{◌≡◌, ◌+◌, ◌<◌, ◌≤◌, ◌^◌, ◌↔◌, ℕ, List, [], length, map, option_and_then, true, if◌then◌else◌, slice_get, None, Some, IfOk, OnOk, OnErr, IsNone, IsOk, IsSome};
 ghost use Rattle.mesh_base.specs.declared.client.Key.{Key};
 ghost use Rattle.mesh_model.specs.Clients.Mentions.{Mention, Sighted, Departed, Roamed, Joined, Left};
 ghost use Rattle.mesh_model.specs.Clients.Present.{present_clients, present_row};
@@ -12,7 +12,7 @@ use crate::moments::Moments;
 use crate::pending::Pending;
 use crate::sighting::Sighting;
 use indexmap::IndexMap;
-use mesh_base::{Key, Millis, NoMemory};
+use mesh_base::{Key, Millis, NoMemory, Vid};
 use mesh_model::LocalRow;
 use std::alloc::Global;
 use std::marker::Model;
@@ -257,5 +257,22 @@ impl Clients {
             .filter_map(|(key, client)| client.row(now, *key))
             .collect(alloc)?;
         Ok(rows)
+    }
+
+    /// The VLANs of the present clients, in the order of their keys.
+    pub(crate) fn vids(&self, alloc: Global, now: Millis) -> Result<Vec<Vid>, NoMemory>
+        ensures are { IfOk result (λ vids. (mentions : List Mention) (since : ℕ) →
+            ClientsStand self.now mentions since → since ≤ now →
+            vids.items ≡ map (λ row. row.entry.key.vid) (present_clients mentions now)) }
+        ensures count { IfOk result (λ vids. (mentions : List Mention) (since : ℕ) →
+            ClientsStand self.now mentions since → since ≤ now →
+            length vids.items ≡ length (present_clients mentions now)) }
+    {
+        let vids = self
+            .map
+            .iter()
+            .filter_map(|(key, client)| client.vid(now, *key))
+            .collect(alloc)?;
+        Ok(vids)
     }
 }

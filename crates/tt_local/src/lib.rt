@@ -21,5 +21,5 @@ mod sighting;
 mod vlans;
 
 pub use failure::LocalErr;
-pub use locals::Locals;
+pub use locals::{CLIENTS_LIMIT, Locals};
 pub use mesh_model::LocalRow;

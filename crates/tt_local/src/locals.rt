@@ -16,7 +16,7 @@ use std::alloc::Global;
 use std::marker::Model;
 
 /// The most clients that are present at once.
-const CLIENTS_LIMIT: usize = 1_024;
+pub const CLIENTS_LIMIT: usize = 4_096;
 
 /// The most VLANs that clients are present in at once.
 const VLANS_LIMIT: usize = 16;
@@ -160,11 +160,11 @@ impl Locals {
         if self.row(now, key).is_some() {
             return Ok(());
         }
-        let rows = self.rows(self.alloc, now)?;
-        if rows.len() >= CLIENTS_LIMIT {
+        let vids = self.roster.clients.vids(self.alloc, now)?;
+        if vids.len() >= CLIENTS_LIMIT {
             return Err(LocalErr::Clients);
         }
-        if count_vlans(self.alloc, rows.as_slice(), key.vid)? > VLANS_LIMIT {
+        if count_vlans(self.alloc, vids.as_slice(), key.vid)? > VLANS_LIMIT {
             return Err(LocalErr::Vlans);
         }
         Ok(())

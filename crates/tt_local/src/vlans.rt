@@ -1,32 +1,30 @@
-ghost use Rattle.std.specs.Prelude.{◌≡◌, ◌∷◌, [], List, IfOk, OnOk, length, map};
+ghost use Rattle.std.specs.Prelude.{◌≡◌, ◌∷◌, [], List, IfOk, OnOk, length};
 ghost use Rattle.mesh_base.specs.declared.client.Vid.{Vid};
 ghost use Rattle.mesh_model.specs.Clients.Limits.{distinct_vids};
 ghost use Rattle.tt_local.specs.Vlans.{AreVlansOf};
 
 use mesh_base::{NoMemory, Vid};
-use mesh_model::LocalRow;
 use std::alloc::Global;
 
-/// How many VLANs the clients of these rows and one more client are in.
-pub(crate) fn count_vlans(alloc: Global, rows: &[LocalRow], vid: Vid) -> Result<usize, NoMemory>
-    ensures { IfOk result (λ count. count
-        ≡ length (distinct_vids (vid ∷ map (λ row. row.entry.key.vid) rows.now))) }
+/// How many VLANs these and one more are.
+pub(crate) fn count_vlans(alloc: Global, vids: &[Vid], vid: Vid) -> Result<usize, NoMemory>
+    ensures { IfOk result (λ count. count ≡ length (distinct_vids (vid ∷ vids.now))) }
 {
-    let mut vids = Vec::new(alloc);
-    for i in (0..rows.len()).rev() {
-        name(&mut vids, rows[i].entry.key.vid)?;
+    let mut named = Vec::new(alloc);
+    for i in (0..vids.len()).rev() {
+        name(&mut named, vids[i])?;
     }
-    name(&mut vids, vid)?;
-    Ok(vids.len())
+    name(&mut named, vid)?;
+    Ok(named.len())
 }
 
 // Names a VLAN, where it isn't named yet.
-fn name(vids: &mut Vec<Vid>, vid: Vid) -> Result<(), NoMemory>
-    ensures { (before : List Vid) → AreVlansOf vids.old.items before →
-        OnOk result (AreVlansOf vids.new.items (vid ∷ before)) }
+fn name(named: &mut Vec<Vid>, vid: Vid) -> Result<(), NoMemory>
+    ensures { (before : List Vid) → AreVlansOf named.old.items before →
+        OnOk result (AreVlansOf named.new.items (vid ∷ before)) }
 {
-    if !vids.contains(&vid) {
-        vids.push(vid)?;
+    if !named.contains(&vid) {
+        named.push(vid)?;
     }
     Ok(())
 }
