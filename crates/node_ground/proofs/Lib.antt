@@ -9,3 +9,4 @@ pub mod AsksLemmas
 pub mod PairLemmas
 pub mod HolderLemmas
 pub mod OwnLemmas
+pub mod PieceRooms

@@ -1,9 +1,10 @@
 -- A packet that can be written: its containers aren't longer than its header can tell, and it has a
--- tail only where its kind has one. And an answer whose containers aren't longer. The main words
--- are `IsWritable` and `FitsPacket`.
-use Rattle.std.specs.Prelude.{◌≡◌, ◌≤◌, ◌+◌, ◌*◌, ℕ, List, [], length, ⊤}
+-- tail only where its kind has one. And an answer whose containers aren't longer, whole or in parts.
+-- The main words are `IsWritable`, `FitsPacket` and `FitsParts`.
+use Rattle.std.specs.Prelude.{◌≡◌, ◌≤◌, ◌+◌, ◌*◌, ℕ, false, List, [], length, ⊤}
 use Rattle.mesh_codec.specs.Encoding.{FitsFragment, longest_containers}
 use Rattle.mesh_model.specs.declared.packet.Head.{Head}
+use Rattle.mesh_model.specs.Clients.Limits.{clients_limit}
 use Rattle.mesh_model.specs.Packets.Shapes.{TailKind, shape_of}
 use Rattle.mesh_model.specs.Packets.Shapes.TailKind.{containers, all_the_rest, nothing}
 use Rattle.mesh_model.specs.Tables.Answers.{Reply}
@@ -23,3 +24,10 @@ pub record IsWritable (head : Head) (tail : List ℕ) : Type 0 where
 abbrev pub FitsPacket : Reply → Type 0
 FitsPacket reply =
     8 + 8 * length reply.stamp.sums + 12 * length reply.records ≤ longest_containers
+
+-- each packet of an answer, whole or a part, isn't longer: a part has 4 bytes more and at most 1,024
+-- records, and changes are no more than that
+pub record FitsParts (reply : Reply) : Type 0 where
+  pub sums : 12 + 8 * length reply.stamp.sums + 12 * 1024 ≤ longest_containers
+  pub few : length reply.records ≤ clients_limit
+  pub changes : reply.full ≡ false → length reply.records ≤ 1024

@@ -1,18 +1,23 @@
--- What one container tells a node: a translation table, a client that roamed, or a part of an
--- offer. No public clause cites this module.
+-- What one container tells a node: a translation table or a part of one, a client that roamed, or a
+-- part of an offer. No public clause cites this module.
 use Rattle.std.specs.Option.{option_or}
 use Rattle.std.specs.Prelude.{ℕ, ◌||◌, Option, None, if◌then◌else◌}
 use Rattle.mesh_base.specs.declared.client.Key.{Key}
 use Rattle.mesh_model.specs.Knowledge.Served.{Offer}
-use Rattle.mesh_model.specs.Packets.Bodies.{Bandwidth, TtData, gateway_of_body, multicast_of_body, roaming_of_body}
+use Rattle.mesh_model.specs.Packets.Bodies.{Bandwidth, TtData, TtPart, gateway_of_body, multicast_of_body, part_of_body, roaming_of_body}
 use Rattle.mesh_model.specs.Packets.Containers.{Container}
 use Rattle.mesh_model.specs.Packets.Contents.{table_of_body, is_of}
-use Rattle.mesh_model.specs.Packets.Numbers.{dat_tvlv, gateway_tvlv, multicast_tvlv, multicast_version, roaming_tvlv, tt_tvlv, tvlv_version}
+use Rattle.mesh_model.specs.Packets.Numbers.{dat_tvlv, gateway_tvlv, multicast_tvlv, multicast_version, roaming_tvlv, tt_part_version, tt_tvlv, tvlv_version}
 
 -- the translation table that a container is, where it can be read
 abbrev pub table_in : Container → Option TtData
 table_in container =
     if is_of tt_tvlv tvlv_version container then table_of_body container.body else None
+
+-- the part of a translation table that a container is, where it can be read
+abbrev pub part_in : Container → Option TtPart
+part_in container =
+    if is_of tt_tvlv tt_part_version container then part_of_body container.body else None
 
 -- the client that a container advertises, where it is an advertisement that can be read
 abbrev pub client_in : Container → Option Key

@@ -1,15 +1,18 @@
 //! The containers that a node makes.
 
-ghost use Rattle.std.specs.Prelude.{◌≡◌, ◌≤◌, ◌+◌, ◌*◌, ◌∷◌, ◌++◌, [], ℕ, length, flat_map, map, IfOk, OnOk, OnErr};
+ghost use Rattle.std.specs.Prelude.{◌≡◌, ◌≤◌, ◌<◌, ◌+◌, ◌*◌, ◌∷◌, ◌++◌, [], ℕ, length, flat_map, map, IfOk, OnOk, OnErr};
+ghost use Rattle.mesh_model.specs.Clients.Limits.{clients_limit};
 ghost use Rattle.mesh_model.specs.Commits.Announcements.{record_of_change};
 ghost use Rattle.mesh_model.specs.Acts.OwnContainers.{arp_table_part, gateway_part, multicast_part, own_containers};
-ghost use Rattle.mesh_model.specs.Acts.Packing.{reply_containers, request_containers, request_flags, table_container, table_told, with_full};
+ghost use Rattle.mesh_model.specs.Acts.Packing.{part_container, part_containers, reply_containers, request_containers, request_flags, table_container, table_told, with_full};
 ghost use Rattle.mesh_model.specs.Acts.TableRows.{is_within_limits};
-ghost use Rattle.mesh_model.specs.Packets.BodySpellings.{change_spelling, gateway_spelling, tt_spelling, vlan_spelling};
+ghost use Rattle.mesh_model.specs.Packets.BodySpellings.{change_spelling, gateway_spelling, tt_part_spelling, tt_spelling, vlan_spelling};
 ghost use Rattle.mesh_model.specs.Packets.Containers.{containers_spelling};
 ghost use Rattle.mesh_model.specs.Packets.Numbers.{ogm_diff_flag, response_flag};
+ghost use Rattle.mesh_model.specs.Tables.Answers.{numbered_part};
+ghost use Rattle.mesh_model.specs.Tables.Pieces.{piece_at, piece_count};
 ghost use Rattle.mesh_serv.specs.OffersStand.{bandwidth};
-ghost use Rattle.node_ground.specs.Sending.{FitsPacket};
+ghost use Rattle.node_ground.specs.Sending.{FitsPacket, FitsParts};
 ghost use Rattle.node_ground.specs.SettingsSeen.{part_seen, settings_seen};
 ghost use Rattle.tt_global.specs.Kept.{stamp, stamp_in};
 ghost use Rattle.tt_sync.specs.Answers.{answer_in};
@@ -18,19 +21,20 @@ ghost use Rattle.tt_table.specs.Sums.{named_sums};
 use crate::settings::{GatewayPart, Settings};
 use byteorder::{BigEndian, ByteOrder};
 use mesh_base::NoMemory;
-use mesh_model::Request;
+use mesh_model::{Change, Request};
 use mesh_serv::Bandwidth;
 use mesh_tvlv::layout::{
     DAT, FULL_TABLE, GATEWAY, MULTICAST, MULTICAST_VERSION, OGM_DIFF, REQUEST, RESPONSE, TT,
-    VERSION,
+    TT_PART_VERSION, VERSION,
 };
-use mesh_tvlv::{write_change, write_container, write_tt_head, write_vlan};
+use mesh_tvlv::{write_change, write_container, write_tt_head, write_tt_part_head, write_vlan};
 use std::alloc::Global;
+use tt_local::CLIENTS_LIMIT;
 use tt_sync::Reply;
-use tt_table::{Announcement, Changes, Sums, Table};
+use tt_table::{Announcement, Sums, Table};
 
-/// The most clients that a node has.
-const CLIENTS_LIMIT: usize = 1_024;
+/// The most records of an answer with a whole table that go in one packet.
+pub const PIECE_SIZE: usize = 1_024;
 
 /// The most VLANs that a node's clients are in.
 const VLANS_LIMIT: usize = 16;
@@ -54,16 +58,14 @@ fn put_vlans(out: &mut Vec<u8>, sums: &Sums) -> Result<(), NoMemory>
 }
 
 // Appends the records of a translation table.
-fn put_records(out: &mut Vec<u8>, changes: &Changes) -> Result<(), NoMemory>
+fn put_records(out: &mut Vec<u8>, changes: &[Change]) -> Result<(), NoMemory>
     ensures ok { OnOk result (out.new.items
         ≡ out.old.items ++ flat_map change_spelling (map record_of_change changes.now)) }
     ensures longer { OnOk result (length out.new.items
         ≡ length out.old.items + 12 * length changes.now) }
 {
-    for i in 0..changes.len() {
-        if let Some(change) = changes.at(i) {
-            write_change(out, &change.entry, change.del)?;
-        }
+    for change in changes {
+        write_change(out, &change.entry, change.del)?;
     }
     Ok(())
 }
@@ -74,7 +76,7 @@ fn table_body(
     flags: u8,
     byte: u8,
     sums: &Sums,
-    records: &Changes,
+    records: &[Change],
 ) -> Result<Vec<u8>, NoMemory>
     requires { length (named_sums sums.now) ≤ 65535 }
     ensures body { IfOk result (λ body. body.items
@@ -96,7 +98,7 @@ pub fn put_table(
     flags: u8,
     byte: u8,
     sums: &Sums,
-    records: &Changes,
+    records: &[Change],
 ) -> Result<(), NoMemory>
     requires { 4 + 8 * length (named_sums sums.now) + 12 * length records.now ≤ 65535 }
     ensures ok { OnOk result (out.new.items ≡ out.old.items ++ containers_spelling
@@ -134,14 +136,7 @@ pub fn request_containers(
     let mut containers = Vec::new(alloc);
     let flags = request_flags(request);
     let Announcement { byte, sums, .. } = announced;
-    put_table(
-        alloc,
-        &mut containers,
-        flags,
-        *byte,
-        sums,
-        &Changes::new(alloc),
-    )?;
+    put_table(alloc, &mut containers, flags, *byte, sums, &[])?;
     Ok(containers)
 }
 
@@ -213,7 +208,14 @@ pub fn own_containers(
     let mut containers = Vec::new(alloc);
     put_gateway(&mut containers, settings.gateway)?;
     put_arp_table(&mut containers, settings.arp_table)?;
-    put_table(alloc, &mut containers, OGM_DIFF, *byte, sums, changes)?;
+    put_table(
+        alloc,
+        &mut containers,
+        OGM_DIFF,
+        *byte,
+        sums,
+        changes.as_slice(),
+    )?;
     put_multicast(&mut containers, settings.multicast)?;
     Ok(containers)
 }
@@ -243,7 +245,82 @@ pub fn reply_containers(alloc: Global, reply: &Reply) -> Result<Vec<u8>, NoMemor
     } = reply;
     let mut containers = Vec::new(alloc);
     let flags = reply_flags(*full);
-    put_table(alloc, &mut containers, flags, *byte, sums, records)?;
+    put_table(
+        alloc,
+        &mut containers,
+        flags,
+        *byte,
+        sums,
+        records.as_slice(),
+    )?;
+    Ok(containers)
+}
+
+// The body of a part of a translation table, by its number, of so many.
+fn part_body(
+    alloc: Global,
+    reply: &Reply,
+    records: &[Change],
+    number: u16,
+    count: u16,
+) -> Result<Vec<u8>, NoMemory>
+    requires { length (named_sums reply.now.sums) ≤ 65535 }
+    ensures body { IfOk result (λ body. body.items ≡ tt_part_spelling (record {
+      table = table_told (with_full response_flag reply.now.full)
+          (stamp reply.now.byte reply.now.sums) records.now;
+      number = number;
+      count = count;
+    })) }
+    ensures long { IfOk result (λ body. length body.items
+        ≡ 8 + 8 * length (named_sums reply.now.sums) + 12 * length records.now) }
+{
+    let mut body = Vec::new(alloc);
+    let Reply {
+        full,
+        byte,
+        sums,
+        ..
+    } = reply;
+    let flags = reply_flags(*full);
+    write_tt_part_head(&mut body, flags, *byte, sums.len() as u16, number, count)?;
+    put_vlans(&mut body, sums)?;
+    put_records(&mut body, records)?;
+    Ok(body)
+}
+
+/// How many parts an answer with a whole table has.
+#[tactic(auto, unfolding(mesh_model::specs::Tables::Pieces::piece_count))]
+pub fn part_count(reply: &Reply) -> u16
+    requires { length reply.now.records ≤ clients_limit }
+    ensures { result ≡ piece_count (answer_in reply.now).records }
+{
+    let count = (reply.records.len() + (PIECE_SIZE - 1)) / PIECE_SIZE;
+    1_usize.max(count) as u16
+}
+
+// The piece at a place of records.
+#[tactic(auto, unfolding(mesh_model::specs::Tables::Pieces::piece_size))]
+fn piece_at(records: &[Change], place: usize) -> &[Change]
+    requires { place * PIECE_SIZE ≤ length records.now }
+    ensures is { result.now ≡ piece_at place records.now }
+    ensures few { length result.now ≤ PIECE_SIZE }
+{
+    let rest = &records[place * PIECE_SIZE..];
+    &rest[..PIECE_SIZE.min(rest.len())]
+}
+
+/// The containers of the part of an answer with a number.
+pub fn part_containers(alloc: Global, reply: &Reply, number: u16) -> Result<Vec<u8>, NoMemory>
+    requires parts { FitsParts (answer_in reply.now) }
+    requires within { number < piece_count (answer_in reply.now).records }
+    ensures ok { IfOk result (λ bytes. bytes.items
+        ≡ part_containers (numbered_part (answer_in reply.now) number)) }
+    ensures fits { IfOk result (λ bytes. length bytes.items ≤ 65535) }
+{
+    let records = piece_at(reply.records.as_slice(), usize::from(number));
+    let body = part_body(alloc, reply, records, number, part_count(reply))?;
+    let mut containers = Vec::new(alloc);
+    write_container(&mut containers, TT, TT_PART_VERSION, body.as_slice())?;
     Ok(containers)
 }
 

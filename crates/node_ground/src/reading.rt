@@ -3,21 +3,26 @@
 ghost use Rattle.std.specs.Prelude.{◌≡◌, IfOk, option_map};
 ghost use Rattle.mesh_model.specs.Knowledge.Told.{message_changes, sums_told};
 ghost use Rattle.mesh_model.specs.Packets.Containers.{containers_of};
-ghost use Rattle.mesh_model.specs.Packets.Contents.{first_roaming, first_table, is_of};
+ghost use Rattle.mesh_model.specs.Packets.Contents.{first_part, first_roaming, first_table, is_of};
 ghost use Rattle.mesh_model.specs.Packets.Numbers.{dat_tvlv, tvlv_version};
 ghost use Rattle.mesh_model.specs.Knowledge.Served.{offer_in};
 ghost use Rattle.mesh_serv.specs.OffersStand.{bandwidth, offered};
 ghost use Rattle.mesh_model.specs.Routes.Ogm.{has_flag};
 ghost use Rattle.node_ground.specs.Reading.{Tells};
-ghost use Rattle.node_ground.specs.Tables.{client_in, gateway_in, multicast_in, table_in, with_container};
+ghost use Rattle.node_ground.specs.Tables.{client_in, gateway_in, multicast_in, part_in, table_in, with_container};
+ghost use Rattle.mesh_tvlv.specs.Translation.{table_and_place};
 ghost use Rattle.mesh_tvlv.specs.Walk.{seen};
 ghost use Rattle.tt_table.specs.Sums.{named_sums};
 
 use mesh_base::{Key, NoMemory};
 use mesh_model::Change;
 use mesh_serv::{Bandwidth, Offer};
-use mesh_tvlv::layout::{DAT, GATEWAY, MULTICAST, MULTICAST_VERSION, ROAMING, TT, VERSION};
-use mesh_tvlv::{Container, TtView, TvlvIter, read_gw, read_mcast, read_roam, read_tt};
+use mesh_tvlv::layout::{
+    DAT, GATEWAY, MULTICAST, MULTICAST_VERSION, ROAMING, TT, TT_PART_VERSION, VERSION,
+};
+use mesh_tvlv::{
+    Container, TtView, TvlvIter, read_gw, read_mcast, read_roam, read_tt, read_tt_part,
+};
 use std::alloc::Global;
 use tt_table::{Announcement, Changes, Sums};
 
@@ -39,6 +44,31 @@ pub fn first_table(bytes: &[u8]) -> Option<TtView<'_>>
     while let Some(Ok(container)) = walk.next() {
         if let Some(table) = table_in(&container) {
             return Some(table);
+        }
+    }
+    None
+}
+
+// The part of a translation table in a container, with its number and how many there are, where it
+// is one that can be read.
+fn part_in<'a>(container: &Container<'a>) -> Option<(TtView<'a>, u16, u16)>
+    ensures { result ≡ option_map table_and_place (part_in (seen container.now)) }
+{
+    if container.kind != TT || container.version != TT_PART_VERSION {
+        return None;
+    }
+    read_tt_part(container.body).ok()
+}
+
+/// The first part of a translation table in containers that can be read, with its number and how
+/// many there are.
+pub fn first_part(bytes: &[u8]) -> Option<(TtView<'_>, u16, u16)>
+    ensures { result ≡ option_map table_and_place (first_part (containers_of bytes.now)) }
+{
+    let mut walk = TvlvIter::new(bytes);
+    while let Some(Ok(container)) = walk.next() {
+        if let Some(part) = part_in(&container) {
+            return Some(part);
         }
     }
     None
