@@ -1,27 +1,31 @@
 -- What is known once an announcement came.
-use Rattle.std.proofs.Common.{◌≡◌, ℕ, Bool, true, List, ◌∷◌, refl, sym, ap, ◌∙◌, Option, Some, None}
-use Rattle.std.specs.Prelude.{is_some, is_none, ◌&&◌, if◌then◌else◌}
+use Rattle.std.proofs.Common.{◌≡◌, ℕ, Bool, true, false, List, ◌∷◌, refl, sym, ap, ◌∙◌, Option, Some, None}
+use Rattle.std.specs.Prelude.{is_some, is_none, option_map, ◌&&◌, if◌then◌else◌}
+use Rattle.std.proofs.lemmas.Option.{same_Some}
 use Rattle.mesh_base.specs.declared.address.Mac.{Mac}
 use Rattle.mesh_model.specs.declared.table_outcome.Request.{Request}
 use Rattle.mesh_model.specs.declared.table_change.Change.{Change}
 use Rattle.mesh_model.specs.Knowledge.Known.{Knowledge, agreed_byte}
 use Rattle.mesh_model.specs.Knowledge.Steps.{Coming, after_announcement, after_answer, asked_by_request, may_ask, released_under, request_out, with_head, with_offered}
 use Rattle.mesh_model.specs.Knowledge.Served.{offer_in}
-use Rattle.mesh_model.specs.Knowledge.Told.{Answers, carried_told, message_changes, stamp_told}
+use Rattle.mesh_model.specs.Knowledge.Told.{Answers, Neither, carried_told, message_changes, part_told, stamp_told}
 use Rattle.mesh_model.specs.Marks.Calls.{Calls}
 use Rattle.mesh_model.specs.Marks.Requests.{too_soon}
-use Rattle.mesh_model.specs.Packets.Bodies.{TtData}
+use Rattle.mesh_model.specs.Packets.Bodies.{TtData, TtPart}
 use Rattle.mesh_model.specs.Packets.Containers.{containers_of}
 use Rattle.mesh_model.specs.declared.packet.Head.{Head}
+use Rattle.mesh_model.specs.Packets.Numbers.{full_table_flag, response_flag}
+use Rattle.mesh_model.specs.Routes.Ogm.{has_flag}
 use Rattle.mesh_model.specs.Routes.Queries.{Queries}
 use Rattle.mesh_model.specs.Routes.RouteLog.{RouteLog, HeadCame}
 use Rattle.node_ground.specs.declared.knowledge.NodeKnowledge.{NodeKnowledge}
 use Rattle.node_ground.specs.KnowledgeStands.{KnowledgeStands}
-use Rattle.mesh_model.specs.Tables.Judging.{announcement_row, wanted_request}
+use Rattle.mesh_model.specs.Tables.Judging.{InPart, announcement_row, wanted_request}
 use Rattle.mesh_model.specs.Tables.Known.{Announced, Answered, known_by}
 use Rattle.mesh_model.specs.Tables.Versions.{Stamp}
 use Rattle.mesh_serv.specs.OffersStand.{OffersStand}
 use Rattle.mesh_serv.specs.declared.offers.Offer.{Offer}
+use Rattle.mesh_tvlv.specs.Translation.{table_and_place}
 use Rattle.node_ground.specs.Reading.{Tells, message}
 use Rattle.tt_global.specs.Kept.{stamp_in}
 use Rattle.tt_table.specs.declared.announcement.Announcement.{Announcement}
@@ -100,6 +104,42 @@ offer_noted stands kept offers me orig tail known is noted = record {
     store = is.services.store;
   };
 }
+
+-- what is known once a part of an answer came
+pub part_is : (q : Queries) (now : ℕ) (orig : Mac) (number count : ℕ) (part : Announcement) (table : TtData) (known : Knowledge) → Tells part table → q.live known.routes now orig ≡ true
+    → released_more orig (record known { tables = Answered orig (stamp_in part) (InPart number count part.changes) ∷ known.tables })
+    ≡ after_answer q now orig (Answers (stamp_told table) (InPart number count (message_changes table))) known
+part_is q now orig number count part table known tells live =
+    let here : Stamp → List Change → Knowledge = λ s cs. released_more orig (record known { tables = Answered orig s (InPart number count cs) ∷ known.tables }) in
+    ap (λ s. here s part.changes) tells.stamp ∙ ap (λ cs. here (stamp_told table) cs) tells.changes
+    ∙ sym (ap (λ b. if b then here (stamp_told table) (message_changes table) else known) live)
+
+-- the part in containers, by its table, its number and how many there are
+part_from : (o : Option TtPart) (table : TtData) (number count : ℕ) → Some (table, number, count) ≡ option_map table_and_place o → o ≡ Some (record { table = table; number = number; count = count })
+part_from None table number count is = absurd cc
+part_from (Some part) table number count is =
+    ap (λ (p : TtData × ℕ × ℕ). Some (record { table = p.0; number = p.1; count = p.2 })) (sym (same_Some (table, number, count) (table_and_place part) is))
+
+none_from : (o : Option TtPart) → None ≡ option_map table_and_place o → o ≡ None
+none_from None is = refl
+none_from (Some part) is = absurd cc
+
+-- what is known once a part came, where it is one of an answer with a whole table, and where it isn't
+pub part_taken : (q : Queries) (now : ℕ) (orig : Mac) (o : Option TtPart) (table : TtData) (number count : ℕ) (known : Knowledge) → Some (table, number, count) ≡ option_map table_and_place o
+    → (has_flag response_flag table.flags && has_flag full_table_flag table.flags) ≡ true
+    → after_answer q now orig (Answers (stamp_told table) (InPart number count (message_changes table))) known ≡ after_answer q now orig (part_told o) known
+part_taken q now orig o table number count known is flags =
+    ap (λ b. after_answer q now orig (if b then Answers (stamp_told table) (InPart number count (message_changes table)) else Neither) known) (sym flags)
+    ∙ ap (λ p. after_answer q now orig (part_told p) known) (sym (part_from o table number count is))
+
+pub part_passed : (q : Queries) (now : ℕ) (orig : Mac) (o : Option TtPart) (table : TtData) (number count : ℕ) (known : Knowledge) → Some (table, number, count) ≡ option_map table_and_place o
+    → (has_flag response_flag table.flags && has_flag full_table_flag table.flags) ≡ false → known ≡ after_answer q now orig (part_told o) known
+part_passed q now orig o table number count known is flags =
+    ap (λ b. after_answer q now orig (if b then Answers (stamp_told table) (InPart number count (message_changes table)) else Neither) known) (sym flags)
+    ∙ ap (λ p. after_answer q now orig (part_told p) known) (sym (part_from o table number count is))
+
+pub no_part : (q : Queries) (now : ℕ) (orig : Mac) (o : Option TtPart) (known : Knowledge) → None ≡ option_map table_and_place o → known ≡ after_answer q now orig (part_told o) known
+no_part q now orig o known is = ap (λ p. after_answer q now orig (part_told p) known) (sym (none_from o is))
 
 -- what is known once an answer came, with the byte, the sums and the changes that it tells
 pub answered_is : (q : Queries) (now : ℕ) (orig : Mac) (full told_full : Bool) (answered : Announcement) (table : TtData) (known : Knowledge) → Tells answered table → full ≡ told_full

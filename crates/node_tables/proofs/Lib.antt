@@ -2,4 +2,5 @@
 pub mod KnownLemmas
 pub mod OgmLemmas
 pub mod WayLemmas
+pub mod ReplyLemmas
 pub mod TickLemmas

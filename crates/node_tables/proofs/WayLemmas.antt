@@ -1,27 +1,26 @@
 -- What a node answers a request with: on the way the table that is held, where it has the asked byte
 -- and sums; and that its answers fit a packet.
-use Rattle.mesh_model.specs.Packets.Numbers.{first_ttl}
 use Rattle.std.proofs.Common.{◌≡◌, ◌≤◌, ◌+◌, ◌*◌, ℕ, suc, Bool, true, false, List, [], ◌∷◌, length, refl, sym, ap, subst, ◌∙◌, arith, Option, Some, None, Result, Ok, Err, Ordering, Less, Equal, Greater}
 use Rattle.std.specs.Prelude.{◌==◌, ◌&&◌, not, nat_le, map, if◌then◌else◌}
 use Rattle.std.specs.Ordering.{match_ordering, nat_cmp}
-use Rattle.std.proofs.lemmas.Bool.{leb-true}
+use Rattle.std.proofs.lemmas.Bool.{leb-true, true≢false}
 use Rattle.std.proofs.lemmas.List.{length-map}
 use Rattle.mesh_base.specs.declared.address.Mac.{Mac}
 use Rattle.mesh_base.specs.declared.client.Entry.{Entry}
 use Rattle.mesh_base.specs.declared.client.Vid.{Vid}
 use Rattle.mesh_model.specs.declared.table_change.Change.{Change}
 use Rattle.mesh_model.specs.declared.table_outcome.Difference.{Difference}
-use Rattle.mesh_model.specs.declared.packet.Head.TheVariants.{Utvlv}
-use Rattle.mesh_model.specs.Acts.Packing.{reply_containers, sent_over}
 use Rattle.mesh_model.specs.Acts.Rows.{Own}
-use Rattle.mesh_model.specs.Acts.TableRows.{held_within, is_within_limits, own_answer}
+use Rattle.mesh_model.specs.Acts.TableRows.{held_within, is_within_limits, on_the_way, other_containers, own_answer, way_reply}
 use Rattle.mesh_model.specs.Clients.Limits.{clients_limit}
 use Rattle.mesh_model.specs.Commits.Announcements.{carried_changes, if_few, told_changes}
 use Rattle.mesh_model.specs.Commits.History.{History, is_first, last_changes}
 use Rattle.mesh_model.specs.Commits.Versions.{last_commit}
 use Rattle.mesh_model.specs.Knowledge.Known.{Knowledge, known_at}
-use Rattle.mesh_model.specs.Knowledge.Told.{Asks}
+use Rattle.mesh_model.specs.Knowledge.Told.{Asks, message_in}
 use Rattle.mesh_model.specs.Packets.Bodies.{VlanSum}
+use Rattle.mesh_model.specs.Packets.Containers.{containers_of}
+use Rattle.mesh_model.specs.Packets.Contents.{first_table}
 use Rattle.mesh_model.specs.Routes.Queries.{Queries}
 use Rattle.mesh_model.specs.Tables.Answers.{NotHeld, Reply, changes_reply, full_reply, held_reply, other_answer, own_reply, reply_in, unless_asked_differs}
 use Rattle.mesh_model.specs.Tables.Changes.{addition}
@@ -29,7 +28,8 @@ use Rattle.mesh_model.specs.Tables.Differences.{first_difference}
 use Rattle.mesh_model.specs.Tables.Known.{known_by, nothing}
 use Rattle.mesh_model.specs.Tables.Sums.{checksums, insert_vlan, sums_of, vlans_of}
 use Rattle.mesh_model.specs.Tables.Versions.{Stamp, Version}
-use Rattle.node_ground.specs.Sending.{FitsPacket}
+use Rattle.node_ground.specs.Sending.{FitsParts}
+use Rattle.node_tables.specs.Replies.{reply_acts}
 
 -- the held version of a live originator, by whether it is within the limits
 pub held_is : (q : Queries) (known : Knowledge) (now : ℕ) (orig : Mac) (version : Version) (within : Bool) → q.live known.routes now orig ≡ true
@@ -113,12 +113,11 @@ entry_sums_few table =
     let few = vlans_few table in
     omega (arith, long, few)
 
-pub full_fits : (version : Version) → length version.table ≤ clients_limit → FitsPacket (full_reply version)
+pub full_fits : (version : Version) → length version.table ≤ clients_limit → FitsParts (full_reply version)
 full_fits version few =
     let sums = entry_sums_few version.table in
     let long : length (map addition version.table) ≡ length version.table = length-map version.table addition in
-    let fits : 8 + 8 * length (sums_of version.table) + 12 * length (map addition version.table) ≤ 65535 = omega (arith, few, sums, long) in
-    fits
+    record { sums = omega (arith, few, sums); few = omega (arith, few, long); changes = λ part. absurd (true≢false part) }
 
 few_only : (xs changes : List Change) → if_few xs ≡ Some changes → length changes ≤ carried_changes
 few_only xs changes is = by_count (nat_le (length xs) carried_changes) refl is
@@ -138,33 +137,37 @@ told_few history changes is = by_last (is_first history) is
     by_last false is = few_only (last_changes history) changes is
 
 pub own_fits : (full : Bool) (byte : ℕ) (history : History) → length (last_commit history.commits).table ≤ clients_limit
-    → FitsPacket (own_reply full byte (last_commit history.commits) (told_changes history))
+    → FitsParts (own_reply full byte (last_commit history.commits) (told_changes history))
 own_fits full byte history few = by_told (told_changes history) refl
   where
     last : Version
     last = last_commit history.commits
 
-    by_wish : (b : Bool) (changes : List Change) → length changes ≤ carried_changes → FitsPacket (if b then changes_reply last changes else full_reply last)
+    by_wish : (b : Bool) (changes : List Change) → length changes ≤ carried_changes → FitsParts (if b then changes_reply last changes else full_reply last)
     by_wish true changes short =
         let sums = entry_sums_few last.table in
-        let fits : 8 + 8 * length (sums_of last.table) + 12 * length changes ≤ 65535 = omega (arith, few, sums, short) in
-        fits
+        record { sums = omega (arith, few, sums); few = omega (arith, short); changes = λ part. omega (arith, short) }
     by_wish false changes short = full_fits last few
 
-    by_told : (told : Option (List Change)) → told_changes history ≡ told → FitsPacket (own_reply full byte last told)
+    by_told : (told : Option (List Change)) → told_changes history ≡ told → FitsParts (own_reply full byte last told)
     by_told None is = full_fits last few
     by_told (Some changes) is = by_wish (not full && (byte == last.byte)) changes (told_few history changes is)
+
+-- ---- what is put for a request for another's table that is answered
+pub way_acts : (q : Queries) (known : Knowledge) (now ttl : ℕ) (dst src : Mac) (tail : List ℕ) (next : Option Mac) (reply : Reply) → next ≡ q.route known.routes now src
+    → Some reply ≡ way_reply q known now dst (message_in (first_table (containers_of tail))) → reply_acts next dst src reply ≡ other_containers q known now ttl dst src tail
+unfolding other_containers
+way_acts q known now ttl dst src tail next reply way is = ap (λ n. reply_acts n dst src reply) way ∙ ap (on_the_way q known now ttl dst src tail) is
 
 -- ---- what is put for a request for the own table
 
 pub own_acts : (q : Queries) (me : Mac) (known : Knowledge) (now : ℕ) (own : Own) (history : History) (asker : Mac) (full whole : Bool) (stamp : Stamp) (byte : ℕ)
-    (next : Option Mac) (bytes : List ℕ) (reply : Reply) → next ≡ q.route known.routes now asker → bytes ≡ reply_containers reply
+    (next : Option Mac) (reply : Reply) → next ≡ q.route known.routes now asker
     → reply ≡ own_reply whole byte (last_commit history.commits) (told_changes history) → whole ≡ full → byte ≡ stamp.byte → own.last ≡ last_commit history.commits
-    → own.told ≡ told_changes history → sent_over next (Utvlv first_ttl asker me) bytes ≡ own_answer q me known now own.last own.told asker (Asks full stamp)
+    → own.told ≡ told_changes history → reply_acts next me asker reply ≡ own_answer q me known now own.last own.told asker (Asks full stamp)
 unfolding own_answer
-own_acts q me known now own history asker full whole stamp byte next bytes reply way spelled is asks under last told =
-    let head = Utvlv first_ttl asker me in
+own_acts q me known now own history asker full whole stamp byte next reply way is asks under last told =
     let reply_is : reply ≡ own_reply full stamp.byte own.last own.told =
     is ∙ ap (λ f. own_reply f byte (last_commit history.commits) (told_changes history)) asks ∙ ap (λ b. own_reply full b (last_commit history.commits) (told_changes history)) under
     ∙ ap (λ v. own_reply full stamp.byte v (told_changes history)) (sym last) ∙ ap (own_reply full stamp.byte own.last) (sym told) in
-    ap (λ n. sent_over n head bytes) way ∙ ap (sent_over (q.route known.routes now asker) head) (spelled ∙ ap reply_containers reply_is)
+    ap (λ n. reply_acts n me asker reply) way ∙ ap (reply_acts (q.route known.routes now asker) me asker) reply_is

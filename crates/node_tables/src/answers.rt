@@ -7,6 +7,7 @@ ghost use Rattle.mesh_model.specs.Knowledge.Steps.{after_answer, after_roaming};
 ghost use Rattle.mesh_model.specs.Knowledge.Told.{Answers, carried_told, message_changes, stamp_told};
 ghost use Rattle.mesh_model.specs.Packets.Numbers.{full_table_flag};
 ghost use Rattle.mesh_model.specs.Routes.Ogm.{has_flag};
+ghost use Rattle.mesh_model.specs.Tables.Judging.{InPart};
 ghost use Rattle.mesh_model.specs.Tables.Known.{Answered};
 ghost use Rattle.node_ground.specs.KnowledgeStands.{KnowledgeStands};
 ghost use Rattle.tt_global.specs.Kept.{stamp_in};
@@ -76,6 +77,62 @@ pub(crate) fn take_answer<A: Algo>(
     let answered = announcement_in(kept.alloc, table)?;
     let full = has_flag(table.flags(), FULL_TABLE);
     note_answer::<A, Brand>(kept, orig, full, &answered, Blank::new(1))?;
+    release(kept, orig);
+    Ok(())
+}
+
+// Notes a part of an answer for the table of an originator, by its number, of so many.
+fn note_part<A: Algo, L: Ledger>(
+    kept: &mut NodeKnowledge<A>,
+    orig: Mac,
+    number: u16,
+    count: u16,
+    part: &Announcement,
+    blank: Blank,
+) -> Result<(), NoMemory>
+    requires name { blank.name ≡ L.name }
+    requires parts { blank.parts ≡ L.parts }
+    requires some { 0 < blank.parts }
+    ensures { OnOk result ((me : Mac) (known : Knowledge) →
+        KnowledgeStands A.stands kept.old me known →
+        KnowledgeStands A.stands kept.new me (record known {
+          tables =
+              Answered orig (stamp_in part.now) (InPart number count part.now.changes)
+              ∷ known.tables;
+        })) }
+{
+    let mut steps = Steps::<L>::new(blank);
+    let Announcement {
+        byte,
+        sums,
+        changes,
+    } = part;
+    kept.globals
+        .take_part(orig, *byte, sums, number, count, changes, &mut steps)?;
+    Ok(())
+}
+
+/// Takes a part of an answer for the table of an originator, by its number, of so many, while the
+/// originator is live.
+pub(crate) fn take_part<A: Algo>(
+    kept: &mut NodeKnowledge<A>,
+    now: Millis,
+    orig: Mac,
+    table: &TtView<'_>,
+    number: u16,
+    count: u16,
+) -> Result<(), NoMemory>
+    ensures { OnOk result ((me : Mac) (known : Knowledge) →
+        KnowledgeStands A.stands kept.old me known →
+        KnowledgeStands A.stands kept.new me (after_answer (A.queries me) now orig
+        (Answers (stamp_told table.now) (InPart number count (message_changes table.now)))
+        known)) }
+{
+    if !kept.algo.live(now, orig) {
+        return Ok(());
+    }
+    let part = announcement_in(kept.alloc, table)?;
+    note_part::<A, Brand>(kept, orig, number, count, &part, Blank::new(1))?;
     release(kept, orig);
     Ok(())
 }

@@ -1,30 +1,29 @@
 //! The row of containers that are for this node.
 
-ghost use Rattle.std.specs.Prelude.{◌++◌, OnOk};
+ghost use Rattle.std.specs.Prelude.{◌≡◌, ◌++◌, ◌&&◌, OnOk};
+ghost use Rattle.mesh_base.specs.declared.address.Mac.{Mac};
 ghost use Rattle.mesh_model.specs.Acts.BridgeRows.{unclaim_acts};
 ghost use Rattle.mesh_model.specs.Acts.TableRows.{own_answer};
 ghost use Rattle.mesh_model.specs.Acts.Rows.{Own};
 ghost use Rattle.mesh_model.specs.Knowledge.Known.{Knowledge};
 ghost use Rattle.mesh_model.specs.Knowledge.Steps.{after_answer, after_containers};
-ghost use Rattle.mesh_model.specs.Knowledge.Told.{Asks, message_in, stamp_told};
+ghost use Rattle.mesh_model.specs.Knowledge.Told.{Asks, message_in, part_told, stamp_told};
 ghost use Rattle.mesh_model.specs.Packets.Containers.{containers_of};
-ghost use Rattle.mesh_model.specs.Packets.Contents.{first_roaming, first_table};
-ghost use Rattle.mesh_model.specs.Packets.Numbers.{full_table_flag};
+ghost use Rattle.mesh_model.specs.Packets.Contents.{first_part, first_roaming, first_table};
+ghost use Rattle.mesh_model.specs.Packets.Numbers.{full_table_flag, response_flag};
 ghost use Rattle.mesh_model.specs.Routes.Ogm.{has_flag};
 ghost use Rattle.node_ground.specs.KnowledgeStands.{KnowledgeStands, place};
 ghost use Rattle.node_ground.specs.OwnStands.{OwnStands};
 ghost use Rattle.node_ground.specs.Puts.{Puts};
 ghost use Rattle.node_lans.specs.BridgeStands.{BridgeStands};
 
-use crate::answers::{mark_roamed, take_answer};
+use crate::answers::{mark_roamed, take_answer, take_part};
+use crate::replies::{ReplyWay, send_reply};
 use mesh_algo::Algo;
-use mesh_base::Mac;
-use mesh_codec::Head;
+use mesh_base::{Mac, Millis, NoMemory};
 use mesh_tvlv::TtView;
 use mesh_tvlv::layout::{FULL_TABLE, REQUEST, RESPONSE};
-use node_ground::messages::send_over;
-use node_ground::packing::{FIRST_TTL, reply_containers};
-use node_ground::reading::{first_roaming, first_table, has_flag};
+use node_ground::reading::{first_part, first_roaming, first_table, has_flag};
 use node_ground::{NodeErr, NodeKnowledge, Place, Port};
 use node_lans::Bridge;
 use node_lans::bridging::unclaim;
@@ -51,14 +50,12 @@ fn answer_own<A: Algo, P: Port>(
 {
     let full = has_flag(table.flags(), FULL_TABLE);
     let reply = own_reply(locals, full, table.ttvn())?;
-    let containers = reply_containers(kept.alloc, &reply)?;
-    let head = Head::Utvlv {
-        ttl: FIRST_TTL,
-        dst: asker,
-        src: at.me,
+    let way = ReplyWay {
+        next: kept.algo.route(at.now, asker),
+        orig: at.me,
+        asker,
     };
-    let next = kept.algo.route(at.now, asker);
-    send_over(kept.alloc, port, next, &head, containers.as_slice())?;
+    send_reply(kept.alloc, port, way, &reply)?;
     Ok(())
 }
 
@@ -96,6 +93,35 @@ fn table_here<A: Algo, P: Port>(
     Ok(())
 }
 
+// Whether a part with these flags is one of an answer with a whole table.
+fn is_of_full_answer(flags: u8) -> bool
+    ensures { result ≡ (has_flag response_flag flags && has_flag full_table_flag flags) }
+{
+    has_flag(flags, RESPONSE) && has_flag(flags, FULL_TABLE)
+}
+
+// Takes a part of an answer, where containers hold one.
+fn part_here<A: Algo>(
+    kept: &mut NodeKnowledge<A>,
+    now: Millis,
+    src: Mac,
+    tail: &[u8],
+) -> Result<(), NoMemory>
+    ensures { OnOk result ((me : Mac) (known : Knowledge) →
+        KnowledgeStands A.stands kept.old me known →
+        KnowledgeStands A.stands kept.new me (after_answer (A.queries me) now src
+        (part_told (first_part (containers_of tail.now))) known)) }
+{
+    let Some((table, number, count)) = first_part(tail) else {
+        return Ok(());
+    };
+    if !is_of_full_answer(table.flags()) {
+        return Ok(());
+    }
+    take_part(kept, now, src, &table, number, count)?;
+    Ok(())
+}
+
 /// Containers that are for this node.
 pub fn containers_here<A: Algo, P: Port>(
     kept: &mut NodeKnowledge<A>,
@@ -120,6 +146,7 @@ pub fn containers_here<A: Algo, P: Port>(
         (after_containers (A.queries at.me) at.now src tail.now known)) }
 {
     table_here(kept, port, locals, at, src, tail)?;
+    part_here(kept, at.now, src, tail)?;
     let roamed = first_roaming(tail);
     unclaim(kept.alloc, port, bridge, at, roamed)?;
     mark_roamed(kept, at.now, src, roamed)?;

@@ -10,4 +10,5 @@ pub mod elps;
 pub mod ogms;
 pub mod on_the_way;
 pub mod reboots;
+mod replies;
 pub mod ticks;

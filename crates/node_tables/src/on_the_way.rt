@@ -2,7 +2,6 @@
 
 ghost use Rattle.std.specs.Prelude.{◌≡◌, ◌≤◌, length, option_map, IfOk, IfSome, IsTrue};
 ghost use Rattle.mesh_base.specs.declared.address.Mac.{Mac};
-ghost use Rattle.mesh_model.specs.Acts.Packing.{reply_containers};
 ghost use Rattle.mesh_model.specs.Acts.TableRows.{held_within, is_within_limits, other_containers, passed_containers, way_reply};
 ghost use Rattle.mesh_model.specs.Knowledge.Known.{Knowledge, known_at};
 ghost use Rattle.mesh_model.specs.Knowledge.Told.{message_in, stamp_told};
@@ -11,19 +10,21 @@ ghost use Rattle.mesh_model.specs.Packets.Contents.{first_table};
 ghost use Rattle.mesh_model.specs.Tables.Answers.{held_reply};
 ghost use Rattle.node_ground.specs.KnowledgeStands.{KnowledgeStands};
 ghost use Rattle.node_ground.specs.Puts.{Puts};
-ghost use Rattle.node_ground.specs.Reading.{bytes_of};
+ghost use Rattle.node_ground.specs.Sending.{FitsParts};
 ghost use Rattle.tt_global.specs.Globals.{asked_version};
+ghost use Rattle.tt_sync.specs.Answers.{answer_in};
 
+use crate::replies::{ReplyWay, send_reply};
 use mesh_algo::Algo;
 use mesh_base::{Mac, Millis, NoMemory};
 use mesh_codec::Head;
 use mesh_tvlv::TtView;
 use mesh_tvlv::layout::REQUEST;
 use node_ground::messages::send_over;
-use node_ground::packing::{FIRST_TTL, is_within_limits, reply_containers};
+use node_ground::packing::is_within_limits;
 use node_ground::reading::{first_table, has_flag, sums_in};
 use node_ground::{NodeErr, NodeKnowledge, Place, Port};
-use tt_sync::{AnswerErr, answer_other};
+use tt_sync::{AnswerErr, Reply, answer_other};
 use tt_table::Table;
 
 // The table that is held of a live originator and is within what a node may have, with its
@@ -44,52 +45,44 @@ fn held_within<A: Algo>(kept: &NodeKnowledge<A>, now: Millis, orig: Mac) -> Opti
     Some((byte, table))
 }
 
-// The containers of the answer that a node on the way has to a request under a byte and sums,
-// where it has one.
+// The answer that a node on the way has to a request under a byte and sums, where it has one.
 fn way_answer<A: Algo>(
     kept: &NodeKnowledge<A>,
     now: Millis,
     orig: Mac,
     table: &TtView<'_>,
-) -> Result<Option<Vec<u8>>, NoMemory>
+) -> Result<Option<Reply>, NoMemory>
     requires { (me : Mac) × (known : Knowledge) × KnowledgeStands A.stands kept.now me known }
     ensures answer { IfOk result (λ answer. (me : Mac) (known : Knowledge) →
         KnowledgeStands A.stands kept.now me known →
-        option_map bytes_of answer ≡ option_map reply_containers
-        (held_reply (stamp_told table.now)
-        (held_within (known_at (A.queries me) known now orig).held))) }
-    ensures fits { IfOk result (λ answer. IfSome answer (λ bytes.
-        length bytes.items ≤ 65535)) }
+        option_map answer_in answer ≡ held_reply (stamp_told table.now)
+        (held_within (known_at (A.queries me) known now orig).held)) }
+    ensures fits { IfOk result (λ answer. IfSome answer (λ reply. FitsParts (answer_in reply))) }
 {
     if held_within(kept, now, orig).is_none() {
         return Ok(None);
     }
     let asked = sums_in(kept.alloc, table)?;
-    let reply = match answer_other(&kept.globals, orig, table.ttvn(), &asked) {
-        Ok(reply) => reply,
-        Err(AnswerErr::NotHeld { .. }) => return Ok(None),
-        Err(AnswerErr::Memory) => return Err(NoMemory),
-    };
-    let containers = reply_containers(kept.alloc, &reply)?;
-    Ok(Some(containers))
+    match answer_other(&kept.globals, orig, table.ttvn(), &asked) {
+        Ok(reply) => Ok(Some(reply)),
+        Err(AnswerErr::NotHeld { .. }) => Ok(None),
+        Err(AnswerErr::Memory) => Err(NoMemory),
+    }
 }
 
-// The containers of the answer that a node on the way has to containers, where they are a
-// request and it has one.
+// The answer that a node on the way has to containers, where they are a request and it has one.
 fn answer_in_stead<A: Algo>(
     kept: &NodeKnowledge<A>,
     now: Millis,
     orig: Mac,
     tail: &[u8],
-) -> Result<Option<Vec<u8>>, NoMemory>
+) -> Result<Option<Reply>, NoMemory>
     requires { (me : Mac) × (known : Knowledge) × KnowledgeStands A.stands kept.now me known }
     ensures answer { IfOk result (λ answer. (me : Mac) (known : Knowledge) →
         KnowledgeStands A.stands kept.now me known →
-        option_map bytes_of answer ≡ option_map reply_containers
-        (way_reply (A.queries me) known now orig
-        (message_in (first_table (containers_of tail.now))))) }
-    ensures fits { IfOk result (λ answer. IfSome answer (λ bytes.
-        length bytes.items ≤ 65535)) }
+        option_map answer_in answer ≡ way_reply (A.queries me) known now orig
+        (message_in (first_table (containers_of tail.now)))) }
+    ensures fits { IfOk result (λ answer. IfSome answer (λ reply. FitsParts (answer_in reply))) }
 {
     let Some(table) = first_table(tail) else {
         return Ok(None);
@@ -152,12 +145,11 @@ pub fn containers_past<A: Algo, P: Port>(
         pass_on(kept, port, at, ttl, dst, src, tail)?;
         return Ok(());
     };
-    let head = Head::Utvlv {
-        ttl: FIRST_TTL,
-        dst: src,
-        src: dst,
+    let way = ReplyWay {
+        next: kept.algo.route(at.now, src),
+        orig: dst,
+        asker: src,
     };
-    let next = kept.algo.route(at.now, src);
-    send_over(kept.alloc, port, next, &head, answer.as_slice())?;
+    send_reply(kept.alloc, port, way, &answer)?;
     Ok(())
 }
