@@ -21,7 +21,7 @@ use Rattle.mesh_model.specs.Knowledge.Offers.{after_choice, gateway_way}
 use Rattle.mesh_model.specs.Knowledge.Pairs.{after_arp, after_asking, after_came, after_question, is_asked, with_ask, with_learned}
 use Rattle.mesh_model.specs.Knowledge.PutTogether.{after_part, fact_carried, put_together, with_part}
 use Rattle.mesh_model.specs.Knowledge.Steps.{Coming, announced_by, before_round, stays_on_lan, knowledge, next_knowledge, after_announcement, after_answer, after_broadcast, after_call, after_containers, after_frame, after_head, after_message, after_reply, after_packet, after_packets, after_passed, after_roaming, after_sent, after_sighting, after_taken, before_announcement, is_flooded, released_under, with_head, with_offered, line_knowledge}
-use Rattle.mesh_model.specs.Knowledge.Told.{Message, TableMessage, Asks, Answers, Neither, message_in, message_of}
+use Rattle.mesh_model.specs.Knowledge.Told.{Message, TableMessage, Asks, Answers, Neither, message_in, message_of, part_told}
 use Rattle.mesh_model.specs.Marks.Calls.{Forgotten}
 use Rattle.mesh_model.specs.Net.Due.{ticks_by, ticks_in}
 use Rattle.mesh_model.specs.Net.Happenings.{Before}
@@ -34,7 +34,7 @@ use Rattle.mesh_model.specs.Net.Runs.{after_happening, effect, frame_given, fram
 use Rattle.mesh_model.specs.Net.Sending.{Actor, after_acts}
 use Rattle.mesh_model.specs.Packets.ArpMessages.{ArpCame, Puts, Asks as AsksPair, Tells, arp_came}
 use Rattle.mesh_model.specs.Packets.Containers.{containers_of}
-use Rattle.mesh_model.specs.Packets.Contents.{first_roaming, first_table}
+use Rattle.mesh_model.specs.Packets.Contents.{first_part, first_roaming, first_table}
 use Rattle.mesh_model.specs.Packets.FactMessages.{fact_message_of}
 use Rattle.mesh_model.specs.Packets.FirstPacket.{Packet}
 use Rattle.mesh_model.specs.Packets.LanFrames.{client_frame_in, lan_message_of}
@@ -108,7 +108,9 @@ roaming_counted q now src (Some key) known = refl
 containers_counted : (q : Queries) (now : ℕ) (src : Mac) (tail : List ℕ) (known : Knowledge) → counted (after_containers q now src tail known) ≡ counted known
 containers_counted q now src tail known =
     let message = message_in (first_table (containers_of tail)) in
-    roaming_counted q now src (first_roaming (containers_of tail)) (after_answer q now src message known) ∙ answer_counted q now src message known
+    let answer = after_answer q now src message known in
+    let part = part_told (first_part (containers_of tail)) in
+    roaming_counted q now src (first_roaming (containers_of tail)) (after_answer q now src part answer) ∙ answer_counted q now src part answer ∙ answer_counted q now src message known
 
 broadcast_counted : (me : Mac) (now : ℕ) (broadcast : Broadcast) (known : Knowledge) → counted (after_broadcast me now broadcast known) ≡ counted known
 broadcast_counted me now broadcast known = either_counted (is_new_broadcast me now broadcast known.taken) (record known { taken = taken_at now broadcast known.taken ∷ known.taken }) known known refl refl
