@@ -116,15 +116,32 @@ class Many(unittest.TestCase):
         self.assertEqual(run_lines(lines), finished([received(1, "B", 1, text)]))
 
     @needs_program
-    def test_a_full_answer_of_1_024_records(self):
+    def test_full_answers_go_in_one_packet_or_in_parts(self):
         """B hears A at 1001 without a route to it, asks at 2001, and A answers at 2002."""
-        clients = range(1, 1025)
-        lines = DUO[:2] + [frame("A", number) for number in clients] + DUO[2:]
-        before = ["tg B count=1", f"t {A} held=- told=1 state=none entries=0"]
-        after = ["tg B count=1", f"t {A} held=1 told=1 state=ok entries=1024"]
-        after += [f"e {client(number)} - --" for number in clients]
-        ended = run_lines([*lines, "run 2002", "show B tg", "run 1", "show B tg"])
-        self.assertEqual(ended, finished(before + after))
+        for count in (1024, 1025, 4096):
+            clients = range(1, count + 1)
+            lines = DUO[:2] + [frame("A", number) for number in clients] + DUO[2:]
+            before = ["tg B count=1", f"t {A} held=- told=1 state=none entries=0"]
+            after = ["tg B count=1", f"t {A} held=1 told=1 state=ok entries={count}"]
+            after += [f"e {client(number)} - --" for number in clients]
+            ended = run_lines([*lines, "run 2002", "show B tg", "run 1", "show B tg"])
+            self.assertEqual(ended, finished(before + after))
+
+    @needs_program
+    def test_the_parts_of_an_answer(self):
+        """Frames 10 and 11 are the two packets of the answer; the second has one record."""
+        lines = DUO[:2] + [frame("A", number) for number in range(1, 1026)] + DUO[2:]
+        status, printed, _ = run_lines([*lines, "run 2003"], "--frames", "all")
+        self.assertEqual(status, 0)
+        answers = [line.split() for line in printed.splitlines() if " A>B utvlv " in line]
+        self.assertEqual([words[0] for words in answers], ["f10", "f11"])
+        packets = [bytes.fromhex(words[-1]) for words in answers]
+        self.assertEqual([len(packet) for packet in packets], [12_328, 52])
+        # Version 2 of a translation table: 8 bytes, a VLAN of 8 and a record of 12.
+        head, body = packets[1][20:24], packets[1][24:]
+        self.assertEqual(head.hex(), "0402001c")
+        self.assertEqual((body[:8] + body[12:]).hex(), "1401000100010002" + "00000000"
+                         + "00000000" + client(1025).replace(":", "") + "0000")
 
     @needs_program
     def test_101_clients_roam(self):
