@@ -1,5 +1,5 @@
 -- The alias of a commit, looked for among the earlier commits of its byte.
-use Rattle.std.proofs.Common.{◌≡◌, ◌⊎◌, inl, inr, ⊎_elim, ℕ, suc, ◌+◌, ◌-◌, ◌<◌, ◌==◌, ◌&&◌, Bool, true, false, not, cond, List, [], ◌∷◌, drop, length, Option, Some, None, is_none, is_some, min, option_map, IsTrue, ◌↔◌, nat_eq, refl, sym, ap, ap₂, ◌∙◌, subst, arith}
+use Rattle.std.proofs.Common.{◌≡◌, ◌⊎◌, inl, inr, ⊎_elim, ℕ, suc, ◌+◌, ◌-◌, ◌<◌, ◌==◌, ◌&&◌, ◌||◌, ◌++◌, Bool, true, false, not, cond, List, [], ◌∷◌, drop, length, Option, Some, None, is_none, is_some, min, option_map, IsTrue, ◌↔◌, nat_eq, refl, sym, ap, ap₂, ◌∙◌, subst, arith}
 use Rattle.std.specs.Bool.{Decides}
 use Rattle.std.specs.Cmp.Lexicographic.{pointwise}
 use Rattle.std.specs.Option.{option_or}
@@ -14,7 +14,8 @@ use Rattle.mesh_model.specs.Tables.Versions.{Version}
 use Rattle.mesh_model.specs.Routes.Addresses.{same_mac}
 use Rattle.mesh_laws.proofs.MacLemmas.{same_exact, same_self}
 use Rattle.mesh_laws.proofs.MachineInvariant.{last_numbered, number_below, numbered_kept}
-use Rattle.tt_local.specs.AliasSearch.{AreAliasesAt, HaveOneByte, IsPassed}
+use Rattle.tt_local.specs.AliasSearch.{AreAliasesAt, ArePassed, HaveOneByte, IsPassed}
+use Rattle.std.specs.List.{list_any}
 use Rattle.tt_local.specs.Journal.{HasSums, HasTable, HasTableOf}
 use Rattle.tt_local.proofs.CommitLemmas.{from_same_table, same_from_equal}
 use Rattle.tt_local.proofs.NumberedLemmas.{newest_or_not, older_number}
@@ -119,7 +120,7 @@ tables_tell cs number earlier s t a b answer same has others none table other_ta
 
 -- ---- commits that have the table of another
 -- where one of them isn't an alias, none of them is
-pub passed_by : (cs : List Version) (number earlier twin : ℕ) (v : Version) → commit_numbered earlier cs ≡ Some v → HaveOneByte number earlier cs → HasTableOf twin earlier cs → AreAliasesAt false number earlier cs → IsPassed number (Some twin) cs
+pub passed_by : (cs : List Version) (number earlier twin : ℕ) (v : Version) → commit_numbered earlier cs ≡ Some v → HaveOneByte number earlier cs → HasTableOf twin earlier cs → AreAliasesAt false number earlier cs → IsPassed number twin cs
 passed_by cs number earlier twin v there same twins are = λ n again twin_too one other is at.
     let its : HasTable twin v.table cs = twins v.table (ap (option_map (λ (w : Version). w.table)) there) in
     let others : HasTable twin other.table cs = twin_too other.table (ap (option_map (λ (w : Version). w.table)) at) in
@@ -127,6 +128,20 @@ passed_by cs number earlier twin v there same twins are = λ n again twin_too on
     let tables : v.table ≡ other.table = cc in
     let bytes : v.byte ≡ other.byte = sym (same one v is there) ∙ again one other is at in
     are one v is there ∙ ap₂ (λ (b : ℕ) (t : List Entry). are_aliases one (record { byte = b; table = t })) bytes tables
+
+-- one of those that were passed over was
+pub passed_any : (cs : List Version) (number twin : ℕ) (passed : List ℕ) → ArePassed number passed cs → list_any (nat_eq twin) passed ≡ true → IsPassed number twin cs
+passed_any cs number twin [] are is = absurd (false≢true is)
+passed_any cs number twin (first ∷ others) are is = go (nat_eq twin first) refl (passed_any cs number twin others are.1)
+  where
+    go : (b : Bool) → nat_eq twin first ≡ b → (list_any (nat_eq twin) others ≡ true → IsPassed number twin cs) → IsPassed number twin cs
+    go true same rest = subst (λ t. IsPassed number t cs) (sym (eqb-true twin first same)) are.0
+    go false same rest = rest (ap (λ b. b || list_any (nat_eq twin) others) (sym same) ∙ is)
+
+-- and one more was
+pub passed_more : (cs : List Version) (number twin : ℕ) (passed : List ℕ) → ArePassed number passed cs → IsPassed number twin cs → ArePassed number (passed ++ twin ∷ []) cs
+passed_more cs number twin [] are is = (is, are)
+passed_more cs number twin (first ∷ others) are is = (are.0, passed_more cs number twin others are.1 is)
 
 -- the last table is that of the commit before it, if they are one
 pub twin_of_last : (cs : List Version) (last before twin : ℕ) (mine its : List Entry) → HasTable last mine cs → HasTable before its cs → mine ≡ its → HasTableOf twin before cs → HasTableOf twin last cs

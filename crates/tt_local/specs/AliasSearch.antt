@@ -1,7 +1,7 @@
 -- How the alias of a commit is looked for: log by log, among the commits of its byte, where one that
 -- has the table of a commit that was passed over is passed too. No public clause cites this file.
 -- The main word is `IsLeastIn`.
-use Rattle.std.specs.Prelude.{◌≡◌, ℕ, ◌<◌, Bool, true, false, List, Option, None, Some}
+use Rattle.std.specs.Prelude.{◌≡◌, ℕ, ◌<◌, Bool, true, false, List, [], ◌∷◌, Option, None, Some}
 use Rattle.mesh_model.specs.Commits.Aliases.{are_aliases}
 use Rattle.mesh_model.specs.Commits.Versions.{commit_numbered}
 use Rattle.mesh_model.specs.Tables.Versions.{Version}
@@ -26,12 +26,16 @@ HaveOneByte number earlier commits = (one other : Version) →
     commit_numbered number commits ≡ Some one → commit_numbered earlier commits ≡ Some other →
     one.byte ≡ other.byte
 
--- no commit that has the table of this one, if there is one, is an alias of the commit of a number
--- whose byte it has
-abbrev pub IsPassed : ℕ → Option ℕ → List Version → Type 0
-IsPassed number None commits = Unit
-IsPassed number (Some twin) commits = (earlier : ℕ) → HaveOneByte number earlier commits →
+-- no commit that has the table of this one is an alias of the commit of a number whose byte it has
+abbrev pub IsPassed : ℕ → ℕ → List Version → Type 0
+IsPassed number twin commits = (earlier : ℕ) → HaveOneByte number earlier commits →
     HasTableOf twin earlier commits → AreAliasesAt false number earlier commits
+
+-- nor is one that has the table of one of these
+abbrev pub ArePassed : ℕ → List ℕ → List Version → Type 0
+ArePassed number [] commits = Unit
+ArePassed number (twin ∷ others) commits =
+    IsPassed number twin commits × ArePassed number others commits
 
 -- no commit of a log that is older than a number is an alias of the commit of another number
 abbrev pub HasNoneIn : Run → ℕ → ℕ → List Version → Type 0

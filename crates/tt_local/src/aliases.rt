@@ -1,19 +1,25 @@
-ghost use Rattle.std.specs.Prelude.{◌≡◌, ◌↔◌, ◌+◌, ◌≤◌, ◌<◌, ℕ, List, length, IfOk, IfSome, OnOk, IsTrue};
+ghost use Rattle.std.specs.Prelude.{◌≡◌, ◌↔◌, ◌+◌, ◌≤◌, ◌<◌, ℕ, nat_eq, List, length, IfOk, IfSome, OnOk, IsTrue};
+ghost use Rattle.std.specs.List.{list_any};
 ghost use Rattle.mesh_model.specs.Clients.Mentions.{Mention};
 ghost use Rattle.mesh_model.specs.Commits.Aliases.{alias_of, last_alias};
 ghost use Rattle.mesh_model.specs.Commits.History.{History};
-ghost use Rattle.tt_local.specs.AliasSearch.{AreAliasesAt, HasByte, HaveOneByte, IsLeastIn, IsPassed};
+ghost use Rattle.mesh_model.specs.Tables.Versions.{Version};
+ghost use Rattle.tt_local.specs.AliasSearch.{AreAliasesAt, ArePassed, HasByte, HaveOneByte, IsLeastIn, IsPassed};
 ghost use Rattle.tt_local.specs.Journal.{all_runs, HasTable, HasTableOf, JournalStands};
 ghost use Rattle.tt_local.specs.Locals.{LocalsStand};
 ghost use Rattle.tt_local.specs.Runs.{IsAmong};
 
 use crate::journal::Journal;
+use crate::kind::Kind;
 use crate::locals::Locals;
 use crate::run::{Run, run_of};
 use mesh_base::{Entry, NoMemory};
 
 /// After how many commits a byte comes again.
 const BYTES: usize = 256;
+
+/// How many tables at most a search keeps in mind that it passed over.
+const PASSED: usize = 16;
 
 impl Journal {
     // The alias of a commit: looked for among the earlier commits of its byte, log by log.
@@ -24,7 +30,7 @@ impl Journal {
     {
         let table = self.table_at(number)?;
         let byte = self.byte_of(number);
-        let mut passed = None;
+        let mut passed = Vec::new(self.alloc);
         for run in &self.runs {
             let found = self.alias_in(*run, number, byte, table.as_slice(), &mut passed)?;
             if let Some(earlier) = found {
@@ -59,20 +65,20 @@ impl Journal {
         number: usize,
         byte: usize,
         table: &[Entry],
-        passed: &mut Option<usize>,
+        passed: &mut Vec<usize>,
     ) -> Result<Option<usize>, NoMemory>
         requires made { number ≤ length self.now.past }
         requires byte { byte < 256 }
         ensures alias { IfOk result (λ alias. (history : History) →
             JournalStands self.now history → IsAmong run (all_runs self.now) →
             HasByte number byte history.commits → HasTable number table.now history.commits →
-            IsPassed number passed.old history.commits →
+            ArePassed number passed.old.items history.commits →
             IsLeastIn alias run number history.commits) }
         ensures passed { OnOk result ((history : History) →
             JournalStands self.now history → IsAmong run (all_runs self.now) →
             HasByte number byte history.commits → HasTable number table.now history.commits →
-            IsPassed number passed.old history.commits →
-            IsPassed number passed.new history.commits) }
+            ArePassed number passed.old.items history.commits →
+            ArePassed number passed.new.items history.commits) }
     {
         let count = run.count.min(number.saturating_sub(run.first));
         for round in 0..count.saturating_sub(byte).div_ceil(BYTES) {
@@ -91,29 +97,29 @@ impl Journal {
         number: usize,
         table: &[Entry],
         earlier: usize,
-        passed: &mut Option<usize>,
+        passed: &mut Vec<usize>,
     ) -> Result<bool, NoMemory>
         requires made { number ≤ length self.now.past }
         requires earlier { earlier < number }
         ensures answer { IfOk result (λ answer. (history : History) →
             JournalStands self.now history → HaveOneByte number earlier history.commits →
-            HasTable number table.now history.commits → IsPassed number passed.old history.commits →
+            HasTable number table.now history.commits →
+            ArePassed number passed.old.items history.commits →
             AreAliasesAt answer number earlier history.commits) }
         ensures passed { OnOk result ((history : History) →
             JournalStands self.now history → HaveOneByte number earlier history.commits →
-            HasTable number table.now history.commits → IsPassed number passed.old history.commits →
-            IsPassed number passed.new history.commits) }
+            HasTable number table.now history.commits →
+            ArePassed number passed.old.items history.commits →
+            ArePassed number passed.new.items history.commits) }
     {
         let twin = self.twin_at(earlier);
-        if let Some(known) = *passed {
-            if known == twin {
-                return Ok(false);
-            }
+        if has(passed.as_slice(), twin) {
+            return Ok(false);
         }
         if self.are_aliases(number, table, earlier)? {
             return Ok(true);
         }
-        *passed = Some(twin);
+        pass(passed, twin)?;
         Ok(false)
     }
 
@@ -135,8 +141,8 @@ impl Journal {
 }
 
 impl Journal {
-    /// The number of a commit that has the last one's table: that which a commit before it of its
-    /// byte has, where their tables are one, else the last.
+    /// The number of a commit that has the last one's table: that which an earlier one of its kind
+    /// has, where their tables are one, else the last.
     pub(crate) fn twin(&self) -> Result<usize, NoMemory>
         ensures { IfOk result (λ twin. (history : History) → JournalStands self.now history →
             HasTableOf twin (length self.now.past) history.commits) }
@@ -156,18 +162,17 @@ impl Journal {
         Ok(self.twin_at(before))
     }
 
-    // The commit before the last one of its byte: in its log, else at its place in the log before.
+    // An earlier commit of the last one's kind, if there is one.
     fn before(&self) -> Option<usize>
         ensures { IfSome result (λ before. before < length self.now.past) }
     {
-        let last = self.last();
-        let place = last - self.start;
-        if place >= BYTES {
-            return Some(last - BYTES);
-        }
-        let run = self.runs.last()?;
-        let before = run.first.checked_add(place)?;
-        (place < run.count && before < last).then_some(before)
+        let before = *self.kinds.get(&self.kind())?;
+        (before < self.last()).then_some(before)
+    }
+
+    /// The kind of the last commit.
+    pub(crate) fn kind(&self) -> Kind {
+        Kind::new(self.byte(), self.table.sums())
     }
 
     // The number of a commit that has a commit's table.
@@ -180,6 +185,25 @@ impl Journal {
             Some(twin) => *twin,
         }
     }
+}
+
+// Passes over the commits with the table of one, where few are passed over yet.
+fn pass(passed: &mut Vec<usize>, twin: usize) -> Result<(), NoMemory>
+    ensures { OnOk result ((number : ℕ) (commits : List Version) →
+        ArePassed number passed.old.items commits → IsPassed number twin commits →
+        ArePassed number passed.new.items commits) }
+{
+    if passed.len() < PASSED {
+        passed.push(twin)?;
+    }
+    Ok(())
+}
+
+// Whether a number is among these.
+fn has(numbers: &[usize], number: usize) -> bool
+    ensures { result ≡ list_any (nat_eq number) numbers.now }
+{
+    numbers.contains(&number)
 }
 
 // Whether two tables are one.

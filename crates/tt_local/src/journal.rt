@@ -8,8 +8,10 @@ ghost use Rattle.mesh_model.specs.Commits.History.{History};
 ghost use Rattle.mesh_model.specs.Tables.Changes.{changeset};
 ghost use Rattle.tt_local.specs.Journal.{GoesOn, HasCommitted, HasRestarted, HasTwin, JournalStands, present_run, snapshot_interval};
 
+use crate::kind::{Kind, keep};
 use crate::roster::push_all;
 use crate::run::Run;
+use indexmap::IndexMap;
 use mesh_base::{Entry, NoMemory, Steps};
 use std::alloc::Global;
 use std::marker::Model;
@@ -42,8 +44,11 @@ pub(crate) struct Journal {
     pub(crate) alloc: Global,
     pub(crate) past: Vec<Past>,
     /// Of each commit before the last one the number of a commit that has its table: itself, or an
-    /// earlier one of its byte.
+    /// earlier one of its kind.
     pub(crate) twins: Vec<usize>,
+    /// Of each kind one of the commits before the last one. It is only a guess where a table was
+    /// committed before, and nothing rests on it.
+    pub(crate) kinds: IndexMap<Kind, usize>,
     pub(crate) snapshots: Vec<RcSlice<Entry>>,
     pub(crate) table: Table,
     changes: Changes,
@@ -95,6 +100,7 @@ impl Journal {
             alloc,
             past: Vec::new(alloc),
             twins: Vec::new(alloc),
+            kinds: IndexMap::new(alloc),
             snapshots: Vec::new(alloc),
             table: Table::new(alloc),
             changes: Changes::new(alloc),
@@ -136,6 +142,8 @@ impl Journal {
         let sums = self.table.sums().copy()?;
         let snapshot = self.snapshot()?;
         let twin = self.twin()?;
+        let kind = self.kind();
+        keep(&mut self.kinds, kind, twin)?;
         self.twins.reserve(1)?;
         self.past.reserve(1)?;
         self.snapshots.reserve(1)?;
@@ -166,6 +174,8 @@ impl Journal {
         let sums = self.table.sums().copy()?;
         let snapshot = self.snapshot()?;
         let twin = self.twin()?;
+        let kind = self.kind();
+        keep(&mut self.kinds, kind, twin)?;
         let mut deletions = Changes::new(self.alloc);
         push_all(&mut deletions, self.table.as_slice(), true)?;
         self.twins.reserve(1)?;

@@ -10,6 +10,7 @@ mod commit;
 pub mod commit_laws;
 pub mod failure;
 mod journal;
+mod kind;
 pub mod locals;
 mod moments;
 mod pending;

@@ -11,7 +11,7 @@ use Rattle.tt_table.specs.Sums.{named_sums}
 pub invariant_of-self-2 : goal.invariant_of-self-2
 invariant_of-self-2 g c =
     let before = c.self.inside in
-    let after = c.match-snapshot-6.self-inside in
+    let after = c.match-snapshot-7.self-inside in
     let number = length c.args.self.now.past in
     let table = c.args.self.now.table in
     let view : Past → PastCommit = λ p. record { changes = p.changes; sums = named_sums p.sums } in
@@ -19,7 +19,7 @@ invariant_of-self-2 g c =
     let counted : length before.past.items ≡ number = sym (length-map before.past.items view) ∙ long in
     let more : length after.past.items ≡ length before.past.items + 1 = search rules in
     let pushed : map rc_slice_items after.snapshots.items ≡ with_option (option_map rc_slice_items c.in_ok-snapshot.snapshot) (map rc_slice_items before.snapshots.items) =
-    elim c.match-snapshot-6.branch [
+    elim c.match-snapshot-7.branch [
       | in-Some w ↦
           let items : after.snapshots.items ≡ before.snapshots.items ++ w.in-Some.snapshot ∷ [] = search rules in
           ap (map rc_slice_items) items ∙ map-append rc_slice_items before.snapshots.items (w.in-Some.snapshot ∷ [])

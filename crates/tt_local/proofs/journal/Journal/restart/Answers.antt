@@ -14,7 +14,7 @@ use Rattle.tt_table.specs.Sums.{named_sums}
 pub invariant_of-self-3 : goal.invariant_of-self-3
 invariant_of-self-3 c =
     let before = c.self.inside in
-    let after = c.match-snapshot-7.self-inside in
+    let after = c.match-snapshot-8.self-inside in
     let number = length c.args.self.now.past in
     let table = c.args.self.now.table in
     let view : Past → PastCommit = λ p. record { changes = p.changes; sums = named_sums p.sums } in
@@ -22,7 +22,7 @@ invariant_of-self-3 c =
     let counted : length before.past.items ≡ number = sym (length-map before.past.items view) ∙ long in
     let more : length after.past.items ≡ length before.past.items + 1 = search rules in
     let pushed : map rc_slice_items after.snapshots.items ≡ with_option (option_map rc_slice_items c.in_ok-snapshot.snapshot) (map rc_slice_items before.snapshots.items) =
-    elim c.match-snapshot-7.branch [
+    elim c.match-snapshot-8.branch [
       | in-Some w ↦
           let items : after.snapshots.items ≡ before.snapshots.items ++ w.in-Some.snapshot ∷ [] = search rules in
           ap (map rc_slice_items) items ∙ map-append rc_slice_items before.snapshots.items (w.in-Some.snapshot ∷ [])
@@ -43,7 +43,7 @@ invariant_of-self-3 c =
 pub returns-clause-committed : goal.returns-clause-committed
 returns-clause-committed c =
     let old = c.args.self.now in
-    let after = c.match-snapshot-7.self-inside in
+    let after = c.match-snapshot-8.self-inside in
     let ordered = c.in_ok-snapshot.ensures.ordered in
     let before = c.self.inside in
     let number = length old.past in
@@ -54,7 +54,7 @@ returns-clause-committed c =
     ap (map view) items ∙ map-append view before.past.items (record { changes = before.changes; sums = c.in_ok-sums.sums } ∷ [])
     ∙ ap₂ (λ (v : JournalView) s. v.past ++ record { changes = v.changes; sums = s } ∷ []) c.self.view_is sums in
     let pushed : map rc_slice_items after.snapshots.items ≡ with_option (option_map rc_slice_items c.in_ok-snapshot.snapshot) (map rc_slice_items before.snapshots.items) =
-    elim c.match-snapshot-7.branch [
+    elim c.match-snapshot-8.branch [
       | in-Some w ↦
           let items : after.snapshots.items ≡ before.snapshots.items ++ w.in-Some.snapshot ∷ [] = search rules in
           ap (map rc_slice_items) items ∙ map-append rc_slice_items before.snapshots.items (w.in-Some.snapshot ∷ [])
