@@ -3,6 +3,7 @@ pub mod OrderedMapLemmas
 pub mod ClientsLemmas
 pub mod MomentsLemmas
 pub mod RosterLemmas
+pub mod VlansLemmas
 pub mod ChangesLemmas
 pub mod CommitLemmas
 pub mod NumberedLemmas

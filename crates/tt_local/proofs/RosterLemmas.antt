@@ -13,11 +13,12 @@ use Rattle.mesh_laws.proofs.PresentLemmas.{equal_from_same}
 use Rattle.std.proofs.lemmas.Cmp.{eq_by_cmp_equiv}
 use Rattle.std.proofs.lemmas.Map.Steps.{length-le_from_keys}
 use Rattle.mesh_laws.proofs.PresentLemmas.{key_total}
-use Rattle.tt_local.specs.Roster.{AreSorted, has_key, PendingView, RosterView, Fits, Tracks, counting, IsSettled, settled_client, is_aged, is_aged_sighting, kept_flags, present_flags, IsRenewed}
+use Rattle.tt_local.specs.Roster.{AreSorted, has_key, PendingView, RosterView, Fits, Tracks, counting, IsSettled, IsTracked, settled_client, is_aged, is_aged_sighting, kept_flags, present_flags, IsRenewed}
 use Rattle.tt_local.specs.declared.sighting.Sighting.{Sighting}
 use Rattle.tt_local.specs.Clients.{client_at, client_after, client_row, sighting_row, with_sighting, HasClient, HasNews}
 use Rattle.mesh_model.specs.Clients.Mentions.{News}
 use Rattle.mesh_base.specs.KeyOrder.{key_order}
+use Rattle.mesh_base.specs.declared.client.Entry.{Entry}
 use Rattle.tt_local.proofs.ClientsLemmas.{among_after, swapped as same_swapped}
 use Rattle.std.proofs.lemmas.Map.Keys.{IsDistinct-from_sorted}
 use Rattle.std.specs.List.{IsDistinct}
@@ -247,3 +248,9 @@ touched_more keys i key clients mid new within is same before tracks touched q a
 pub all_taken : {P Q : Key → Type 0} (keys : List Key) (i : ℕ) (those : List Key) → length keys ≤ i → keys ≡ those → ((q : Key) → has_key (take i keys) q ≡ true → P q → Q q) → (q : Key) → has_key those q ≡ true → P q → Q q
 all_taken keys i those all is touched q among =
     touched q (ap (λ ks. has_key ks q) (take_all i keys all ∙ is) ∙ among)
+
+-- what was tracked in a table still is
+pub still_tracked : (old new : RosterView) (table : List Entry) → Tracks old new → IsTracked old table → IsTracked new table
+still_tracked old new table tracks are key absent =
+    let before = tracks key absent in
+    are key before.0 ∙ ap (option_and_then kept_flags) (sym before.1)

@@ -1,5 +1,5 @@
 ghost use Rattle.std.specs.Prelude.{◌≡◌, ◌+◌, ◌-◌, ◌≤◌, ◌↔◌, ℕ, List, [], ◌∷◌, length, None, Ok, Some, slice_get, option_map, IfErr, IfOk, OnOk, OnErr, IsTrue, IsNone};
-ghost use Rattle.mesh_model.specs.Clients.Limits.{limit_of_mention};
+ghost use Rattle.mesh_model.specs.Clients.Limits.{limit_beside, limit_of_mention};
 ghost use Rattle.mesh_model.specs.Clients.Mentions.{Departed, Joined, Left, Mention, Roamed, Sighted};
 ghost use Rattle.mesh_model.specs.Clients.Present.{present_clients, present_row};
 ghost use Rattle.mesh_model.specs.Commits.History.{committed, first_history, History, present_table};
@@ -9,8 +9,8 @@ ghost use Rattle.tt_local.specs.Locals.{LocalsStand};
 use crate::failure::LocalErr;
 use crate::journal::Journal;
 use crate::roster::Roster;
-use crate::vlans::count_vlans;
-use mesh_base::{Key, Millis, NoMemory};
+use crate::vlans::{count_vlans, most_vlans, name};
+use mesh_base::{Key, Millis, NoMemory, Vid};
 use mesh_model::LocalRow;
 use std::alloc::Global;
 use std::marker::Model;
@@ -27,17 +27,22 @@ pub struct Locals {
     pub(crate) alloc: Global,
     pub(crate) roster: Roster,
     pub(crate) journal: Journal,
+    // The VLANs of all clients that are kept, and maybe of others before: a new client is mostly
+    // within the limits whichever of the clients are present, and they needn't be looked at.
+    vlans: Vec<Vid>,
 }
 
 impl Model for Locals {
     ghost use Rattle.tt_local.specs.Locals.{LocalsView};
     ghost use Rattle.tt_local.specs.Roster.{IsTracked};
+    ghost use Rattle.tt_local.specs.Vlans.{AreNamed};
 
     ghost Value = { LocalsView };
 
     ghost view = { λ l. record { clients = l.roster.clients; journal = l.journal } };
 
-    ghost invariant = { λ l. IsTracked l.roster l.journal.table };
+    ghost invariant = { λ l.
+        IsTracked l.roster l.journal.table × AreNamed l.vlans.items l.roster.clients };
 }
 
 impl Locals {
@@ -49,6 +54,7 @@ impl Locals {
             alloc,
             roster: Roster::new(alloc),
             journal: Journal::new(alloc),
+            vlans: Vec::new(alloc),
         }
     }
 
@@ -92,6 +98,7 @@ impl Locals {
         ensures err { OnErr result (self.new ≡ self.old) }
     {
         let newly = self.row(now, key).is_none();
+        name(&mut self.vlans, key.vid)?;
         self.roster.sight(now, key, flags)?;
         self.roster.tell_order();
         Ok(newly)
@@ -117,6 +124,7 @@ impl Locals {
         ensures err { OnErr result (self.new ≡ self.old) }
     {
         self.keep_limits(now, key)?;
+        name(&mut self.vlans, key.vid)?;
         self.roster.join(key)?;
         self.roster.tell_order();
         Ok(())
@@ -157,7 +165,7 @@ impl Locals {
             LocalsStand self.now mentions history since → since ≤ now →
             IfErr result (HasLimit (limit_at mentions now key)) }
     {
-        if self.row(now, key).is_some() {
+        if self.row(now, key).is_some() || self.has_room(key.vid) {
             return Ok(());
         }
         let vids = self.roster.clients.vids(self.alloc, now)?;
@@ -168,6 +176,16 @@ impl Locals {
             return Err(LocalErr::Vlans);
         }
         Ok(())
+    }
+
+    // Whether one more client in this VLAN is surely within the limits.
+    fn has_room(&self, vid: Vid) -> bool
+        ensures { IsTrue result → (mentions : List Mention) (history : History) (since now : ℕ) →
+            LocalsStand self.now mentions history since → since ≤ now →
+            limit_beside (present_clients mentions now) vid ≡ None }
+    {
+        self.roster.clients.len() < CLIENTS_LIMIT
+            && most_vlans(self.vlans.as_slice(), vid) <= VLANS_LIMIT
     }
 
     // The row of a client, where it is present.

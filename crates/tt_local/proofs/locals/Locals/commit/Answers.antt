@@ -8,9 +8,11 @@ use Rattle.tt_local.specs.Clients.{ClientsStand, present_entries}
 use Rattle.tt_local.specs.Journal.{JournalStands}
 use Rattle.tt_local.specs.Locals.{LocalsView, LocalsStand}
 use Rattle.tt_local.specs.Roster.{IsTracked}
+use Rattle.tt_local.specs.Vlans.{AreNamed}
 use Rattle.tt_local.proofs.ChangesLemmas.{present_ordered}
 use Rattle.tt_local.proofs.CommitLemmas.{committed_new, committed_same, number_new, number_same, present_is, same_without, settled_stands, settled_tracked}
 use Rattle.tt_local.proofs.JournalLemmas.{journal_committed, table_after}
+use Rattle.tt_local.proofs.VlansLemmas.{named_settled}
 use Rattle.tt_local.proofs.locals.Locals.commit.Goals as goal
 
 pub invariant_of-self-then-len-eq0 : goal.invariant_of-self-then-len-eq0
@@ -22,9 +24,12 @@ invariant_of-self-then-len-eq0 g c =
     let others : IsInKeyOrder present = present_ordered c.args.now clients c.tell_order.ensures.clients in
     let are : c.in_ok-changes.changes ≡ changeset tab present = c.in_ok-changes.ensures ∙ ap (λ t. changeset t present) c.table-table.ensures in
     let empty : length c.in_ok-changes.changes ≡ 0 = sym c.len.ensures ∙ c.if-len-eq0.true in
-    let same : tab ≡ present = same_without tab present c.in_ok-changes.changes ordered others are empty in
-    subst (IsTracked c.settle.new.self) (sym same)
-    (settled_tracked c.args.now c.renew.new.self c.settle.new.self c.tell_order.ensures.clients c.in_ok-renew.ensures.renewed c.settle.ensures.settled)
+    let same : tab ≡ present = same_without tab present c.in_ok-changes.changes ordered others are empty in (
+      subst (IsTracked c.settle.new.self) (sym same)
+          (settled_tracked c.args.now c.renew.new.self c.settle.new.self c.tell_order.ensures.clients c.in_ok-renew.ensures.renewed c.settle.ensures.settled),
+      named_settled c.self.inside.vlans.items c.args.now c.renew.new.self.pending clients c.settle.new.self.clients c.settle.ensures.settled
+          (subst (AreNamed c.self.inside.vlans.items) (sym c.renew.ensures.clients) c.self.invariant.1),
+    )
 
 pub returns-then-len-eq0-clause-committed : goal.returns-then-len-eq0-clause-committed
 returns-then-len-eq0-clause-committed g c = λ mentions history since stands late.
@@ -89,9 +94,12 @@ invariant_of-self-2 g c =
     let present = present_entries c.args.now clients in
     let ordered : IsInKeyOrder tab = subst IsInKeyOrder c.table-table.ensures c.tell_order-2.ensures in
     let others : IsInKeyOrder present = present_ordered c.args.now clients c.tell_order.ensures.clients in
-    let are : c.in_ok-changes.changes ≡ changeset tab present = c.in_ok-changes.ensures ∙ ap (λ t. changeset t present) c.table-table.ensures in
-    subst (IsTracked c.settle-2.new.self) (sym (table_after c.in_ok-changes.changes c.self.inside.journal c.commit.new.self present c.in_ok-commit.ensures.committed are ordered others))
-    (settled_tracked c.args.now c.renew.new.self c.settle-2.new.self c.tell_order.ensures.clients c.in_ok-renew.ensures.renewed c.settle-2.ensures.settled)
+    let are : c.in_ok-changes.changes ≡ changeset tab present = c.in_ok-changes.ensures ∙ ap (λ t. changeset t present) c.table-table.ensures in (
+      subst (IsTracked c.settle-2.new.self) (sym (table_after c.in_ok-changes.changes c.self.inside.journal c.commit.new.self present c.in_ok-commit.ensures.committed are ordered others))
+          (settled_tracked c.args.now c.renew.new.self c.settle-2.new.self c.tell_order.ensures.clients c.in_ok-renew.ensures.renewed c.settle-2.ensures.settled),
+      named_settled c.self.inside.vlans.items c.args.now c.renew.new.self.pending clients c.settle-2.new.self.clients c.settle-2.ensures.settled
+          (subst (AreNamed c.self.inside.vlans.items) (sym c.renew.ensures.clients) c.self.invariant.1),
+    )
 
 pub returns-clause-committed : goal.returns-clause-committed
 returns-clause-committed g c = λ mentions history since stands late.

@@ -3,7 +3,15 @@ use Rattle.std.proofs.lemmas.Result.{err_from_is_err_and}
 use Rattle.mesh_model.specs.Clients.Mentions.{Mention, Joined}
 use Rattle.tt_local.specs.Locals.{LocalsView, LocalsStand}
 use Rattle.tt_local.proofs.ClientsLemmas.{mentioned}
+use Rattle.tt_local.proofs.RosterLemmas.{still_tracked}
+use Rattle.tt_local.proofs.VlansLemmas.{named_after}
 use Rattle.tt_local.proofs.locals.Locals.join.Goals as goal
+
+pub invariant_of-self-2 : goal.invariant_of-self-2
+invariant_of-self-2 c = (
+  still_tracked c.self.inside.roster c.join.new.self c.self.inside.journal.table c.in_ok-join.ensures.tracks c.self.invariant.0,
+  named_after c.self.inside.vlans.items c.name.new.named.items c.self.inside.roster.clients c.join.new.self.clients 0 c.args.key Joined (c.in_ok-join.ensures.news 0) c.name.ensures.kept c.in_ok-name.ensures.named c.self.invariant.1,
+)
 
 pub returns-in_err-keep_limits-clause-limit : goal.returns-in_err-keep_limits-clause-limit
 returns-in_err-keep_limits-clause-limit c =
