@@ -71,6 +71,7 @@ set A mcast 2
 set B gw server 100 20
 set A gw client late 20
 set B dat off
+set A frag 300
 alfred A mode secondary
 alfred B mode primary
 alfred A put 64 1 $text
@@ -117,6 +118,9 @@ alfred B get 64
 alfred A get 64
 run 10
 show B alf
+reboot A
+run 2000
+show A tg
 decode 000f32000000000102000000000a02000000000a00ff000c020100000401000401000000
 END
 
