@@ -226,6 +226,17 @@ moments_kept old new seen key client are has ordered same =
     moments_after old new seen seen key client (moment_at old key) are has ordered (sym same)
     (not_moved key (moment_at old key) seen (λ at. are.moments at key))
 
+-- a key that has no client has no moment again, once one was noted and forgotten
+pub moment_undone : (clients : List (Key × Client)) (seen mid after : List Seen) (key : Key) (now : ℕ) → AreMoments clients seen → client_at clients key ≡ None → HasMoved key (Some now) seen mid → HasMoved key None mid after → AreMoments clients after
+moment_undone clients seen mid after key now are absent noted forgotten = record {
+  ordered = are.ordered;
+  moments = λ at q. forgotten at q ∙ go at q (same_key key q) refl;
+}
+  where
+    go : (at : ℕ) (q : Key) (b : Bool) → same_key key q ≡ b → cond b false (has_moment mid at q) ≡ is_moment at (moment_at clients q)
+    go at q true t = sym (ap (λ o. is_moment at (option_and_then moment_of o)) (subst (λ k. client_at clients k ≡ None) (equal_from_same key q t) absent))
+    go at q false t = noted at q ∙ ap (λ b. cond b (is_moment at (Some now)) (has_moment seen at q)) t ∙ are.moments at q
+
 same_itself : (n : ℕ) → (n == n) ≡ true
 same_itself n = grind (arith, nat_tests)
 

@@ -1,9 +1,8 @@
--- A map of entries that is kept in the order of its keys: its keys ascend strictly, and a key is looked up by the order.
-use Rattle.std.proofs.Common.{◌≡◌, ◌+◌, Bool, ◌||◌, true, false, cond, List, [], ◌∷◌, Option, refl, sym, ap, ap₂, ◌∙◌, is_eq, is_lt, Ordering, Less, Equal, Greater, arith}
+-- A set of keys that is kept in their order: they ascend strictly, and a key is found by the order.
+use Rattle.std.proofs.Common.{◌≡◌, ◌+◌, Bool, ◌||◌, true, false, cond, List, [], ◌∷◌, refl, sym, ap, ap₂, ◌∙◌, is_eq, is_lt, Ordering, Less, Equal, Greater, arith}
 use Rattle.std.specs.Cmp.{IsTotalOrder}
-use Rattle.std.specs.List.{AllByRecursion, IsDistinct, list_any}
+use Rattle.std.specs.List.{IsDistinct, list_any}
 use Rattle.std.specs.List.Sorted.{IsSorted, IsStrictlySortedBy}
-use Rattle.std.specs.Map.{keys_of, lookup, remove_entry}
 use Rattle.std.specs.Ordering.{eq_by_cmp, ordering_reverse}
 use Rattle.std.proofs.lemmas.Bool.{true≢false}
 use Rattle.std.proofs.lemmas.Map.Keys.{sorted_from_all_adjacent, apart_from_distinct, Less-from_sorted}
@@ -32,10 +31,6 @@ module _ {K : Type 0} {R : K → K → Ordering} (o : IsTotalOrder R) (E : K →
   sorted_from_strict ks strict = λ k d low below.
       ap is_lt (o.antisymm _ _ ∙ ap ordering_reverse (Less-from_sorted R ks k (k + 1) d strict (omega arith) below))
 
-  -- a look-up by equality is one by the order
-  pub lookup_tied : {X : Type 0} (key : K) (entries : List (K × X)) → lookup (E key) entries ≡ lookup (eq_by_cmp R key) entries
-  lookup_tied key entries = ap (λ test. lookup test entries) (λ i other. ties key other i)
-
   -- a key is among keys by equality where it is by the order
   pub any_tied : (key : K) (keys : List K) → list_any (E key) keys ≡ list_any (eq_by_cmp R key) keys
   any_tied key keys = ap (λ test. list_any test keys) (λ i other. ties key other i)
@@ -47,30 +42,3 @@ module _ {K : Type 0} {R : K → K → Ordering} (o : IsTotalOrder R) (E : K →
   added_tied key old new updates q = sym (any_tied q new) ∙ updates q
       ∙ chosen_or (E key q) (list_any (E q) old)
       ∙ ap₂ (λ b c. b || c) (ties key q) (any_tied q old)
-
-  -- the same of what is there after a key was given a value, or none
-  pub updated_tied : {X : Type 0} (key : K) (value : Option X) (old new : List (K × X))
-      → ((q : K) → lookup (E q) new ≡ cond (E key q) value (lookup (E q) old))
-      → (q : K) → lookup (eq_by_cmp R q) new ≡ cond (eq_by_cmp R key q) value (lookup (eq_by_cmp R q) old)
-  updated_tied key value old new updates q = sym (lookup_tied q new) ∙ updates q
-      ∙ ap (λ b. cond b value (lookup (E q) old)) (ties key q)
-      ∙ ap (cond (eq_by_cmp R key q) value) (lookup_tied q old)
-
--- what holds of each key holds of those that stay when one is removed
-kept_removed : {K X : Type 0} (P : K → Type 0) (test : K → Bool) (entries : List (K × X)) → AllByRecursion P (keys_of entries) → AllByRecursion P (keys_of (remove_entry test entries))
-kept_removed P test [] all = tt
-kept_removed P test (e ∷ es) all = go (test e.0) (kept_removed P test es all.1)
-  where
-    go : (b : Bool) → AllByRecursion P (keys_of (remove_entry test es)) → AllByRecursion P (keys_of (cond b es (e ∷ remove_entry test es)))
-    go true rest = all.1
-    go false rest = (all.0, rest)
-
--- keys that ascend strictly do so when one is removed
-pub sorted_removed : {K X : Type 0} (R : K → K → Ordering) (test : K → Bool) (entries : List (K × X)) → IsStrictlySortedBy R (keys_of entries) → IsStrictlySortedBy R (keys_of (remove_entry test entries))
-unfolding IsStrictlySortedBy
-sorted_removed R test [] sorted = tt
-sorted_removed R test (e ∷ es) sorted = go (test e.0) (sorted_removed R test es sorted.1)
-  where
-    go : (b : Bool) → IsStrictlySortedBy R (keys_of (remove_entry test es)) → IsStrictlySortedBy R (keys_of (cond b es (e ∷ remove_entry test es)))
-    go true rest = sorted.1
-    go false rest = (kept_removed _ test es sorted.0, rest)

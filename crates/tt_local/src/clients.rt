@@ -11,16 +11,16 @@ use crate::client::Client;
 use crate::moments::Moments;
 use crate::pending::Pending;
 use crate::sighting::Sighting;
-use indexmap::IndexMap;
 use mesh_base::{Key, Millis, NoMemory, Vid};
 use mesh_model::LocalRow;
 use std::alloc::Global;
+use std::collections::BTreeMap;
 use std::marker::Model;
 
 /// The clients of a node by key, in key order, and the moments of their last sightings.
 #[derive(Debug, Drop)]
 pub(crate) struct Clients {
-    map: IndexMap<Key, Client>,
+    map: BTreeMap<Key, Client>,
     moments: Moments,
 }
 
@@ -43,7 +43,7 @@ impl Clients {
         ensures { result ≡ [] }
     {
         Clients {
-            map: IndexMap::new(alloc),
+            map: BTreeMap::new(alloc),
             moments: Moments::new(alloc),
         }
     }
@@ -60,9 +60,13 @@ impl Clients {
             sighting: Some(sighting),
             joined: known.joined,
         };
-        self.map.reserve(1)?;
         self.moments.change(key, known.moment(), now)?;
-        self.map.insert_sorted(key, client).unwrap();
+        let inserted: Result<_, _> = self.map.insert(key, client);
+        if let Err(refused) = inserted {
+            // only a key that wasn't there is refused, and it had no moment before
+            self.moments.forget(key, Some(now));
+            return Err(NoMemory::from(refused));
+        }
         Ok(())
     }
 
@@ -113,7 +117,7 @@ impl Clients {
     {
         let known = self.known(key);
         self.moments.forget(key, known.moment());
-        self.map.shift_remove(&key);
+        self.map.remove(&key);
     }
 
     /// Forgets of these keys those that aren't present, and their sightings that count no longer.
@@ -178,7 +182,7 @@ impl Clients {
         ensures err { OnErr result (self.new ≡ self.old) }
     {
         self.tell_order();
-        self.map.insert_sorted(key, client)?;
+        self.map.insert(key, client)?;
         Ok(())
     }
 
@@ -199,7 +203,9 @@ impl Clients {
         ensures as_long { length self.new ≡ length self.old }
     {
         self.moments.forget(key, client.moment());
-        self.map.insert_sorted(key, client.unsighted()).unwrap();
+        // a key that is there wants no memory
+        let replaced: Result<_, _> = self.map.insert(key, client.unsighted());
+        replaced.unwrap();
     }
 
     /// What is known of a key.

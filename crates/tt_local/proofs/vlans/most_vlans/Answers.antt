@@ -1,5 +1,4 @@
-use Rattle.std.proofs.Common.{◌≡◌, ◌+◌, ◌≤◌, ◌∷◌, List, cond, length, subst, sym, arith, rules}
-use Rattle.mesh_base.specs.declared.client.Vid.{Vid}
+use Rattle.std.proofs.Common.{◌≡◌, ◌+◌, ◌≤◌, ◌∷◌, cond, length, subst, sym, rules}
 use Rattle.mesh_model.specs.Clients.Limits.{distinct_vids}
 use Rattle.tt_local.specs.Vlans.{has_vid}
 use Rattle.tt_local.proofs.VlansLemmas.{few_with}
