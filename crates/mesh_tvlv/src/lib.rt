@@ -4,7 +4,8 @@
 //! The layouts are those of batman-adv's public `batadv_packet.h`: `batadv_tvlv_hdr`,
 //! `batadv_tvlv_gateway_data`, `batadv_tvlv_tt_data` with `batadv_tvlv_tt_vlan_data` and
 //! `batadv_tvlv_tt_change`, `batadv_tvlv_roam_adv`. The bodies of a multicast container and of a
-//! part of a translation table, and the versions written, are batmesh's own. All numbers are big-endian. Only the writers take memory.
+//! part of a translation table, and the versions written, are batmesh's own. All numbers are
+//! big-endian. Only the writers take memory.
 
 #![tactic(auto)]
 

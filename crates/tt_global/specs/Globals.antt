@@ -18,7 +18,8 @@ abbrev pub Kept : Type 0
 Kept = List (Mac × KnownTable)
 
 -- what is kept is what came for each originator: what was told last, whatever frame told it, what is
--- held, and the parts that are gathered; those of which something was told stand in the order of their addresses
+-- held, and the parts that are gathered; those of which something was told stand in the order of
+-- their addresses
 pub record GlobalsStand (kept : Kept) (calls : TableCalls) : Type 0 where
   pub told : (orig : Mac) →
       told_in (lookup (same_mac orig) kept) ≡ stamp_of (known_by calls orig)

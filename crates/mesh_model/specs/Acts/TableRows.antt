@@ -2,7 +2,8 @@
 -- that are for one node. An announcement may lead to a request. A request is answered by its
 -- originator, or on the way by a node that holds the table; else it is passed on, as all containers
 -- for another node are, while hops are left and a route leads there. A large table goes in parts, a
--- packet each. Without a route to the asker nothing is sent. The main words are `request_acts`, `own_answer` and `passed_containers`.
+-- packet each. Without a route to the asker nothing is sent. The main words are `request_acts`,
+-- `own_answer` and `passed_containers`.
 use Rattle.mesh_model.specs.Packets.Numbers.{first_ttl}
 use Rattle.std.specs.Prelude.{ℕ, ◌-◌, ◌&&◌, nat_le, Bool, List, [], length, flat_map, Option, Some, None, if◌then◌else◌}
 use Rattle.mesh_base.specs.declared.address.Mac.{Mac}

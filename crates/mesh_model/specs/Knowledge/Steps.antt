@@ -2,8 +2,8 @@
 -- and by what lines give it. Its algorithm is given each tick, each ELP, and each originator
 -- message that is taken. An accepted originator message begins what is known of its originator anew
 -- where a life begins; it may release marks, and lead to a request. An answer from a live
--- originator, or for it, or a part of one, is taken and may release marks too. A client that roamed is marked, with
--- what its new node was told to have. A sighting ends the client's mark, and is advertised where
+-- originator, or for it, or a part of one, is taken and may release marks too. A client that roamed
+-- is marked, with what its new node was told to have. A sighting ends the client's mark, and is advertised where
 -- the client wasn't present just before and was elsewhere. A client frame from a LAN that its
 -- gateway passes is a sighting, and it goes on unless its client is at the gateway or behind
 -- another gateway of the LAN. What an accepted message offers is noted; a gateway is chosen at each
