@@ -170,4 +170,12 @@ pub enum Event {
         type_no: u8,
         result: FactResult,
     },
+    /// `route T NODE ORIG NEXT`: the next node on the way from a node to an originator has changed,
+    /// or there is none any more.
+    Route {
+        at: Millis,
+        node: Mac,
+        orig: Mac,
+        next: Option<Mac>,
+    },
 }

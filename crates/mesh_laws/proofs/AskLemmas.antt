@@ -5,12 +5,12 @@ use Rattle.mesh_base.specs.declared.client.Vid.{Vid}
 use Rattle.mesh_model.specs.declared.packet.Head.{Head}
 use Rattle.mesh_model.specs.Clients.Log.{Given, Tick, LinkFrame, LanFrame, Line, LineGiven, Attach, Frame, Gone, Join, Leave, Arp, Dhcp, Sets, Put, Get, Ping, Trace, Reboot, Log}
 use Rattle.mesh_model.specs.Clients.Mentions.{key_of, mentions, next_mentions, passed_from_lan}
-use Rattle.mesh_model.specs.Clients.Settings.{Setting, Wifi, Gateway, Multicast, ArpTable, FactStore, LongestWhole}
+use Rattle.mesh_model.specs.Clients.Settings.{Setting, Wifi, Gateway, Multicast, ArpTable, FactStore, LongestWhole, Pictures}
 use Rattle.mesh_model.specs.Knowledge.FactStore.{after_get}
 use Rattle.mesh_model.specs.Knowledge.Known.{Knowledge}
 use Rattle.mesh_model.specs.Knowledge.PutTogether.{fact_carried, put_together, with_part}
 use Rattle.mesh_model.specs.Knowledge.Pairs.{after_asking, after_came, after_question, is_asked, with_ask, with_learned}
-use Rattle.mesh_model.specs.Knowledge.Steps.{Coming, after_call, after_frame, after_packet, after_packets, after_passed, after_sighting, after_tick, knowledge, line_knowledge, next_knowledge, with_set}
+use Rattle.mesh_model.specs.Knowledge.Steps.{Coming, after_call, after_frame, after_packet, after_packets, after_passed, after_sighting, knowledge, line_knowledge, next_knowledge, table_behind, with_set}
 use Rattle.mesh_model.specs.Knowledge.Told.{message_of}
 use Rattle.mesh_model.specs.Net.Next.{Has}
 use Rattle.mesh_model.specs.Packets.ArpMessages.{ArpCame, Asks, Puts, Tells}
@@ -95,6 +95,7 @@ set_asks ip vid (Gateway part) known asked = asked
 set_asks ip vid (Multicast flags) known asked = asked
 set_asks ip vid (ArpTable on) known asked = asked
 set_asks ip vid (FactStore mode) known asked = asked
+set_asks ip vid (Pictures on) known asked = asked
 set_asks ip vid (LongestWhole size) known asked = asked
 
 line_asks : (ip : ℕ) (vid : Vid) (q : Queries) (me : Mac) (older : Log) (known : Knowledge) (now : ℕ) (line : LineGiven) → Asked (line_knowledge q me older known now line) ip vid → AsksFor line ip vid ⊎ Asked known ip vid
@@ -124,7 +125,8 @@ abbrev GivenAsks : Given → ℕ → Vid → Type 0
 GivenAsks given ip vid = (client : Mac) × (own_ip : ℕ) × (given ≡ Line (Arp client own_ip ip vid))
 
 given_asks : (ip : ℕ) (vid : Vid) (q : Queries) (me : Mac) (older : Log) (known : Knowledge) (now : ℕ) (given : Given) → Asked (next_knowledge q me older known now given) ip vid → GivenAsks given ip vid ⊎ Asked known ip vid
-given_asks ip vid q me older known now (Tick index) asked = inr (kept_asks ip vid known (after_tick q now index known) (tick_kept q now index known) asked)
+given_asks ip vid q me older known now (Tick index) asked =
+    inr (subst (λ (k : Kept). Has k.asks (AskedFor ip vid)) (tick_kept q me now index (table_behind me older now index) known) asked)
 given_asks ip vid q me older known now (LinkFrame number from throughput bytes) asked =
     inr (packets_asks ip vid q me (record { now = now; from = from; throughput = throughput; number = number }) known (link_frame bytes).packets asked)
 given_asks ip vid q me older known now (LanFrame bytes) asked =

@@ -11,14 +11,14 @@ use Rattle.mesh_model.specs.declared.packet.Head.TheVariants.{IvOgm, Bcast, Elp,
 use Rattle.mesh_model.specs.declared.service.Fact.{Fact}
 use Rattle.mesh_model.specs.Clients.Log.{Tick, LinkFrame, LanFrame, Line, LineGiven, Attach, Frame, Gone, Join, Leave, Arp, Dhcp, Sets, Put, Get, Ping, Trace, Reboot, Log}
 use Rattle.mesh_model.specs.Clients.Mentions.{key_of, mentions, next_mentions, passed_from_lan}
-use Rattle.mesh_model.specs.Clients.Settings.{Setting, Wifi, Gateway, Multicast, ArpTable, FactStore, LongestWhole}
+use Rattle.mesh_model.specs.Clients.Settings.{Setting, Wifi, Gateway, Multicast, ArpTable, FactStore, LongestWhole, Pictures}
 use Rattle.mesh_model.specs.Knowledge.FactStore.{after_answering, after_brought, after_closing, after_fact_message, after_push, after_store_message, after_whole_push, announcing, closed_by, if_announces, txn_call, with_fact, with_facts}
 use Rattle.mesh_model.specs.Knowledge.Known.{Broadcast, Knowledge, is_new_broadcast, taken_at}
 use Rattle.mesh_model.specs.Knowledge.Pairs.{after_asking, after_came, after_question, is_asked, with_ask, with_learned}
 use Rattle.mesh_model.specs.Fragments.Assembly.{PartCall, part_of}
 use Rattle.mesh_model.specs.Knowledge.PutTogether.{Carried, after_part, fact_carried, put_together, with_part}
 use Rattle.mesh_model.specs.Knowledge.Served.{FactRequest}
-use Rattle.mesh_model.specs.Knowledge.Steps.{after_broadcast, after_head, after_sighting, announced_by, line_knowledge, with_set}
+use Rattle.mesh_model.specs.Knowledge.Steps.{after_broadcast, after_head, after_sighting, announced_by, line_knowledge, table_behind, with_set}
 use Rattle.mesh_model.specs.Knowledge.Told.{message_of}
 use Rattle.mesh_model.specs.Packets.ArpMessages.{ArpCame, Asks, Puts, Tells}
 use Rattle.mesh_model.specs.Packets.FactMessages.{CameFact, FactMessage, HasPart, Primary, Requests, HasEnd, fact_message_of}
@@ -328,6 +328,7 @@ set_stays (Gateway part) known = refl
 set_stays (Multicast flags) known = refl
 set_stays (ArpTable on) known = refl
 set_stays (FactStore mode) known = refl
+set_stays (Pictures on) known = refl
 set_stays (LongestWhole size) known = refl
 
 line_puts : (q : Queries) (me : Mac) (older : Log) (known : Knowledge) (now : ℕ) (line : LineGiven) → facts_of (line_knowledge q me older known now line) ≡ put_by_line me now line ++ left_by_line line (facts_of known)
@@ -346,7 +347,7 @@ line_puts q me older known now (Trace target) = refl
 line_puts q me older known now Reboot = refl
 
 pub lines_put_facts : LinesPutFacts
-lines_put_facts q me older known now (Tick index) = ap facts_in (tick_kept q now index known)
+lines_put_facts q me older known now (Tick index) = ap facts_in (tick_kept q me now index (table_behind me older now index) known)
 lines_put_facts q me older known now (LinkFrame number from throughput bytes) = tt
 lines_put_facts q me older known now (LanFrame bytes) = ap facts_in (passed_kept q me older known now
     (next_mentions me older (mentions me older) now (LanFrame bytes))

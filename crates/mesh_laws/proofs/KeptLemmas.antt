@@ -1,7 +1,8 @@
 -- What a node is given leaves its settings, what it asked for and what it keeps of the fact store, but
 -- for what sets one, and for what comes of the ARP table or of the store, or is asked of them.
-use Rattle.std.proofs.Common.{◌≡◌, ◌&&◌, ℕ, Bool, true, false, cond, List, ◌∷◌, Option, Some, None, is_some, option_and_then, refl, ◌∙◌}
+use Rattle.std.proofs.Common.{◌≡◌, ◌&&◌, ℕ, Bool, true, false, cond, List, ◌∷◌, Option, Some, None, is_some, option_and_then, refl, ◌∙◌, ◌++◌, ap}
 use Rattle.mesh_base.specs.declared.address.Mac.{Mac}
+use Rattle.mesh_base.specs.declared.client.Entry.{Entry}
 use Rattle.mesh_base.specs.declared.client.Key.{Key}
 use Rattle.mesh_model.specs.declared.line_form.AlfredMode.{AlfredMode}
 use Rattle.mesh_model.specs.declared.line_form.AlfredMode.TheVariants.{Off, Primary as IsPrimary, Secondary}
@@ -15,10 +16,11 @@ use Rattle.mesh_model.specs.Knowledge.FactStore.{after_asking_for, after_fact_me
 use Rattle.mesh_model.specs.Knowledge.Known.{Broadcast, Knowledge, is_new_broadcast}
 use Rattle.mesh_model.specs.Knowledge.Offers.{gateway_way}
 use Rattle.mesh_model.specs.Fragments.Assembly.{PartCall, part_of}
+use Rattle.mesh_model.specs.Knowledge.OwnPictures.{put_pictures}
 use Rattle.mesh_model.specs.Knowledge.PutTogether.{after_part}
 use Rattle.mesh_model.specs.Knowledge.Pairs.{after_arp}
 use Rattle.mesh_model.specs.Knowledge.Served.{PrimaryCall}
-use Rattle.mesh_model.specs.Knowledge.Steps.{Coming, after_announcement, after_answer, after_bridged, after_broadcast, after_reply, after_call, after_containers, after_frame, after_head, after_message, after_passed, after_roaming, after_sighting, after_sent, after_taken, after_tick, announced_by, before_announcement, before_round, is_flooded, stays_on_lan, with_head, with_life, with_offered}
+use Rattle.mesh_model.specs.Knowledge.Steps.{Coming, after_announcement, after_answer, after_bridged, after_broadcast, after_reply, after_call, after_containers, after_frame, after_head, after_message, after_passed, after_roaming, after_sighting, after_round_at, after_sent, after_taken, after_tick, announced_by, before_announcement, before_round, before_telling, is_flooded, stays_on_lan, with_head, with_life, with_offered}
 use Rattle.mesh_model.specs.Knowledge.Told.{Message, TableMessage, Asks, Answers, Neither, message_in, part_told}
 use Rattle.mesh_model.specs.Commits.History.{is_commit_tick}
 use Rattle.mesh_model.specs.Packets.ArpMessages.{ArpCame, arp_came}
@@ -210,23 +212,30 @@ passed_kept q me older known now mentions (Some frame) =
     let seen = after_sighting q me older now (key_of frame.src frame.vid) known in
     bridged_kept q now (stays_on_lan q mentions (bridge older).lan now (key_of frame.dst frame.vid) seen) (key_of frame.dst frame.vid) seen
 
-pub tick_kept : (q : Queries) (now index : ℕ) (known : Knowledge) → kept_of (after_tick q now index known) ≡ kept_of known
-tick_kept q now index known = round_kept (is_round index) ∙ either (is_commit_tick index) _ with_tick (kept_of known) refl refl
+-- a round leaves it
+pub round_kept : (q : Queries) (now index : ℕ) (known : Knowledge) → kept_of (after_round_at q now index known) ≡ kept_of known
+round_kept q now index known = go (is_round index)
   where
-    with_tick : Knowledge
-    with_tick = record known { routes = OwnTick now index ∷ known.routes }
-
-    before : Knowledge
-    before = before_round q now index known
-
-    by_part : (mode : AlfredMode) → kept_of (after_round q now mode before) ≡ kept_of before
+    by_part : (mode : AlfredMode) → kept_of (after_round q now mode known) ≡ kept_of known
     by_part Off = refl
     by_part IsPrimary = refl
     by_part Secondary = refl
 
-    round_kept : (b : Bool) → kept_of (cond b (after_round q now before.services.settings.fact_store before) before) ≡ kept_of before
-    round_kept true = by_part before.services.settings.fact_store
-    round_kept false = refl
+    go : (b : Bool) → kept_of (cond b (after_round q now known.services.settings.fact_store known) known) ≡ kept_of known
+    go true = by_part known.services.settings.fact_store
+    go false = refl
+
+-- what is kept after a tick, with the picture that is put
+abbrev pub with_put : List FactCall → Kept → Kept
+with_put put kept = record kept { facts = put ++ kept.facts }
+
+pub tick_kept : (q : Queries) (me : Mac) (now index : ℕ) (table : List Entry) (known : Knowledge)
+    → kept_of (after_tick q me now index table known) ≡ with_put (put_pictures q me now index table (before_round q now index known)) (kept_of known)
+tick_kept q me now index table known = round_kept q now index (before_telling q me now index table known)
+    ∙ ap (with_put (put_pictures q me now index table (before_round q now index known))) (either (is_commit_tick index) _ with_tick (kept_of known) refl refl)
+  where
+    with_tick : Knowledge
+    with_tick = record known { routes = OwnTick now index ∷ known.routes }
 
 pub get_kept : (q : Queries) (now type_no : ℕ) (mode : AlfredMode) (known : Knowledge) → kept_of (after_get q now type_no mode known) ≡ kept_of known
 get_kept q now type_no Off known = refl

@@ -15,6 +15,7 @@ use Rattle.mesh_model.specs.Net.Lans.{attachment, gets, joins_lan, put_given, pu
 use Rattle.mesh_model.specs.Net.Mesh.{NodeLog, NetLan, NetLink, LanPut, SentFrame, Mesh, Setup, address_at}
 use Rattle.mesh_model.specs.Net.Next.{Has}
 use Rattle.mesh_model.specs.Net.Runs.{Course, after_happening, begin, delivered, effect, frame_given, frame_over, going_on, run_to, throughput_between, tick_given, turn, with_last}
+use Rattle.mesh_model.specs.Net.Watching.{lines_told, with_lines}
 use Rattle.mesh_model.specs.Net.Sending.{Actor, after_acts, lan_from, lan_of, with_put}
 use Rattle.mesh_model.specs.Packets.LanFrames.{client_frame_in, lan_message_of}
 use Rattle.mesh_model.specs.Packets.Payload.{ClientFrame}
@@ -156,8 +157,8 @@ effect_off setup NodeTick place now mesh after off e = tick_off setup place now 
 
 happening_off : (setup : Setup) (h : Happening) (mesh after : Mesh) → AreOff mesh → after_happening setup h mesh ≡ Ok after → AreOff after
 happening_off setup h mesh after off e =
-    let p = on_ok_ok (with_last h) (effect setup h.class h.place h.moment mesh) after e in
-    same_off (record p.0 { last = h }) after p.2 (effect_off setup h.class h.place h.moment mesh p.0 off p.1)
+    let p = on_ok_ok (with_last setup h) (effect setup h.class h.place h.moment mesh) after e in
+    same_off (record (with_lines (lines_told setup h p.0) p.0) { last = h }) after p.2 (effect_off setup h.class h.place h.moment mesh p.0 off p.1)
 
 turn_off : (setup : Setup) (t : ℕ) (o after : Course) → AreOff o.mesh → Turned setup t o after → AreOff after.mesh
 turn_off setup t o after off (rests d e) = subst (λ (x : Course). AreOff x.mesh) (sym e) off

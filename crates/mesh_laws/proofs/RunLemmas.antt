@@ -12,21 +12,30 @@ use Rattle.mesh_model.specs.Scenario.Commands.{command_of_line}
 use Rattle.mesh_model.specs.Scenario.Readings.{Reading}
 use Rattle.mesh_model.specs.Scenario.Lines.{content, lines_of}
 use Rattle.mesh_model.specs.Run.Outcome.{Outcome, Goes, Ends, reached}
-use Rattle.mesh_model.specs.Run.PlainRun.{Run, start, after_line, after_lines, after_outcome, after_reading, line_outcome, passes_input, passes_line, plain_run, output}
+use Rattle.mesh_model.specs.Run.PlainRun.{LineStep, Run, RunOf, start, after_line, after_line_by, after_lines, after_lines_by, after_outcome, after_reading, line_outcome, passes_input, passes_line, plain_run, output}
 use Rattle.mesh_model.specs.Run.Rules.{setup_of}
 use Rattle.mesh_model.specs.Run.State.{State, printed_text, text_of}
 use Rattle.mesh_laws.proofs.CutLemmas.{lines_of-lines_then}
 use Rattle.mesh_laws.proofs.Lines.Printing.{Grows, grows, grows_by_none, text_of_more}
 
-pub after_lines-append : (run : Run) (a b : List (List ℕ)) → after_lines run (a ++ b) ≡ after_lines (after_lines run a) b
-after_lines-append run a b = fold-append after_line run a b
+-- ---- runs of any lines
+module _ {S : Type 0} (step : LineStep S) where
+  pub after_lines_by-append : (run : RunOf S) (a b : List (List ℕ)) → after_lines_by step run (a ++ b) ≡ after_lines_by step (after_lines_by step run a) b
+  after_lines_by-append run a b = fold-append (after_line_by step) run a b
 
--- a run that halted stays
+  -- a run that halted stays
+  pub after_lines_by-halted : (run : RunOf S) (lines : List (List ℕ)) → IsSome run.halt → after_lines_by step run lines ≡ run
+  after_lines_by-halted run [] halted = refl
+  after_lines_by-halted run (line ∷ lines) halted =
+      let stays : after_line_by step run line ≡ run = rw halted refl in
+      ap (λ r. after_lines_by step r lines) stays ∙ after_lines_by-halted run lines halted
+
+-- ---- the run of a scenario
+pub after_lines-append : (run : Run) (a b : List (List ℕ)) → after_lines run (a ++ b) ≡ after_lines (after_lines run a) b
+after_lines-append = after_lines_by-append line_outcome
+
 pub after_lines-halted : (run : Run) (lines : List (List ℕ)) → IsSome run.halt → after_lines run lines ≡ run
-after_lines-halted run [] halted = refl
-after_lines-halted run (line ∷ lines) halted =
-    let stays : after_line run line ≡ run = rw halted refl in
-    ap (λ r. after_lines r lines) stays ∙ after_lines-halted run lines halted
+after_lines-halted = after_lines_by-halted line_outcome
 
 -- ---- what is printed stays
 

@@ -5,11 +5,11 @@ use Rattle.mesh_base.specs.declared.client.Vid.{Vid}
 use Rattle.mesh_model.specs.declared.packet.Head.{Head}
 use Rattle.mesh_model.specs.Clients.Log.{Given, Tick, LinkFrame, LanFrame, Line, LineGiven, Attach, Frame, Gone, Join, Leave, Arp, Dhcp, Sets, Put, Get, Ping, Trace, Reboot, Log, after_setting, setting_of, settings}
 use Rattle.mesh_model.specs.Clients.Mentions.{key_of, mentions, next_mentions, passed_from_lan}
-use Rattle.mesh_model.specs.Clients.Settings.{Setting, Wifi, Gateway, Multicast, ArpTable, FactStore, LongestWhole, Settings, set_to}
+use Rattle.mesh_model.specs.Clients.Settings.{Setting, Wifi, Gateway, Multicast, ArpTable, FactStore, LongestWhole, Pictures, Settings, set_to}
 use Rattle.mesh_model.specs.Knowledge.Known.{Knowledge}
 use Rattle.mesh_model.specs.Knowledge.PutTogether.{fact_carried, put_together, with_part}
 use Rattle.mesh_model.specs.Knowledge.Pairs.{after_asking, after_came, after_question, is_asked, with_ask, with_learned}
-use Rattle.mesh_model.specs.Knowledge.Steps.{Coming, after_packet, after_packets, after_sighting, knowledge, line_knowledge, next_knowledge, with_set}
+use Rattle.mesh_model.specs.Knowledge.Steps.{Coming, after_packet, after_packets, after_sighting, knowledge, line_knowledge, next_knowledge, table_behind, with_set}
 use Rattle.mesh_model.specs.Knowledge.Told.{message_of}
 use Rattle.mesh_model.specs.Packets.ArpMessages.{ArpCame, Asks, Puts, Tells}
 use Rattle.mesh_model.specs.Packets.FirstPacket.{Packet}
@@ -70,6 +70,7 @@ setting_set (Gateway part) known = refl
 setting_set (Multicast flags) known = refl
 setting_set (ArpTable on) known = refl
 setting_set (FactStore mode) known = refl
+setting_set (Pictures on) known = refl
 setting_set (LongestWhole size) known = refl
 
 -- what a line leaves of the settings
@@ -94,7 +95,7 @@ line_set q me older known now Reboot = refl
 
 given_set : (q : Queries) (me : Mac) (older : Log) (known : Knowledge) (now : ℕ) (given : Given)
     → set_of (next_knowledge q me older known now given) ≡ after_setting (setting_of given) (set_of known)
-given_set q me older known now (Tick index) = ap settings_in (tick_kept q now index known)
+given_set q me older known now (Tick index) = ap settings_in (tick_kept q me now index (table_behind me older now index) known)
 given_set q me older known now (LinkFrame number from throughput bytes) =
     packets_set q me (record { now = now; from = from; throughput = throughput; number = number }) known (link_frame bytes).packets
 given_set q me older known now (LanFrame bytes) = ap settings_in (passed_kept q me older known now

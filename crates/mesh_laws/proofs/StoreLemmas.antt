@@ -1,6 +1,7 @@
 -- What comes of the fact store leaves what a node knows otherwise.
 use Rattle.std.proofs.Common.{◌≡◌, ℕ, Bool, true, false, cond, List, [], ◌∷◌, Option, Some, None, refl}
 use Rattle.mesh_base.specs.declared.address.Mac.{Mac}
+use Rattle.mesh_base.specs.declared.client.Entry.{Entry}
 use Rattle.mesh_model.specs.declared.line_form.AlfredMode.{AlfredMode}
 use Rattle.mesh_model.specs.declared.line_form.AlfredMode.TheVariants.{Off, Primary as IsPrimary, Secondary}
 use Rattle.mesh_model.specs.declared.service.Fact.{Fact}
@@ -9,7 +10,7 @@ use Rattle.mesh_model.specs.Fragments.Assembly.{PartCall}
 use Rattle.mesh_model.specs.Knowledge.FactStore.{after_answering, after_asking_for, after_brought, after_closing, after_fact_message, after_get, after_push, after_round, after_store_message, after_whole_push, chosen_primary, closed_by, txn_call, with_fact, with_facts}
 use Rattle.mesh_model.specs.Knowledge.Known.{Knowledge}
 use Rattle.mesh_model.specs.Knowledge.Served.{FactRequest, Offered}
-use Rattle.mesh_model.specs.Knowledge.Steps.{after_round_at}
+use Rattle.mesh_model.specs.Knowledge.Steps.{after_round_at, after_tick, before_round, before_telling}
 use Rattle.mesh_model.specs.Marks.Calls.{Calls}
 use Rattle.mesh_model.specs.Packets.FactMessages.{CameFact, FactMessage, HasPart, Primary, Requests, HasEnd}
 use Rattle.mesh_model.specs.Routes.Queries.{Queries}
@@ -113,3 +114,8 @@ round_at_rest q now index known = go (is_round index)
     go : (b : Bool) → LeavesRest known (cond b (after_round q now known.services.settings.fact_store known) known)
     go true = round_rest q now known.services.settings.fact_store known
     go false = refl
+
+-- so it is after a tick, with the picture that may be put before facts are told
+pub tick_rest : (q : Queries) (me : Mac) (now index : ℕ) (table : List Entry) (known : Knowledge)
+    → LeavesRest (before_round q now index known) (after_tick q me now index table known)
+tick_rest q me now index table known = round_at_rest q now index (before_telling q me now index table known)

@@ -1,7 +1,7 @@
 -- Laws of the fact store: when a node takes facts. Those of a push are taken once it is whole, all
 -- in that step, and at a primary alone; no other packet changes which facts a node has. Of all other
--- inputs a line that puts a fact does, and a reboot, which leaves none. The main words are
--- `FactsComeWhole`, `WholePushIsTaken` and `LinesPutFacts`.
+-- inputs a line that puts a fact does, a tick at which the node puts its picture, and a reboot, which
+-- leaves none. The main words are `FactsComeWhole`, `WholePushIsTaken` and `LinesPutFacts`.
 use Rattle.std.specs.Prelude.{◌≡◌, ◌⊎◌, ℕ, true, List, [], ◌∷◌, ◌++◌, fold, Option, Some, None, option_map, if◌then◌else◌, ⊤}
 use Rattle.mesh_base.specs.declared.address.Mac.{Mac}
 use Rattle.mesh_model.specs.declared.line_form.AlfredMode.TheVariants.{Primary as IsPrimary}
@@ -11,8 +11,9 @@ use Rattle.mesh_model.specs.declared.service.Fact.{Fact}
 use Rattle.mesh_model.specs.Clients.Log.{Given, Tick, LinkFrame, LanFrame, Line, LineGiven, Attach, Frame, Gone, Join, Leave, Arp, Dhcp, Sets, Put, Get, Ping, Trace, Reboot, Log, line_reboots}
 use Rattle.mesh_model.specs.Fragments.Assembly.{PartCall, part_of}
 use Rattle.mesh_model.specs.Knowledge.Known.{Knowledge}
+use Rattle.mesh_model.specs.Knowledge.OwnPictures.{put_pictures}
 use Rattle.mesh_model.specs.Knowledge.PutTogether.{Carried, put_together}
-use Rattle.mesh_model.specs.Knowledge.Steps.{Coming, after_packet, next_knowledge}
+use Rattle.mesh_model.specs.Knowledge.Steps.{Coming, after_packet, before_round, next_knowledge, table_behind}
 use Rattle.mesh_model.specs.Packets.FactMessages.{FactMessage, HasPart, HasEnd, fact_message_of}
 use Rattle.mesh_model.specs.Packets.FirstPacket.{Packet}
 use Rattle.mesh_model.specs.Routes.Addresses.{same_mac}
@@ -116,16 +117,24 @@ put_by_line me now Reboot = []
 abbrev pub left_by_line : LineGiven → List FactCall → List FactCall
 left_by_line line facts = if line_reboots line then [] else facts
 
+-- the picture that a node puts at a tick of an index right after a log, where it puts one
+abbrev pub put_by_tick : Queries → Mac → Log → ℕ → ℕ → Knowledge → List FactCall
+put_by_tick q me older now index known = put_pictures q me now index
+    (table_behind me older now index) (before_round q now index known)
+
 -- what is known after an input of a node has the facts of before, unless it is a reboot, and what a
--- line put; a link frame is left to the law of its packets
-abbrev pub PutsAlone : Mac → ℕ → Given → Knowledge → Knowledge → Type 0
-PutsAlone me now (Tick index) known after = after.services.facts ≡ known.services.facts
-PutsAlone me now (LinkFrame number from throughput bytes) known after = ⊤
-PutsAlone me now (LanFrame bytes) known after = after.services.facts ≡ known.services.facts
-PutsAlone me now (Line line) known after =
+-- line or a tick put; a link frame is left to the law of its packets
+abbrev pub PutsAlone : Queries → Mac → Log → ℕ → Given → Knowledge → Knowledge → Type 0
+PutsAlone q me older now (Tick index) known after =
+    after.services.facts ≡ put_by_tick q me older now index known ++ known.services.facts
+PutsAlone q me older now (LinkFrame number from throughput bytes) known after = ⊤
+PutsAlone q me older now (LanFrame bytes) known after =
+    after.services.facts ≡ known.services.facts
+PutsAlone q me older now (Line line) known after =
     after.services.facts ≡ put_by_line me now line ++ left_by_line line known.services.facts
 
 -- so it is of each input
 abbrev pub LinesPutFacts : Type 0
 LinesPutFacts = (q : Queries) (me : Mac) (older : Log) (known : Knowledge) (now : ℕ)
-    (given : Given) → PutsAlone me now given known (next_knowledge q me older known now given)
+    (given : Given) →
+    PutsAlone q me older now given known (next_knowledge q me older known now given)

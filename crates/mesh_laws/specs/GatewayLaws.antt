@@ -6,12 +6,13 @@ use Rattle.std.specs.Prelude.{◌≡◌, ℕ, ◌<◌, suc, List, [], ◌∷◌,
 use Rattle.mesh_base.specs.declared.address.Mac.{Mac}
 use Rattle.mesh_base.specs.declared.client.Key.{Key}
 use Rattle.mesh_model.specs.declared.happening.Happening.{Happening}
+use Rattle.mesh_model.specs.declared.route_line.RouteLine.{RouteLine}
 use Rattle.mesh_model.specs.Bridges.Claims.{claim_holder}
 use Rattle.mesh_model.specs.Clients.Lans.{LanOf, bridge}
 use Rattle.mesh_model.specs.Clients.Log.{LineGiven, Attach, Line}
 use Rattle.mesh_model.specs.Net.Inputs.{all_given, given_to}
 use Rattle.mesh_model.specs.Net.Lans.{joins_lan}
-use Rattle.mesh_model.specs.Net.Mesh.{NodeLog, NetLan, NetLink, LanPut, Mesh, Setup, address_at, empty_mesh}
+use Rattle.mesh_model.specs.Net.Mesh.{NodeLog, NetLan, NetLink, LanPut, Mesh, Setup, address_at, begun_mesh}
 use Rattle.mesh_model.specs.Net.Next.{Has}
 use Rattle.mesh_model.specs.Net.Runs.{after_happening, delivered, run_to}
 use Rattle.mesh_model.specs.Net.Sending.{lan_of, with_put}
@@ -62,9 +63,9 @@ GatewaysAgree = (mesh : Mesh) (place : ℕ) (lan : NetLan) (first second : ℕ) 
 
 -- ---- what keeps it
 
--- it holds before the first line
+-- it holds before the first line, whether routes are watched or not
 abbrev pub EmptyLansStand : Type 0
-EmptyLansStand = LansStand empty_mesh
+EmptyLansStand = (watch : Option (List RouteLine)) → LansStand (begun_mesh watch)
 
 -- a happening keeps it
 abbrev pub HappeningsKeepLans : Type 0

@@ -1,6 +1,6 @@
 -- Laws of reboots: what is asked of a node is the same of its log and of its log since the last
--- reboot, its commits and its cuts apart, where each reboot came to a node that was no gateway; and
--- so it is in every plain run. The main word is `LastLogAnswers`.
+-- reboot, its commits before the last one and its cuts apart, where each reboot came to a node that
+-- was no gateway; and so it is in every plain run. The main word is `LastLogAnswers`.
 use Rattle.std.specs.Prelude.{◌≡◌, ℕ, true, List, [], ◌∷◌, slice_get, Some, ⊤}
 use Rattle.mesh_base.specs.declared.address.Mac.{Mac}
 use Rattle.mesh_model.specs.declared.frame_choice.FrameChoice.{FrameChoice}
@@ -8,6 +8,8 @@ use Rattle.mesh_model.specs.Clients.Lans.{bridge, no_bridge}
 use Rattle.mesh_model.specs.Clients.LastLog.{last_log}
 use Rattle.mesh_model.specs.Clients.Log.{Log, is_reboot, settings}
 use Rattle.mesh_model.specs.Clients.Mentions.{mentions}
+use Rattle.mesh_model.specs.Commits.History.{commits}
+use Rattle.mesh_model.specs.Commits.Versions.{last_commit}
 use Rattle.mesh_model.specs.Knowledge.Steps.{knowledge}
 use Rattle.mesh_model.specs.Net.Mesh.{NodeLog}
 use Rattle.mesh_model.specs.Routes.Queries.{Queries}
@@ -24,6 +26,7 @@ pub record AnswerAlike (log other : Log) : Type 0 where
   pub settings_same : settings log ≡ settings other
   pub bridge_same : bridge log ≡ bridge other
   pub mentions_same : (me : Mac) → mentions me log ≡ mentions me other
+  pub last_same : (me : Mac) → last_commit (commits me log) ≡ last_commit (commits me other)
   pub knowledge_same : (q : Queries) (me : Mac) → knowledge q me log ≡ knowledge q me other
   pub services_same : (q : Queries) (me : Mac)
       → (knowledge q me log).services ≡ (knowledge q me other).services

@@ -1,10 +1,11 @@
 -- Laws of the meshes that are reached: what holds of all of them is kept by happenings, by runs and
 -- by what lines do between runs, and a frame that was sent stays as it is.
-use Rattle.std.specs.Prelude.{◌↔◌, ◌≡◌, ℕ, ◌≤◌, ◌<◌, ◌⊎◌, [], ◌∷◌, ◌++◌, length, Some, Ok, slice_get}
+use Rattle.std.specs.Prelude.{◌↔◌, ◌≡◌, ℕ, ◌≤◌, ◌<◌, ◌⊎◌, List, [], ◌∷◌, ◌++◌, length, Option, Some, Ok, slice_get}
 use Rattle.mesh_base.specs.declared.address.Mac.{Mac}
 use Rattle.mesh_model.specs.declared.happening.Happening.{Happening}
+use Rattle.mesh_model.specs.declared.route_line.RouteLine.{RouteLine}
 use Rattle.mesh_model.specs.Clients.Log.{Given}
-use Rattle.mesh_model.specs.Net.Mesh.{NodeLog, NetLink, SentFrame, Mesh, Setup, empty_mesh}
+use Rattle.mesh_model.specs.Net.Mesh.{NodeLog, NetLink, SentFrame, Mesh, Setup, begun_mesh}
 use Rattle.mesh_model.specs.Net.Inputs.{given_to}
 use Rattle.mesh_model.specs.Net.Due.{ticks_by}
 use Rattle.mesh_model.specs.Net.Limits.{scenario_setup}
@@ -13,9 +14,10 @@ use Rattle.mesh_model.specs.Net.Runs.{after_happening, delivered, run_to}
 use Rattle.mesh_model.specs.Routes.Queries.{Queries}
 use Rattle.mesh_laws.specs.Soundness.{FitsPlaces, IsSound, GivesItsBytes, KeepsBytes, places}
 
--- the mesh before the first line
+-- the mesh before the first line, whether routes are watched or not
 abbrev pub EmptyIsSound : Type 0
-EmptyIsSound = IsSound empty_mesh × KeepsBytes empty_mesh
+EmptyIsSound = (watch : Option (List RouteLine)) →
+    IsSound (begun_mesh watch) × KeepsBytes (begun_mesh watch)
 
 -- the limit on frames of every scenario leaves each a place
 abbrev pub ScenariosFit : Type 0

@@ -13,6 +13,6 @@ pub mod Services
 pub mod Knowledge
 pub mod Text
 pub mod Acts
-pub mod Net
 pub mod Loops
+pub mod Net
 pub mod Run

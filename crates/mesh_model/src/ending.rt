@@ -1,4 +1,4 @@
-/// Why a line of a scenario is refused, each by the words that are printed.
+/// Why a line of a scenario or of routes is refused, each by the words that are printed.
 #[derive(Clone, Copy, Debug, PartialEq, Eq)]
 pub enum Refusal {
     /// `bad utf-8`: a line isn't UTF-8.
@@ -37,6 +37,10 @@ pub enum Refusal {
     NoSuchFrame,
     /// `attached`: a node is a gateway already where a line makes it one, or names it as a place.
     Attached,
+    /// `bad route`: the first word of a line of routes is `route`, and the words behind it are none.
+    BadRoute,
+    /// `time back`: a line of routes is of an earlier moment than the one before it.
+    TimeBack,
 }
 
 /// A quantity with a limit, by the name that is printed.
@@ -64,6 +68,8 @@ pub enum LimitName {
     FrameBytes,
     /// `clock`: a moment of 1,099,511,627,776 milliseconds.
     Clock,
+    /// `pairs`: 65,536 different pairs of a node and an originator in lines of routes.
+    Pairs,
 }
 
 /// What ends a run before the end of its input.

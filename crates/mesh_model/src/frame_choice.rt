@@ -9,4 +9,6 @@ pub enum FrameChoice {
     Client,
     /// `ogm`: originator messages of both algorithms, and ELP.
     Ogm,
+    /// `route`: none, and the routes of the mesh are watched.
+    Route,
 }

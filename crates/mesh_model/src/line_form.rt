@@ -105,6 +105,11 @@ pub enum Command {
         node: Bytes,
         longest: u16,
     },
+    /// `set NODE vis on`, or `off`: whether the node puts its picture in the fact store.
+    Vis {
+        node: Bytes,
+        on: bool,
+    },
     /// `alfred NODE mode M`: the node's part in the fact store.
     Alfred {
         node: Bytes,
@@ -205,4 +210,6 @@ pub enum Table {
     Addresses,
     /// `alf`: the facts of alfred.
     Facts,
+    /// `vis`: the network as its nodes picture it (`batadv-vis`).
+    Pictures,
 }

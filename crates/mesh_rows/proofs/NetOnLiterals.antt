@@ -22,6 +22,7 @@ use Rattle.mesh_model.specs.Scenario.Commands.{command_of_line}
 use Rattle.mesh_model.specs.Text.GlobalTables.{entry_line, global_header, global_line, mark_line}
 use Rattle.mesh_model.specs.Text.Claims.{claim_header, claim_line}
 use Rattle.mesh_model.specs.Text.Events.{client_frame_line, event_line, ip_text}
+use Rattle.mesh_model.specs.Text.Routes.{route_text}
 use Rattle.mesh_model.specs.Text.Services.{address_header, address_line, fact_header, fact_line, gateway_header, gateway_line, group_header, groups_line, joined_line}
 use Rattle.mesh_model.specs.Text.Tables.{age_text, flags_text, local_header, local_line, sum_text, vid_text, vlan_line}
 use Rattle.mesh_rows.proofs.RoutesOnLiterals.{routes_on_literals}
@@ -33,5 +34,5 @@ unfolding encode digits chars is_utf8 encode_with message_acts tick_acts ogm_act
     pieces first_containers containers_of first_packet frame_within link_frame routes_on_literals tables_on_literals going_on command_of_line client_frame_line event_line age_text flags_text
     local_header local_line sum_text vid_text vlan_line lan_message_of claim_header claim_line ip_text group_acts call_acts
     arp_here passed_unicast4 question_acts address_header address_line gateway_header gateway_line group_header groups_line joined_line
-    fact_acts fact_round_acts get_acts fact_header fact_line
+    fact_acts fact_round_acts get_acts fact_header fact_line route_text
 net_on_literals = tt

@@ -29,3 +29,4 @@ pub mod PictureRows
 pub mod FragmentRows
 -- Routes that lines tell of.
 pub mod LoopRows
+pub mod WatchRows

@@ -1,9 +1,9 @@
 //! What words ask for, computed from the definitions alone.
 
 ghost use Rattle.std.specs.Prelude.{[], ◌∷◌, codes};
-ghost use Rattle.mesh_model.specs.declared.frame_choice.FrameChoice.TheVariants.{Hidden, All, Client, Ogm};
+ghost use Rattle.mesh_model.specs.declared.frame_choice.FrameChoice.TheVariants.{Hidden, All, Client, Ogm, Route};
 ghost use Rattle.mesh_model.specs.Run.CommandLine.{FromInput, FromFile, Generated};
-ghost use Rattle.mesh_rows.specs.WordRows.{AreNotTaken, AskFor};
+ghost use Rattle.mesh_rows.specs.WordRows.{AreNotTaken, AskFor, AskForLoops};
 
 /// Without words the lines come from standard input, and no link frame is printed.
 pub fn no_words_ask_for_the_input()
@@ -18,6 +18,28 @@ pub fn frames_are_chosen_by_their_word()
         (FromFile (codes "x")) }
     ensures hidden { AskFor (codes "--frames" ∷ codes "all" ∷ codes "none" ∷ []) All
         (FromFile (codes "none")) }
+    ensures route { AskFor (codes "--frames" ∷ codes "route" ∷ []) Route FromInput }
+{}
+
+/// Lines of routes are asked for by a word alone.
+pub fn loops_are_asked_for_by_a_word()
+    ensures alone { AskForLoops (codes "--bisect" ∷ []) FromInput }
+    ensures file { AskForLoops (codes "--bisect" ∷ codes "x" ∷ []) (FromFile (codes "x")) }
+    ensures behind { AskForLoops (codes "x" ∷ codes "--bisect" ∷ []) (FromFile (codes "x")) }
+    ensures dashes { AskFor (codes "--" ∷ codes "--bisect" ∷ []) Hidden
+        (FromFile (codes "--bisect")) }
+    ensures value { AreNotTaken (codes "--bisect=1" ∷ []) }
+    ensures true_value { AreNotTaken (codes "--bisect=true" ∷ []) }
+    ensures twice { AreNotTaken (codes "--bisect" ∷ codes "--bisect" ∷ []) }
+{}
+
+/// Beside it neither a choice of frames nor nodes are taken.
+pub fn loops_have_no_frames_and_no_nodes()
+    ensures frames { AreNotTaken (codes "--bisect" ∷ codes "--frames" ∷ codes "none" ∷ []) }
+    ensures frames_first { AreNotTaken (codes "--frames=route" ∷ codes "--bisect" ∷ []) }
+    ensures nodes { AreNotTaken (codes "--bisect" ∷ codes "--generate" ∷ codes "3" ∷ []) }
+    ensures all { AreNotTaken (codes "--bisect" ∷ codes "--frames" ∷ codes "none"
+        ∷ codes "--generate" ∷ codes "3" ∷ codes "x" ∷ []) }
 {}
 
 /// Another word is no choice, and neither is none, or a choice that stands twice.

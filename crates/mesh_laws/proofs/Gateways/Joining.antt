@@ -4,11 +4,12 @@ use Rattle.std.proofs.Common.{◌≡◌, ℕ, zero, suc, ◌+◌, ◌<◌, ◌�
 use Rattle.std.specs.List.{list_any}
 use Rattle.std.specs.Option.{option_map_or}
 use Rattle.mesh_base.specs.declared.address.Mac.{Mac}
+use Rattle.mesh_model.specs.declared.route_line.RouteLine.{RouteLine}
 use Rattle.mesh_model.specs.Clients.Lans.{Bridge, LanOf, bridge}
 use Rattle.mesh_model.specs.Clients.Log.{Line, LineGiven}
 use Rattle.mesh_model.specs.Net.Inputs.{all_given, given_to}
 use Rattle.mesh_model.specs.Net.Lans.{attachment, joins_lan, with_lan}
-use Rattle.mesh_model.specs.Net.Mesh.{NodeLog, NetLan, NetLink, LanPut, Mesh, Setup, address_at, empty_mesh}
+use Rattle.mesh_model.specs.Net.Mesh.{NodeLog, NetLan, NetLink, LanPut, Mesh, Setup, address_at, begun_mesh}
 use Rattle.mesh_model.specs.Net.Next.{Has}
 use Rattle.mesh_model.specs.Net.Runs.{begin, delivered, going_on, run_to, turn}
 use Rattle.mesh_model.specs.Net.Sending.{lan_of, with_put}
@@ -59,8 +60,8 @@ links_stand mesh link s = record {
   agree = s.agree;
 }
 
-pub empty_stands : LansStand empty_mesh
-empty_stands = record {
+pub empty_stands : (watch : Option (List RouteLine)) → LansStand (begun_mesh watch)
+empty_stands watch = record {
   gateways = λ place lan found. cc;
   attached = λ place node found. cc;
   outside = λ place node found none. cc;

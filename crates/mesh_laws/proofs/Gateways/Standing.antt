@@ -20,6 +20,7 @@ use Rattle.mesh_model.specs.Net.Lans.{gets, put_given, put_over, reach_events, w
 use Rattle.mesh_model.specs.Net.Mesh.{NodeLog, NetLan, NetLink, SentFrame, LanPut, Mesh, Setup, address_at}
 use Rattle.mesh_model.specs.Net.Next.{Has}
 use Rattle.mesh_model.specs.Net.Runs.{Course, after_happening, delivered, effect, frame_given, frame_over, throughput_between, tick_given, with_last}
+use Rattle.mesh_model.specs.Net.Watching.{lines_told, with_lines}
 use Rattle.mesh_model.specs.Net.Sending.{lan_of}
 use Rattle.mesh_model.specs.Packets.LanFrames.{LanMessage, Claims, Carries, Nothing, client_frame_in, lan_message_of}
 use Rattle.mesh_model.specs.Run.State.{names_of, node_names}
@@ -247,9 +248,9 @@ with_last_came mesh mid after nodes c = record {
 pub happenings_stand : (setup : Setup) (mesh after : Mesh) (h : Happening) → LansStand mesh → after_happening setup h mesh ≡ Ok after → LansStand after
 happenings_stand setup mesh after h stand e =
     let step = step_is setup mesh h after e in
-    let p = on_ok_ok (with_last h) (effect setup h.class h.place h.moment mesh) after e in
+    let p = on_ok_ok (with_last setup h) (effect setup h.class h.place h.moment mesh) after e in
     let came = effect_came setup h.class h.place h.moment mesh p.0 stand p.1 in
-    let nodes : after.nodes ≡ p.0.nodes = ap (λ (m : Mesh). m.nodes) (sym (ok_one (record p.0 { last = h }) after p.2)) in
+    let nodes : after.nodes ≡ p.0.nodes = ap (λ (m : Mesh). m.nodes) (sym (ok_one (record (with_lines (lines_told setup h p.0) p.0) { last = h }) after p.2)) in
     stand_after mesh after stand step.adds.lans step.names step.count (with_last_came mesh p.0 after nodes came)
 
 pub turn_stands : (setup : Setup) (t : ℕ) (o after : Course) → LansStand o.mesh → Turned setup t o after → LansStand after.mesh

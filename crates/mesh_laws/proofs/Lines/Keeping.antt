@@ -9,7 +9,7 @@ use Rattle.mesh_model.specs.Net.Mesh.{NodeLog, NetLan, NetLink, LanPut, Mesh, Se
 use Rattle.mesh_model.specs.Clients.Log.{Line}
 use Rattle.mesh_model.specs.Net.Sending.{with_put}
 use Rattle.mesh_model.specs.Net.Next.{Has}
-use Rattle.mesh_model.specs.Run.State.{Printed, State, first_state}
+use Rattle.mesh_model.specs.Run.State.{Printed, State, first_state, first_watch}
 use Rattle.mesh_model.specs.Run.Outcome.{Outcome, reached}
 use Rattle.mesh_model.specs.Run.Passing.{gone_on}
 use Rattle.mesh_model.specs.Run.Shown.{after_print}
@@ -25,7 +25,7 @@ use Rattle.mesh_laws.proofs.Lines.Reached.{runs_are_reached}
 use Rattle.mesh_laws.proofs.Lines.Ways.{Led, ended, printed, stayed, chose, noded, linked, given, again, given_all, lanned, put_there, passed}
 
 pub first_is_reached : (choice : FrameChoice) → IsReached (first_state choice)
-first_is_reached choice = record { sound = empty_sound; bytes = empty_bytes; past = omega arith; low = omega arith }
+first_is_reached choice = record { sound = empty_sound (first_watch choice); bytes = empty_bytes (first_watch choice); past = omega arith; low = omega arith }
 
 printing_reached : (state : State) (more : Printed) → IsReached state → IsReached (after_print state more)
 printing_reached state more r = record { sound = r.sound; bytes = r.bytes; past = r.past; low = r.low }

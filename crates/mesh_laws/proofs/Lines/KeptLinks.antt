@@ -12,6 +12,7 @@ use Rattle.mesh_model.specs.Packets.LanFrames.{client_frame_in, lan_message_of}
 use Rattle.mesh_model.specs.Packets.Payload.{ClientFrame}
 use Rattle.mesh_model.specs.Net.Mesh.{NodeLog, NetLan, NetLink, SentFrame, LanPut, Mesh, Setup, address_at}
 use Rattle.mesh_model.specs.Net.Runs.{Course, effect, after_happening, delivered, frame_given, frame_over, tick_given, throughput_between, turn, with_last}
+use Rattle.mesh_model.specs.Net.Watching.{lines_told, with_lines}
 use Rattle.mesh_model.specs.Net.Sending.{Actor, after_acts}
 use Rattle.mesh_laws.proofs.Schedule.Runs.{Turned, rests, goes, stops, turned}
 use Rattle.mesh_laws.proofs.Schedule.Sends.{acts_send, as_ok, ok_one, on_ok_ok}
@@ -89,9 +90,9 @@ effect_keeps setup mesh NodeTick place now after e = tick_keeps setup mesh place
 
 happening_keeps : (setup : Setup) (mesh : Mesh) (h : Happening) (after : Mesh) → after_happening setup h mesh ≡ Ok after → KeepsLinks mesh after
 happening_keeps setup mesh h after e =
-    let p = on_ok_ok (with_last h) (effect setup h.class h.place h.moment mesh) after e in
+    let p = on_ok_ok (with_last setup h) (effect setup h.class h.place h.moment mesh) after e in
     let x = effect_keeps setup mesh h.class h.place h.moment p.0 p.1 in
-    subst (KeepsLinks mesh) (ok_one (record p.0 { last = h }) after p.2) x
+    subst (KeepsLinks mesh) (ok_one (record (with_lines (lines_told setup h p.0) p.0) { last = h }) after p.2) x
 
 turn_keeps : (setup : Setup) (t : ℕ) (o after : Course) → Turned setup t o after → KeepsLinks o.mesh after.mesh
 turn_keeps setup t o after (rests d e) = subst (λ (x : Course). KeepsLinks o.mesh x.mesh) (sym e) (keeps_itself o.mesh)

@@ -13,14 +13,14 @@ use Rattle.mesh_model.specs.declared.ending.Refusal.TheVariants.{BadName, BadNum
 use Rattle.mesh_model.specs.declared.ending.Stop.TheVariants.{Refused, Limit}
 use Rattle.mesh_model.specs.declared.line_form.Policy.TheVariants.{Best, Stable}
 use Rattle.mesh_model.specs.declared.line_form.Command.{Command}
-use Rattle.mesh_model.specs.declared.line_form.Command.TheVariants.{Nothing, Algo, Node, Link, Lan, Frame, Gone, Join, Leave, Arp, Dhcp, Wifi, GwOff, GwServer, GwClient, Mcast, Dat, Frag, Alfred, Put, Get, Ping, Trace, Reboot, Run, Deliver, Show, Decode}
+use Rattle.mesh_model.specs.declared.line_form.Command.TheVariants.{Nothing, Algo, Node, Link, Lan, Frame, Gone, Join, Leave, Arp, Dhcp, Wifi, GwOff, GwServer, GwClient, Mcast, Dat, Frag, Vis, Alfred, Put, Get, Ping, Trace, Reboot, Run, Deliver, Show, Decode}
 use Rattle.mesh_model.specs.Scenario.AlfredForms.{read_alfred, read_alfred_form, read_get, read_mode, read_put}
 use Rattle.mesh_model.specs.Scenario.Commands.{command_of_line, command_of_words, is_comment, node_forms, read_form}
 use Rattle.mesh_model.specs.Scenario.Fields.{group_field, unicast_field, word_field}
 use Rattle.mesh_model.specs.Scenario.LinkOptions.{LinkOptions, after_one_more, after_options, are_all_given, delay_limit, least_delay, least_throughput, link_with, no_options, number_within, options_of, pattern_of, the_options, throughput_limit, unless_given, value_behind, when_named, with_delay, with_option, with_pattern, with_throughput}
 use Rattle.mesh_model.specs.Scenario.NetForms.{net_forms, the_gateways}
 use Rattle.mesh_model.specs.Scenario.Readings.{Reading, a_field, a_key, a_text, a_text_up_to, after_field, listed_form, the_end}
-use Rattle.mesh_model.specs.Scenario.SettingForms.{read_dat, read_frag, read_gateway, read_late, read_mcast, read_policy, read_server, read_set, read_setting, read_wifi}
+use Rattle.mesh_model.specs.Scenario.SettingForms.{read_dat, read_frag, read_gateway, read_late, read_mcast, read_policy, read_server, read_set, read_setting, read_vis, read_wifi}
 use Rattle.mesh_model.specs.Scenario.Terms.{is_pattern, number_of, once_mark}
 use Rattle.mesh_model.specs.Scenario.Words.{Word, line_words}
 use Rattle.mesh_laws.specs.LineLaws.{HasLinkRanges, IsInRange}
@@ -47,6 +47,7 @@ InRange (GwClient node policy) = ⊤
 InRange (Mcast node flags) = ⊤
 InRange (Dat node on) = ⊤
 InRange (Frag node longest) = ⊤
+InRange (Vis node on) = ⊤
 InRange (Alfred node mode) = ⊤
 InRange (Put node type_no version text) = ⊤
 InRange (Get node type_no) = ⊤
@@ -272,8 +273,8 @@ gateway-modes node word =
 setting : (node word : List ℕ) → FormInRange (read_setting node word)
 setting node word =
     listed ((codes "wifi", read_wifi node) ∷ (codes "gw", a_field word_field (read_gateway node)) ∷ (codes "mcast", read_mcast node) ∷ (codes "dat", read_dat node)
-    ∷ (codes "frag", read_frag node) ∷ []) OutOfRange word
-    (field _ _ (λ on. end _ tt), (field word_field (read_gateway node) (λ w. gateway-modes node w), (field _ _ (λ n. end _ tt), (field _ _ (λ on. end _ tt), (field _ _ (λ size. end _ tt), tt)))))
+    ∷ (codes "frag", read_frag node) ∷ (codes "vis", read_vis node) ∷ []) OutOfRange word
+    (field _ _ (λ on. end _ tt), (field word_field (read_gateway node) (λ w. gateway-modes node w), (field _ _ (λ n. end _ tt), (field _ _ (λ on. end _ tt), (field _ _ (λ size. end _ tt), (field _ _ (λ on. end _ tt), tt))))))
 
 settings : FormInRange read_set
 settings = field _ _ (λ node. field word_field (read_setting node) (λ word. setting node word))

@@ -11,13 +11,13 @@ use Rattle.mesh_model.specs.declared.ending.Stop.TheVariants.{Refused, Limit}
 use Rattle.mesh_base.specs.declared.address.Mac.{Mac}
 use Rattle.mesh_model.specs.declared.line_form.Algorithm.{Algorithm}
 use Rattle.mesh_model.specs.declared.line_form.Command.{Command}
-use Rattle.mesh_model.specs.declared.line_form.Command.TheVariants.{Nothing, Algo, Node, Link, Lan, Frame, Gone, Join, Leave, Arp, Dhcp, Wifi, GwOff, GwServer, GwClient, Mcast, Dat, Frag, Alfred, Put, Get, Ping, Trace, Reboot, Run, Deliver, Show, Decode}
+use Rattle.mesh_model.specs.declared.line_form.Command.TheVariants.{Nothing, Algo, Node, Link, Lan, Frame, Gone, Join, Leave, Arp, Dhcp, Wifi, GwOff, GwServer, GwClient, Mcast, Dat, Frag, Vis, Alfred, Put, Get, Ping, Trace, Reboot, Run, Deliver, Show, Decode}
 use Rattle.mesh_model.specs.Clients.Log.{LineGiven, Line, Sets, line_reboots}
 use Rattle.mesh_model.specs.Clients.Log.{Frame as FrameGiven, Gone as GoneGiven, Join as JoinGiven, Leave as LeaveGiven, Arp as ArpGiven, Dhcp as DhcpGiven, Put as PutGiven, Get as GetGiven, Ping as PingGiven, Trace as TraceGiven, Reboot as RebootGiven}
 use Rattle.mesh_model.specs.Clients.Settings.{NoPart, Serves, Chooses}
-use Rattle.mesh_model.specs.Clients.Settings.{ArpTable as ArpTableSet, FactStore as FactStoreSet, Gateway as GatewaySet, LongestWhole as LongestWholeSet, Multicast as MulticastSet, Wifi as WifiSet}
+use Rattle.mesh_model.specs.Clients.Settings.{ArpTable as ArpTableSet, FactStore as FactStoreSet, Gateway as GatewaySet, LongestWhole as LongestWholeSet, Multicast as MulticastSet, Pictures as PicturesSet, Wifi as WifiSet}
 use Rattle.mesh_model.specs.Net.Mesh.{NodeLog, NetLan, NetLink, LanPut, Mesh, Setup, address_at}
-use Rattle.mesh_model.specs.Net.Lans.{joins_lan}
+use Rattle.mesh_model.specs.Net.Lans.{gateways_at, joins_lan}
 use Rattle.mesh_model.specs.Net.Sending.{Attempt, with_put}
 use Rattle.mesh_model.specs.Packets.Payload.{payload_spelling}
 use Rattle.mesh_model.specs.Net.Inputs.{all_given, given_to}
@@ -27,7 +27,7 @@ use Rattle.mesh_model.specs.Run.State.{Printed, Decoded, State, is_lan_named, la
 use Rattle.mesh_model.specs.Run.Outcome.{Outcome, Goes, Ends}
 use Rattle.mesh_model.specs.Run.Passing.{gone_on, run_until, after_attempt}
 use Rattle.mesh_model.specs.Run.Shown.{after_print, shown}
-use Rattle.mesh_model.specs.Run.Steps.{Step, at_node, at_place, gateways_at, gateways_step, lan_frame_step, new_node, places_named, with_node, with_link, link_step, input_step, session_step, step_of}
+use Rattle.mesh_model.specs.Run.Steps.{Step, at_node, at_place, gateways_step, lan_frame_step, new_node, places_named, with_node, with_link, link_step, input_step, session_step, step_of}
 use Rattle.mesh_model.specs.Run.Rules.{first_refused_rule, unless_refused, carried_out}
 use Rattle.mesh_laws.specs.GatewayLaws.{IsNoLan}
 use Rattle.mesh_laws.specs.LineLaws.{HasDelay}
@@ -184,6 +184,7 @@ command_led setup state (GwClient node policy) = line_led setup state (GwClient 
 command_led setup state (Mcast node flags) = line_led setup state (Mcast node flags) node (Sets (MulticastSet flags)) (λ lan gateways is. cc) refl
 command_led setup state (Dat node on) = line_led setup state (Dat node on) node (Sets (ArpTableSet on)) (λ lan gateways is. cc) refl
 command_led setup state (Frag node longest) = line_led setup state (Frag node longest) node (Sets (LongestWholeSet longest)) (λ lan gateways is. cc) refl
+command_led setup state (Vis node on) = line_led setup state (Vis node on) node (Sets (PicturesSet on)) (λ lan gateways is. cc) refl
 command_led setup state (Alfred node mode) = line_led setup state (Alfred node mode) node (Sets (FactStoreSet mode)) (λ lan gateways is. cc) refl
 command_led setup state (Put node type_no version text) = line_led setup state (Put node type_no version text) node (PutGiven type_no version text) (λ lan gateways is. cc) refl
 command_led setup state (Get node type_no) = line_led setup state (Get node type_no) node (GetGiven type_no) (λ lan gateways is. cc) refl

@@ -1,12 +1,13 @@
 -- Nothing is added before the last happening, and all that happens is after_happening out.
-use Rattle.std.proofs.Common.{◌≡◌, ℕ, suc, ◌+◌, ◌*◌, ◌<◌, ◌≤◌, ◌⊎◌, inl, inr, [], ◌∷◌, ◌++◌, length, slice_get, Option, Some, None, Ok, refl, sym, ap, ◌∙◌, subst, arith, length-append}
+use Rattle.std.proofs.Common.{◌≡◌, ℕ, suc, ◌+◌, ◌*◌, ◌<◌, ◌≤◌, ◌⊎◌, inl, inr, List, [], ◌∷◌, ◌++◌, length, slice_get, Option, Some, None, Ok, refl, sym, ap, ◌∙◌, subst, arith, length-append}
 use Rattle.std.specs.Fn.{iterate}
 use Rattle.mesh_model.specs.declared.happening.Happening.{Happening}
+use Rattle.mesh_model.specs.declared.route_line.RouteLine.{RouteLine}
 use Rattle.mesh_model.specs.declared.happening.Class.TheVariants.{NodeTick}
 use Rattle.mesh_model.specs.Net.Happenings.{Before}
 use Rattle.mesh_model.specs.Clients.Log.{LogEntry}
 use Rattle.mesh_model.specs.Net.Lans.{with_lan}
-use Rattle.mesh_model.specs.Net.Mesh.{NetLan, NetLink, SentFrame, NodeLog, Mesh, empty_mesh, Setup}
+use Rattle.mesh_model.specs.Net.Mesh.{NetLan, NetLink, SentFrame, NodeLog, Mesh, begun_mesh, Setup}
 use Rattle.mesh_model.specs.Net.Due.{Fate, Once, Never, Twice, Held, fate_of, arrivals_by, arrivals_over, arrivals, tick_time, ticks_in, tick_at, next_due}
 use Rattle.mesh_model.specs.Net.Next.{Has, Happens, delivers, lan_delivers, ticks, AtMost, IsNext}
 use Rattle.mesh_laws.specs.Soundness.{HadItsTicks, IsSound, FitsPlaces, GivesItsBytes, KeepsBytes, places}
@@ -187,8 +188,8 @@ lan_sound mesh lan s = record {
   delays = s.delays;
 }
 
-pub empty_sound : IsSound empty_mesh
-empty_sound = record {
+pub empty_sound : (watch : Option (List RouteLine)) → IsSound (begun_mesh watch)
+empty_sound watch = record {
   ticked = λ place node found. none place node found;
   few_frames = omega arith;
   few_puts = omega arith;
@@ -199,11 +200,11 @@ empty_sound = record {
   delays = λ place link found. cc;
 }
   where
-    none : (place : ℕ) (node : NodeLog) → slice_get {X = NodeLog} [] place ≡ Some node → HadItsTicks empty_mesh.last place node
+    none : (place : ℕ) (node : NodeLog) → slice_get {X = NodeLog} [] place ≡ Some node → HadItsTicks (begun_mesh watch).last place node
     none place node found = cc
 
-pub empty_bytes : KeepsBytes empty_mesh
-empty_bytes place node found = none place node found
+pub empty_bytes : (watch : Option (List RouteLine)) → KeepsBytes (begun_mesh watch)
+empty_bytes watch place node found = none place node found
   where
-    none : (place : ℕ) (node : NodeLog) → slice_get {X = NodeLog} [] place ≡ Some node → (entry : LogEntry) → Has node.log entry → GivesItsBytes empty_mesh.frames entry.given
+    none : (place : ℕ) (node : NodeLog) → slice_get {X = NodeLog} [] place ≡ Some node → (entry : LogEntry) → Has node.log entry → GivesItsBytes (begun_mesh watch).frames entry.given
     none place node found entry has = cc

@@ -95,6 +95,7 @@ adds_both setup now a b c p q = record {
 pub record Sends (setup : Setup) (now : ℕ) (mesh after : Mesh) : Type 0 where
   pub nodes : after.nodes ≡ mesh.nodes
   pub last : after.last ≡ mesh.last
+  pub watch : after.watch ≡ mesh.watch
   pub adds : Adds setup now mesh after
 
 sent_now : (links : List ℕ) (before : List SentFrame) (now root : ℕ) (bytes : List ℕ) (f : SentFrame) → Has (frames_over links before now root bytes) f → f.moment ≡ now
@@ -133,6 +134,7 @@ sends_frames setup now me reason new mesh after at over e =
     subst (Sends setup now mesh) (ok_one made after two.1) (record {
       nodes = refl;
       last = refl;
+      watch = refl;
       adds = record {
         links = refl;
         lans = refl;
@@ -162,6 +164,7 @@ sends_put setup put mesh after low e =
     subst (Sends setup put.moment mesh) (ok_one made after two.1) (record {
       nodes = refl;
       last = refl;
+      watch = refl;
       adds = record {
         links = refl;
         lans = refl;
@@ -189,7 +192,7 @@ sends_put setup put mesh after low e =
     low_one p (inr h) = absurd h
 
 sends_nothing : (setup : Setup) (now : ℕ) (mesh after : Mesh) → as_ok mesh ≡ as_ok after → Sends setup now mesh after
-sends_nothing setup now mesh after e = subst (Sends setup now mesh) (ok_one mesh after e) (record { nodes = refl; last = refl; adds = adds_nothing setup now mesh mesh refl refl refl refl refl })
+sends_nothing setup now mesh after e = subst (Sends setup now mesh) (ok_one mesh after e) (record { nodes = refl; last = refl; watch = refl; adds = adds_nothing setup now mesh mesh refl refl refl refl refl })
 
 lan_here : (gateway place lan : ℕ) (first : NetLan) (rest : List NetLan) (b : Bool) → (lan_from gateway (suc place) rest ≡ Some lan → lan < suc place + length rest)
     → (if b then Some place else lan_from gateway (suc place) rest) ≡ Some lan → lan < place + suc (length rest)
@@ -215,6 +218,7 @@ act_sends setup actor (Lan bytes) mesh after e = put_sends setup actor bytes (la
 act_sends setup actor (Print event) mesh after e = subst (Sends setup actor.now mesh) (ok_one (record mesh { events = mesh.events ++ event ∷ [] }) after e) (record {
   nodes = refl;
   last = refl;
+  watch = refl;
   adds = record {
     links = refl;
     lans = refl;
@@ -239,4 +243,4 @@ acts_send setup actor (act ∷ acts) mesh after e =
     let p = on_ok_ok (after_acts setup actor acts) (after_act setup actor act mesh) after e in
     let a = act_sends setup actor act mesh p.0 p.1 in
     let b = acts_send setup actor acts p.0 after p.2 in
-    record { nodes = b.nodes ∙ a.nodes; last = b.last ∙ a.last; adds = adds_both setup actor.now mesh p.0 after a.adds b.adds }
+    record { nodes = b.nodes ∙ a.nodes; last = b.last ∙ a.last; watch = b.watch ∙ a.watch; adds = adds_both setup actor.now mesh p.0 after a.adds b.adds }

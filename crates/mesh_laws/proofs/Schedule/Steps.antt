@@ -1,5 +1,5 @@
 -- What carrying a happening out leaves.
-use Rattle.std.proofs.Common.{◌≡◌, ℕ, zero, suc, ◌+◌, ◌-◌, ◌<◌, ◌⊎◌, inl, inr, true, false, cond, nat_eq, List, [], ◌∷◌, ◌++◌, length, map, filter, slice_get, Option, Some, None, Ok, Err, refl, sym, ap, ap₂, ◌∙◌, subst, arith, append-nil}
+use Rattle.std.proofs.Common.{◌≡◌, ℕ, zero, suc, ◌+◌, ◌-◌, ◌<◌, ◌⊎◌, inl, inr, true, false, cond, nat_eq, List, [], ◌∷◌, ◌++◌, length, map, filter, slice_get, Option, Some, None, Ok, Err, refl, sym, ap, ap₂, ◌∙◌, subst, arith, append-nil, append_assoc}
 use Rattle.std.proofs.lemmas.Bool.{eq-eqb, ne_eqb}
 use Rattle.mesh_base.specs.Names.{NamesGiven}
 use Rattle.mesh_base.specs.declared.event.Event.{Event}
@@ -17,6 +17,7 @@ use Rattle.mesh_model.specs.Net.Lans.{attachment, gets, joins_lan, reach_events,
 use Rattle.mesh_model.specs.Net.Due.{ticks_by, ticks_in}
 use Rattle.mesh_model.specs.Net.Next.{Has}
 use Rattle.mesh_model.specs.Net.Runs.{throughput_between, frame_over, frame_given, delivered, tick_given, effect, with_last, after_happening}
+use Rattle.mesh_model.specs.Net.Watching.{lines_told, route_event, with_lines}
 use Rattle.mesh_model.specs.Packets.LanFrames.{client_frame_in, lan_message_of}
 use Rattle.mesh_model.specs.Packets.Payload.{ClientFrame}
 use Rattle.mesh_model.specs.Run.State.{names_of, node_names}
@@ -53,6 +54,7 @@ pub record Effect (setup : Setup) (extra : ℕ → ℕ) (now : ℕ) (mesh after 
   pub count : length after.nodes ≡ length mesh.nodes
   pub names : names_of after ≡ names_of mesh
   pub last : after.last ≡ mesh.last
+  pub watch : after.watch ≡ mesh.watch
   pub adds : Adds setup now mesh after
 
 no_extra : (n extra : ℕ) → extra ≡ 0 → n ≡ extra + n
@@ -64,6 +66,7 @@ no_effect setup extra now mesh after none e = subst (Effect setup extra now mesh
   count = refl;
   names = refl;
   last = refl;
+  watch = refl;
   adds = adds_nothing setup now mesh mesh refl refl refl refl refl;
 })
 
@@ -134,6 +137,7 @@ entry_effect setup mesh actor entry after g e =
       count = length_noted actor.place entry p.0.nodes ∙ ap length sends.nodes;
       names = ap₂ named (names_noted actor.place entry p.0.nodes ∙ ap node_names sends.nodes) sends.adds.lans;
       last = sends.last;
+      watch = sends.watch;
       adds = record { links = sends.adds.links; lans = sends.adds.lans; more = sends.adds.more; frames = sends.adds.frames; sent = sends.adds.sent; on_links = sends.adds.on_links; more_puts = sends.adds.more_puts; puts = sends.adds.puts; put = sends.adds.put; on_lans = sends.adds.on_lans; more_events = sends.adds.more_events; events = sends.adds.events; few = sends.adds.few; few_puts = sends.adds.few_puts };
     })
 
@@ -175,6 +179,7 @@ same_extra setup a b now mesh after same e = record {
   count = e.count;
   names = e.names;
   last = e.last;
+  watch = e.watch;
   adds = e.adds;
 }
 
@@ -203,6 +208,7 @@ both_effects setup now a b c p q = record {
   count = q.count ∙ p.count;
   names = q.names ∙ p.names;
   last = q.last ∙ p.last;
+  watch = q.watch ∙ p.watch;
   adds = adds_both setup now a b c p.adds q.adds;
 }
   where
@@ -241,6 +247,7 @@ put_joins setup put mesh after low e =
       count = ap length sends.nodes;
       names = ap₂ named (ap node_names sends.nodes) sends.adds.lans;
       last = sends.last;
+      watch = sends.watch;
       adds = sends.adds;
     }
 
@@ -272,6 +279,7 @@ told_effect setup now more mesh = record {
   count = refl;
   names = refl;
   last = refl;
+  watch = refl;
   adds = record {
     links = refl;
     lans = refl;
@@ -312,7 +320,7 @@ ticks_of LinkDelivery at place = 0
 ticks_of LanDelivery at place = 0
 ticks_of NodeTick at place = at_place at 1 place
 
-effect_is : (setup : Setup) (mesh : Mesh) (class : Class) (place now : ℕ) (after : Mesh) → effect setup class place now mesh ≡ Ok after → Effect setup (ticks_of class place) now mesh after
+pub effect_is : (setup : Setup) (mesh : Mesh) (class : Class) (place now : ℕ) (after : Mesh) → effect setup class place now mesh ≡ Ok after → Effect setup (ticks_of class place) now mesh after
 effect_is setup mesh LinkDelivery place now after e = delivered_effect setup mesh place now after e
 effect_is setup mesh LanDelivery place now after e = put_effect setup mesh now (slice_get mesh.puts place) after e
 effect_is setup mesh NodeTick place now after e = tick_effect setup mesh place now (slice_get mesh.nodes place) after refl e
@@ -327,12 +335,12 @@ pub record HasStepped (setup : Setup) (mesh : Mesh) (h : Happening) (after : Mes
 
 pub step_is : (setup : Setup) (mesh : Mesh) (h : Happening) (after : Mesh) → after_happening setup h mesh ≡ Ok after → HasStepped setup mesh h after
 step_is setup mesh h after e =
-    let p = on_ok_ok (with_last h) (effect setup h.class h.place h.moment mesh) after e in
+    let p = on_ok_ok (with_last setup h) (effect setup h.class h.place h.moment mesh) after e in
     let x = effect_is setup mesh h.class h.place h.moment p.0 p.1 in
-    subst (HasStepped setup mesh h) (ok_one (record p.0 { last = h }) after p.2) (record {
+    subst (HasStepped setup mesh h) (ok_one (record (with_lines (lines_told setup h p.0) p.0) { last = h }) after p.2) (record {
       nodes = x.nodes;
       count = x.count;
       names = x.names;
-      adds = record { links = x.adds.links; lans = x.adds.lans; more = x.adds.more; frames = x.adds.frames; sent = x.adds.sent; on_links = x.adds.on_links; more_puts = x.adds.more_puts; puts = x.adds.puts; put = x.adds.put; on_lans = x.adds.on_lans; more_events = x.adds.more_events; events = x.adds.events; few = x.adds.few; few_puts = x.adds.few_puts };
+      adds = record { links = x.adds.links; lans = x.adds.lans; more = x.adds.more; frames = x.adds.frames; sent = x.adds.sent; on_links = x.adds.on_links; more_puts = x.adds.more_puts; puts = x.adds.puts; put = x.adds.put; on_lans = x.adds.on_lans; more_events = x.adds.more_events ++ map route_event (lines_told setup h p.0); events = ap (λ es. es ++ map route_event (lines_told setup h p.0)) x.adds.events ∙ append_assoc mesh.events x.adds.more_events (map route_event (lines_told setup h p.0)); few = x.adds.few; few_puts = x.adds.few_puts };
       last = refl;
     })

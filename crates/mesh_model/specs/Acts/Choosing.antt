@@ -22,7 +22,7 @@ use Rattle.mesh_model.specs.Clients.Log.{Given, Tick, LinkFrame, LanFrame, Line,
 use Rattle.mesh_model.specs.Clients.Mentions.{Mention, key_of, mentions, next_mentions, passed_from_lan}
 use Rattle.mesh_model.specs.Commits.History.{history}
 use Rattle.mesh_model.specs.Knowledge.Known.{Knowledge}
-use Rattle.mesh_model.specs.Knowledge.Steps.{advertised, after_sighting, before_round, knowledge, stays_on_lan}
+use Rattle.mesh_model.specs.Knowledge.Steps.{advertised, after_sighting, before_telling, knowledge, stays_on_lan, table_behind}
 use Rattle.mesh_model.specs.Packets.Ethernet.{all_stations}
 use Rattle.mesh_model.specs.Packets.LanFrames.{client_frame_in, lan_message_of}
 use Rattle.mesh_model.specs.Packets.LinkFrame.{link_frame}
@@ -128,7 +128,8 @@ line_acts q me log now Reboot = reboot_acts me (history me log)
 abbrev pub whole_acts : Queries → Mac → Log → ℕ → Given → List Act
 whole_acts q me log now (Tick index) = tick_acts q me (knowledge q me log).services.settings
     (knowledge q me log).routes (mentions me log) (history me log) (bridge log) now index
-    ++ fact_round_acts q (before_round q now index (knowledge q me log))
+    ++ fact_round_acts q
+    (before_telling q me now index (table_behind me log now index) (knowledge q me log))
     (record { me = me; now = now }) index
 whole_acts q me log now (LinkFrame number from throughput bytes) =
     packets_acts q me (own_by me log)

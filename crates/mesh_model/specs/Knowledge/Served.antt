@@ -5,7 +5,7 @@
 -- as a gateway gives up the choice. The main words are `Services` and `offer_of`.
 use Rattle.std.specs.Prelude.{ℕ, Bool, List, [], ◌∷◌, find, Option, None, option_map, if◌then◌else◌}
 use Rattle.mesh_base.specs.declared.address.Mac.{Mac}
-use Rattle.mesh_model.specs.Clients.Settings.{Setting, Wifi, Gateway, Multicast, ArpTable, FactStore, LongestWhole, Settings, first_settings, set_to}
+use Rattle.mesh_model.specs.Clients.Settings.{Setting, Wifi, Gateway, Multicast, ArpTable, FactStore, Pictures, LongestWhole, Settings, first_settings, set_to}
 use Rattle.mesh_model.specs.Packets.Bodies.{Bandwidth}
 use Rattle.mesh_model.specs.Packets.Containers.{Container}
 use Rattle.mesh_model.specs.Packets.Contents.{first_gateway, first_multicast, has_dat}
@@ -100,4 +100,5 @@ after_set (Gateway part) before = record (with_setting (Gateway part) before) { 
 after_set (Multicast flags) before = with_setting (Multicast flags) before
 after_set (ArpTable on) before = with_setting (ArpTable on) before
 after_set (FactStore mode) before = with_setting (FactStore mode) before
+after_set (Pictures on) before = with_setting (Pictures on) before
 after_set (LongestWhole size) before = with_setting (LongestWhole size) before

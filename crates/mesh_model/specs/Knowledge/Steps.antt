@@ -7,13 +7,15 @@
 -- the client wasn't present just before and was elsewhere. A client frame from a LAN that its
 -- gateway passes is a sighting, and it goes on unless its client is at the gateway or behind
 -- another gateway of the LAN. What an accepted message offers is noted; a gateway is chosen at each
--- second tick, and given up where the node's part as one is set. A probe of a ping or a traceroute
+-- second tick, and given up where the node's part as one is set. At a round the node's picture may
+-- be put, with its last commit, before its facts are told. A probe of a ping or a traceroute
 -- waits for its answer where it was sent. A fragment for the node is noted, and its packet is taken
 -- once it is whole. At a reboot all is forgotten but the settings. The main word is `knowledge`.
 use Rattle.std.specs.Prelude.{ℕ, suc, ◌&&◌, ◌||◌, Bool, true, false, List, [], ◌∷◌, fold, length, Option, Some, None, is_none, is_some, option_and_then, if◌then◌else◌}
 use Rattle.std.specs.List.{list_any}
 use Rattle.mesh_base.specs.Address.{is_broadcast, is_group}
 use Rattle.mesh_base.specs.declared.address.Mac.{Mac}
+use Rattle.mesh_base.specs.declared.client.Entry.{Entry}
 use Rattle.mesh_base.specs.declared.client.Key.{Key}
 use Rattle.mesh_model.specs.declared.packet.Head.{Head}
 use Rattle.mesh_model.specs.declared.packet.Head.TheVariants.{IvOgm, Bcast, Elp, Ogm2, Unicast, Frag, Unicast4, Icmp, Utvlv}
@@ -26,11 +28,14 @@ use Rattle.mesh_model.specs.Clients.Lans.{LanOf, bridge}
 use Rattle.mesh_model.specs.Clients.Mentions.{Mention, key_of, mentions, next_mentions, passed_from_lan}
 use Rattle.mesh_model.specs.Clients.Present.{present_row}
 use Rattle.mesh_model.specs.Clients.Settings.{Setting}
+use Rattle.mesh_model.specs.Commits.History.{history, next_history}
+use Rattle.mesh_model.specs.Commits.Versions.{last_commit}
 use Rattle.mesh_model.specs.Fragments.Assembly.{part_of}
 use Rattle.mesh_model.specs.Knowledge.Addressee.{Way, addressee}
 use Rattle.mesh_model.specs.Knowledge.FactStore.{after_fact_message, after_get, after_put, after_round, if_announces}
 use Rattle.mesh_model.specs.Knowledge.Known.{Broadcast, Knowledge, agreed_byte, is_new_broadcast, no_knowledge, taken_at, told_at}
 use Rattle.mesh_model.specs.Knowledge.Offers.{after_choice, gateway_way, receivers}
+use Rattle.mesh_model.specs.Knowledge.OwnPictures.{with_picture}
 use Rattle.mesh_model.specs.Knowledge.Pairs.{after_arp, after_question}
 use Rattle.mesh_model.specs.Knowledge.PutTogether.{after_part}
 use Rattle.mesh_model.specs.Knowledge.Served.{after_set, no_services, with_offer}
@@ -337,9 +342,22 @@ abbrev pub before_round : Queries → ℕ → ℕ → Knowledge → Knowledge
 before_round q now index known =
     after_choice q now index (record known { routes = OwnTick now index ∷ known.routes })
 
--- what is known after a tick of an index
-abbrev pub after_tick : Queries → ℕ → ℕ → Knowledge → Knowledge
-after_tick q now index known = after_round_at q now index (before_round q now index known)
+-- the table of the last commit of the node of an address, behind a tick of an index right after a
+-- log
+abbrev pub table_behind : Mac → Log → ℕ → ℕ → List Entry
+table_behind me older now index = (last_commit
+    (next_history (mentions me older) (history me older) now (Tick index)).commits).table
+
+-- what is known at a tick of an index, before facts are told in a round that it may begin, whose
+-- last commit has this table
+abbrev pub before_telling : Queries → Mac → ℕ → ℕ → List Entry → Knowledge → Knowledge
+before_telling q me now index table known =
+    with_picture q me now index table (before_round q now index known)
+
+-- what is known after a tick of an index, whose last commit has this table
+abbrev pub after_tick : Queries → Mac → ℕ → ℕ → List Entry → Knowledge → Knowledge
+after_tick q me now index table known =
+    after_round_at q now index (before_telling q me now index table known)
 
 -- what is known after a setting
 abbrev pub with_set : Setting → Knowledge → Knowledge
@@ -375,7 +393,8 @@ line_knowledge q me older known now Reboot = after_reboot known
 
 -- what is known after an input right after a log, from what was known before it
 abbrev pub next_knowledge : Queries → Mac → Log → Knowledge → ℕ → Given → Knowledge
-next_knowledge q me older known now (Tick index) = after_tick q now index known
+next_knowledge q me older known now (Tick index) =
+    after_tick q me now index (table_behind me older now index) known
 next_knowledge q me older known now (LinkFrame number from throughput bytes) = after_packets q me
     (record { now = now; from = from; throughput = throughput; number = number }) known
     (link_frame bytes).packets

@@ -1,12 +1,14 @@
 -- Lines of routes, moment by moment. A line is of the moment that it tells. The first line of a later
 -- moment ends the one under way, and so does the end of the input; a moment that ends is reported, by
 -- the loops of all lines before it and those of all lines up to it. A line of an earlier moment than
--- the one under way is late. The main words are `after_route` and `told_at`.
-use Rattle.std.specs.Prelude.{ℕ, nat_lt, Bool, false, List, [], ◌∷◌, ◌++◌, Option, None, Some, if◌then◌else◌}
+-- the one under way is late. At most 65,536 different pairs may be named. The main words are
+-- `after_route` and `told_at`.
+use Rattle.std.specs.Prelude.{ℕ, ◌&&◌, nat_le, nat_lt, not, Bool, false, List, [], ◌∷◌, ◌++◌, length, Option, None, Some, if◌then◌else◌}
 use Rattle.std.specs.Option.{option_map_or}
 use Rattle.mesh_model.specs.declared.route_line.RouteLine.{RouteLine}
+use Rattle.mesh_model.specs.declared.route_line.RoutePair.{RoutePair}
 use Rattle.mesh_model.specs.Loops.Reports.{report_text}
-use Rattle.mesh_model.specs.Loops.Routes.{loops_of}
+use Rattle.mesh_model.specs.Loops.Routes.{has_pair, loops_of, pairs_of}
 
 -- the lines of the moments that ended, and those of the moment under way, newest first
 pub record Bisecting : Type 0 where
@@ -33,6 +35,15 @@ moment_of_lines lines = newest_moment lines.under_way
 -- whether a line is of an earlier moment than the one under way
 abbrev pub is_late : Bisecting → RouteLine → Bool
 is_late lines line = option_map_or (λ moment. nat_lt line.moment moment) (moment_of_lines lines) false
+
+-- how many pairs may be named
+abbrev pub pairs_limit : ℕ
+pairs_limit = 65536
+
+-- whether a pair is new to lines, and one too many
+abbrev pub passes_pairs : List RouteLine → RoutePair → Bool
+passes_pairs lines pair =
+    not (has_pair lines pair) && nat_le pairs_limit (length (pairs_of lines))
 
 -- whether a line ends the moment under way
 abbrev pub ends_moment : Bisecting → RouteLine → Bool

@@ -1,7 +1,7 @@
--- The line of a route, as it is printed and as it is read: `route T NODE ORIG NEXT`, with a moment
--- and addresses; NEXT is `-` where there is no route. A line whose first word is another is passed
--- over, whatever it holds. Behind `route` stand exactly four words: a number up to 1,099,511,627,776,
--- two addresses, and an address or `-`. The main words are `route_text` and `route_of_line`.
+-- The line of a route as it is read: `route T NODE ORIG NEXT`. Behind `route` stand exactly four
+-- words: a number up to 1,099,511,627,776, two addresses, and an address or `-`, which says that
+-- there is no route. A line whose first word is another is passed over, whatever it holds. The main
+-- word is `route_of_line`.
 use Rattle.std.specs.Prelude.{ℕ, List, [], ◌∷◌, codes, bytes_eq, Option, None, Some, option_and_then, option_map, if◌then◌else◌}
 use Rattle.std.specs.Option.{option_map_or}
 use Rattle.mesh_base.specs.Address.{mac_of_text}
@@ -13,22 +13,6 @@ use Rattle.mesh_model.specs.Scenario.LinkOptions.{number_within}
 use Rattle.mesh_model.specs.Scenario.NetForms.{time_limit}
 use Rattle.mesh_model.specs.Scenario.Terms.{number_of}
 use Rattle.mesh_model.specs.Scenario.Words.{Word, line_words}
-use Rattle.mesh_model.specs.Text.PacketLines.{line_of, named_address, named_number}
-
--- ---- as it is printed
-
--- a next node, or that there is none
-abbrev pub next_text : Option Mac → List ℕ
-next_text None = codes " -"
-next_text (Some next) = named_address (codes " ") next
-
--- the line of a route
-unfoldable pub route_text : RouteLine → List ℕ
-route_text line = line_of (named_number (codes "route ") line.moment
-    ∷ named_address (codes " ") line.node ∷ named_address (codes " ") line.orig
-    ∷ next_text line.next ∷ [])
-
--- ---- as it is read
 
 -- the moment that a word spells
 abbrev pub moment_of : List ℕ → Option ℕ

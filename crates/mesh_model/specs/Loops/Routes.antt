@@ -3,7 +3,7 @@
 -- list of different nodes, each with the one behind it as its next node and the last with the first,
 -- that begins with the least of their addresses. The main word is `loops_of`.
 use Rattle.std.specs.Prelude.{ℕ, zero, suc, ◌&&◌, not, Bool, List, [], ◌∷◌, length, map, filter_map, find, Option, None, Some, option_map, option_and_then, if◌then◌else◌}
-use Rattle.std.specs.List.{list_all}
+use Rattle.std.specs.List.{list_all, list_any}
 use Rattle.std.specs.Ordering.{ordering_then}
 use Rattle.std.specs.declared.cmp.Ordering.{Ordering}
 use Rattle.mesh_base.specs.Ordered.{in_order}
@@ -24,6 +24,14 @@ pair_of_line line = record { orig = line.orig; node = line.node }
 -- the pairs of which lines tell, in their order, each once
 abbrev pub pairs_of : List RouteLine → List RoutePair
 pairs_of lines = in_order pair_order (map pair_of_line lines)
+
+-- whether two pairs are one
+abbrev pub same_pair : RoutePair → RoutePair → Bool
+same_pair a b = same_mac a.orig b.orig && same_mac a.node b.node
+
+-- whether lines tell of a pair
+abbrev pub has_pair : List RouteLine → RoutePair → Bool
+has_pair lines pair = list_any (same_pair pair) (pairs_of lines)
 
 -- whether a line tells of an originator and a node
 abbrev pub tells_of : Mac → Mac → RouteLine → Bool

@@ -4,6 +4,7 @@
 -- a client frame to all but the one that put it. A client frame that a gateway put has an event
 -- where it comes, before its gateways take it. The main words are `joins_lan` and `lan_delivered`.
 use Rattle.std.specs.Prelude.{ℕ, suc, not, nat_eq, Bool, true, filter, List, [], ◌∷◌, ◌++◌, length, map, slice_get, Option, Some, None, Ok}
+use Rattle.std.specs.Option.{option_map_or}
 use Rattle.mesh_base.specs.declared.event.Event.{Event}
 use Rattle.mesh_base.specs.declared.event.Event.TheVariants.{Bridged}
 use Rattle.mesh_model.specs.Clients.Log.{Given, Attach, LanFrame, Line}
@@ -30,6 +31,10 @@ joins_lan setup name gateways now mesh = all_given setup gateways now (attachmen
     (with_lan (record { name = name; gateways = gateways }) mesh)
 
 -- ---- frames
+
+-- the places of the gateways of the LAN at a place
+abbrev pub gateways_at : ℕ → List NetLan → List ℕ
+gateways_at place lans = option_map_or (λ (lan : NetLan). lan.gateways) (slice_get lans place) []
 
 -- whether the gateway at a place gets a frame of its LAN, which is this client frame or none, and
 -- which the gateway at another place put, or none

@@ -5,6 +5,7 @@ use Rattle.std.specs.Prelude.{ℕ}
 use Rattle.mesh_base.specs.declared.address.Mac.{Mac}
 use Rattle.mesh_model.specs.Acts.Choosing.{acts_of}
 use Rattle.mesh_model.specs.Acts.NodeLimits.{node_limit}
+use Rattle.mesh_model.specs.Knowledge.Steps.{knowledge}
 use Rattle.mesh_model.specs.Net.Mesh.{Setup}
 use Rattle.mesh_model.specs.Routes.Queries.{Queries}
 use Rattle.mesh_model.specs.Scenario.NetForms.{time_limit}
@@ -38,6 +39,8 @@ abbrev pub scenario_setup : (Mac → Queries) → Setup
 scenario_setup queries = record {
   acts = λ me. acts_of (queries me) me;
   node_limit = λ me. node_limit (queries me) me;
+  originators = λ me log now.
+      (queries me).originators (knowledge (queries me) me log).routes now;
   frames_limit = frames_limit;
   bytes_limit = frame_bytes_limit;
 }

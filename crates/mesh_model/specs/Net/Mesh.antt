@@ -1,13 +1,15 @@
 -- The state of a mesh. A node keeps its log alone; a link carries frames one way, a LAN to all its
 -- gateways; a frame stays for ever, and its number is its place in the order of sending, from 1.
--- Frames on LANs are numbered apart. The main word is `Mesh`.
-use Rattle.std.specs.Prelude.{ℕ, Bool, List, [], bytes_eq, replicate, slice_get, Option}
+-- Frames on LANs are numbered apart. The routes of a mesh may be watched. The main word is `Mesh`.
+use Rattle.std.specs.Prelude.{ℕ, Bool, List, [], bytes_eq, replicate, slice_get, Option, None}
 use Rattle.std.specs.Option.{option_map_or}
 use Rattle.mesh_base.specs.declared.address.Mac.{Mac}
 use Rattle.mesh_base.specs.declared.event.Event.{Event}
 use Rattle.mesh_model.specs.declared.act.Act.{Act}
 use Rattle.mesh_model.specs.declared.happening.Class.TheVariants.{LinkDelivery}
 use Rattle.mesh_model.specs.declared.happening.Happening.{Happening}
+use Rattle.mesh_model.specs.declared.route.OrigRow.{OrigRow}
+use Rattle.mesh_model.specs.declared.route_line.RouteLine.{RouteLine}
 use Rattle.mesh_model.specs.Acts.NodeLimits.{NodeLimit}
 use Rattle.mesh_model.specs.Clients.Log.{Given, Log}
 
@@ -51,7 +53,8 @@ pub record LanPut : Type 0 where
   pub by : Option ℕ
 
 -- nodes, links and LANs in the order of their lines, link frames, LAN frames and events in that of
--- their coming, and the last happening that was carried out
+-- their coming, the last happening that was carried out, and, where routes are watched, the lines
+-- that were told of them, newest first
 pub record Mesh : Type 0 where
   pub nodes : List NodeLog
   pub links : List NetLink
@@ -60,10 +63,11 @@ pub record Mesh : Type 0 where
   pub puts : List LanPut
   pub events : List Event
   pub last : Happening
+  pub watch : Option (List RouteLine)
 
--- before the first line; nothing happens at the moment 0
-abbrev pub empty_mesh : Mesh
-empty_mesh = record {
+-- before the first line, with what is watched; nothing happens at the moment 0
+abbrev pub begun_mesh : Option (List RouteLine) → Mesh
+begun_mesh watch = record {
   nodes = [];
   links = [];
   lans = [];
@@ -71,14 +75,20 @@ empty_mesh = record {
   puts = [];
   events = [];
   last = record { moment = 0; class = LinkDelivery; place = 0 };
+  watch = watch;
 }
 
+-- before the first line, where routes aren't watched
+abbrev pub empty_mesh : Mesh
+empty_mesh = begun_mesh None
+
 -- what a mesh is run with: the acts of a node with this address and log that is given something at
--- a moment, the limit of its own that it then passes, and how many frames, and bytes of frames, may
--- be sent
+-- a moment, and the limit of its own that it then passes; the live originators that a node with this
+-- address and log has at a moment; and how many frames, and bytes of frames, may be sent
 pub record Setup : Type 0 where
   pub acts : Mac → Log → ℕ → Given → List Act
   pub node_limit : Mac → Log → ℕ → Given → Option NodeLimit
+  pub originators : Mac → Log → ℕ → List OrigRow
   pub frames_limit : ℕ
   pub bytes_limit : ℕ
 

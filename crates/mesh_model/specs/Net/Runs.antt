@@ -1,8 +1,9 @@
 -- What a happening does, and the run until a moment: what is due is carried out, one happening
 -- after another, each at its own moment, until none is left or one would pass a limit. What is sent
--- meanwhile joins what is due. A happening that would pass a limit leaves nothing. Turns are taken
--- by doubling, so that the number of turns that there may be is no bound on what is computed; the
--- laws say that it is never used up. The main words are `after_happening` and `run_to`.
+-- meanwhile joins what is due. A happening that would pass a limit leaves nothing. Where the routes
+-- of the mesh are watched, a happening ends with lines of them. Turns are taken by doubling, so that
+-- the number of turns that there may be is no bound on what is computed; the laws say that it is
+-- never used up. The main words are `after_happening` and `run_to`.
 use Rattle.std.specs.Prelude.{ℕ, suc, zero, ◌||◌, ◌&&◌, nat_eq, Bool, true, false, find, List, slice_get, Option, Some, None, is_some, is_none, Ok, Err, if◌then◌else◌}
 use Rattle.std.specs.Option.{option_map_or}
 use Rattle.mesh_model.specs.declared.ending.LimitName.{LimitName}
@@ -15,6 +16,7 @@ use Rattle.mesh_model.specs.Net.Sending.{Attempt, on_ok}
 use Rattle.mesh_model.specs.Net.Inputs.{given_to}
 use Rattle.mesh_model.specs.Net.Lans.{lan_delivered}
 use Rattle.mesh_model.specs.Net.Due.{ticks_in, next_due}
+use Rattle.mesh_model.specs.Net.Watching.{lines_told, with_lines}
 
 -- whether a link leads from the node at one place to the node at another
 abbrev pub leads : ℕ → ℕ → NetLink → Bool
@@ -60,13 +62,14 @@ effect setup LinkDelivery place now mesh = delivered setup place now mesh
 effect setup LanDelivery place now mesh = lan_delivered setup place now mesh
 effect setup NodeTick place now mesh = ticked setup place now mesh
 
--- the mesh with its last happening
-abbrev pub with_last : Happening → Mesh → Attempt
-with_last h mesh = Ok (record mesh { last = h })
+-- the mesh at the end of a happening: its lines are told, and it is the last
+abbrev pub with_last : Setup → Happening → Mesh → Attempt
+with_last setup h mesh = Ok (record (with_lines (lines_told setup h mesh) mesh) { last = h })
 
 -- the mesh after a happening
 abbrev pub after_happening : Setup → Happening → Mesh → Attempt
-after_happening setup h mesh = on_ok (with_last h) (effect setup h.class h.place h.moment mesh)
+after_happening setup h mesh =
+    on_ok (with_last setup h) (effect setup h.class h.place h.moment mesh)
 
 -- a limit that would be passed, and the moment of the happening that would pass it
 pub record PassedLimit : Type 0 where

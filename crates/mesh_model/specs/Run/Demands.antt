@@ -9,7 +9,7 @@ use Rattle.mesh_base.specs.declared.address.Mac.{Mac}
 use Rattle.mesh_model.specs.declared.ending.Refusal.{Refusal}
 use Rattle.mesh_model.specs.declared.ending.Refusal.TheVariants.{AddressTaken, AlgoAfterNode, Attached, LinkTaken, NameTaken, NoSuchFrame, SameNode}
 use Rattle.mesh_model.specs.declared.line_form.Command.{Command}
-use Rattle.mesh_model.specs.declared.line_form.Command.TheVariants.{Nothing, Algo, Node, Link, Lan, Frame, Gone, Join, Leave, Arp, Dhcp, Wifi, GwOff, GwServer, GwClient, Mcast, Dat, Frag, Alfred, Put, Get, Ping, Trace, Reboot, Run, Deliver, Show, Decode}
+use Rattle.mesh_model.specs.declared.line_form.Command.TheVariants.{Nothing, Algo, Node, Link, Lan, Frame, Gone, Join, Leave, Arp, Dhcp, Wifi, GwOff, GwServer, GwClient, Mcast, Dat, Frag, Vis, Alfred, Put, Get, Ping, Trace, Reboot, Run, Deliver, Show, Decode}
 use Rattle.mesh_model.specs.Net.Mesh.{has_address}
 use Rattle.mesh_model.specs.Net.Runs.{leads}
 use Rattle.mesh_model.specs.Net.Sending.{lan_of}
@@ -48,6 +48,7 @@ demand_of (GwClient node policy) = NoDemand
 demand_of (Mcast node flags) = NoDemand
 demand_of (Dat node on) = NoDemand
 demand_of (Frag node longest) = NoDemand
+demand_of (Vis node on) = NoDemand
 demand_of (Alfred node mode) = NoDemand
 demand_of (Put node type_no version text) = NoDemand
 demand_of (Get node type_no) = NoDemand

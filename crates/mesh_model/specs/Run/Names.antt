@@ -2,7 +2,7 @@
 -- there: a node, or a place, which is a node or a LAN. The main word is `names_used`.
 use Rattle.std.specs.Prelude.{ℕ, List, [], ◌∷◌, map}
 use Rattle.mesh_model.specs.declared.line_form.Command.{Command}
-use Rattle.mesh_model.specs.declared.line_form.Command.TheVariants.{Nothing, Algo, Node, Link, Lan, Frame, Gone, Join, Leave, Arp, Dhcp, Wifi, GwOff, GwServer, GwClient, Mcast, Dat, Frag, Alfred, Put, Get, Ping, Trace, Reboot, Run, Deliver, Show, Decode}
+use Rattle.mesh_model.specs.declared.line_form.Command.TheVariants.{Nothing, Algo, Node, Link, Lan, Frame, Gone, Join, Leave, Arp, Dhcp, Wifi, GwOff, GwServer, GwClient, Mcast, Dat, Frag, Vis, Alfred, Put, Get, Ping, Trace, Reboot, Run, Deliver, Show, Decode}
 
 -- a name where a node is needed, or a place
 pub data NameUse : Type 0 where
@@ -29,6 +29,7 @@ names_used (GwClient node policy) = OfNode node ∷ []
 names_used (Mcast node flags) = OfNode node ∷ []
 names_used (Dat node on) = OfNode node ∷ []
 names_used (Frag node longest) = OfNode node ∷ []
+names_used (Vis node on) = OfNode node ∷ []
 names_used (Alfred node mode) = OfNode node ∷ []
 names_used (Put node type_no version text) = OfNode node ∷ []
 names_used (Get node type_no) = OfNode node ∷ []

@@ -1,16 +1,20 @@
 -- What a line leaves: the state that was reached and, where it ended the run there, the stop. What
--- the first part of a run prints is printed, also where a limit ends it. The main word is
--- `Outcome`.
+-- the first part of a run prints is printed, also where a limit ends it. The main words are
+-- `OutcomeOf`, for any kind of states, and `Outcome`, for those of a scenario.
 use Rattle.mesh_model.specs.declared.ending.Stop.{Stop}
 use Rattle.mesh_model.specs.Run.State.{State}
 
 -- the run goes on from a state, or ends at one
-pub data Outcome : Type 0 where
-  Goes : State → Outcome
-  Ends : State → Stop → Outcome
+pub data OutcomeOf (S : Type 0) : Type 0 where
+  Goes : S → OutcomeOf S
+  Ends : S → Stop → OutcomeOf S
+
+-- the outcome of a line of a scenario
+abbrev pub Outcome : Type 0
+Outcome = OutcomeOf State
 
 -- the state that was reached
-abbrev pub reached : Outcome → State
+abbrev pub reached : {S : Type 0} → OutcomeOf S → S
 reached (Goes state) = state
 reached (Ends state stop) = state
 

@@ -6,9 +6,10 @@ use Rattle.mesh_model.specs.Bridges.Claims.{claims_at}
 use Rattle.mesh_model.specs.Clients.Lans.{LanOf, bridge}
 use Rattle.mesh_model.specs.declared.line_form.Algorithm.{Algorithm}
 use Rattle.mesh_model.specs.declared.line_form.Table.{Table}
-use Rattle.mesh_model.specs.declared.line_form.Table.TheVariants.{Originators, Neighbors, Locals, Globals, Claims, Gateways, Groups, Addresses, Facts}
+use Rattle.mesh_model.specs.declared.line_form.Table.TheVariants.{Originators, Neighbors, Locals, Globals, Claims, Gateways, Groups, Addresses, Facts, Pictures}
 use Rattle.mesh_model.specs.declared.service.GwMode.{GwMode}
 use Rattle.mesh_model.specs.declared.service.GwMode.TheVariants.{Off, Server, Client}
+use Rattle.mesh_model.specs.declared.service.KeptFact.{KeptFact}
 use Rattle.mesh_model.specs.declared.table_row.LocalRow.{LocalRow}
 use Rattle.mesh_base.specs.declared.client.Key.{Key}
 use Rattle.mesh_model.specs.Clients.Mentions.{mentions}
@@ -29,7 +30,7 @@ use Rattle.mesh_model.specs.Services.Facts.{facts_at}
 use Rattle.mesh_model.specs.Tables.Sums.{sums_of}
 use Rattle.mesh_model.specs.Text.Claims.{ClaimTable}
 use Rattle.mesh_model.specs.Text.GlobalTables.{GlobalTable}
-use Rattle.mesh_model.specs.Text.Services.{AddressTable, AddressesOf, FactTable, FactsOf, GatewayTable, GatewaysOf, GroupTable, GroupsOf}
+use Rattle.mesh_model.specs.Text.Services.{AddressTable, AddressesOf, FactTable, FactsOf, GatewayTable, GatewaysOf, GroupTable, GroupsOf, PictureTable, PicturesOf}
 use Rattle.mesh_model.specs.Text.Tables.{LinkTable, LocalTable, OrigTable}
 
 -- the state after one more thing is printed
@@ -126,6 +127,14 @@ fact_table algorithm now node = record {
   rows = facts_at (known_to algorithm node).services.facts now;
 }
 
+-- the facts by which a node shows the network at a moment
+abbrev pub picture_table : Algorithm → ℕ → NodeLog → PictureTable
+picture_table algorithm now node = record {
+  name = node.name;
+  facts = map (λ (kept : KeptFact). kept.fact)
+      (facts_at (known_to algorithm node).services.facts now);
+}
+
 -- what is printed of a node in a state, for each table that is shown
 abbrev pub shown : Table → State → NodeLog → Printed
 shown Originators state node =
@@ -141,3 +150,5 @@ shown Groups state node =
 shown Addresses state node =
     ServiceShown (AddressesOf (address_table state.algorithm state.clock node))
 shown Facts state node = ServiceShown (FactsOf (fact_table state.algorithm state.clock node))
+shown Pictures state node =
+    ServiceShown (PicturesOf (picture_table state.algorithm state.clock node))

@@ -1,15 +1,17 @@
 -- The state of a scenario's run: the mesh, the clock, the routing algorithm of its nodes, which
 -- link frames are printed, and what is printed so far. The algorithm is IV until a line chooses
--- another. An event is kept with the names that nodes and LANs have when it comes. The main words
--- are `State` and `text_of`.
-use Rattle.std.specs.Prelude.{ℕ, Bool, List, [], flat_map, map, bytes_eq, position, slice_get, Option, option_and_then}
+-- another. The routes are watched where the choice of frames is `route`. An event is kept with the
+-- names that nodes and LANs have when it comes. The main words are `State` and `text_of`.
+use Rattle.std.specs.Prelude.{ℕ, Bool, List, [], flat_map, map, bytes_eq, position, slice_get, Option, Some, None, option_and_then}
 use Rattle.mesh_base.specs.declared.event.Event.{Event}
 use Rattle.mesh_base.specs.Names.{NamesGiven}
 use Rattle.mesh_base.specs.declared.names.NodeName.{NodeName}
 use Rattle.mesh_model.specs.declared.frame_choice.FrameChoice.{FrameChoice}
+use Rattle.mesh_model.specs.declared.frame_choice.FrameChoice.TheVariants.{Hidden, All, Client, Ogm, Route}
 use Rattle.mesh_model.specs.declared.line_form.Algorithm.{Algorithm}
 use Rattle.mesh_model.specs.declared.line_form.Algorithm.TheVariants.{Iv}
-use Rattle.mesh_model.specs.Net.Mesh.{NodeLog, NetLan, Mesh, empty_mesh}
+use Rattle.mesh_model.specs.declared.route_line.RouteLine.{RouteLine}
+use Rattle.mesh_model.specs.Net.Mesh.{NodeLog, NetLan, Mesh, begun_mesh}
 use Rattle.mesh_model.specs.Text.Claims.{ClaimTable, claim_table_text}
 use Rattle.mesh_model.specs.Text.Decode.{decode_text}
 use Rattle.mesh_model.specs.Text.Events.{event_text}
@@ -38,10 +40,23 @@ pub record State : Type 0 where
   pub choice : FrameChoice
   pub printed : List Printed
 
+-- what is watched at the begin: nothing was told yet of routes, where the choice is of them
+abbrev pub first_watch : FrameChoice → Option (List RouteLine)
+first_watch Hidden = None
+first_watch All = None
+first_watch Client = None
+first_watch Ogm = None
+first_watch Route = Some []
+
 -- before the first line
 abbrev pub first_state : FrameChoice → State
-first_state choice =
-    record { mesh = empty_mesh; clock = 0; algorithm = Iv; choice = choice; printed = [] }
+first_state choice = record {
+  mesh = begun_mesh (first_watch choice);
+  clock = 0;
+  algorithm = Iv;
+  choice = choice;
+  printed = [];
+}
 
 -- whether a node has this name
 abbrev pub is_named : List ℕ → NodeLog → Bool

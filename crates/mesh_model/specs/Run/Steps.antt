@@ -5,7 +5,7 @@
 -- time passes; a frame is delivered again, now; what is shown or decoded is printed. The limits are
 -- looked at here: `nodes`, `links` and `lans` are passed by one more than 64, 512 and 16, `clock`
 -- by the end of a run, before its first happening. The main word is `step_of`.
-use Rattle.std.specs.Prelude.{ℕ, ◌+◌, ◌-◌, nat_lt, nat_le, suc, bytes_eq, List, [], ◌∷◌, ◌++◌, length, slice_get, None, if◌then◌else◌}
+use Rattle.std.specs.Prelude.{ℕ, ◌+◌, ◌-◌, nat_lt, nat_le, suc, bytes_eq, List, [], ◌∷◌, ◌++◌, length, None, if◌then◌else◌}
 use Rattle.std.specs.List.{list_any}
 use Rattle.std.specs.Option.{option_map_or}
 use Rattle.mesh_base.specs.declared.address.Mac.{Mac}
@@ -14,14 +14,14 @@ use Rattle.mesh_model.specs.declared.ending.LimitName.TheVariants.{Nodes, Links,
 use Rattle.mesh_model.specs.declared.ending.Stop.TheVariants.{Limit}
 use Rattle.mesh_model.specs.declared.line_form.Algorithm.{Algorithm}
 use Rattle.mesh_model.specs.declared.line_form.Command.{Command}
-use Rattle.mesh_model.specs.declared.line_form.Command.TheVariants.{Nothing, Algo, Node, Link, Lan, Frame, Gone, Join, Leave, Arp, Dhcp, Wifi, GwOff, GwServer, GwClient, Mcast, Dat, Frag, Alfred, Put, Get, Ping, Trace, Reboot, Run, Deliver, Show, Decode}
+use Rattle.mesh_model.specs.declared.line_form.Command.TheVariants.{Nothing, Algo, Node, Link, Lan, Frame, Gone, Join, Leave, Arp, Dhcp, Wifi, GwOff, GwServer, GwClient, Mcast, Dat, Frag, Vis, Alfred, Put, Get, Ping, Trace, Reboot, Run, Deliver, Show, Decode}
 use Rattle.mesh_model.specs.Clients.Log.{LineGiven, Line, Sets}
 use Rattle.mesh_model.specs.Clients.Log.{Frame as GivenFrame, Gone as GivenGone, Join as GivenJoin, Leave as GivenLeave, Arp as GivenArp, Dhcp as GivenDhcp, Put as GivenPut, Get as GivenGet, Ping as GivenPing, Trace as GivenTrace, Reboot as GivenReboot}
 use Rattle.mesh_model.specs.Clients.Settings.{Setting, NoPart, Serves, Chooses}
-use Rattle.mesh_model.specs.Clients.Settings.{ArpTable as SetsArpTable, FactStore as SetsFactStore, Gateway as SetsGateway, LongestWhole as SetsLongestWhole, Multicast as SetsMulticast, Wifi as SetsWifi}
-use Rattle.mesh_model.specs.Net.Mesh.{NodeLog, NetLan, NetLink, Setup, address_at}
+use Rattle.mesh_model.specs.Clients.Settings.{ArpTable as SetsArpTable, FactStore as SetsFactStore, Gateway as SetsGateway, LongestWhole as SetsLongestWhole, Multicast as SetsMulticast, Pictures as SetsPictures, Wifi as SetsWifi}
+use Rattle.mesh_model.specs.Net.Mesh.{NodeLog, NetLink, Setup, address_at}
 use Rattle.mesh_model.specs.Net.Inputs.{all_given, given_to}
-use Rattle.mesh_model.specs.Net.Lans.{joins_lan}
+use Rattle.mesh_model.specs.Net.Lans.{gateways_at, joins_lan}
 use Rattle.mesh_model.specs.Net.Sending.{with_put}
 use Rattle.mesh_model.specs.Packets.Payload.{payload_spelling}
 use Rattle.mesh_model.specs.Net.Runs.{delivered}
@@ -107,10 +107,6 @@ abbrev pub lan_frame_step : Setup → List ℕ → ℕ → Step
 lan_frame_step setup bytes lan state = after_attempt state (with_put setup
     (record { lan = lan; moment = state.clock; bytes = bytes; by = None }) state.mesh)
 
--- the places of the gateways of the LAN at a place
-abbrev pub gateways_at : ℕ → List NetLan → List ℕ
-gateways_at place lans = option_map_or (λ (lan : NetLan). lan.gateways) (slice_get lans place) []
-
 -- a line gives each gateway of the LAN at a place something, now
 abbrev pub gateways_step : Setup → LineGiven → ℕ → Step
 gateways_step setup line lan state = after_attempt state
@@ -179,6 +175,7 @@ step_of setup (GwClient node policy) =
 step_of setup (Mcast node flags) = setting_step setup node (SetsMulticast flags)
 step_of setup (Dat node on) = setting_step setup node (SetsArpTable on)
 step_of setup (Frag node longest) = setting_step setup node (SetsLongestWhole longest)
+step_of setup (Vis node on) = setting_step setup node (SetsPictures on)
 step_of setup (Alfred node mode) = setting_step setup node (SetsFactStore mode)
 step_of setup (Put node type_no version text) =
     at_node node (input_step setup (GivenPut type_no version text))

@@ -14,7 +14,7 @@ use Rattle.mesh_model.specs.declared.line_form.Algorithm.TheVariants.{Iv, V}
 use Rattle.mesh_model.specs.declared.line_form.AlfredMode.{AlfredMode}
 use Rattle.mesh_model.specs.declared.line_form.AlfredMode.TheVariants.{Off, Primary, Secondary}
 use Rattle.mesh_model.specs.declared.line_form.Table.{Table}
-use Rattle.mesh_model.specs.declared.line_form.Table.TheVariants.{Originators, Neighbors, Locals, Globals, Claims, Gateways, Groups, Addresses, Facts}
+use Rattle.mesh_model.specs.declared.line_form.Table.TheVariants.{Originators, Neighbors, Locals, Globals, Claims, Gateways, Groups, Addresses, Facts, Pictures}
 use Rattle.mesh_model.specs.Scenario.Terms.{is_name, number_of, vid_of, ip_of, bytes_of_hex}
 
 -- what was read, where it passes a test
@@ -101,4 +101,5 @@ abbrev pub table_field : List ℕ → Result Table Refusal
 table_field = listed_field (
     (codes "o", Originators) ∷ (codes "n", Neighbors) ∷ (codes "tl", Locals)
     ∷ (codes "tg", Globals) ∷ (codes "cl", Claims) ∷ (codes "gw", Gateways)
-    ∷ (codes "mc", Groups) ∷ (codes "dat", Addresses) ∷ (codes "alf", Facts) ∷ [])
+    ∷ (codes "mc", Groups) ∷ (codes "dat", Addresses) ∷ (codes "alf", Facts)
+    ∷ (codes "vis", Pictures) ∷ [])

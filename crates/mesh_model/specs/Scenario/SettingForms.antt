@@ -4,7 +4,7 @@
 use Rattle.std.specs.Prelude.{ℕ, ◌==◌, ◌||◌, nat_le, List, [], ◌∷◌, codes, Result}
 use Rattle.mesh_model.specs.declared.ending.Refusal.{Refusal}
 use Rattle.mesh_model.specs.declared.ending.Refusal.TheVariants.{OutOfRange}
-use Rattle.mesh_model.specs.declared.line_form.Command.TheVariants.{Wifi, GwOff, GwServer, GwClient, Mcast, Dat, Frag}
+use Rattle.mesh_model.specs.declared.line_form.Command.TheVariants.{Wifi, GwOff, GwServer, GwClient, Mcast, Dat, Frag, Vis}
 use Rattle.mesh_model.specs.declared.line_form.Policy.TheVariants.{Best, Stable, Late}
 use Rattle.mesh_model.specs.Scenario.Fields.{word_field, name_field, number_field, number_up_to, passing, switch_field}
 use Rattle.mesh_model.specs.Scenario.Readings.{Reading, a_field, listed_form, the_end}
@@ -79,12 +79,16 @@ longest_field word = passing (λ size. (size == 0) || nat_le least_longest size)
 abbrev pub read_frag : List ℕ → List Word → Reading
 read_frag node = a_field longest_field (λ longest. the_end (Frag node longest))
 
+-- set NODE vis on, or off
+abbrev pub read_vis : List ℕ → List Word → Reading
+read_vis node = a_field switch_field (λ on. the_end (Vis node on))
+
 -- what is set at a node
 abbrev pub read_setting : List ℕ → List ℕ → List Word → Reading
 read_setting node = listed_form (
     (codes "wifi", read_wifi node) ∷ (codes "gw", a_field word_field (read_gateway node))
     ∷ (codes "mcast", read_mcast node) ∷ (codes "dat", read_dat node)
-    ∷ (codes "frag", read_frag node) ∷ []) OutOfRange
+    ∷ (codes "frag", read_frag node) ∷ (codes "vis", read_vis node) ∷ []) OutOfRange
 
 -- set NODE ..
 abbrev pub read_set : List Word → Reading

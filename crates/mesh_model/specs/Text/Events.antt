@@ -6,9 +6,10 @@
 -- one that was lost, and `alias NODE K J` a commit that announces what an earlier one announced.
 -- `ping A B seq=S` and what came of it is a ping, `trace A B` and what came of it a probe of a
 -- traceroute; `arp NODE IP` and what came of it a question for an IP address, `alfred NODE get
--- TYPE` and what came of it one for facts. An address that no node has is printed itself. A choice
--- hides link frames by their kind: `ogm` shows iv_ogm, ogm2 and elp, `client` unicast, frag,
--- unicast4 and bcast; `all` alone shows LAN frames. The main word is `event_text`.
+-- TYPE` and what came of it one for facts; `route T NODE ORIG NEXT` is a route that changed, by
+-- addresses alone. Elsewhere an address that no node has is printed itself. A choice hides link
+-- frames by their kind: `ogm` shows iv_ogm, ogm2 and elp, `client` unicast, frag, unicast4 and bcast;
+-- `all` alone shows LAN frames. The main word is `event_text`.
 use Rattle.std.specs.Prelude.{ℕ, ◌/◌, ◌%◌, ◌==◌, Bool, true, false, List, [], ◌∷◌, ◌++◌, codes, decimal, slice_index_or, Option, Some, None, if◌then◌else◌}
 use Rattle.std.specs.List.{list_any}
 use Rattle.std.specs.Option.{option_map_or, unwrap_or}
@@ -20,7 +21,7 @@ use Rattle.mesh_base.specs.declared.client.Vid.{Vid}
 use Rattle.mesh_base.specs.declared.event.ArpResult.{ArpResult}
 use Rattle.mesh_base.specs.declared.event.ArpResult.TheVariants as arps
 use Rattle.mesh_base.specs.declared.event.Event.{Event}
-use Rattle.mesh_base.specs.declared.event.Event.TheVariants.{FrameSent, Received, LanSent, Bridged, Lost, Alias, Pinged, Traced, Arp, Alfred}
+use Rattle.mesh_base.specs.declared.event.Event.TheVariants.{FrameSent, Received, LanSent, Bridged, Lost, Alias, Pinged, Traced, Arp, Alfred, Route}
 use Rattle.mesh_base.specs.declared.event.FactResult.{FactResult}
 use Rattle.mesh_base.specs.declared.event.FactResult.TheVariants as facts
 use Rattle.mesh_base.specs.declared.event.LossReason.{LossReason}
@@ -33,10 +34,12 @@ use Rattle.mesh_base.specs.declared.event.TraceResult.{TraceResult}
 use Rattle.mesh_base.specs.declared.event.TraceResult.TheVariants as traces
 use Rattle.mesh_model.specs.declared.frame_choice.FrameChoice.{FrameChoice}
 use Rattle.mesh_model.specs.declared.frame_choice.FrameChoice.TheVariants.{Hidden, All, Client, Ogm}
+use Rattle.mesh_model.specs.declared.frame_choice.FrameChoice.TheVariants as choices
 use Rattle.mesh_model.specs.Packets.LanFrames.{claim_type, is_of_gateway, unclaim_type}
 use Rattle.mesh_model.specs.Packets.Numbers.{iv_ogm_type, bcast_type, elp_type, frag_type, ogm2_type, unicast_type, unicast4_type}
 use Rattle.mesh_model.specs.Packets.Shapes.{Shape, shape_of_type}
 use Rattle.mesh_model.specs.Text.PacketLines.{line_of, named_number, named_address}
+use Rattle.mesh_model.specs.Text.Routes.{route_text}
 use Rattle.mesh_model.specs.Text.Tables.{vid_text}
 
 -- the name of the first node of this address, or the address
@@ -77,6 +80,7 @@ shows All bytes = true
 shows Client bytes =
     is_of_type (bcast_type ∷ unicast_type ∷ frag_type ∷ unicast4_type ∷ []) bytes
 shows Ogm bytes = is_of_type (iv_ogm_type ∷ elp_type ∷ ogm2_type ∷ []) bytes
+shows choices.Route bytes = false
 
 -- whether LAN frames are printed
 abbrev pub shows_lan : FrameChoice → Bool
@@ -84,6 +88,7 @@ shows_lan Hidden = false
 shows_lan All = true
 shows_lan Client = false
 shows_lan Ogm = false
+shows_lan choices.Route = false
 
 -- whether an event is printed
 abbrev pub is_shown : FrameChoice → Event → Bool
@@ -97,6 +102,7 @@ is_shown choice (Pinged node target seq result) = true
 is_shown choice (Traced node target result) = true
 is_shown choice (Arp node ip result) = true
 is_shown choice (Alfred node type_no result) = true
+is_shown choice (Route at node orig next) = true
 
 -- the word of a reason
 abbrev pub reason_word : Reason → List ℕ
@@ -202,6 +208,8 @@ event_line names (Arp node ip result) = line_of
 event_line names (Alfred node type_no result) = line_of
     (codes "alfred " ∷ name_text names node ∷ named_number (codes " get ") type_no
     ∷ fact_text result ∷ [])
+event_line names (Route at node orig next) =
+    route_text (record { moment = at; node = node; orig = orig; next = next })
 
 -- an event as it is printed, where the choice shows it
 abbrev pub event_text : FrameChoice → NamesGiven → Event → List ℕ

@@ -4,9 +4,9 @@
 -- `halt_text`.
 use Rattle.std.specs.Prelude.{ℕ, List, [], ◌∷◌, ◌++◌, codes, decimal}
 use Rattle.mesh_model.specs.declared.ending.LimitName.{LimitName}
-use Rattle.mesh_model.specs.declared.ending.LimitName.TheVariants.{Line, Input, Nodes, Links, Lans, Clients, Vlans, Cuts, Frames, FrameBytes, Clock}
+use Rattle.mesh_model.specs.declared.ending.LimitName.TheVariants.{Line, Input, Nodes, Links, Lans, Clients, Vlans, Cuts, Frames, FrameBytes, Clock, Pairs}
 use Rattle.mesh_model.specs.declared.ending.Refusal.{Refusal}
-use Rattle.mesh_model.specs.declared.ending.Refusal.TheVariants.{BadUtf8, UnknownCommand, MissingWord, BadName, BadMac, BadNumber, OutOfRange, ExtraWord, UnknownName, WrongKind, NameTaken, AddressTaken, SameNode, LinkTaken, AlgoAfterNode, NoSuchFrame, Attached}
+use Rattle.mesh_model.specs.declared.ending.Refusal.TheVariants.{BadUtf8, UnknownCommand, MissingWord, BadName, BadMac, BadNumber, OutOfRange, ExtraWord, UnknownName, WrongKind, NameTaken, AddressTaken, SameNode, LinkTaken, AlgoAfterNode, NoSuchFrame, Attached, BadRoute, TimeBack}
 use Rattle.mesh_model.specs.declared.ending.Stop.{Stop}
 use Rattle.mesh_model.specs.declared.ending.Stop.TheVariants.{Refused, Limit}
 use Rattle.mesh_model.specs.Scenario.Lines.{newline}
@@ -31,6 +31,8 @@ refusal_words LinkTaken = codes "link taken"
 refusal_words AlgoAfterNode = codes "algo after node"
 refusal_words NoSuchFrame = codes "no such frame"
 refusal_words Attached = codes "attached"
+refusal_words BadRoute = codes "bad route"
+refusal_words TimeBack = codes "time back"
 
 -- the name of a limit
 abbrev pub limit_words : LimitName → List ℕ
@@ -45,6 +47,7 @@ limit_words Cuts = codes "cuts"
 limit_words Frames = codes "frames"
 limit_words FrameBytes = codes "frame-bytes"
 limit_words Clock = codes "clock"
+limit_words Pairs = codes "pairs"
 
 -- the words of a stop
 abbrev pub stop_words : Stop → List ℕ

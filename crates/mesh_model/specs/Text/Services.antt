@@ -4,14 +4,17 @@
 -- node, and a line `m MAC flags=FF` for each originator that tells multicast flags. The printed ARP
 -- table (`show NODE dat`): a line `dat NODE count=C`, and a line `d IP VID MAC age=AGE` for each
 -- pair. The printed facts (`show NODE alf`): a line `alfred NODE mode=M facts=C`, and a line `a MAC
--- TYPE VERSION MARK age=AGE TEXT` for each. The main word is `service_table_text`.
-use Rattle.std.specs.Prelude.{ℕ, ◌+◌, ◌-◌, List, [], ◌∷◌, ◌++◌, flat_map, length, Option, codes}
+-- TYPE VERSION MARK age=AGE TEXT` for each; the bytes of a picture are printed in hex digits, in
+-- place of TEXT. The printed network (`show NODE vis`) is that of the room's file Pictures. The main
+-- word is `service_table_text`.
+use Rattle.std.specs.Prelude.{ℕ, ◌+◌, ◌-◌, ◌==◌, List, [], ◌∷◌, ◌++◌, flat_map, length, Option, codes, if◌then◌else◌}
 use Rattle.hex.specs.Hex.{encode_lower}
 use Rattle.mesh_base.specs.declared.address.Mac.{Mac}
 use Rattle.mesh_base.specs.declared.client.Key.{Key}
 use Rattle.mesh_model.specs.declared.line_form.AlfredMode.{AlfredMode}
 use Rattle.mesh_model.specs.declared.line_form.AlfredMode.TheVariants as storing
 use Rattle.mesh_model.specs.declared.service.ArpRow.{ArpRow}
+use Rattle.mesh_model.specs.declared.service.Fact.{Fact}
 use Rattle.mesh_model.specs.declared.service.GroupRow.{GroupRow}
 use Rattle.mesh_model.specs.declared.service.GwMode.{GwMode}
 use Rattle.mesh_model.specs.declared.service.GwMode.TheVariants.{Off, Server, Client}
@@ -19,8 +22,10 @@ use Rattle.mesh_model.specs.declared.service.GwRow.{GwRow}
 use Rattle.mesh_model.specs.declared.service.KeptFact.{KeptFact}
 use Rattle.mesh_model.specs.declared.service.Mark.{Mark}
 use Rattle.mesh_model.specs.declared.service.Mark.TheVariants.{Local, First, Synced}
+use Rattle.mesh_model.specs.Services.Pictures.{picture_type}
 use Rattle.mesh_model.specs.Text.Events.{ip_text}
 use Rattle.mesh_model.specs.Text.PacketLines.{line_of, named_address, named_number}
+use Rattle.mesh_model.specs.Text.Pictures.{network_table_text}
 use Rattle.mesh_model.specs.Text.Tables.{address_text, vid_text}
 
 -- a node's name, its part as a gateway, the gateway that it chose, and those that it knows
@@ -125,17 +130,31 @@ fact_header name mode count = line_of
     (codes "alfred " ∷ name ∷ codes " mode=" ∷ store_word mode ∷ named_number (codes " facts=") count
     ∷ [])
 
+-- the bytes of a fact as they are printed: those of a picture in hex digits
+abbrev pub fact_text : Fact → List ℕ
+fact_text fact =
+    if fact.type_no == picture_type then encode_lower fact.bytes else fact.bytes
+
 -- the line of a fact at a moment
 unfoldable pub fact_line : ℕ → KeptFact → List ℕ
 fact_line now kept = line_of
     (named_address (codes "a ") kept.fact.source ∷ named_number (codes " ") kept.fact.type_no
     ∷ named_number (codes " ") kept.fact.version ∷ codes " " ∷ mark_word kept.mark
-    ∷ named_number (codes " age=") (now - kept.moment) ∷ codes " " ∷ kept.fact.bytes ∷ [])
+    ∷ named_number (codes " age=") (now - kept.moment) ∷ codes " " ∷ fact_text kept.fact ∷ [])
 
 -- the facts as they are printed
 abbrev pub fact_table_text : FactTable → List ℕ
 fact_table_text table = fact_header table.name table.mode (length table.rows)
     ++ flat_map (fact_line table.now) table.rows
+
+-- a node's name, and the facts by which it shows the network
+pub record PictureTable : Type 0 where
+  pub name : List ℕ
+  pub facts : List Fact
+
+-- the network as it is printed
+abbrev pub picture_table_text : PictureTable → List ℕ
+picture_table_text table = network_table_text table.name table.facts
 
 -- a table of a service
 pub data ServiceTable : Type 0 where
@@ -143,6 +162,7 @@ pub data ServiceTable : Type 0 where
   GroupsOf : GroupTable → ServiceTable
   AddressesOf : AddressTable → ServiceTable
   FactsOf : FactTable → ServiceTable
+  PicturesOf : PictureTable → ServiceTable
 
 -- a table of a service as it is printed
 abbrev pub service_table_text : ServiceTable → List ℕ
@@ -150,3 +170,4 @@ service_table_text (GatewaysOf table) = gateway_table_text table
 service_table_text (GroupsOf table) = group_table_text table
 service_table_text (AddressesOf table) = address_table_text table
 service_table_text (FactsOf table) = fact_table_text table
+service_table_text (PicturesOf table) = picture_table_text table
