@@ -7,7 +7,7 @@ use Rattle.mesh_base.specs.Address.{mac_text}
 use Rattle.mesh_base.specs.Names.{NamesGiven, node_name}
 use Rattle.mesh_base.specs.declared.address.Mac.{Mac}
 use Rattle.mesh_base.specs.declared.event.Event.{Event}
-use Rattle.mesh_base.specs.declared.event.Event.TheVariants.{FrameSent, Received, LanSent, Bridged, Lost, Alias, Pinged, Traced, Arp, Alfred}
+use Rattle.mesh_base.specs.declared.event.Event.TheVariants.{FrameSent, Received, LanSent, Bridged, Lost, Alias, Pinged, Traced, Arp, Alfred, Route}
 use Rattle.mesh_base.specs.declared.names.NodeName.{NodeName}
 use Rattle.mesh_model.specs.declared.frame_choice.FrameChoice.{FrameChoice}
 use Rattle.mesh_model.specs.Commits.History.{commits}
@@ -151,6 +151,7 @@ alias_lines_are_right choice lines text plain f = record { told = told; each = e
         go (Traced node target result) at same kind = cc
         go (Arp node ip result) at same kind = cc
         go (Alfred node type_no result) at same kind = cc
+        go (Route now node orig next) at same kind = cc
 
     -- the lines of the output are those of what was printed, and all of them are complete
     whole : lines_of (output run) ≡ lines_printed choice printed

@@ -11,7 +11,7 @@ use Rattle.mesh_base.specs.declared.client.Vid.{Vid}
 use Rattle.mesh_base.specs.declared.event.ArpResult.{ArpResult}
 use Rattle.mesh_base.specs.declared.event.ArpResult.TheVariants as arps
 use Rattle.mesh_base.specs.declared.event.Event.{Event}
-use Rattle.mesh_base.specs.declared.event.Event.TheVariants.{FrameSent, Received, LanSent, Bridged, Lost, Alias, Pinged, Traced, Arp, Alfred as AlfredAsked}
+use Rattle.mesh_base.specs.declared.event.Event.TheVariants.{FrameSent, Received, LanSent, Bridged, Lost, Alias, Pinged, Traced, Arp, Alfred as AlfredAsked, Route}
 use Rattle.mesh_base.specs.declared.event.FactResult.{FactResult}
 use Rattle.mesh_base.specs.declared.event.FactResult.TheVariants as facts
 use Rattle.mesh_base.specs.declared.event.LossReason.{LossReason}
@@ -23,11 +23,13 @@ use Rattle.mesh_base.specs.declared.event.Reason.TheVariants.{Roam, Table, Old, 
 use Rattle.mesh_base.specs.declared.event.TraceResult.{TraceResult}
 use Rattle.mesh_base.specs.declared.event.TraceResult.TheVariants as traces
 use Rattle.mesh_base.specs.declared.names.NodeName.{NodeName}
+use Rattle.mesh_model.specs.declared.route_line.RouteLine.{RouteLine}
 use Rattle.mesh_model.specs.Net.Next.{Has}
 use Rattle.mesh_model.specs.Packets.LanFrames.{claim_type, is_of_gateway, unclaim_type}
 use Rattle.mesh_model.specs.Packets.Shapes.{Shape, shapes}
 use Rattle.mesh_model.specs.Text.Events.{arp_text, by_text, client_frame_line, event_line, fact_text, gateway_word, hop_text, ip_text, kind_word, lan_kind_word, lan_text, loss_word, name_text, ping_text, reason_word, session_text, trace_text, type_byte}
 use Rattle.mesh_model.specs.Text.PacketLines.{named_address, named_number}
+use Rattle.mesh_model.specs.Text.Routes.{next_text, route_text}
 use Rattle.mesh_model.specs.Text.Tables.{vid_text}
 use Rattle.mesh_laws.specs.Cuts.{IsUnbroken}
 use Rattle.mesh_lines.specs.LineWords.{AreNamed, HasPlainFact, HasPlainText, IsWord, event_kind, kind_of, of_alias, of_frame, of_other}
@@ -179,6 +181,16 @@ lost_kind : (moment : ℕ) (of : List ℕ) (v : Vid) (src dst : Mac) (last : Lis
 unfolding client_frame_line
 lost_kind moment of v src dst last = refl
 
+-- ---- routes
+next_plain : (next : Option Mac) → IsUnbroken (next_text next)
+next_plain None = said (codes " -") refl
+next_plain (Some node) = mac (codes " ") node refl
+
+pub route_told : (line : RouteLine) → Told of_other (route_text line)
+unfolding route_text
+route_told line = told of_other (named_number (codes "route ") line.moment ∷ named_address (codes " ") line.node ∷ named_address (codes " ") line.orig ∷ next_text line.next ∷ [])
+    (number (codes "route ") line.moment refl, (mac (codes " ") line.node refl, (mac (codes " ") line.orig refl, (next_plain line.next, tt)))) refl
+
 pub event_told : (names : NamesGiven) → AreNamed names → (event : Event) → HasPlainText event → Told (event_kind event) (event_line names event)
 unfolding event_line
 event_told names all (FrameSent n moment from to reason bytes) plain = told of_frame
@@ -200,3 +212,4 @@ event_told names all (Arp node address result) plain = told of_other (codes "arp
     (said (codes "arp ") refl, (name names all node, (said (codes " ") refl, (ip address, (arp result, tt))))) refl
 event_told names all (AlfredAsked node type_no result) plain = told of_other (codes "alfred " ∷ name_text names node ∷ named_number (codes " get ") type_no ∷ fact_text result ∷ [])
     (said (codes "alfred ") refl, (name names all node, (number (codes " get ") type_no refl, (fact result plain, tt)))) refl
+event_told names all (Route at node orig next) plain = route_told (record { moment = at; node = node; orig = orig; next = next })

@@ -10,7 +10,7 @@ use Rattle.mesh_model.specs.Text.Claims.{claim_header, claim_line, name_or_dash}
 use Rattle.mesh_model.specs.Text.Decode.{decode_lines, decode_text}
 use Rattle.mesh_model.specs.Text.Events.{event_line, is_shown}
 use Rattle.mesh_model.specs.Text.GlobalTables.{GlobalPart, entry_line, global_header, global_line, mark_line, part_text}
-use Rattle.mesh_model.specs.Text.Services.{AddressesOf, FactsOf, GatewaysOf, GroupsOf, ServiceTable, address_header, address_line, fact_header, fact_line, gateway_header, gateway_line, group_header, groups_line, joined_line, service_table_text}
+use Rattle.mesh_model.specs.Text.Services.{AddressesOf, FactsOf, GatewaysOf, GroupsOf, PicturesOf, ServiceTable, address_header, address_line, fact_header, fact_line, gateway_header, gateway_line, group_header, groups_line, joined_line, picture_table_text, service_table_text}
 use Rattle.mesh_model.specs.Text.Tables.{local_header, local_line, neighbor_line, orig_line, route_header, vlan_line}
 use Rattle.mesh_laws.specs.Cuts.{AreLines, IsLine}
 use Rattle.mesh_laws.proofs.CutLemmas.{lines_of-lines_then}
@@ -49,6 +49,7 @@ service_joined (GroupsOf table) =
     three (group_header table.name (length table.joined + length table.rows)) (map joined_line table.joined) (map groups_line table.rows) (flat_map joined_line table.joined) (flat_map groups_line table.rows) (joined_map joined_line table.joined) (joined_map groups_line table.rows)
 service_joined (AddressesOf table) = ap (λ more. address_header table.name (length table.rows) ++ more) (joined_map address_line table.rows)
 service_joined (FactsOf table) = ap (λ more. fact_header table.name table.mode (length table.rows) ++ more) (joined_map (fact_line table.now) table.rows)
+service_joined (PicturesOf table) = append-nil (picture_table_text table)
 
 pub item_joined : (choice : FrameChoice) (item : Printed) → concat (item_lines choice item) ≡ printed_text choice item
 unfolding decode_text

@@ -2,6 +2,7 @@
 pub mod Words
 pub mod LineParts
 pub mod PacketParts
+pub mod JsonParts
 pub mod ServiceParts
 pub mod EventParts
 pub mod ItemLemmas

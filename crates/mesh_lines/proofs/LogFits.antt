@@ -13,6 +13,7 @@ use Rattle.mesh_model.specs.Net.Limits.{clock_limit, scenario_setup}
 use Rattle.mesh_model.specs.Net.Mesh.{NodeLog, NetLan, NetLink, LanPut, SentFrame, Mesh, Setup, address_at}
 use Rattle.mesh_model.specs.Net.Next.{Has}
 use Rattle.mesh_model.specs.Net.Runs.{Course, begin, delivered, effect, frame_given, frame_over, going_on, after_happening, run_to, throughput_between, tick_given, turn, with_last}
+use Rattle.mesh_model.specs.Net.Watching.{lines_told, with_lines}
 use Rattle.mesh_model.specs.Net.Sending.{with_put}
 use Rattle.mesh_model.specs.Packets.LanFrames.{client_frame_in, lan_message_of}
 use Rattle.mesh_model.specs.Packets.Payload.{ClientFrame, payload_spelling}
@@ -179,9 +180,9 @@ effect_fits queries mesh NodeTick place now after low e fits = tick_fits queries
 
 happening_fits : (queries : Mac → Queries) (mesh : Mesh) (h : Happening) (after : Mesh) → h.moment ≤ clock_limit → after_happening (scenario_setup queries) h mesh ≡ Ok after → MeshFits mesh → MeshFits after
 happening_fits queries mesh h after low e fits =
-    let p = on_ok_ok (with_last h) (effect (scenario_setup queries) h.class h.place h.moment mesh) after e in
+    let p = on_ok_ok (with_last (scenario_setup queries) h) (effect (scenario_setup queries) h.class h.place h.moment mesh) after e in
     let f = effect_fits queries mesh h.class h.place h.moment p.0 low p.1 fits in
-    subst MeshFits (ok_one (record p.0 { last = h }) after p.2) (record { logs = f.logs; puts = f.puts })
+    subst MeshFits (ok_one (record (with_lines (lines_told (scenario_setup queries) h p.0) p.0) { last = h }) after p.2) (record { logs = f.logs; puts = f.puts })
 
 -- ---- runs
 record Fits (t : ℕ) (o : Course) : Type 0 where

@@ -5,10 +5,10 @@ use Rattle.mesh_model.specs.declared.ending.Refusal.{Refusal}
 use Rattle.mesh_model.specs.declared.ending.Stop.TheVariants.{Limit}
 use Rattle.mesh_model.specs.declared.frame_choice.FrameChoice.{FrameChoice}
 use Rattle.mesh_model.specs.declared.line_form.Command.{Command}
-use Rattle.mesh_model.specs.declared.line_form.Command.TheVariants.{Nothing, Algo, Node, Link, Lan, Frame, Gone, Join, Leave, Arp, Dhcp, Wifi, GwOff, GwServer, GwClient, Mcast, Dat, Frag, Alfred, Put, Get, Ping, Trace, Reboot, Run as RunFor, Deliver, Show, Decode}
+use Rattle.mesh_model.specs.declared.line_form.Command.TheVariants.{Nothing, Algo, Node, Link, Lan, Frame, Gone, Join, Leave, Arp, Dhcp, Wifi, GwOff, GwServer, GwClient, Mcast, Dat, Frag, Vis, Alfred, Put, Get, Ping, Trace, Reboot, Run as RunFor, Deliver, Show, Decode}
 use Rattle.mesh_model.specs.Clients.Log.{Line, Sets}
 use Rattle.mesh_model.specs.Clients.Settings.{NoPart, Serves, Chooses}
-use Rattle.mesh_model.specs.Clients.Settings.{ArpTable as ArpTableSet, FactStore as FactStoreSet, Gateway as GatewaySet, LongestWhole as LongestWholeSet, Multicast as MulticastSet, Wifi as WifiSet}
+use Rattle.mesh_model.specs.Clients.Settings.{ArpTable as ArpTableSet, FactStore as FactStoreSet, Gateway as GatewaySet, LongestWhole as LongestWholeSet, Multicast as MulticastSet, Pictures as PicturesSet, Wifi as WifiSet}
 use Rattle.mesh_model.specs.Clients.Log.{Gone as GoneGiven, Join as JoinGiven, Leave as LeaveGiven, Arp as ArpGiven, Dhcp as DhcpGiven, Put as PutGiven, Get as GetGiven, Ping as PingGiven, Trace as TraceGiven, Reboot as RebootGiven}
 use Rattle.mesh_model.specs.Net.Limits.{clock_limit, lans_limit, links_limit, nodes_limit}
 use Rattle.mesh_model.specs.Net.Mesh.{NetLink}
@@ -58,6 +58,7 @@ command_named state (GwClient node policy) p tell r n = line_named state node (S
 command_named state (Mcast node flags) p tell r n = line_named state node (Sets (MulticastSet flags)) r.is_reached.low tt n
 command_named state (Dat node on) p tell r n = line_named state node (Sets (ArpTableSet on)) r.is_reached.low tt n
 command_named state (Frag node longest) p tell r n = line_named state node (Sets (LongestWholeSet longest)) r.is_reached.low tt n
+command_named state (Vis node on) p tell r n = line_named state node (Sets (PicturesSet on)) r.is_reached.low tt n
 command_named state (Alfred node mode) p tell r n = line_named state node (Sets (FactStoreSet mode)) r.is_reached.low tt n
 command_named state (Put node type_no version text) p tell r n = line_named state node (PutGiven type_no version text) r.is_reached.low p n
 command_named state (Get node type_no) p tell r n = line_named state node (GetGiven type_no) r.is_reached.low tt n

@@ -10,11 +10,11 @@ use Rattle.mesh_model.specs.declared.ending.LimitName.TheVariants.{Clock, Lans}
 use Rattle.mesh_model.specs.declared.ending.Stop.TheVariants.{Limit}
 use Rattle.mesh_model.specs.declared.line_form.Algorithm.{Algorithm}
 use Rattle.mesh_model.specs.declared.line_form.Table.{Table}
-use Rattle.mesh_model.specs.declared.line_form.Table.TheVariants.{Originators, Neighbors, Locals, Globals, Claims, Gateways, Groups, Addresses, Facts}
+use Rattle.mesh_model.specs.declared.line_form.Table.TheVariants.{Originators, Neighbors, Locals, Globals, Claims, Gateways, Groups, Addresses, Facts, Pictures}
 use Rattle.mesh_model.specs.Clients.Log.{Frame as FrameGiven, Line, LineGiven}
 use Rattle.mesh_model.specs.Clients.Lans.{LanOf, bridge}
 use Rattle.mesh_model.specs.Net.Inputs.{all_given, given_to}
-use Rattle.mesh_model.specs.Net.Lans.{attachment, joins_lan, with_lan}
+use Rattle.mesh_model.specs.Net.Lans.{attachment, gateways_at, joins_lan, with_lan}
 use Rattle.mesh_model.specs.Net.Limits.{clock_limit, scenario_setup}
 use Rattle.mesh_model.specs.Net.Mesh.{NodeLog, NetLan, LanPut, Mesh, Setup, address_at}
 use Rattle.mesh_model.specs.Net.Next.{Has}
@@ -25,7 +25,7 @@ use Rattle.mesh_model.specs.Run.Passing.{after_attempt, course_outcome, events_s
 use Rattle.mesh_model.specs.Run.Rules.{setup_of}
 use Rattle.mesh_model.specs.Run.Shown.{after_print, fact_table, shown}
 use Rattle.mesh_model.specs.Run.State.{Printed, Happened, State, lan_place_of, names_of, node_named, node_names, place_of}
-use Rattle.mesh_model.specs.Run.Steps.{Step, at_node, at_place, gateways_at, gateways_step, input_step, lan_frame_step, session_step, show_step, with_node}
+use Rattle.mesh_model.specs.Run.Steps.{Step, at_node, at_place, gateways_step, input_step, lan_frame_step, session_step, show_step, with_node}
 use Rattle.std.proofs.lemmas.Bool.{ltb-false}
 use Rattle.mesh_model.specs.Packets.Payload.{ClientFrame, payload_spelling}
 use Rattle.mesh_model.specs.Routes.Algorithms.{queries_of}
@@ -241,6 +241,7 @@ shows_name Gateways state node all word facts = word
 shows_name Groups state node all word facts = word
 shows_name Addresses state node all word facts = word
 shows_name Facts state node all word facts = (word, facts)
+shows_name Pictures state node all word facts = word
 
 got_named : (nodes : List NodeLog) (place : ℕ) (node : NodeLog) → ((one : NodeName) → Has (node_names nodes) one → IsWord one.name) → slice_get nodes place ≡ Some node → IsWord node.name
 got_named [] place node all got = cc

@@ -6,7 +6,7 @@ use Rattle.mesh_base.specs.Address.{mac_text}
 use Rattle.mesh_base.specs.Names.{NamesGiven, node_name}
 use Rattle.mesh_base.specs.declared.address.Mac.{Mac}
 use Rattle.mesh_base.specs.declared.event.Event.{Event}
-use Rattle.mesh_base.specs.declared.event.Event.TheVariants.{FrameSent, Received, LanSent, Bridged, Lost, Alias, Pinged, Traced, Arp, Alfred as AlfredAsked}
+use Rattle.mesh_base.specs.declared.event.Event.TheVariants.{FrameSent, Received, LanSent, Bridged, Lost, Alias, Pinged, Traced, Arp, Alfred as AlfredAsked, Route}
 use Rattle.mesh_base.specs.declared.event.Reason.{Reason}
 use Rattle.mesh_base.specs.declared.event.Reason.TheVariants.{Roam, Table, Old, Gw, Mc, Alfred, Fwd}
 use Rattle.mesh_base.specs.declared.names.NodeName.{NodeName}
@@ -124,6 +124,7 @@ IsOfNode nodes (Pinged node target seq result) = Unit {0}
 IsOfNode nodes (Traced node target result) = Unit {0}
 IsOfNode nodes (Arp node ip result) = Unit {0}
 IsOfNode nodes (AlfredAsked node type_no result) = Unit {0}
+IsOfNode nodes (Route at node orig next) = Unit {0}
 
 sender_among : (algorithm : Algorithm) (mesh : Mesh) → IsReachable (queries_of algorithm) mesh → (number moment : ℕ) (from to : Mac) (reason : Option Reason) (bytes : List ℕ) → Has mesh.events (FrameSent number moment from to reason bytes) → BySender mesh.nodes from reason
 sender_among algorithm mesh r number moment from to None bytes has = tt
@@ -150,6 +151,7 @@ events_of_nodes algorithm mesh r (Pinged node target seq result) has = tt
 events_of_nodes algorithm mesh r (Traced node target result) has = tt
 events_of_nodes algorithm mesh r (Arp node ip result) has = tt
 events_of_nodes algorithm mesh r (AlfredAsked node type_no result) has = tt
+events_of_nodes algorithm mesh r (Route at node orig next) has = tt
 
 -- ---- names
 -- a node of these names has an address
@@ -210,6 +212,7 @@ IsOfName names (Pinged node target seq result) = Unit {0}
 IsOfName names (Traced node target result) = Unit {0}
 IsOfName names (Arp node ip result) = Unit {0}
 IsOfName names (AlfredAsked node type_no result) = Unit {0}
+IsOfName names (Route at node orig next) = Unit {0}
 
 sender_named : (nodes : List NodeLog) (from : Mac) (reason : Option Reason) → BySender nodes from reason → NamedSender (node_names nodes) from reason
 sender_named nodes from None a = tt
@@ -232,3 +235,4 @@ of_name nodes (Pinged node target seq result) a = tt
 of_name nodes (Traced node target result) a = tt
 of_name nodes (Arp node ip result) a = tt
 of_name nodes (AlfredAsked node type_no result) a = tt
+of_name nodes (Route at node orig next) a = tt

@@ -21,7 +21,7 @@ use Rattle.mesh_model.specs.Scenario.Fields.{group_field, name_field, unicast_fi
 use Rattle.mesh_model.specs.Scenario.LinkOptions.{LinkOptions, after_options, link_with, options_of, the_options}
 use Rattle.mesh_model.specs.Scenario.NetForms.{net_forms, the_gateways}
 use Rattle.mesh_model.specs.Scenario.Readings.{Reading, a_field, a_key, a_text, a_text_up_to, after_field, listed_form, the_end}
-use Rattle.mesh_model.specs.Scenario.SettingForms.{read_dat, read_frag, read_gateway, read_late, read_mcast, read_policy, read_server, read_set, read_setting, read_wifi}
+use Rattle.mesh_model.specs.Scenario.SettingForms.{read_dat, read_frag, read_gateway, read_late, read_mcast, read_policy, read_server, read_set, read_setting, read_vis, read_wifi}
 use Rattle.mesh_model.specs.Scenario.Terms.{is_name, is_name_character}
 use Rattle.mesh_model.specs.Scenario.Words.{Word, is_separator, line_words, word_at, word_tails}
 use Rattle.mesh_laws.specs.Cuts.{IsUnbroken}
@@ -165,8 +165,8 @@ gateway_modes node word = listed ((codes "off", the_end (GwOff node)) ∷ (codes
 
 setting : (node word : List ℕ) → FormPlain (read_setting node word)
 setting node word = listed ((codes "wifi", read_wifi node) ∷ (codes "gw", a_field word_field (read_gateway node)) ∷ (codes "mcast", read_mcast node) ∷ (codes "dat", read_dat node)
-    ∷ (codes "frag", read_frag node) ∷ []) OutOfRange word
-    (field _ _ (λ on. end _ tt), (field word_field (read_gateway node) (λ w. gateway_modes node w), (field _ _ (λ n. end _ tt), (field _ _ (λ on. end _ tt), (field _ _ (λ size. end _ tt), tt)))))
+    ∷ (codes "frag", read_frag node) ∷ (codes "vis", read_vis node) ∷ []) OutOfRange word
+    (field _ _ (λ on. end _ tt), (field word_field (read_gateway node) (λ w. gateway_modes node w), (field _ _ (λ n. end _ tt), (field _ _ (λ on. end _ tt), (field _ _ (λ size. end _ tt), (field _ _ (λ on. end _ tt), tt))))))
 
 settings : FormPlain read_set
 settings = field _ _ (λ node. field word_field (read_setting node) (λ word. setting node word))

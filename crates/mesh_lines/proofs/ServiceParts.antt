@@ -16,12 +16,13 @@ use Rattle.mesh_model.specs.declared.service.Mark.{Mark}
 use Rattle.mesh_model.specs.declared.service.Mark.TheVariants.{Local, First, Synced}
 use Rattle.mesh_model.specs.Text.Events.{ip_text}
 use Rattle.mesh_model.specs.Text.PacketLines.{named_address, named_number}
-use Rattle.mesh_model.specs.Text.Services.{AddressesOf, FactsOf, GatewaysOf, GroupsOf, ServiceTable, address_header, address_line, fact_header, fact_line, gateway_header, gateway_line, group_header, groups_line, joined_line, mark_word, mode_word, store_word}
+use Rattle.mesh_model.specs.Text.Services.{AddressesOf, FactsOf, GatewaysOf, GroupsOf, PicturesOf, ServiceTable, address_header, address_line, fact_header, fact_line, fact_text, gateway_header, gateway_line, group_header, groups_line, joined_line, mark_word, mode_word, store_word}
 use Rattle.mesh_model.specs.Text.Tables.{address_text, vid_text}
 use Rattle.mesh_laws.specs.Cuts.{IsUnbroken}
 use Rattle.mesh_lines.specs.ItemLines.{ArePlainFacts, IsPlainTable, service_lines}
 use Rattle.mesh_lines.specs.LineWords.{of_other}
 use Rattle.mesh_lines.proofs.EventParts.{ip}
+use Rattle.mesh_lines.proofs.JsonParts.{network_told}
 use Rattle.mesh_lines.proofs.LineParts.{Told, address, mac, number, said, told, unbroken_word, vid}
 use Rattle.mesh_lines.proofs.PacketParts.{AllOther, other_both, other_map}
 use Rattle.mesh_lines.proofs.Words.{hex_word}
@@ -85,10 +86,10 @@ unfolding fact_header
 fact_header_told name mode count plain = told of_other (codes "alfred " ∷ name ∷ codes " mode=" ∷ store_word mode ∷ named_number (codes " facts=") count ∷ [])
     (said (codes "alfred ") refl, (plain, (said (codes " mode=") refl, (store_plain mode, (number (codes " facts=") count refl, tt))))) refl
 
-fact_told : (now : ℕ) (kept : KeptFact) → IsUnbroken kept.fact.bytes → Told of_other (fact_line now kept)
+fact_told : (now : ℕ) (kept : KeptFact) → IsUnbroken (fact_text kept.fact) → Told of_other (fact_line now kept)
 unfolding fact_line
 fact_told now kept plain = told of_other
-    (named_address (codes "a ") kept.fact.source ∷ named_number (codes " ") kept.fact.type_no ∷ named_number (codes " ") kept.fact.version ∷ codes " " ∷ mark_word kept.mark ∷ named_number (codes " age=") (now - kept.moment) ∷ codes " " ∷ kept.fact.bytes ∷ [])
+    (named_address (codes "a ") kept.fact.source ∷ named_number (codes " ") kept.fact.type_no ∷ named_number (codes " ") kept.fact.version ∷ codes " " ∷ mark_word kept.mark ∷ named_number (codes " age=") (now - kept.moment) ∷ codes " " ∷ fact_text kept.fact ∷ [])
     (mac (codes "a ") kept.fact.source refl, (number (codes " ") kept.fact.type_no refl, (number (codes " ") kept.fact.version refl, (said (codes " ") refl, (mark_plain kept.mark, (number (codes " age=") (now - kept.moment) refl, (said (codes " ") refl, (plain, tt)))))))) refl
 
 facts_other : (now : ℕ) (rows : List KeptFact) → ArePlainFacts rows → AllOther (map (fact_line now) rows)
@@ -105,3 +106,4 @@ service_other (GroupsOf table) plain = (
 )
 service_other (AddressesOf table) plain = (address_header_told table.name (length table.rows) (unbroken_word table.name plain), other_map address_line address_told table.rows)
 service_other (FactsOf table) plain = (fact_header_told table.name table.mode (length table.rows) (unbroken_word table.name plain.0), facts_other table.now table.rows plain.1)
+service_other (PicturesOf table) plain = (network_told table.name table.facts (unbroken_word table.name plain), tt)

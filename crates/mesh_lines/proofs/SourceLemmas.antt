@@ -4,7 +4,7 @@ use Rattle.std.specs.Prelude.{flat_map}
 use Rattle.mesh_base.specs.Names.{NamesGiven}
 use Rattle.mesh_base.specs.declared.client.Entry.{Entry}
 use Rattle.mesh_base.specs.declared.event.Event.{Event}
-use Rattle.mesh_base.specs.declared.event.Event.TheVariants.{FrameSent, Received, LanSent, Bridged, Lost, Alias, Pinged, Traced, Arp, Alfred}
+use Rattle.mesh_base.specs.declared.event.Event.TheVariants.{FrameSent, Received, LanSent, Bridged, Lost, Alias, Pinged, Traced, Arp, Alfred, Route}
 use Rattle.mesh_model.specs.declared.frame_choice.FrameChoice.{FrameChoice}
 use Rattle.mesh_model.specs.Net.Next.{Has}
 use Rattle.mesh_model.specs.Run.State.{Printed, ClaimsShown, Decoded, GlobalsShown, Happened, LocalsShown, NeighborsShown, OriginatorsShown, ServiceShown}
@@ -144,6 +144,7 @@ no_event (Pinged node target seq result) e = cc
 no_event (Traced node target result) e = cc
 no_event (Arp node ip result) e = cc
 no_event (Alfred node type_no result) e = cc
+no_event (Route at node orig next) e = cc
 
 -- ---- the sources
 part_found : (choice : FrameChoice) (printed : List Printed) (before : List (List ℕ)) (line : List ℕ) (after : List (List ℕ)) (earlier : List Printed) (table : GlobalTable) (later : List Printed) (left right : List (List ℕ))

@@ -10,7 +10,7 @@ use Rattle.mesh_model.specs.Text.Claims.{ClaimTable, claim_header, claim_line, n
 use Rattle.mesh_model.specs.Text.Decode.{decode_lines}
 use Rattle.mesh_model.specs.Text.Events.{event_line, is_shown}
 use Rattle.mesh_model.specs.Text.GlobalTables.{GlobalPart, GlobalTable, entry_line, global_header, global_line, mark_line}
-use Rattle.mesh_model.specs.Text.Services.{AddressTable, AddressesOf, FactTable, FactsOf, GatewayTable, GatewaysOf, GroupTable, GroupsOf, ServiceTable, address_header, address_line, fact_header, fact_line, gateway_header, gateway_line, group_header, groups_line, joined_line}
+use Rattle.mesh_model.specs.Text.Services.{AddressTable, AddressesOf, FactTable, FactsOf, GatewayTable, GatewaysOf, GroupTable, GroupsOf, PictureTable, PicturesOf, ServiceTable, address_header, address_line, fact_header, fact_line, fact_text, gateway_header, gateway_line, group_header, groups_line, joined_line, picture_table_text}
 use Rattle.mesh_model.specs.Text.Tables.{LinkTable, LocalTable, OrigTable, local_header, local_line, neighbor_line, orig_line, route_header, vlan_line}
 use Rattle.mesh_laws.specs.Cuts.{IsUnbroken}
 use Rattle.mesh_lines.specs.LineWords.{AreNamed, HasPlainText, IsWord}
@@ -68,12 +68,17 @@ abbrev pub fact_lines : FactTable → List (List ℕ)
 fact_lines table = fact_header table.name table.mode (length table.rows)
     ∷ map (fact_line table.now) table.rows
 
+-- the line of the network as a node shows it
+abbrev pub picture_lines : PictureTable → List (List ℕ)
+picture_lines table = picture_table_text table ∷ []
+
 -- the lines of a table of a service
 abbrev pub service_lines : ServiceTable → List (List ℕ)
 service_lines (GatewaysOf table) = gateway_lines table
 service_lines (GroupsOf table) = group_lines table
 service_lines (AddressesOf table) = address_lines table
 service_lines (FactsOf table) = fact_lines table
+service_lines (PicturesOf table) = picture_lines table
 
 -- the lines of what is printed at once
 abbrev pub item_lines : FrameChoice → Printed → List (List ℕ)
@@ -91,9 +96,9 @@ item_lines choice (Happened names event) =
 abbrev pub lines_printed : FrameChoice → List Printed → List (List ℕ)
 lines_printed choice printed = flat_map (item_lines choice) printed
 
--- the texts of facts have no newline
+-- the bytes of facts, as they are printed, have no newline
 abbrev pub ArePlainFacts : List KeptFact → Type 0
-ArePlainFacts rows = (kept : KeptFact) → Has rows kept → IsUnbroken kept.fact.bytes
+ArePlainFacts rows = (kept : KeptFact) → Has rows kept → IsUnbroken (fact_text kept.fact)
 
 -- the name of the node of a table of a service is a word, and the texts of its facts have no
 -- newline
@@ -102,6 +107,7 @@ IsPlainTable (GatewaysOf table) = IsWord table.name
 IsPlainTable (GroupsOf table) = IsWord table.name
 IsPlainTable (AddressesOf table) = IsWord table.name
 IsPlainTable (FactsOf table) = IsWord table.name × ArePlainFacts table.rows
+IsPlainTable (PicturesOf table) = IsWord table.name
 
 -- the names and the texts of what is printed at once have no newline
 abbrev pub IsPlain : Printed → Type 0

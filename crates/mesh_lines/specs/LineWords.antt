@@ -4,7 +4,7 @@
 -- and `kind_of`.
 use Rattle.std.specs.Prelude.{◌≡◌, ℕ, ◌==◌, ◌&&◌, not, ⊤, Bool, true, false, List, [], ◌∷◌, codes, if◌then◌else◌}
 use Rattle.mesh_base.specs.declared.event.Event.{Event}
-use Rattle.mesh_base.specs.declared.event.Event.TheVariants.{FrameSent, Received, LanSent, Bridged, Lost, Alias, Pinged, Traced, Arp, Alfred}
+use Rattle.mesh_base.specs.declared.event.Event.TheVariants.{FrameSent, Received, LanSent, Bridged, Lost, Alias, Pinged, Traced, Arp, Alfred, Route}
 use Rattle.mesh_base.specs.declared.event.FactResult.{FactResult}
 use Rattle.mesh_base.specs.declared.event.FactResult.TheVariants.{Off, NoPrimary, Empty, Fact}
 use Rattle.mesh_base.specs.declared.names.NodeName.{NodeName}
@@ -67,6 +67,7 @@ event_kind (Pinged node target seq result) = of_other
 event_kind (Traced node target result) = of_other
 event_kind (Arp node ip result) = of_other
 event_kind (Alfred node type_no result) = of_other
+event_kind (Route at node orig next) = of_other
 
 -- the text of a fact that is told has no newline
 abbrev pub HasPlainFact : FactResult → Type 0
@@ -87,3 +88,4 @@ HasPlainText (Pinged node target seq result) = ⊤
 HasPlainText (Traced node target result) = ⊤
 HasPlainText (Arp node ip result) = ⊤
 HasPlainText (Alfred node type_no result) = HasPlainFact result
+HasPlainText (Route at node orig next) = ⊤

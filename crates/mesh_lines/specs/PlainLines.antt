@@ -2,7 +2,7 @@
 -- word is `ReadIsPlain`.
 use Rattle.std.specs.Prelude.{◌≡◌, ℕ, List, [], ◌∷◌, Ok, ⊤}
 use Rattle.mesh_model.specs.declared.line_form.Command.{Command}
-use Rattle.mesh_model.specs.declared.line_form.Command.TheVariants.{Nothing, Algo, Node, Link, Lan, Frame, Gone, Join, Leave, Arp, Dhcp, Wifi, GwOff, GwServer, GwClient, Mcast, Dat, Frag, Alfred, Put, Get, Ping, Trace, Reboot, Run, Deliver, Show, Decode}
+use Rattle.mesh_model.specs.declared.line_form.Command.TheVariants.{Nothing, Algo, Node, Link, Lan, Frame, Gone, Join, Leave, Arp, Dhcp, Wifi, GwOff, GwServer, GwClient, Mcast, Dat, Frag, Vis, Alfred, Put, Get, Ping, Trace, Reboot, Run, Deliver, Show, Decode}
 use Rattle.mesh_model.specs.Scenario.Commands.{command_of_line}
 use Rattle.mesh_model.specs.Scenario.Lines.{content, lines_of}
 use Rattle.mesh_laws.specs.Cuts.{IsUnbroken}
@@ -28,6 +28,7 @@ GivesPlain (GwClient node policy) = ⊤
 GivesPlain (Mcast node flags) = ⊤
 GivesPlain (Dat node on) = ⊤
 GivesPlain (Frag node longest) = ⊤
+GivesPlain (Vis node on) = ⊤
 GivesPlain (Alfred node mode) = ⊤
 GivesPlain (Put node type_no version text) = IsUnbroken text
 GivesPlain (Get node type_no) = ⊤

@@ -39,6 +39,7 @@ use Rattle.mesh_tie.specs.Sources.{KeepsOriginators}
 use Rattle.mesh_tie.proofs.ArpActs.{IsAsking, each_asking, puts_packet, puts_told, question_puts, unicast4_acts, unicast4_puts}
 use Rattle.mesh_tie.proofs.BridgeActs.{AreBridging, IsBridging, hands_out, out_puts, puts_on_lan, round_puts, unclaim_puts}
 use Rattle.mesh_tie.proofs.FactActs.{AreStoring, IsStoring, came_stores, each_storing, sends_announcement, sends_message, tells_fact, tells_none}
+use Rattle.mesh_tie.proofs.FactLemmas.{any_facts}
 use Rattle.mesh_tie.proofs.EntryLemmas.{each_appended}
 use Rattle.mesh_tie.proofs.KindLemmas.{bcast_frame, elp_frame, frag_frame, icmp_frame, unicast4_frame, unicast_frame}
 use Rattle.mesh_tie.proofs.ProbeActs.{AreProbing, IsProbing, icmp_puts, puts_message, puts_pinged, puts_traced, session_puts}
@@ -190,14 +191,14 @@ calm_unicast4 q me came known ttl ttvn dst src subtype tail =
     each_asking IsCalm calm_asking (unicast4_acts q me came known ttl ttvn dst src subtype tail) (unicast4_puts q me came known ttl ttvn dst src subtype tail)
 
 -- ---- the fact store
-calm_storing : (me : Mac) (act : Act) → IsStoring (λ mac. Unit {0}) (λ fact. Unit {0}) me act → IsCalm act
+calm_storing : (me : Mac) (act : Act) → IsStoring (λ mac. Unit {0}) any_facts me act → IsCalm act
 calm_storing me _ (sends_message next dst message to has) = calm_unicast next (Some ByAlfred) 50 0 dst (fact_message_spelling dst me message)
 calm_storing me _ (sends_announcement number) = calm_bcast 50 number me (fact_message_spelling all_stations me Primary)
 calm_storing me _ (tells_fact type_no fact has) = λ me n e is. cc
 calm_storing me _ (tells_none type_no result none) = λ me n e is. cc
 
-pub calm_store : (me : Mac) (acts : List Act) → AreStoring (λ mac. Unit {0}) (λ fact. Unit {0}) me acts → AllByRecursion IsCalm acts
-calm_store me acts all = each_storing (λ mac. Unit {0}) (λ fact. Unit {0}) me IsCalm (calm_storing me) acts all
+pub calm_store : (me : Mac) (acts : List Act) → AreStoring (λ mac. Unit {0}) any_facts me acts → AllByRecursion IsCalm acts
+calm_store me acts all = each_storing (λ mac. Unit {0}) any_facts me IsCalm (calm_storing me) acts all
 
 -- ---- packets for this node, and fragments
 pub calm_unicast_here : (q : Queries) (known : Knowledge) (ms : List Mention) (bridge : Bridge) (at : Place) (ttl : ℕ) (payload : List ℕ) → AllByRecursion IsCalm (unicast_here q known ms bridge at ttl payload)

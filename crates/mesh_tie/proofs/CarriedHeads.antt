@@ -26,7 +26,7 @@ use Rattle.mesh_model.specs.Packets.Payload.{ClientFrame, client_frame_of, paylo
 use Rattle.mesh_model.specs.Packets.Shapes.{Shape, elp, icmp, iv_ogm, ogm2, unicast4, utvlv}
 use Rattle.mesh_tie.specs.Carried.{IsReadOf, PutCarries}
 use Rattle.mesh_tie.specs.Sources.{IsWhole}
-use Rattle.mesh_tie.proofs.FactLemmas.{Fits, MessageHas}
+use Rattle.mesh_tie.proofs.FactLemmas.{Holds, MessageHas, fitting_facts}
 use Rattle.mesh_tie.proofs.HeadLemmas.{bcast_read, four_read, frag_read, fragment_read, one_read, unicast_read}
 use Rattle.mesh_tie.proofs.KindLemmas.{EachPacket, IsKind, kind_each}
 
@@ -43,12 +43,11 @@ pub record FitsPart (orig : Mac) (seq total place : ℕ) : Type 0 where
 pub record Kept : Type 1 where
   pub carried : List ℕ → Type 0
   pub given : ClientFrame → Type 0
-  pub fact : Fact → Type 0
+  pub facts : Holds
   pub part : Mac → ℕ → ℕ → ℕ → List ℕ → Type 0
-  pub whole : (one : Fact) → fact one → IsWhole one.source
   pub read_on : (payload : List ℕ) (frame : ClientFrame) → carried payload → client_frame_of payload ≡ Some frame → carried (payload_spelling frame)
-  pub told : (dst src : Mac) (message : FactMessage) → IsWhole dst → IsWhole src → MessageHas (Fits fact) message → carried (fact_message_spelling dst src message)
-  pub taken : (tail : List ℕ) (came : CameFact) → carried tail → fact_message_of tail ≡ Some came → MessageHas fact came.message
+  pub told : (dst src : Mac) (message : FactMessage) → IsWhole dst → IsWhole src → MessageHas (fitting_facts facts) message → carried (fact_message_spelling dst src message)
+  pub taken : (tail : List ℕ) (came : CameFact) → carried tail → fact_message_of tail ≡ Some came → MessageHas facts came.message
   pub fits : (orig : Mac) (seq total place : ℕ) (tail : List ℕ) → part orig seq total place tail → FitsPart orig seq total place
   pub joined : (call : PartCall) (older : List PartCall) (one : Carried) → part call.orig call.seq call.total call.place call.tail
       → AllByRecursion (λ (other : PartCall). part other.orig other.seq other.total other.place other.tail) older → put_together call older ≡ Some one → carried one.payload
@@ -63,7 +62,7 @@ IsCarried P frame = P.given frame ⊎ IsReadOf P.carried frame
 
 -- a fact from a source, of a version, with this text
 abbrev pub IsTold : Kept → Mac → ℕ → List ℕ → Type 0
-IsTold P source version text = (type_no : ℕ) × P.fact (record { source = source; type_no = type_no; version = version; bytes = text })
+IsTold P source version text = (type_no : ℕ) × P.facts.answered (record { source = source; type_no = type_no; version = version; bytes = text })
 
 -- an event of a client frame that is handed out, or that reaches the clients of a LAN, tells of one
 -- that is carried; one of a fact tells of one of which it holds

@@ -164,7 +164,7 @@ ogm_has P q me came head source message tail known keeps from is =
     (have_if P heard.accepted (accepted_acts q me came head message known) [] (request_none P me (q.route before.routes came.now message.orig) message (request_out q before came.now message)) tt)
 
 -- ---- the fact store
-storing_has : (P : Kept) (me : Mac) → IsWhole me → (act : Act) → IsStoring IsWhole P.fact me act → ActHas P act
+storing_has : (P : Kept) (me : Mac) → IsWhole me → (act : Act) → IsStoring IsWhole P.facts me act → ActHas P act
 storing_has P me mine _ (sends_message next dst message to has) = unicast_has P next (Some ByAlfred) 50 0 dst (fact_message_spelling dst me message) to (P.told dst me message to mine has)
 storing_has P me mine _ (sends_announcement number) = bcast_has P 50 number me (fact_message_spelling all_stations me Primary) mine (P.told all_stations me Primary refl mine tt)
 storing_has P me mine _ (tells_fact type_no fact has) = record {
@@ -172,7 +172,7 @@ storing_has P me mine _ (tells_fact type_no fact has) = record {
   bridged = λ moment lan vid src dst text is. cc;
   told = λ node asked source version text is.
       let same : ◌≡◌ {A = Fact} (record { source = fact.source; type_no = fact.type_no; version = fact.version; bytes = fact.bytes }) (record { source = source; type_no = fact.type_no; version = version; bytes = text }) = cc in
-      (fact.type_no, subst P.fact same has);
+      (fact.type_no, subst P.facts.answered same has);
 }
 storing_has P me mine _ (tells_none type_no result none) = record {
   handed_out = λ moment n vid src dst text is. cc;
@@ -180,11 +180,11 @@ storing_has P me mine _ (tells_none type_no result none) = record {
   told = λ node asked source version text is. let same : result ≡ FactTold source version text = cc in absurd (subst IsNoFact same none);
 }
 
-pub stores_have : (P : Kept) (me : Mac) (acts : List Act) → IsWhole me → AreStoring IsWhole P.fact me acts → ActsHave P acts
-stores_have P me acts mine all = each_storing IsWhole P.fact me (ActHas P) (storing_has P me mine) acts all
+pub stores_have : (P : Kept) (me : Mac) (acts : List Act) → IsWhole me → AreStoring IsWhole P.facts me acts → ActsHave P acts
+stores_have P me acts mine all = each_storing IsWhole P.facts me (ActHas P) (storing_has P me mine) acts all
 
 -- what came in a payload that is carried
-pub taken_came : (P : Kept) (tail : List ℕ) → P.carried tail → (came : CameFact) → fact_message_of tail ≡ Some came → Came IsWhole P.fact came
+pub taken_came : (P : Kept) (tail : List ℕ) → P.carried tail → (came : CameFact) → fact_message_of tail ≡ Some came → Came IsWhole P.facts came
 taken_came P tail carried came is = record { sender = sender_whole tail came is; message = P.taken tail came carried is }
 
 -- ---- client frames
@@ -236,14 +236,14 @@ here_has P q known ms bridge at ttl tail mine k p = go (client_frame_of tail) re
         have_if P (is_group frame.dst || is_present ms at.now key) (out_acts bridge at (spread_of_packet frame) frame) (readdressed q known at ttl frame tail way) (out_has P bridge at (spread_of_packet frame) frame tail mine p is) (anew frame way (addressee_whole q known at.now key k))
 
 -- a packet for this node, which may be put together here
-unicast_here_has : (P : Kept) (q : Queries) (known : Knowledge) (ms : List Mention) (bridge : Bridge) (at : Place) (ttl : ℕ) (payload : List ℕ) → IsWhole at.me → KnowsWhole known → Stores IsWhole P.fact (kept_of known) → P.carried payload
+unicast_here_has : (P : Kept) (q : Queries) (known : Knowledge) (ms : List Mention) (bridge : Bridge) (at : Place) (ttl : ℕ) (payload : List ℕ) → IsWhole at.me → KnowsWhole known → Stores IsWhole P.facts (kept_of known) → P.carried payload
     → ActsHave P (unicast_here q known ms bridge at ttl payload)
 unicast_here_has P q known ms bridge at ttl payload mine k s p =
     let told = fact_acts q known at (fact_message_of payload) in
     each_appended (ActHas P) (here_acts q known ms bridge at ttl payload) told (here_has P q known ms bridge at ttl payload mine k p)
-    (stores_have P at.me told mine (fact_puts IsWhole P.fact q known at (fact_message_of payload) s (taken_came P payload p)))
+    (stores_have P at.me told mine (fact_puts IsWhole P.facts q known at (fact_message_of payload) s (taken_came P payload p)))
 
-carried_has : (P : Kept) (q : Queries) (known : Knowledge) (ms : List Mention) (bridge : Bridge) (at : Place) (o : Option Carried) → IsWhole at.me → KnowsWhole known → Stores IsWhole P.fact (kept_of known)
+carried_has : (P : Kept) (q : Queries) (known : Knowledge) (ms : List Mention) (bridge : Bridge) (at : Place) (o : Option Carried) → IsWhole at.me → KnowsWhole known → Stores IsWhole P.facts (kept_of known)
     → ((one : Carried) → o ≡ Some one → P.carried one.payload) → ActsHave P (carried_here q known ms bridge at o)
 carried_has P q known ms bridge at None mine k s p = tt
 carried_has P q known ms bridge at (Some one) mine k s p = unicast_here_has P q known ms bridge at one.ttl one.payload mine k s (p one refl)
@@ -289,7 +289,7 @@ frame_has P q known ms at frame mine k given p =
     go (Some way) whole = (addressed_has P q known at.now 50 way (payload_spelling frame) (whole way refl) p, tt)
 
 -- ---- packets
-pub packet_has : (P : Kept) (q : Queries) (me : Mac) (own : Own) (came : Coming) (packet : Packet) (known : Knowledge) → KeepsOriginators me q → IsWhole me → IsWhole came.from → KnowsWhole known → Stores IsWhole P.fact (kept_of known) → AllByRecursion (IsPart P) known.parts → HasWholeAddresses packet.head → PacketHas P packet
+pub packet_has : (P : Kept) (q : Queries) (me : Mac) (own : Own) (came : Coming) (packet : Packet) (known : Knowledge) → KeepsOriginators me q → IsWhole me → IsWhole came.from → KnowsWhole known → Stores IsWhole P.facts (kept_of known) → AllByRecursion (IsPart P) known.parts → HasWholeAddresses packet.head → PacketHas P packet
     → ActsHave P (packet_acts q me own came known packet)
 unfolding packet_acts
 packet_has P q me own came packet known keeps mine from k s parts whole has = go packet.head packet.tail whole has

@@ -1,8 +1,10 @@
 -- What a step of a mesh sends, puts and hands out carries payloads that came, or that a line begins.
 use Rattle.std.specs.List.{AllByRecursion}
-use Rattle.std.proofs.Common.{Bool, cond, ◌++◌, Option, Some, None, Result, Ok, Err, length, ◌∙◌, ap, ◌≡◌, ◌⊎◌, inl, inr, ℕ, suc, arith, true, false, List, [], ◌∷◌, slice_get, refl, sym, subst}
+use Rattle.std.proofs.Common.{Bool, cond, ◌&&◌, ◌++◌, Option, Some, None, Result, Ok, Err, length, ◌∙◌, ap, ◌≡◌, ◌≤◌, ◌⊎◌, inl, inr, ℕ, suc, arith, true, false, List, [], ◌∷◌, slice_get, refl, sym, subst, map}
+use Rattle.std.specs.List.{AllByRecursion}
 use Rattle.mesh_base.specs.declared.address.Mac.{Mac}
 use Rattle.mesh_base.specs.declared.client.Vid.{Vid}
+use Rattle.mesh_base.specs.declared.client.Entry.{Entry}
 use Rattle.mesh_base.specs.declared.event.Event.{Event}
 use Rattle.mesh_model.specs.declared.act.Act.{Act}
 use Rattle.mesh_model.specs.declared.act.Act.TheVariants.{Lan, Link, Print}
@@ -19,6 +21,7 @@ use Rattle.mesh_model.specs.Acts.Rows.{Own, own_by, packet_acts, packets_acts, t
 use Rattle.mesh_model.specs.Clients.Lans.{bridge}
 use Rattle.mesh_model.specs.Clients.Log.{Given, LogEntry, Tick, LinkFrame, LanFrame, Line, LineGiven, Attach, Frame, Gone, Join, Leave, Arp, Dhcp, Sets, Put, Get, Ping, Trace, Reboot, Log}
 use Rattle.mesh_model.specs.Clients.Mentions.{Mention, key_of, mentions, next_mentions, passed_from_lan}
+use Rattle.mesh_model.specs.Clients.Settings.{Settings}
 use Rattle.mesh_model.specs.Commits.History.{history, is_commit_tick, restarted}
 use Rattle.mesh_model.specs.Fragments.Assembly.{PartCall, part_of}
 use Rattle.mesh_model.specs.Fragments.Cutting.{Reach, reach_of, reach_of_front, reach_of_head}
@@ -27,7 +30,9 @@ use Rattle.mesh_model.specs.Knowledge.Offers.{choice_by}
 use Rattle.mesh_model.specs.Knowledge.FactStore.{after_get}
 use Rattle.mesh_model.specs.Knowledge.Pairs.{after_asking, after_came, after_question, is_asked, with_ask, with_learned}
 use Rattle.mesh_model.specs.Knowledge.PutTogether.{Carried, fact_carried, put_together, with_part}
-use Rattle.mesh_model.specs.Knowledge.Steps.{Coming, advertised, after_call, after_frame, after_packet, after_packets, after_passed, after_sighting, after_tick, before_round, knowledge, line_knowledge, next_knowledge, stays_on_lan}
+use Rattle.mesh_model.specs.Knowledge.Steps.{Coming, advertised, after_call, after_frame, after_packet, after_packets, after_passed, after_sighting, before_round, before_telling, knowledge, line_knowledge, next_knowledge, stays_on_lan, table_behind}
+use Rattle.mesh_model.specs.Knowledge.OwnPictures.{puts_picture, takes_part}
+use Rattle.mesh_model.specs.Knowledge.Pictured.{picture_by}
 use Rattle.mesh_model.specs.Knowledge.Told.{message_of}
 use Rattle.mesh_model.specs.Net.Due.{ticks_in}
 use Rattle.mesh_model.specs.Net.Inputs.{entry_of, noting}
@@ -38,22 +43,26 @@ use Rattle.mesh_model.specs.Net.Sending.{put_event}
 use Rattle.mesh_model.specs.Packets.LanFrames.{client_frame_in, lan_message_of}
 use Rattle.mesh_model.specs.Net.Next.{Has}
 use Rattle.mesh_model.specs.Packets.FactMessages.{CameFact, fact_message_of}
-use Rattle.mesh_model.specs.Routes.RouteLog.{OwnTick}
+use Rattle.mesh_model.specs.Routes.RouteLog.{OwnTick, is_round}
+use Rattle.mesh_model.specs.Services.Facts.{FactCall, fact_of_call}
+use Rattle.mesh_model.specs.Services.Facts.{WasPut as PutNow}
+use Rattle.mesh_model.specs.Services.Pictures.{own_picture, picture_fact}
 use Rattle.mesh_model.specs.Packets.ArpMessages.{ArpCame, Asks, Puts, Tells as TellsPair}
 use Rattle.mesh_model.specs.Packets.FirstPacket.{Front, Packet, first_packet}
 use Rattle.mesh_model.specs.Packets.LinkFrame.{LinkFrame as FrameOfPackets, frame_from, link_frame}
 use Rattle.mesh_model.specs.Packets.Payload.{ClientFrame, client_frame_of, payload_spelling}
 use Rattle.mesh_model.specs.Routes.Queries.{Queries}
+use Rattle.mesh_model.specs.Scenario.AlfredForms.{least_fact_type}
 use Rattle.mesh_model.specs.Services.ArpTable.{AskedFor}
 use Rattle.mesh_laws.specs.CutLaws.{IsPutForCut, cuts_made, cuts_of_log}
 use Rattle.mesh_laws.proofs.FrameLemmas.{link_frame-first}
 use Rattle.mesh_laws.proofs.Schedule.Members.{get_either, get_last, has_either, has_right, one_some}
-use Rattle.mesh_laws.proofs.KeptLemmas.{HasCome, brings, call_kept, frame_kept, get_kept, has_payload, head_comes, head_part, joins, kept_of, leaves, passed_kept, stores, tick_kept}
+use Rattle.mesh_laws.proofs.KeptLemmas.{HasCome, brings, call_kept, frame_kept, get_kept, has_payload, head_comes, head_part, joins, kept_of, leaves, passed_kept, round_kept, stores, tick_kept}
 use Rattle.mesh_laws.proofs.KeptLemmas.{Kept as StoreKept}
 use Rattle.mesh_laws.proofs.StoreLemmas.{Rest, message_rest}
-use Rattle.mesh_tie.specs.Carried.{IsKept, IsReadOf, PutCarries, UnlessStored, WasGiven, WasPut, frame_of_line, on_lan, to_node}
+use Rattle.mesh_tie.specs.Carried.{IsKept, IsPutFact, IsReadOf, PutCarries, UnlessStored, WasGiven, WasPictured, WasPut, frame_of_line, on_lan, to_node}
 use Rattle.mesh_tie.specs.Sources.{HasWholeAddresses, IsWhole, KeepsOriginators}
-use Rattle.mesh_tie.specs.Steps.{Steps, TellsClient, bridged_event, frame_comes, lan_comes, lan_joins, line_gives, link_joins, node_joins, node_ticks, put_comes, put_reaches, time_passes, with_lan_frame}
+use Rattle.mesh_tie.specs.Steps.{Steps, TellsClient, bridged_event, frame_comes, lan_comes, lan_joins, line_gives, link_joins, node_joins, node_ticks, put_comes, put_reaches, time_passes, with_lan_frame, routes_told, with_told}
 use Rattle.mesh_tie.specs.Tie.{IsOrderly, KnowsWhole, known_at_node}
 use Rattle.mesh_tie.specs.TieLaws.{AllKeep}
 use Rattle.mesh_tie.proofs.CarriedHeads.{HeadHas, IsPart, Kept, Tells, ActHas, ActsHave, FrameHas, PacketHas, frag_has}
@@ -63,8 +72,8 @@ use Rattle.mesh_tie.proofs.CutActs.{IsFragmentOf, cut_each, fragment_is}
 use Rattle.mesh_tie.proofs.CutPieces.{IsPartOf, joined_carries, place_small}
 use Rattle.mesh_tie.proofs.EtherReading.{dst_whole, src_whole}
 use Rattle.mesh_tie.proofs.FactActs.{Came, fact_round_puts, get_puts}
-use Rattle.mesh_tie.proofs.FactLemmas.{MessageHas, Stores}
-use Rattle.mesh_tie.proofs.FactReading.{frame_no_message, message_back, message_no_frame}
+use Rattle.mesh_tie.proofs.FactLemmas.{Holds, MessageHas, Stores}
+use Rattle.mesh_tie.proofs.FactReading.{AreFromWhole, frame_no_message, message_back, message_no_frame}
 use Rattle.mesh_tie.proofs.FactSteps.{line_stored, packet_stored, same_stores}
 use Rattle.mesh_tie.proofs.EntryLemmas.{each_appended}
 use Rattle.mesh_tie.proofs.KnowsLemmas.{packet_knows, sighting_knows}
@@ -72,6 +81,8 @@ use Rattle.mesh_tie.proofs.AddressLemmas.{heads_whole}
 use Rattle.mesh_tie.proofs.LanSteps.{lan_read, passed_came}
 use Rattle.mesh_tie.proofs.NodeLists.{Renewed, another, got_front, got_noted, itself, renewed}
 use Rattle.mesh_tie.proofs.SentLemmas.{HasGiven, IsOfActs, given_is}
+use Rattle.mesh_model.specs.Net.Watching.{route_event}
+use Rattle.mesh_model.specs.declared.route_line.RouteLine.{RouteLine}
 
 -- ---- one input
 -- a payload has its property
@@ -103,17 +114,17 @@ abbrev pub PartsHave : Kept → List PartCall → Type 0
 PartsHave P parts = AllByRecursion (IsPart P) parts
 
 -- a message of the store that is put together
-carried_came : (P : Kept) (call : PartCall) (older : List PartCall) → IsPart P call → PartsHave P older → (came : CameFact) → fact_carried (put_together call older) ≡ Some came → Came IsWhole P.fact came
+carried_came : (P : Kept) (call : PartCall) (older : List PartCall) → IsPart P call → PartsHave P older → (came : CameFact) → fact_carried (put_together call older) ≡ Some came → Came IsWhole P.facts came
 carried_came P call older p all came is = go (put_together call older) refl is
   where
-    go : (o : Option Carried) → put_together call older ≡ o → fact_carried o ≡ Some came → Came IsWhole P.fact came
+    go : (o : Option Carried) → put_together call older ≡ o → fact_carried o ≡ Some came → Came IsWhole P.facts came
     go None joined e = cc
     go (Some one) joined e = taken_came P one.payload (P.joined call older one p all joined) came e
 
 -- what a node keeps of the fact store after a packet
-packet_keeps : (P : Kept) (q : Queries) (me : Mac) (came : Coming) (packet : Packet) (known : Knowledge) → PartsHave P known.parts → PacketHas P packet → Stores IsWhole P.fact (kept_of known) → Stores IsWhole P.fact (kept_of (after_packet q me came known packet))
+packet_keeps : (P : Kept) (q : Queries) (me : Mac) (came : Coming) (packet : Packet) (known : Knowledge) → PartsHave P known.parts → PacketHas P packet → Stores IsWhole P.facts (kept_of known) → Stores IsWhole P.facts (kept_of (after_packet q me came known packet))
 packet_keeps P q me came packet known parts has s =
-    packet_stored IsWhole P.fact came.now packet.head packet.tail known (after_packet q me came known packet) (head_comes q me came (message_of packet) packet.tail packet.head known)
+    packet_stored IsWhole P.facts came.now packet.head packet.tail known (after_packet q me came known packet) (head_comes q me came (message_of packet) packet.tail packet.head known)
     (λ payload uncut. taken_came P packet.tail (payload_has P came.now packet.head packet.tail payload uncut has))
     (λ call is. carried_came P call known.parts (part_has P came.now packet.head packet.tail call is has) parts) s
 
@@ -140,7 +151,7 @@ packet_parts : (P : Kept) (q : Queries) (me : Mac) (came : Coming) (packet : Pac
 packet_parts P q me came packet known has parts =
     come_parts P came.now packet.head packet.tail known (after_packet q me came known packet) (head_comes q me came (message_of packet) packet.tail packet.head known) has parts
 
-packets_have : (P : Kept) (q : Queries) (me : Mac) (own : Own) (came : Coming) (packets : List Packet) (known : Knowledge) → KeepsOriginators me q → IsWhole me → IsWhole came.from → KnowsWhole known → Stores IsWhole P.fact (kept_of known) → PartsHave P known.parts
+packets_have : (P : Kept) (q : Queries) (me : Mac) (own : Own) (came : Coming) (packets : List Packet) (known : Knowledge) → KeepsOriginators me q → IsWhole me → IsWhole came.from → KnowsWhole known → Stores IsWhole P.facts (kept_of known) → PartsHave P known.parts
     → ((packet : Packet) → Has packets packet → HasWholeAddresses packet.head × PacketHas P packet) → ActsHave P (packets_acts q me own came known packets)
 unfolding packets_acts
 packets_have P q me own came [] known keeps mine from k s parts each = tt
@@ -151,7 +162,7 @@ packets_have P q me own came (packet ∷ rest) known keeps mine from k s parts e
     (packet_has P q me own came packet known keeps mine from k s parts one.0 one.1)
     (packets_have P q me own came rest after keeps mine from (packet_knows q me came packet known one.0 k) (packet_keeps P q me came packet known parts one.1 s) (packet_parts P q me came packet known one.1 parts) (λ p has. each p (inr has)))
 
-packets_keep : (P : Kept) (q : Queries) (me : Mac) (came : Coming) (packets : List Packet) (known : Knowledge) → PartsHave P known.parts → Stores IsWhole P.fact (kept_of known) → ((packet : Packet) → Has packets packet → PacketHas P packet) → Stores IsWhole P.fact (kept_of (after_packets q me came known packets))
+packets_keep : (P : Kept) (q : Queries) (me : Mac) (came : Coming) (packets : List Packet) (known : Knowledge) → PartsHave P known.parts → Stores IsWhole P.facts (kept_of known) → ((packet : Packet) → Has packets packet → PacketHas P packet) → Stores IsWhole P.facts (kept_of (after_packets q me came known packets))
 packets_keep P q me came [] known parts s each = s
 packets_keep P q me came (packet ∷ rest) known parts s each =
     let has = each packet (inl refl) in
@@ -203,9 +214,13 @@ line_parts P q me older known now Reboot parts = tt
 abbrev Begins : Kept → LineGiven → Type 0
 Begins P line = (frame : ClientFrame) → frame_of_line line ≡ Some frame → P.given frame × P.carried (payload_spelling frame)
 
-line_has : (P : Kept) (q : Queries) (me : Mac) (mine : Log) (now : ℕ) (line : LineGiven) → Begins P line → IsWhole me → KnowsWhole (knowledge q me mine) → Stores IsWhole P.fact (kept_of (knowledge q me mine)) → ActsHave P (whole_acts q me mine now (Line line))
-line_has P q me mine now (Attach lan gateways) begin whole k s = tt
-line_has P q me mine now (Frame src dst vid text) begin whole k s =
+-- the type that a line asks for may be asked for
+abbrev AsksFor : Kept → LineGiven → Type 0
+AsksFor P line = (type_no : ℕ) → line ≡ Get type_no → P.facts.asked type_no
+
+line_has : (P : Kept) (q : Queries) (me : Mac) (mine : Log) (now : ℕ) (line : LineGiven) → Begins P line → AsksFor P line → IsWhole me → KnowsWhole (knowledge q me mine) → Stores IsWhole P.facts (kept_of (knowledge q me mine)) → ActsHave P (whole_acts q me mine now (Line line))
+line_has P q me mine now (Attach lan gateways) begin ask whole k s = tt
+line_has P q me mine now (Frame src dst vid text) begin ask whole k s =
     let frame : ClientFrame = record { dst = dst; src = src; vid = vid; text = text } in
     let key = key_of src vid in
     let known = knowledge q me mine in
@@ -213,28 +228,28 @@ line_has P q me mine now (Frame src dst vid text) begin whole k s =
     let begun = begin frame refl in
     each_appended (ActHas P) (sighting_acts q me mine now key) (client_acts q me mine now frame) (advert_has P me key (advertised q me mine known now key))
     (frame_has P q (after_sighting q me mine now key known) ms (record { me = me; now = now }) frame whole (sighting_knows q me mine now key known k) (inl begun.0) begun.1)
-line_has P q me mine now (Gone key) begin whole k s = tt
-line_has P q me mine now (Join key) begin whole k s = tt
-line_has P q me mine now (Leave key) begin whole k s = tt
-line_has P q me mine now (Arp mac own_ip asked_ip vid) begin whole k s =
+line_has P q me mine now (Gone key) begin ask whole k s = tt
+line_has P q me mine now (Join key) begin ask whole k s = tt
+line_has P q me mine now (Leave key) begin ask whole k s = tt
+line_has P q me mine now (Arp mac own_ip asked_ip vid) begin ask whole k s =
     let key = key_of mac vid in
     let known = after_sighting q me mine now key (knowledge q me mine) in
     each_appended (ActHas P) (sighting_acts q me mine now key) (asking_acts q me mine now mac own_ip asked_ip vid) (advert_has P me key (advertised q me mine (knowledge q me mine) now key))
     (question_none P q known (record { me = me; now = now }) mac own_ip asked_ip vid)
-line_has P q me mine now (Dhcp key text) begin whole k s =
+line_has P q me mine now (Dhcp key text) begin ask whole k s =
     let known = knowledge q me mine in
     let frame = call_frame key text in
     let begun = begin frame refl in
     each_appended (ActHas P) (sighting_acts q me mine now key) (calling_acts q me mine now key text) (advert_has P me key (advertised q me mine known now key))
     (call_has P q (after_sighting q me mine now key known) (record { me = me; now = now }) frame whole (sighting_knows q me mine now key known k) (inl begun.0) begun.1)
-line_has P q me mine now (Sets setting) begin whole k s = tt
-line_has P q me mine now (Put type_no version text) begin whole k s = tt
-line_has P q me mine now (Get type_no) begin whole k s =
+line_has P q me mine now (Sets setting) begin ask whole k s = tt
+line_has P q me mine now (Put type_no version text) begin ask whole k s = tt
+line_has P q me mine now (Get type_no) begin ask whole k s =
     let at : Place = record { me = me; now = now } in
-    stores_have P me (get_acts q (knowledge q me mine) at type_no) whole (get_puts IsWhole P.fact q (knowledge q me mine) at type_no s)
-line_has P q me mine now (Ping target) begin whole k s = session_has P q (knowledge q me mine) (record { me = me; now = now }) target false
-line_has P q me mine now (Trace target) begin whole k s = session_has P q (knowledge q me mine) (record { me = me; now = now }) target true
-line_has P q me mine now Reboot begin whole k s = let old = history me mine in aliases_have P me old.commits (restarted old).commits
+    stores_have P me (get_acts q (knowledge q me mine) at type_no) whole (get_puts IsWhole P.facts q (knowledge q me mine) at type_no (ask type_no refl) s)
+line_has P q me mine now (Ping target) begin ask whole k s = session_has P q (knowledge q me mine) (record { me = me; now = now }) target false
+line_has P q me mine now (Trace target) begin ask whole k s = session_has P q (knowledge q me mine) (record { me = me; now = now }) target true
+line_has P q me mine now Reboot begin ask whole k s = let old = history me mine in aliases_have P me old.commits (restarted old).commits
 
 lan_has : (P : Kept) (q : Queries) (me : Mac) (mine : Log) (now : ℕ) (bytes : List ℕ) → PutCarries P.carried bytes → IsWhole me → KnowsWhole (knowledge q me mine) → ActsHave P (whole_acts q me mine now (LanFrame bytes))
 lan_has P q me mine now bytes carries whole k =
@@ -266,7 +281,7 @@ pub record HasKept (queries : Mac → Queries) (P : Kept) (mesh : Mesh) : Type 0
   pub frames : (place : ℕ) (frame : SentFrame) → slice_get mesh.frames place ≡ Some frame → FrameHas P frame.bytes
   pub puts : (place : ℕ) (put : LanPut) → slice_get mesh.puts place ≡ Some put → PutCarries P.carried put.bytes
   pub events : (event : Event) → Has mesh.events event → Tells P event
-  pub knows : (place : ℕ) (node : NodeLog) → slice_get mesh.nodes place ≡ Some node → Stores IsWhole P.fact (kept_of (known_at_node queries node))
+  pub knows : (place : ℕ) (node : NodeLog) → slice_get mesh.nodes place ≡ Some node → Stores IsWhole P.facts (kept_of (known_at_node queries node))
   pub parts : (place : ℕ) (node : NodeLog) → slice_get mesh.nodes place ≡ Some node → (newer log : Log) → node.log ≡ newer ++ log → PartsHave P (knowledge (queries node.mac) node.mac log).parts
 
 -- an act among others
@@ -276,7 +291,7 @@ link_has P (first ∷ rest) act all (inl is) = subst (ActHas P) (sym is) all.0
 link_has P (first ∷ rest) act all (inr has) = link_has P rest act all.1 has
 
 given_keep : (P : Kept) (queries : Mac → Queries) (mesh after : Mesh) (place now root : ℕ) (node : NodeLog) (given : Given) → HasGiven (scenario_setup queries) place now root node given mesh after
-    → slice_get mesh.nodes place ≡ Some node → HasKept queries P mesh → Stores IsWhole P.fact (kept_of (next_knowledge (queries node.mac) node.mac node.log (known_at_node queries node) now given))
+    → slice_get mesh.nodes place ≡ Some node → HasKept queries P mesh → Stores IsWhole P.facts (kept_of (next_knowledge (queries node.mac) node.mac node.log (known_at_node queries node) now given))
     → PartsHave P (next_knowledge (queries node.mac) node.mac node.log (known_at_node queries node) now given).parts → ActsHave P (acts_of (queries node.mac) node.mac node.log now given) → HasKept queries P after
 given_keep P queries mesh after place now root node given has found old kept parts acts = record {
   frames = λ at frame got. sent at frame (get_either mesh.frames has.more at frame (subst (λ fs. slice_get fs at ≡ Some frame) has.frames got));
@@ -289,11 +304,11 @@ given_keep P queries mesh after place now root node given has found old kept par
     entry : LogEntry
     entry = entry_of (scenario_setup queries) node now given
 
-    stored : (at : ℕ) (n : NodeLog) → Renewed place entry mesh.nodes at n → Stores IsWhole P.fact (kept_of (known_at_node queries n))
+    stored : (at : ℕ) (n : NodeLog) → Renewed place entry mesh.nodes at n → Stores IsWhole P.facts (kept_of (known_at_node queries n))
     stored at n (another d got) = old.knows at n got
     stored at n (itself before same got noted) =
         let one : node ≡ before = one_some node before (sym found ∙ ap (slice_get mesh.nodes) same ∙ got) in
-        subst (λ (x : NodeLog). Stores IsWhole P.fact (kept_of (known_at_node queries x))) (ap (noting entry) one ∙ sym noted) kept
+        subst (λ (x : NodeLog). Stores IsWhole P.facts (kept_of (known_at_node queries x))) (ap (noting entry) one ∙ sym noted) kept
 
     front : (log : Log) → (newer : Log) → entry ∷ node.log ≡ newer ++ log → PartsHave P (knowledge (queries node.mac) node.mac log).parts
     front log [] is = subst (λ l. PartsHave P (knowledge (queries node.mac) node.mac l).parts) is parts
@@ -327,12 +342,12 @@ given_keep P queries mesh after place now root node given has found old kept par
     told event (inr new) = by_act event (has.came event new)
 
 -- what is kept of a payload, unless it is a message of facts; and its facts, where it is one
-pub record Payload (F : Fact → Type 0) (P : List ℕ → Type 0) (payload : List ℕ) : Type 0 where
+pub record Payload (F : Holds) (P : List ℕ → Type 0) (payload : List ℕ) : Type 0 where
   pub has : UnlessStored P payload
   pub facts : (came : CameFact) → fact_message_of payload ≡ Some came → MessageHas F came.message
 
 -- a message of facts is no client frame
-pub kept_of_frame : (F : Fact → Type 0) (P : List ℕ → Type 0) (payload : List ℕ) (one : ClientFrame) → Payload F P payload → client_frame_of payload ≡ Some one → P payload
+pub kept_of_frame : (F : Holds) (P : List ℕ → Type 0) (payload : List ℕ) (one : ClientFrame) → Payload F P payload → client_frame_of payload ≡ Some one → P payload
 kept_of_frame F P payload one p is = go p.has
   where
     go : UnlessStored P payload → P payload
@@ -340,25 +355,38 @@ kept_of_frame F P payload one p is = go p.has
     go (inr m) = absurd (message_no_frame m.dst m.src m.message one m.whole_dst m.whole_src (ap client_frame_of (sym m.spelled) ∙ is))
 
 -- a client frame is no message of facts
-pub kept_frame : (F : Fact → Type 0) (P : List ℕ → Type 0) (frame : ClientFrame) → IsWhole frame.dst → IsWhole frame.src → P (payload_spelling frame) → Payload F P (payload_spelling frame)
+pub kept_frame : (F : Holds) (P : List ℕ → Type 0) (frame : ClientFrame) → IsWhole frame.dst → IsWhole frame.src → P (payload_spelling frame) → Payload F P (payload_spelling frame)
 kept_frame F P frame whole also p = record { has = inl p; facts = λ came is. absurd (frame_no_message frame came whole also is) }
 
--- a fact that a line put, from a whole address
-abbrev pub IsPut : Mesh → Fact → Type 0
-IsPut mesh fact = WasPut mesh fact × IsWhole fact.source
+-- a fact that was put, from a whole address
+abbrev pub IsPut : (Mac → Queries) → Mesh → Fact → Type 0
+IsPut queries mesh fact = IsPutFact queries mesh fact × IsWhole fact.source
+
+-- so each fact is that a node has; one that answers a question, and the question, is of a type that lines
+-- may ask for
+abbrev pub put_facts : (Mac → Queries) → Mesh → Holds
+put_facts queries mesh = record {
+  pushed = IsPut queries mesh;
+  answered = λ fact. IsPut queries mesh fact × (least_fact_type ≤ fact.type_no);
+  asked = λ type_no. least_fact_type ≤ type_no;
+  answers = λ fact has asked. (has, asked);
+}
+
+pub put_whole : (queries : Mac → Queries) (mesh : Mesh) → AreFromWhole (put_facts queries mesh)
+put_whole queries mesh true fact has = has.1
+put_whole queries mesh false fact has = has.0.1
 
 -- what is kept in a mesh
 abbrev pub kept_in : (queries : Mac → Queries) (P : Mesh → List ℕ → Type 0) → IsKept queries P → (mesh : Mesh) → IsOrderly queries mesh → Kept
 kept_in queries P kept mesh o = record {
-  carried = Payload (IsPut mesh) (P mesh);
+  carried = Payload (put_facts queries mesh) (P mesh);
   given = WasGiven mesh;
-  fact = IsPut mesh;
-  part = IsPartOf queries mesh (Payload (IsPut mesh) (P mesh));
-  whole = λ one put. put.1;
-  read_on = λ payload frame c read. kept_frame (IsPut mesh) (P mesh) frame (dst_whole payload frame read) (src_whole payload frame read) (kept.read_on mesh payload frame (kept_of_frame (IsPut mesh) (P mesh) payload frame c read) read);
+  facts = put_facts queries mesh;
+  part = IsPartOf queries mesh (Payload (put_facts queries mesh) (P mesh));
+  read_on = λ payload frame c read. kept_frame (put_facts queries mesh) (P mesh) frame (dst_whole payload frame read) (src_whole payload frame read) (kept.read_on mesh payload frame (kept_of_frame (put_facts queries mesh) (P mesh) payload frame c read) read);
   told = λ dst src message whole also has. record {
     has = inr (record { dst = dst; src = src; message = message; whole_dst = whole; whole_src = also; spelled = refl });
-    facts = λ came is. message_back (IsPut mesh) (λ one put. put.1) dst src message came whole also has is;
+    facts = λ came is. message_back (put_facts queries mesh) (put_whole queries mesh) dst src message came whole also has is;
   };
   taken = λ tail came c is. c.facts came is;
   fits = λ orig seq total place tail p.
@@ -373,7 +401,7 @@ kept_in queries P kept mesh o = record {
         small = omega (arith, seq_is, low);
         short = omega (arith, total_is, short);
       };
-  joined = joined_carries queries mesh o (Payload (IsPut mesh) (P mesh));
+  joined = joined_carries queries mesh o (Payload (put_facts queries mesh) (P mesh));
 }
 
 -- ---- fragments of an input
@@ -426,7 +454,7 @@ piece_has queries P kept mesh after o place now root node given has found acts a
     carried : FrameHas K put.cut.packet
     carried = link_has K whole (Link put.to put.reason put.cut.packet) acts put.whole
 
-    part : IsPartOf queries after (Payload (IsPut after) (P after)) put.cut.me put.cut.number (length put.cut.packet) f.place put.fragment.1
+    part : IsPartOf queries after (Payload (put_facts queries after) (P after)) put.cut.me put.cut.number (length put.cut.packet) f.place put.fragment.1
     part = record {
       of = record {
         cut = put.cut;
@@ -478,7 +506,7 @@ line_begins queries P mesh after o place now node line kept found of has frame i
     let given : WasGiven after frame = to_node place (noting entry node) entry line
     (ap (λ ns. slice_get ns place) has.nodes ∙ got_noted mesh.nodes place node entry found) (inl refl) refl is (line_tells line frame of is) in
     let tells = line_tells line frame of is in
-    (given, kept_frame (IsPut after) (P after) frame tells.1 tells.0.fits.address (kept.begun after frame given))
+    (given, kept_frame (put_facts queries after) (P after) frame tells.1 tells.0.fits.address (kept.begun after frame given))
 
 at_end : {X : Type 0} (xs : List X) (x : X) → slice_get (xs ++ x ∷ []) (length xs) ≡ Some x
 at_end [] x = refl
@@ -492,6 +520,19 @@ more_told P events new old tells event has = go (has_either events (new ∷ []) 
     go (inl before) = old event before
     go (inr (inl is)) = subst (Tells P) (sym is) tells
     go (inr (inr none)) = absurd none
+
+-- events of lines of routes tell nothing of what is carried
+routes_tell : (P : Kept) (events : List Event) (lines : List RouteLine) → ((event : Event) → Has events event → Tells P event) → (event : Event) → Has (events ++ map route_event lines) event → Tells P event
+routes_tell P events lines old event has = go (has_either events (map route_event lines) event has)
+  where
+    one : (lines : List RouteLine) → Has (map route_event lines) event → Tells P event
+    one [] new = absurd new
+    one (line ∷ rest) (inl is) = subst (Tells P) (sym is) (record { handed_out = λ moment n vid src dst text e. cc; bridged = λ moment lan vid src dst text e. cc; told = λ me type_no source version text e. cc })
+    one (line ∷ rest) (inr new) = one rest new
+
+    go : Has events event ⊎ Has (map route_event lines) event → Tells P event
+    go (inl before) = old event before
+    go (inr new) = one lines new
 
 put_keeps : (queries : Mac → Queries) (P : Kept) (mesh : Mesh) (put : LanPut) → HasKept queries P mesh → PutCarries P.carried put.bytes → HasKept queries P (with_lan_frame put mesh)
 put_keeps queries P mesh put old carries = record {
@@ -517,8 +558,8 @@ bridged_tells P now put frame p read = record {
 
 -- the fact that a line puts, behind the line's step
 put_by : (queries : Mac → Queries) (mesh after : Mesh) (place now : ℕ) (node : NodeLog) (line : LineGiven) → slice_get mesh.nodes place ≡ Some node → HasGiven (scenario_setup queries) place now 0 node (Line line) mesh after
-    → (type_no version : ℕ) (bytes : List ℕ) → line ≡ Put type_no version bytes → WasPut after (record { source = node.mac; type_no = type_no; version = version; bytes = bytes })
-put_by queries mesh after place now node line found has type_no version bytes is =
+    → TellsClient line → (type_no version : ℕ) (bytes : List ℕ) → line ≡ Put type_no version bytes → WasPut after (record { source = node.mac; type_no = type_no; version = version; bytes = bytes })
+put_by queries mesh after place now node line found has of type_no version bytes is =
     let entry = entry_of (scenario_setup queries) node now (Line line) in
     record {
       place = place;
@@ -528,9 +569,10 @@ put_by queries mesh after place now node line found has type_no version bytes is
       noted = inl refl;
       given_is = ap Line is;
       source_is = refl;
+      type_is = subst TellsClient is of;
     }
 
-before_stored : (D : Mac → Type 0) (F : Fact → Type 0) (q : Queries) (now index : ℕ) (known : Knowledge) → Stores D F (kept_of known) → Stores D F (kept_of (before_round q now index known))
+before_stored : (D : Mac → Type 0) (F : Holds) (q : Queries) (now index : ℕ) (known : Knowledge) → Stores D F (kept_of known) → Stores D F (kept_of (before_round q now index known))
 before_stored D F q now index known s = go (is_commit_tick index)
   where
     ticked : Knowledge
@@ -546,7 +588,51 @@ lan_parts P q me mine known now bytes parts =
     let passed = passed_from_lan me mine now (client_frame_in (lan_message_of bytes)) in
     kept_parts P known (after_passed q me mine known now ms passed) (passed_kept q me mine known now ms passed) parts
 
-lan_stored : (F : Fact → Type 0) (q : Queries) (me : Mac) (mine : Log) (known : Knowledge) (now : ℕ) (bytes : List ℕ) → Stores IsWhole F (kept_of known)
+-- what is put before others
+put_before : (F : Fact → Type 0) (puts : Bool) (call : FactCall) (calls : List FactCall) → (puts ≡ true → F (fact_of_call call))
+    → AllByRecursion (λ (one : FactCall). F (fact_of_call one)) calls → AllByRecursion (λ (one : FactCall). F (fact_of_call one)) (cond puts (call ∷ []) [] ++ calls)
+put_before F true call calls has all = (has refl, all)
+put_before F false call calls has all = all
+
+-- what is kept before facts are told, with the picture that is put
+telling_stored : (D : Mac → Type 0) (F : Holds) (q : Queries) (me : Mac) (now index : ℕ) (table : List Entry) (known : Knowledge)
+    → (puts_picture (before_round q now index known).services.settings index ≡ true → F.pushed (picture_fact me (own_picture q (before_round q now index known).routes now table)))
+    → Stores D F (kept_of known) → Stores D F (kept_of (before_telling q me now index table known))
+telling_stored D F q me now index table known has s =
+    let before = before_round q now index known in
+    let t = before_stored D F q now index known s in
+    record {
+      primaries = t.primaries;
+      facts = put_before F.pushed (puts_picture before.services.settings index) (PutNow now (picture_fact me (own_picture q before.routes now table))) before.services.facts has t.facts;
+      pushes = t.pushes;
+      answers = t.answers;
+    }
+
+-- the picture that a node puts at its tick, behind the tick's step
+pictured : (queries : Mac → Queries) (mesh after : Mesh) (place now : ℕ) (node : NodeLog) (index : ℕ) → slice_get mesh.nodes place ≡ Some node
+    → HasGiven (scenario_setup queries) place now index node (Tick index) mesh after → (settings : Settings) → puts_picture settings index ≡ true
+    → WasPictured queries after (picture_fact node.mac (picture_by (queries node.mac) node.mac node.log now index))
+pictured queries mesh after place now node index found has settings puts =
+    let entry = entry_of (scenario_setup queries) node now (Tick index) in
+    record {
+      place = place;
+      node = noting entry node;
+      newer = [];
+      entry = entry;
+      older = node.log;
+      index = index;
+      found = ap (λ ns. slice_get ns place) has.nodes ∙ got_noted mesh.nodes place node entry found;
+      log_is = refl;
+      given_is = refl;
+      round = first_true (is_round index) (settings.pictures && takes_part settings.fact_store) puts;
+      fact_is = refl;
+    }
+  where
+    first_true : (b c : Bool) → (b && c) ≡ true → b ≡ true
+    first_true true c is = refl
+    first_true false c is = cc
+
+lan_stored : (F : Holds) (q : Queries) (me : Mac) (mine : Log) (known : Knowledge) (now : ℕ) (bytes : List ℕ) → Stores IsWhole F (kept_of known)
     → Stores IsWhole F (kept_of (next_knowledge q me mine known now (LanFrame bytes)))
 lan_stored F q me mine known now bytes s =
     let ms = next_mentions me mine (mentions me mine) now (LanFrame bytes) in
@@ -558,11 +644,11 @@ pub step_keeps : (queries : Mac → Queries) (P : Mesh → List ℕ → Type 0) 
 step_keeps queries P mesh _ kept keep o late (node_joins _ new empty whole fresh) old = record { frames = old.frames; puts = old.puts; events = old.events; knows = λ at n got. joined at n (got_front mesh.nodes new at n got); parts = λ at n got. fresh_parts at n (got_front mesh.nodes new at n got) }
   where
     holds : NodeLog → Type 0
-    holds n = Stores IsWhole (IsPut (record mesh { nodes = mesh.nodes ++ new ∷ [] })) (kept_of (known_at_node queries n))
+    holds n = Stores IsWhole (put_facts queries (record mesh { nodes = mesh.nodes ++ new ∷ [] })) (kept_of (known_at_node queries n))
 
     joined : (at : ℕ) (n : NodeLog) → (slice_get mesh.nodes at ≡ Some n) ⊎ ((n ≡ new) × (slice_get mesh.nodes at ≡ None)) → holds n
     joined at n (inl before) = old.knows at n before
-    joined at n (inr is) = subst (λ l. Stores IsWhole (IsPut (record mesh { nodes = mesh.nodes ++ new ∷ [] })) (kept_of (knowledge (queries n.mac) n.mac l))) (sym (ap (λ (x : NodeLog). x.log) is.0 ∙ empty)) (record { primaries = tt; facts = tt; pushes = tt; answers = tt })
+    joined at n (inr is) = subst (λ l. Stores IsWhole (put_facts queries (record mesh { nodes = mesh.nodes ++ new ∷ [] })) (kept_of (knowledge (queries n.mac) n.mac l))) (sym (ap (λ (x : NodeLog). x.log) is.0 ∙ empty)) (record { primaries = tt; facts = tt; pushes = tt; answers = tt })
 
     no_log : (newer log : Log) → [] ≡ newer ++ log → log ≡ []
     no_log [] log is = sym is
@@ -577,25 +663,31 @@ step_keeps queries P mesh _ kept keep o late (link_joins _ link) old = record { 
 step_keeps queries P mesh after kept keep o late (line_gives _ _ place now node line found may of is) old =
     let has = given_is (scenario_setup queries) place now 0 node (Line line) mesh after found is in
     given_keep (kept_in queries P kept after late) queries mesh after place now 0 node (Line line) has found old
-    (line_stored IsWhole (IsPut after) (queries node.mac) node.mac node.log (known_at_node queries node) now line (λ type_no version bytes put. (put_by queries mesh after place now node line found has type_no version bytes put, o.whole place node found)) (old.knows place node found))
+    (line_stored IsWhole (put_facts queries after) (queries node.mac) node.mac node.log (known_at_node queries node) now line (λ type_no version bytes put. (inl (put_by queries mesh after place now node line found has of type_no version bytes put), o.whole place node found)) (old.knows place node found))
     (line_parts (kept_in queries P kept after late) (queries node.mac) node.mac node.log (known_at_node queries node) now line (old.parts place node found [] node.log refl))
     (cut_has queries P kept mesh after late place now 0 node (Line line) has found
-    (line_has (kept_in queries P kept after late) (queries node.mac) node.mac node.log now line (line_begins queries P mesh after late place now node line kept found of has) (o.whole place node found) (o.knows place node found) (old.knows place node found)))
+    (line_has (kept_in queries P kept after late) (queries node.mac) node.mac node.log now line (line_begins queries P mesh after late place now node line kept found of has) (λ type_no is. subst TellsClient is of) (o.whole place node found) (o.knows place node found) (old.knows place node found)))
 step_keeps queries P mesh after kept keep o late (node_ticks _ _ place now node found may is) old =
+    let q : Queries = queries node.mac in
     let index = suc (ticks_in node.log) in
-    let before = before_round (queries node.mac) now index (known_at_node queries node) in
+    let known = known_at_node queries node in
+    let table = table_behind node.mac node.log now index in
+    let before = before_telling q node.mac now index table known in
     let at : Place = record { me = node.mac; now = now } in
-    let told = fact_round_acts (queries node.mac) before at index in
-    let ticks = tick_acts (queries node.mac) node.mac (known_at_node queries node).services.settings (known_at_node queries node).routes (mentions node.mac node.log) (history node.mac node.log) (bridge node.log) now index in
+    let told = fact_round_acts q before at index in
+    let ticks = tick_acts q node.mac known.services.settings known.routes (mentions node.mac node.log) (history node.mac node.log) (bridge node.log) now index in
     let has = given_is (scenario_setup queries) place now index node (Tick index) mesh after found is in
+    let stored : Stores IsWhole (put_facts queries after) (kept_of before) =
+    telling_stored IsWhole (put_facts queries after) q node.mac now index table known
+    (λ puts. (inr (pictured queries mesh after place now node index found has (before_round q now index known).services.settings puts), o.whole place node found))
+    (old.knows place node found) in
     given_keep (kept_in queries P kept after late) queries mesh after place now index node (Tick index) has found old
-    (same_stores IsWhole (IsPut after) (known_at_node queries node) (after_tick (queries node.mac) now index (known_at_node queries node)) (tick_kept (queries node.mac) now index (known_at_node queries node)) (old.knows place node found))
-    (kept_parts (kept_in queries P kept after late) (known_at_node queries node) (after_tick (queries node.mac) now index (known_at_node queries node)) (tick_kept (queries node.mac) now index (known_at_node queries node)) (old.parts place node found [] node.log refl))
+    (subst (Stores IsWhole (put_facts queries after)) (sym (round_kept q now index before)) stored)
+    (subst (PartsHave (kept_in queries P kept after late)) (sym (ap (λ (k : StoreKept). k.parts) (tick_kept q node.mac now index table known))) (old.parts place node found [] node.log refl))
     (cut_has queries P kept mesh after late place now index node (Tick index) has found
     (each_appended (ActHas (kept_in queries P kept after late)) ticks told
-    (tick_has (kept_in queries P kept after late) (queries node.mac) node.mac (known_at_node queries node).services.settings (known_at_node queries node).routes (mentions node.mac node.log) (history node.mac node.log) (bridge node.log) now index (keep node.mac) (o.whole place node found))
-    (stores_have (kept_in queries P kept after late) node.mac told (o.whole place node found) (fact_round_puts IsWhole (IsPut after) (queries node.mac) before at index
-    (before_stored IsWhole (IsPut after) (queries node.mac) now index (known_at_node queries node) (old.knows place node found))))))
+    (tick_has (kept_in queries P kept after late) q node.mac known.services.settings known.routes (mentions node.mac node.log) (history node.mac node.log) (bridge node.log) now index (keep node.mac) (o.whole place node found))
+    (stores_have (kept_in queries P kept after late) node.mac told (o.whole place node found) (fact_round_puts IsWhole (put_facts queries after) q before at index stored))))
 step_keeps queries P mesh after kept keep o late (frame_comes _ _ place now number throughput from node frame found may sent whole is) old =
     let came : Coming = record { now = now; from = from; throughput = throughput; number = suc number } in
     let given = LinkFrame (suc number) from throughput frame.bytes in
@@ -611,7 +703,7 @@ step_keeps queries P mesh _ kept keep o late (lan_joins _ lan) old = record { fr
 step_keeps queries P mesh _ kept keep o late (put_comes _ put frame by is tells) old = put_keeps queries (kept_in queries P kept (with_lan_frame put mesh) late) mesh put old (own kept)
   where
     own : (kept : IsKept queries P) → PutCarries (kept_in queries P kept (with_lan_frame put mesh) late).carried put.bytes
-    own kept other e = subst (Payload (IsPut (with_lan_frame put mesh)) (P (with_lan_frame put mesh))) (sym is) (kept_frame (IsPut (with_lan_frame put mesh)) (P (with_lan_frame put mesh)) frame tells.1 tells.0.fits.address (kept.begun (with_lan_frame put mesh) frame (on_lan (length mesh.puts) put (at_end mesh.puts put) by is tells)))
+    own kept other e = subst (Payload (put_facts queries (with_lan_frame put mesh)) (P (with_lan_frame put mesh))) (sym is) (kept_frame (put_facts queries (with_lan_frame put mesh)) (P (with_lan_frame put mesh)) frame tells.1 tells.0.fits.address (kept.begun (with_lan_frame put mesh) frame (on_lan (length mesh.puts) put (at_end mesh.puts put) by is tells)))
 step_keeps queries P mesh _ kept keep o late (put_reaches _ number now put frame found carries) old = record {
   frames = old.frames;
   knows = old.knows;
@@ -623,8 +715,15 @@ step_keeps queries P mesh _ kept keep o late (put_reaches _ number now put frame
 step_keeps queries P mesh after kept keep o late (lan_comes _ _ place now number node put found may among is) old =
     let has = given_is (scenario_setup queries) place now 0 node (LanFrame put.bytes) mesh after found is in
     given_keep (kept_in queries P kept after late) queries mesh after place now 0 node (LanFrame put.bytes) has found old
-    (lan_stored (IsPut after) (queries node.mac) node.mac node.log (known_at_node queries node) now put.bytes (old.knows place node found))
+    (lan_stored (put_facts queries after) (queries node.mac) node.mac node.log (known_at_node queries node) now put.bytes (old.knows place node found))
     (lan_parts (kept_in queries P kept after late) (queries node.mac) node.mac node.log (known_at_node queries node) now put.bytes (old.parts place node found [] node.log refl))
     (cut_has queries P kept mesh after late place now 0 node (LanFrame put.bytes) has found
     (lan_has (kept_in queries P kept after late) (queries node.mac) node.mac node.log now put.bytes (old.puts number put among) (o.whole place node found) (o.knows place node found)))
 step_keeps queries P mesh _ kept keep o late (time_passes _ happening) old = record { frames = old.frames; puts = old.puts; events = old.events; knows = old.knows; parts = old.parts }
+step_keeps queries P mesh _ kept keep o late (routes_told _ lines watch) old = record {
+  frames = old.frames;
+  puts = old.puts;
+  events = routes_tell (kept_in queries P kept (with_told lines watch mesh) late) mesh.events lines old.events;
+  knows = old.knows;
+  parts = old.parts;
+}

@@ -13,7 +13,7 @@ use Rattle.mesh_tie.specs.CutPackets.{FragmentsAreCut, IsCutPiece, PutTogetherWa
 use Rattle.mesh_tie.specs.Tie.{IsOrderly}
 use Rattle.mesh_tie.proofs.CarriedHeads.{HeadHas, IsPart, Kept}
 use Rattle.mesh_tie.proofs.CarriedOn.{all_kept, any_kept}
-use Rattle.mesh_tie.proofs.CarriedSteps.{IsPut, Payload, kept_in}
+use Rattle.mesh_tie.proofs.CarriedSteps.{Payload, kept_in, put_facts}
 use Rattle.mesh_tie.proofs.CutPieces.{whole_is_cut}
 use Rattle.mesh_tie.proofs.OrderSteps.{orderly}
 
@@ -51,5 +51,5 @@ put_together_was_cut queries keep mesh r place node call packet found p =
       cut = both.0.of.cut;
       was_cut = both.0.of.was_cut;
       number_is = both.0.of.number_is;
-      packet_is = whole_is_cut queries mesh o (Payload (IsPut mesh) (Any mesh)) call both.0 p.older packet both.1 p.whole;
+      packet_is = whole_is_cut queries mesh o (Payload (put_facts queries mesh) (Any mesh)) call both.0 p.older packet both.1 p.whole;
     }

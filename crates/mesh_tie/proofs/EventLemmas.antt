@@ -1,5 +1,5 @@
 -- The events of frames that were sent by table.
-use Rattle.std.proofs.Common.{◌≡◌, ◌≢◌, ◌⊎◌, inl, inr, ℕ, zero, suc, Bool, true, false, nat_eq, List, [], ◌∷◌, ◌++◌, slice_get, Some, Ok, refl, sym, ap, subst, ◌∙◌, append-nil}
+use Rattle.std.proofs.Common.{◌≡◌, ◌≢◌, ◌⊎◌, inl, inr, ℕ, zero, suc, Bool, true, false, nat_eq, List, [], ◌∷◌, ◌++◌, slice_get, Some, Ok, refl, sym, ap, subst, ◌∙◌, append-nil, map}
 use Rattle.std.proofs.lemmas.Bool.{eq-eqb, eqb-true, true≢false}
 use Rattle.mesh_base.specs.declared.address.Mac.{Mac}
 use Rattle.mesh_base.specs.declared.event.Event.{Event}
@@ -25,7 +25,7 @@ use Rattle.mesh_laws.proofs.Schedule.Steps.{get_front}
 use Rattle.mesh_tie.specs.ByTable.{HadCome, IsSentByTable, IsSentInStep}
 use Rattle.mesh_tie.specs.LinesByTable.{EventsByTableAreRight, SentRightly, ToldNoneOf}
 use Rattle.mesh_tie.specs.Originators.{commits_of, log_of}
-use Rattle.mesh_tie.specs.Steps.{IsReachable, Steps, begins, frame_comes, goes_on, lan_comes, lan_joins, line_gives, link_joins, node_joins, node_ticks, put_comes, put_reaches, time_passes, bridged_event, with_lan_frame}
+use Rattle.mesh_tie.specs.Steps.{IsReachable, Steps, begins, frame_comes, goes_on, lan_comes, lan_joins, line_gives, link_joins, node_joins, node_ticks, put_comes, put_reaches, time_passes, bridged_event, with_lan_frame, routes_told, with_told}
 use Rattle.mesh_tie.specs.Tie.{CommitsFit}
 use Rattle.mesh_tie.specs.TieLaws.{AllKeep}
 use Rattle.mesh_tie.proofs.CommitLemmas.{Follows}
@@ -39,6 +39,8 @@ use Rattle.mesh_tie.proofs.NamesRows.{ActNames}
 use Rattle.mesh_tie.proofs.Sayable.{one_or_two}
 use Rattle.mesh_tie.proofs.SeenLemmas.{CommitsNothing, aliases_are_seen, calm_commits}
 use Rattle.mesh_tie.proofs.SentLemmas.{HasGiven, IsOfActs, given_is}
+use Rattle.mesh_tie.proofs.RouteEvents.{no_route_event}
+use Rattle.mesh_model.specs.Net.Watching.{route_event}
 
 -- ---- lists that are split
 -- an item between two parts of a list of two lists is in the first or in the second
@@ -342,13 +344,15 @@ step_right queries mesh after keep r h fit (lan_comes _ _ place now number node 
     given_right queries orig mesh after place now 0 node given found tt l is
     (λ none. lan_acts_name queries mesh place now node put.bytes orig h found (calm_clear queries orig mesh place now node given r l tt none)) right
 step_right queries mesh _ keep r h fit (time_passes _ happening) orig right = unlinked_right queries orig mesh mesh.links happening right
+step_right queries mesh _ keep r h fit (routes_told _ lines watch) orig right =
+    beside_right queries orig mesh (with_told lines watch mesh) (map route_event lines) refl refl refl (λ number moment me to bytes has. no_route_event lines (FrameSent number moment me to (Some Table) bytes) (λ line e. cc) has) right
 
 no_events : (before : List Event) (e : Event) (after : List Event) → [] ≡ before ++ e ∷ after → ⊥
 no_events [] e after is = cc
 no_events (first ∷ before) e after is = cc
 
 all_right : (queries : Mac → Queries) → AllKeep queries → (mesh : Mesh) → IsReachable queries mesh → (orig : Mac) → AllRight queries orig mesh
-all_right queries keep _ begins orig = λ before back number moment me to bytes events none. absurd (no_events before (FrameSent number moment me to (Some Table) bytes) back events)
+all_right queries keep _ (begins watch) orig = λ before back number moment me to bytes events none. absurd (no_events before (FrameSent number moment me to (Some Table) bytes) back events)
 all_right queries keep _ (goes_on mesh after r s) orig =
     step_right queries mesh after keep r (reached queries keep mesh r) (commits_always_fit queries keep after (goes_on mesh after r s)) s orig (all_right queries keep mesh r orig)
 

@@ -1,7 +1,9 @@
 -- What a node keeps of the fact store: the addresses of primaries are whole, and what holds of each fact
--- that came or was put holds of those that the node keeps, tells and sends.
-use Rattle.std.proofs.Common.{◌≡◌, ◌≤◌, ◌-◌, ◌==◌, ◌&&◌, ◌||◌, nat_eq, ℕ, zero, suc, Bool, true, false, cond, nat_lt, nat_le, List, [], ◌∷◌, ◌++◌, length, take, drop, filter, filter_map, map, Option, Some, None, is_some, option_and_then, option_map, refl, subst, arith}
+-- that came or was put holds of those that the node keeps, tells and sends; and what holds of the types
+-- that are asked for holds of those of answers.
+use Rattle.std.proofs.Common.{◌≡◌, ◌≤◌, ◌-◌, ◌==◌, ◌&&◌, ◌||◌, nat_eq, ℕ, zero, suc, Bool, true, false, cond, nat_lt, nat_le, List, [], ◌∷◌, ◌++◌, length, take, drop, filter, filter_map, map, Option, Some, None, is_some, option_and_then, option_map, refl, sym, subst, arith}
 use Rattle.std.specs.List.{AllByRecursion, cons_option}
+use Rattle.std.proofs.lemmas.Bool.{eqb-true}
 use Rattle.std.proofs.lemmas.Bool.Decides.{nat_tests}
 use Rattle.mesh_base.specs.Ordered.{in_order}
 use Rattle.mesh_base.specs.declared.address.Mac.{Mac}
@@ -31,10 +33,23 @@ abbrev pub Brings : (Fact → Type 0) → Brought → Type 0
 Brings F (APart number facts) = AllByRecursion F facts
 Brings F (AnEnd count) = Unit {0}
 
-abbrev pub MessageHas : (Fact → Type 0) → FactMessage → Type 0
-MessageHas F (HasPart push id number facts) = AllByRecursion F facts
+-- what holds of facts that are pushed, of those that answer a question, and of the types that are asked
+-- for: a fact that a node has answers a question for its type
+pub record Holds : Type 1 where
+  pub pushed : Fact → Type 0
+  pub answered : Fact → Type 0
+  pub asked : ℕ → Type 0
+  pub answers : (fact : Fact) → pushed fact → asked fact.type_no → answered fact
+
+-- of those of a push, or of an answer
+abbrev pub holds_of : Holds → Bool → Fact → Type 0
+holds_of F true = F.pushed
+holds_of F false = F.answered
+
+abbrev pub MessageHas : Holds → FactMessage → Type 0
+MessageHas F (HasPart push id number facts) = AllByRecursion (holds_of F push) facts
 MessageHas F Primary = Unit {0}
-MessageHas F (Requests id type_no) = Unit {0}
+MessageHas F (Requests id type_no) = F.asked type_no
 MessageHas F (HasEnd push id count) = Unit {0}
 
 abbrev pub CallBrings : (Fact → Type 0) → TxnCall → Type 0
@@ -44,12 +59,21 @@ CallBrings F call = Brings F call.brought
 abbrev pub Fits : (Fact → Type 0) → Fact → Type 0
 Fits F fact = F fact × (fact_size fact ≤ 1396)
 
+-- it holds of facts that have room in a part
+abbrev pub fitting_facts : Holds → Holds
+fitting_facts F = record {
+  pushed = Fits F.pushed;
+  answered = Fits F.answered;
+  asked = F.asked;
+  answers = λ fact has asked. (F.answers fact has.0 asked, has.1);
+}
+
 -- what a node keeps of the store
-pub record Stores (D : Mac → Type 0) (F : Fact → Type 0) (kept : Kept) : Type 0 where
+pub record Stores (D : Mac → Type 0) (F : Holds) (kept : Kept) : Type 0 where
   pub primaries : AllByRecursion (λ (call : PrimaryCall). D call.primary) kept.primaries
-  pub facts : AllByRecursion (λ (call : FactCall). F (fact_of_call call)) kept.facts
-  pub pushes : AllByRecursion (CallBrings F) kept.pushes
-  pub answers : AllByRecursion (CallBrings F) kept.answers
+  pub facts : AllByRecursion (λ (call : FactCall). F.pushed (fact_of_call call)) kept.facts
+  pub pushes : AllByRecursion (CallBrings F.pushed) kept.pushes
+  pub answers : AllByRecursion (CallBrings F.answered) kept.answers
 
 -- ---- transactions
 
@@ -172,16 +196,28 @@ kept_facts : (F : Fact → Type 0) (rows : List KeptFact) → AllByRecursion (Of
 kept_facts F [] all = tt
 kept_facts F (row ∷ rows) all = (all.0, kept_facts F rows all.1)
 
-pub marked_have : (D : Mac → Type 0) (F : Fact → Type 0) (asked : Mark → Bool) (known : Knowledge) (now : ℕ) → Stores D F (kept_of known) → AllByRecursion F (facts_marked asked known.services now)
+pub marked_have : (D : Mac → Type 0) (F : Holds) (asked : Mark → Bool) (known : Knowledge) (now : ℕ) → Stores D F (kept_of known) → AllByRecursion F.pushed (facts_marked asked known.services now)
 marked_have D F asked known now s =
     let rows = facts_at known.services.facts now in
     let test : KeptFact → Bool = λ kept. asked kept.mark in
-    kept_facts F (filter test rows) (each_filtered (OfKept F) test rows (facts_have F known.services.facts now s.facts))
+    kept_facts F.pushed (filter test rows) (each_filtered (OfKept F.pushed) test rows (facts_have F.pushed known.services.facts now s.facts))
 
-pub typed_have : (D : Mac → Type 0) (F : Fact → Type 0) (known : Knowledge) (now type_no : ℕ) → Stores D F (kept_of known) → AllByRecursion F (facts_of_type known.services now type_no)
-typed_have D F known now type_no s =
+-- those of a type that is asked for answer
+answers_each : (F : Holds) (type_no : ℕ) (facts : List Fact) → F.asked type_no → AllByRecursion F.pushed facts → AllByRecursion F.answered (filter (λ (fact : Fact). fact.type_no == type_no) facts)
+answers_each F type_no [] asked all = tt
+answers_each F type_no (fact ∷ facts) asked all = go (fact.type_no == type_no) refl (answers_each F type_no facts asked all.1)
+  where
+    rest : List Fact
+    rest = filter (λ (one : Fact). one.type_no == type_no) facts
+
+    go : (b : Bool) → (fact.type_no == type_no) ≡ b → AllByRecursion F.answered rest → AllByRecursion F.answered (cond b (fact ∷ rest) rest)
+    go true is more = let same : type_no ≡ fact.type_no = sym (eqb-true fact.type_no type_no is) in (F.answers fact all.0 (subst F.asked same asked), more)
+    go false is more = more
+
+pub typed_have : (D : Mac → Type 0) (F : Holds) (known : Knowledge) (now type_no : ℕ) → F.asked type_no → Stores D F (kept_of known) → AllByRecursion F.answered (facts_of_type known.services now type_no)
+typed_have D F known now type_no asked s =
     let rows = facts_at known.services.facts now in
-    each_filtered F (λ (fact : Fact). fact.type_no == type_no) (map (λ (kept : KeptFact). kept.fact) rows) (kept_facts F rows (facts_have F known.services.facts now s.facts))
+    answers_each F type_no (map (λ (kept : KeptFact). kept.fact) rows) asked (kept_facts F.pushed rows (facts_have F.pushed known.services.facts now s.facts))
 
 -- ---- parts
 fitting_have : (F : Fact → Type 0) (room : ℕ) (facts : List Fact) → room ≤ 1396 → AllByRecursion F facts → AllByRecursion (Fits F) (take (fitting room facts) facts)
@@ -205,14 +241,17 @@ pieces_have F (suc more) facts all = go (fitting 1396 facts == 0) (pieces_have F
     go true others = tt
     go false others = (fitting_have F 1396 facts (omega arith) all, others)
 
-numbered_have : (F : Fact → Type 0) (push : Bool) (id number : ℕ) (pieces : List (List Fact)) → AllByRecursion (λ (piece : List Fact). AllByRecursion F piece) pieces → AllByRecursion (MessageHas F) (map (part_message push id) (numbered number pieces))
+numbered_have : (F : Holds) (push : Bool) (id number : ℕ) (pieces : List (List Fact)) → AllByRecursion (λ (piece : List Fact). AllByRecursion (holds_of F push) piece) pieces → AllByRecursion (MessageHas F) (map (part_message push id) (numbered number pieces))
 numbered_have F push id number [] all = tt
 numbered_have F push id number (facts ∷ rest) all = (all.0, numbered_have F push id (suc number) rest all.1)
 
-pub messages_have : (F : Fact → Type 0) (push : Bool) (id : ℕ) (facts : List Fact) → AllByRecursion F facts → AllByRecursion (MessageHas (Fits F)) (transaction_messages push id facts)
+pub messages_have : (F : Holds) (push : Bool) (id : ℕ) (facts : List Fact) → AllByRecursion (holds_of F push) facts → AllByRecursion (MessageHas (fitting_facts F)) (transaction_messages push id facts)
 messages_have F push id facts all =
-    each_appended (MessageHas (Fits F)) (map (part_message push id) (parts_of facts)) (HasEnd push id (length (parts_of facts)) ∷ [])
-    (numbered_have (Fits F) push id 0 (fact_pieces most_parts facts) (pieces_have F most_parts facts all)) (tt, tt)
+    each_appended (MessageHas (fitting_facts F)) (map (part_message push id) (parts_of facts)) (HasEnd push id (length (parts_of facts)) ∷ []) (go push all) (tt, tt)
+  where
+    go : (b : Bool) → AllByRecursion (holds_of F b) facts → AllByRecursion (MessageHas (fitting_facts F)) (map (part_message b id) (parts_of facts))
+    go true has = numbered_have (fitting_facts F) true id 0 (fact_pieces most_parts facts) (pieces_have F.pushed most_parts facts has)
+    go false has = numbered_have (fitting_facts F) false id 0 (fact_pieces most_parts facts) (pieces_have F.answered most_parts facts has)
 
 -- ---- primaries
 primaries_whole : (D : Mac → Type 0) (calls : List PrimaryCall) → AllByRecursion (λ (call : PrimaryCall). D call.primary) calls → AllByRecursion D (announced_primaries calls)
@@ -231,14 +270,14 @@ rows_whole D q known now (mac ∷ rest) all = go (last_announced known.services.
     go None more = more
     go (Some moment) more = (all.0, more)
 
-known_whole : (q : Queries) (known : Knowledge) (now : ℕ) (D : Mac → Type 0) (F : Fact → Type 0) → Stores D F (kept_of known) → AllByRecursion (RowWhole D) (primary_rows q known now)
+known_whole : (q : Queries) (known : Knowledge) (now : ℕ) (D : Mac → Type 0) (F : Holds) → Stores D F (kept_of known) → AllByRecursion (RowWhole D) (primary_rows q known now)
 known_whole q known now D F s = rows_whole D q known now (announced_primaries known.services.primaries) (primaries_whole D known.services.primaries s.primaries)
 
 origs_whole : (D : Mac → Type 0) (rows : List PrimaryRow) → AllByRecursion (RowWhole D) rows → AllByRecursion D (map (λ (row : PrimaryRow). row.orig) rows)
 origs_whole D [] all = tt
 origs_whole D (row ∷ rows) all = (all.0, origs_whole D rows all.1)
 
-pub reached_whole : (q : Queries) (known : Knowledge) (now : ℕ) (D : Mac → Type 0) (F : Fact → Type 0) → Stores D F (kept_of known) → AllByRecursion D (reached_primaries q known now)
+pub reached_whole : (q : Queries) (known : Knowledge) (now : ℕ) (D : Mac → Type 0) (F : Holds) → Stores D F (kept_of known) → AllByRecursion D (reached_primaries q known now)
 reached_whole q known now D F s =
     let rows = primary_rows q known now in
     origs_whole D (filter (is_reached q known now) rows) (each_filtered (RowWhole D) (is_reached q known now) rows (known_whole q known now D F s))
@@ -265,7 +304,7 @@ best_row_whole D now (first ∷ rest) all = go (is_eligible now first) (best_pri
     go true o old = some_row D (better_primary first o) (better o old)
     go false o old = old
 
-pub chosen_whole : (q : Queries) (known : Knowledge) (now : ℕ) (D : Mac → Type 0) (F : Fact → Type 0) → Stores D F (kept_of known) → (mac : Mac) → chosen_primary q known now ≡ Some mac → D mac
+pub chosen_whole : (q : Queries) (known : Knowledge) (now : ℕ) (D : Mac → Type 0) (F : Holds) → Stores D F (kept_of known) → (mac : Mac) → chosen_primary q known now ≡ Some mac → D mac
 chosen_whole q known now D F s mac is = go (best_primary_row now (primary_rows q known now)) (best_row_whole D now (primary_rows q known now) (known_whole q known now D F s)) is
   where
     go : (o : Option PrimaryRow) → IfRow D o → option_map (λ (row : PrimaryRow). row.orig) o ≡ Some mac → D mac
@@ -277,11 +316,21 @@ all_any : {X : Type 0} (P : X → Type 0) → ((x : X) → P x) → (xs : List X
 all_any P any [] = tt
 all_any P any (x ∷ xs) = (any x, all_any P any xs)
 
-pub any_message : (F : Fact → Type 0) → ((fact : Fact) → F fact) → (message : FactMessage) → MessageHas F message
-any_message F any (HasPart push id number facts) = all_any F any facts
-any_message F any Primary = tt
-any_message F any (Requests id type_no) = tt
-any_message F any (HasEnd push id count) = tt
+-- what holds of all facts and types
+abbrev pub any_facts : Holds
+any_facts = record {
+  pushed = λ fact. Unit {0};
+  answered = λ fact. Unit {0};
+  asked = λ type_no. Unit {0};
+  answers = λ fact has asked. tt;
+}
+
+pub any_message : (message : FactMessage) → MessageHas any_facts message
+any_message (HasPart true id number facts) = all_any (λ fact. Unit {0}) (λ fact. tt) facts
+any_message (HasPart false id number facts) = all_any (λ fact. Unit {0}) (λ fact. tt) facts
+any_message Primary = tt
+any_message (Requests id type_no) = tt
+any_message (HasEnd push id count) = tt
 
 any_call : (call : TxnCall) → CallBrings (λ fact. Unit {0}) call
 any_call call = go call.brought
@@ -290,7 +339,7 @@ any_call call = go call.brought
     go (APart number facts) = all_any (λ fact. Unit {0}) (λ fact. tt) facts
     go (AnEnd count) = tt
 
-pub any_stores : (kept : Kept) → Stores (λ mac. Unit {0}) (λ fact. Unit {0}) kept
+pub any_stores : (kept : Kept) → Stores (λ mac. Unit {0}) any_facts kept
 any_stores kept = record {
   primaries = all_any (λ (call : PrimaryCall). Unit {0}) (λ call. tt) kept.primaries;
   facts = all_any (λ (call : FactCall). Unit {0}) (λ call. tt) kept.facts;
@@ -303,10 +352,17 @@ pub each_more : {X : Type 0} (P Q : X → Type 0) → ((x : X) → P x → Q x) 
 each_more P Q more [] all = tt
 each_more P Q more (x ∷ xs) all = (more x all.0, each_more P Q more xs all.1)
 
-pub more_message : (F G : Fact → Type 0) → ((fact : Fact) → F fact → G fact) → (message : FactMessage) → MessageHas F message → MessageHas G message
-more_message F G more (HasPart push id number facts) has = each_more F G more facts has
+-- what holds of facts and of types holds of more
+pub record AreMore (F G : Holds) : Type 0 where
+  pub pushed : (fact : Fact) → F.pushed fact → G.pushed fact
+  pub answered : (fact : Fact) → F.answered fact → G.answered fact
+  pub asked : (type_no : ℕ) → F.asked type_no → G.asked type_no
+
+pub more_message : (F G : Holds) → AreMore F G → (message : FactMessage) → MessageHas F message → MessageHas G message
+more_message F G more (HasPart true id number facts) has = each_more F.pushed G.pushed more.pushed facts has
+more_message F G more (HasPart false id number facts) has = each_more F.answered G.answered more.answered facts has
 more_message F G more Primary has = tt
-more_message F G more (Requests id type_no) has = tt
+more_message F G more (Requests id type_no) has = more.asked type_no has
 more_message F G more (HasEnd push id count) has = tt
 
 more_call : (F G : Fact → Type 0) → ((fact : Fact) → F fact → G fact) → (call : TxnCall) → CallBrings F call → CallBrings G call
@@ -316,10 +372,10 @@ more_call F G more call has = go call.brought has
     go (APart number facts) has = each_more F G more facts has
     go (AnEnd count) has = tt
 
-pub more_stores : (D : Mac → Type 0) (F G : Fact → Type 0) → ((fact : Fact) → F fact → G fact) → (kept : Kept) → Stores D F kept → Stores D G kept
+pub more_stores : (D : Mac → Type 0) (F G : Holds) → AreMore F G → (kept : Kept) → Stores D F kept → Stores D G kept
 more_stores D F G more kept s = record {
   primaries = s.primaries;
-  facts = each_more (λ (call : FactCall). F (fact_of_call call)) (λ (call : FactCall). G (fact_of_call call)) (λ call. more (fact_of_call call)) kept.facts s.facts;
-  pushes = each_more (CallBrings F) (CallBrings G) (more_call F G more) kept.pushes s.pushes;
-  answers = each_more (CallBrings F) (CallBrings G) (more_call F G more) kept.answers s.answers;
+  facts = each_more (λ (call : FactCall). F.pushed (fact_of_call call)) (λ (call : FactCall). G.pushed (fact_of_call call)) (λ call. more.pushed (fact_of_call call)) kept.facts s.facts;
+  pushes = each_more (CallBrings F.pushed) (CallBrings G.pushed) (more_call F.pushed G.pushed more.pushed) kept.pushes s.pushes;
+  answers = each_more (CallBrings F.answered) (CallBrings G.answered) (more_call F.answered G.answered more.answered) kept.answers s.answers;
 }

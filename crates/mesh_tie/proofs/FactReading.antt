@@ -14,7 +14,7 @@ use Rattle.mesh_model.specs.Packets.Numbers.{alfred_ethertype, client_ethertype,
 use Rattle.mesh_model.specs.Packets.Payload.{ClientFrame, client_frame, client_frame_of, payload_spelling}
 use Rattle.mesh_tie.specs.Sources.{IsWhole}
 use Rattle.mesh_tie.proofs.EtherReading.{IfFrom, addresses_dropped, frame_from, from_whole, other_type, type_begins}
-use Rattle.mesh_tie.proofs.FactLemmas.{Fits, MessageHas}
+use Rattle.mesh_tie.proofs.FactLemmas.{Fits, Holds, MessageHas, fitting_facts, holds_of}
 use Rattle.mesh_tie.proofs.HeadLemmas.{mac6, six}
 
 -- ---- other payloads
@@ -111,8 +111,12 @@ facts_back F whole (suc n) (fact ∷ rest) found all is = go (λ more q. facts_b
     go others false true e = cc
     go others false false e = by (facts_within n (flat_map fact_spelling rest)) (sym read ∙ e) others
 
+-- what holds of facts holds of those from whole addresses alone
+abbrev pub AreFromWhole : Holds → Type 0
+AreFromWhole F = (push : Bool) (fact : Fact) → holds_of F push fact → IsWhole fact.source
+
 -- ---- messages
-part_back : (F : Fact → Type 0) → ((fact : Fact) → F fact → IsWhole fact.source) → (push : Bool) (id number : ℕ) (facts : List Fact) (found : FactMessage) → AllByRecursion (Fits F) facts
+part_back : (F : Holds) → AreFromWhole F → (push : Bool) (id number : ℕ) (facts : List Fact) (found : FactMessage) → AllByRecursion (Fits (holds_of F push)) facts
     → Rattle.mesh_model.specs.Packets.FactMessages.part_of push (rest_spelling (HasPart push id number facts)) ≡ Some found → MessageHas F found
 part_back F whole push id number facts found all is = go (nat_lt (length rest) 4) (facts_of body) refl is
   where
@@ -127,34 +131,37 @@ part_back F whole push id number facts found all is = go (nat_lt (length rest) 4
     go false None read e = cc
     go false (Some some) read e =
         let same : HasPart push (big_number 2 rest) (big_number 2 (drop 2 rest)) some ≡ found = cc in
-        subst (MessageHas F) same (facts_back F whole (length body) facts some all read)
+        subst (MessageHas F) same (facts_back (holds_of F push) (whole push) (length body) facts some all read)
 
-end_none : (F : Fact → Type 0) (push : Bool) (rest : List ℕ) (found : FactMessage) → Rattle.mesh_model.specs.Packets.FactMessages.end_of push rest ≡ Some found → MessageHas F found
+end_none : (F : Holds) (push : Bool) (rest : List ℕ) (found : FactMessage) → Rattle.mesh_model.specs.Packets.FactMessages.end_of push rest ≡ Some found → MessageHas F found
 end_none F push rest found is = go (length rest == 4) is
   where
     go : (b : Bool) → cond b (Some (HasEnd push (big_number 2 rest) (big_number 2 (drop 2 rest)))) None ≡ Some found → MessageHas F found
     go true e = let same : HasEnd push (big_number 2 rest) (big_number 2 (drop 2 rest)) ≡ found = cc in subst (MessageHas F) same tt
     go false e = cc
 
-request_none : (F : Fact → Type 0) (rest : List ℕ) (found : FactMessage) → Rattle.mesh_model.specs.Packets.FactMessages.request_of rest ≡ Some found → MessageHas F found
-request_none F rest found is = go (length rest == 3) is
+request_back : (F : Holds) (id type_no : ℕ) (found : FactMessage) → F.asked type_no → Rattle.mesh_model.specs.Packets.FactMessages.request_of (rest_spelling (Requests id type_no)) ≡ Some found → MessageHas F found
+request_back F id type_no found asked is = go (length rest == 3) is
   where
+    rest : List ℕ
+    rest = rest_spelling (Requests id type_no)
+
     one : FactMessage
     one = Requests (big_number 2 rest) (Rattle.std.specs.Prelude.slice_index rest 2)
 
     go : (b : Bool) → cond b (Some one) None ≡ Some found → MessageHas F found
-    go true e = let same : one ≡ found = cc in subst (MessageHas F) same tt
+    go true e = let same : one ≡ found = cc in subst (MessageHas F) same asked
     go false e = cc
 
-kind_back : (F : Fact → Type 0) → ((fact : Fact) → F fact → IsWhole fact.source) → (message found : FactMessage) → MessageHas (Fits F) message → message_of_kind (kind_of message) (rest_spelling message) ≡ Some found → MessageHas F found
+kind_back : (F : Holds) → AreFromWhole F → (message found : FactMessage) → MessageHas (fitting_facts F) message → message_of_kind (kind_of message) (rest_spelling message) ≡ Some found → MessageHas F found
 kind_back F whole (HasPart true id number facts) found all is = part_back F whole true id number facts found all is
 kind_back F whole (HasPart false id number facts) found all is = part_back F whole false id number facts found all is
 kind_back F whole Primary found all is = let same : Primary ≡ found = cc in subst (MessageHas F) same tt
-kind_back F whole (Requests id type_no) found all is = request_none F (rest_spelling (Requests id type_no)) found is
+kind_back F whole (Requests id type_no) found all is = request_back F id type_no found all is
 kind_back F whole (HasEnd true id count) found all is = end_none F true (rest_spelling (HasEnd true id count)) found is
 kind_back F whole (HasEnd false id count) found all is = end_none F false (rest_spelling (HasEnd false id count)) found is
 
-in_frame_back : (F : Fact → Type 0) → ((fact : Fact) → F fact → IsWhole fact.source) → (one : EtherFrame) (message : FactMessage) (came : CameFact) → MessageHas (Fits F) message
+in_frame_back : (F : Holds) → AreFromWhole F → (one : EtherFrame) (message : FactMessage) (came : CameFact) → MessageHas (fitting_facts F) message
     → one.rest ≡ kind_of message ∷ 0 ∷ big_bytes 2 (length (rest_spelling message)) ++ rest_spelling message → message_in_frame one ≡ Some came → MessageHas F came.message
 in_frame_back F whole one message came all rest_is is =
     go ((one.vid.0 == 0) && has_fitting_length one.rest) (message_of_kind (Rattle.std.specs.Prelude.slice_index one.rest 0) (drop 4 one.rest))
@@ -168,7 +175,7 @@ in_frame_back F whole one message came all rest_is is =
     go false o read e = cc
 
 -- what is read of a message that was spelled
-pub message_back : (F : Fact → Type 0) → ((fact : Fact) → F fact → IsWhole fact.source) → (dst src : Mac) (message : FactMessage) (came : CameFact) → IsWhole dst → IsWhole src → MessageHas (Fits F) message
+pub message_back : (F : Holds) → AreFromWhole F → (dst src : Mac) (message : FactMessage) (came : CameFact) → IsWhole dst → IsWhole src → MessageHas (fitting_facts F) message
     → fact_message_of (fact_message_spelling dst src message) ≡ Some came → MessageHas F came.message
 message_back F fact_whole dst src message came whole also all is = go (nat_lt (length bytes) 12) (sym at ∙ is)
   where

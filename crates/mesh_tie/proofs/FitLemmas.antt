@@ -38,7 +38,7 @@ use Rattle.mesh_model.specs.Tables.Sums.{entry_sum}
 use Rattle.mesh_model.specs.Tables.Versions.{Version, next_byte}
 use Rattle.mesh_laws.proofs.MachineInvariant.{newest_or_older}
 use Rattle.mesh_laws.proofs.Schedule.Members.{one_some}
-use Rattle.mesh_tie.specs.Steps.{IsClient, IsReachable, MayBeGiven, Steps, begins, frame_comes, goes_on, lan_comes, lan_joins, line_gives, link_joins, newest_moment, node_joins, node_ticks, put_comes, put_reaches, time_passes, TellsClient}
+use Rattle.mesh_tie.specs.Steps.{IsClient, IsReachable, MayBeGiven, Steps, begins, frame_comes, goes_on, lan_comes, lan_joins, line_gives, link_joins, newest_moment, node_joins, node_ticks, put_comes, put_reaches, time_passes, TellsClient, routes_told}
 use Rattle.mesh_tie.specs.Tie.{FitsAnswer, FitsEntry}
 use Rattle.mesh_tie.specs.TieLaws.{AllKeep, CommitsAlwaysFit}
 use Rattle.mesh_tie.proofs.EntryLemmas.{each_appended}
@@ -370,9 +370,10 @@ step_fits queries mesh _ bring fits (put_comes _ put frame by is tells) = fits
 step_fits queries mesh _ bring fits (put_reaches _ number now put frame found carries) = fits
 step_fits queries mesh after bring fits (lan_comes _ _ place now number node put found may among is) = given_fits queries mesh after place now 0 node (LanFrame put.bytes) fits found may (bring number put among) is
 step_fits queries mesh _ bring fits (time_passes _ happening) = fits
+step_fits queries mesh _ bring fits (routes_told _ lines watch) = fits
 
 logs_fit : (queries : Mac → Queries) → AllKeep queries → (mesh : Mesh) → IsReachable queries mesh → LogsFit mesh
-logs_fit queries keep _ begins = λ place node got. cc
+logs_fit queries keep _ (begins watch) = λ place node got. cc
 logs_fit queries keep _ (goes_on mesh after r s) = step_fits queries mesh after (puts_bring queries keep mesh r) (logs_fit queries keep mesh r) s
 
 pub commits_always_fit : CommitsAlwaysFit

@@ -25,6 +25,7 @@ pub mod NodeSteps
 pub mod LanSteps
 pub mod SentLemmas
 pub mod NodeLists
+pub mod RouteEvents
 pub mod OrderSteps
 pub mod EtherReading
 pub mod FactLemmas
@@ -53,6 +54,7 @@ pub mod NoNodes
 pub mod TellReading
 pub mod LineReach
 pub mod CutRuns
+pub mod PictureRuns
 pub mod AliasRows
 pub mod SeenLemmas
 pub mod ShownLemmas

@@ -12,15 +12,15 @@ use Rattle.mesh_model.specs.declared.ending.Stop.TheVariants.{Limit, Refused}
 use Rattle.mesh_model.specs.declared.frame_choice.FrameChoice.{FrameChoice}
 use Rattle.mesh_model.specs.declared.line_form.Algorithm.{Algorithm}
 use Rattle.mesh_model.specs.declared.line_form.Command.{Command}
-use Rattle.mesh_model.specs.declared.line_form.Command.TheVariants.{Nothing, Algo, Node, Link, Lan, Frame, Gone, Join, Leave, Arp, Dhcp, Wifi, GwOff, GwServer, GwClient, Mcast, Dat, Frag, Alfred, Put, Get, Ping, Trace, Reboot, Run as RunFor, Deliver, Show, Decode}
+use Rattle.mesh_model.specs.declared.line_form.Command.TheVariants.{Nothing, Algo, Node, Link, Lan, Frame, Gone, Join, Leave, Arp, Dhcp, Wifi, GwOff, GwServer, GwClient, Mcast, Dat, Frag, Vis, Alfred, Put, Get, Ping, Trace, Reboot, Run as RunFor, Deliver, Show, Decode}
 use Rattle.mesh_model.specs.Clients.Log.{Line, LineGiven, Attach, Sets}
 use Rattle.mesh_model.specs.Clients.Settings.{NoPart, Serves, Chooses}
-use Rattle.mesh_model.specs.Clients.Settings.{ArpTable as ArpTableSet, FactStore as FactStoreSet, Gateway as GatewaySet, LongestWhole as LongestWholeSet, Multicast as MulticastSet, Wifi as WifiSet}
+use Rattle.mesh_model.specs.Clients.Settings.{ArpTable as ArpTableSet, FactStore as FactStoreSet, Gateway as GatewaySet, LongestWhole as LongestWholeSet, Multicast as MulticastSet, Pictures as PicturesSet, Wifi as WifiSet}
 use Rattle.mesh_model.specs.Clients.Log.{Frame as FrameGiven, Gone as GoneGiven, Join as JoinGiven, Leave as LeaveGiven, Arp as ArpGiven, Dhcp as DhcpGiven, Put as PutGiven, Get as GetGiven, Ping as PingGiven, Trace as TraceGiven, Reboot as RebootGiven}
 use Rattle.mesh_model.specs.Net.Inputs.{all_given, given_to}
-use Rattle.mesh_model.specs.Net.Lans.{joins_lan, with_lan}
+use Rattle.mesh_model.specs.Net.Lans.{gateways_at, joins_lan, with_lan}
 use Rattle.mesh_model.specs.Net.Limits.{clock_limit, lans_limit, links_limit, nodes_limit}
-use Rattle.mesh_model.specs.Net.Mesh.{NodeLog, NetLan, NetLink, LanPut, Mesh, empty_mesh, has_address, address_at}
+use Rattle.mesh_model.specs.Net.Mesh.{NodeLog, NetLan, NetLink, LanPut, Mesh, begun_mesh, has_address, address_at}
 use Rattle.mesh_model.specs.Net.Next.{Happens, delivers, lan_delivers, ticks}
 use Rattle.mesh_model.specs.Net.Runs.{Course, PassedLimit, begin, delivered, run_to}
 use Rattle.mesh_model.specs.Net.Sending.{Attempt, with_put}
@@ -32,8 +32,8 @@ use Rattle.mesh_model.specs.Run.Passing.{after_attempt, course_outcome, gone_on,
 use Rattle.mesh_model.specs.Run.PlainRun.{Run, after_line, after_lines, after_outcome, after_reading, line_outcome, passes_input, passes_line, plain_run, start}
 use Rattle.mesh_model.specs.Run.Rules.{carried_out, first_refused_rule, setup_of, unless_refused, wrong_name}
 use Rattle.mesh_model.specs.Run.Shown.{after_print, shown}
-use Rattle.mesh_model.specs.Run.State.{Decoded, Printed, State, first_state, lan_place_of, node_named, place_of}
-use Rattle.mesh_model.specs.Run.Steps.{Step, at_node, at_place, gateways_at, gateways_step, lan_frame_step, places_named, choice_step, input_step, link_step, new_node, session_step, step_of, with_link, with_node}
+use Rattle.mesh_model.specs.Run.State.{Decoded, Printed, State, first_state, lan_place_of, node_named, place_of, first_watch}
+use Rattle.mesh_model.specs.Run.Steps.{Step, at_node, at_place, gateways_step, lan_frame_step, places_named, choice_step, input_step, link_step, new_node, session_step, step_of, with_link, with_node}
 use Rattle.mesh_model.specs.Scenario.Commands.{command_of_line}
 use Rattle.mesh_model.specs.Scenario.Lines.{content, lines_of}
 use Rattle.mesh_model.specs.Scenario.Readings.{Reading}
@@ -232,9 +232,10 @@ step_leads state (GwClient node policy) b tell none = line_leads state node (Set
 step_leads state (Mcast node flags) b tell none = line_leads state node (Sets (MulticastSet flags)) b tt
 step_leads state (Dat node on) b tell none = line_leads state node (Sets (ArpTableSet on)) b tt
 step_leads state (Frag node longest) b tell none = line_leads state node (Sets (LongestWholeSet longest)) b tt
+step_leads state (Vis node on) b tell none = line_leads state node (Sets (PicturesSet on)) b tt
 step_leads state (Alfred node mode) b tell none = line_leads state node (Sets (FactStoreSet mode)) b tt
-step_leads state (Put node type_no version text) b tell none = line_leads state node (PutGiven type_no version text) b tt
-step_leads state (Get node type_no) b tell none = line_leads state node (GetGiven type_no) b tt
+step_leads state (Put node type_no version text) b tell none = line_leads state node (PutGiven type_no version text) b tell
+step_leads state (Get node type_no) b tell none = line_leads state node (GetGiven type_no) b tell
 step_leads state (Ping node target) b tell none = session_leads state PingGiven (λ mac. tt) node target b
 step_leads state (Trace node target) b tell none = session_leads state TraceGiven (λ mac. tt) node target b
 step_leads state (Reboot node) b tell none = line_leads state node RebootGiven b tt
@@ -321,18 +322,18 @@ first_between : (choice : FrameChoice) → IsBetweenLines (first_state choice)
 first_between choice = record {
   is_reached = first_is_reached choice;
   quiet = λ x happens later. absurd (none_happens x happens);
-  reachable = begins;
+  reachable = begins (first_watch choice);
   settled = λ place node got. cc;
 }
   where
-    none_happens : (x : Rattle.mesh_model.specs.declared.happening.Happening.Happening) → Happens empty_mesh x → ⊥
+    none_happens : (x : Rattle.mesh_model.specs.declared.happening.Happening.Happening) → Happens (begun_mesh (first_watch choice)) x → ⊥
     none_happens x (delivers d) = let found = d.found in cc
     none_happens x (lan_delivers d) = let found = d.found in cc
     none_happens x (ticks d) = let found = d.found in cc
 
 pub first_holds : (choice : FrameChoice) → RunHolds (start choice)
-first_holds choice = record { going = λ none. first_between choice; reachable = begins }
+first_holds choice = record { going = λ none. first_between choice; reachable = begins (first_watch choice) }
 
 pub plain_runs_are_reachable : PlainRunsAreReachable
 unfolding plain_run
-plain_runs_are_reachable choice input = (lines_hold (start choice) (lines_of input) (record { going = λ none. first_between choice; reachable = begins })).reachable
+plain_runs_are_reachable choice input = (lines_hold (start choice) (lines_of input) (record { going = λ none. first_between choice; reachable = begins (first_watch choice) })).reachable

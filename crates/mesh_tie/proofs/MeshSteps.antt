@@ -17,11 +17,11 @@ use Rattle.mesh_model.specs.Commits.Announcements.{announced_changes, told_chang
 use Rattle.mesh_model.specs.Commits.History.{History, with_message, commits, committed, history, is_commit_tick, next_history, present_table, restarted}
 use Rattle.mesh_model.specs.Commits.Versions.{first_commit, last_commit}
 use Rattle.mesh_model.specs.Knowledge.Known.{Knowledge}
-use Rattle.mesh_model.specs.Knowledge.Steps.{before_round, line_knowledge, knowledge, next_knowledge}
+use Rattle.mesh_model.specs.Knowledge.Steps.{before_telling, line_knowledge, knowledge, next_knowledge, table_behind}
 use Rattle.mesh_model.specs.Net.Due.{ticks_in}
 use Rattle.mesh_model.specs.Net.Inputs.{entry_of, given_to, noted_at, noting}
 use Rattle.mesh_model.specs.Net.Limits.{scenario_setup}
-use Rattle.mesh_model.specs.Net.Mesh.{NodeLog, SentFrame, LanPut, Mesh, empty_mesh}
+use Rattle.mesh_model.specs.Net.Mesh.{NodeLog, SentFrame, LanPut, Mesh, begun_mesh}
 use Rattle.mesh_model.specs.Net.Next.{Has}
 use Rattle.mesh_model.specs.Packets.Layout.{spelling}
 use Rattle.mesh_model.specs.Packets.LinkFrame.{link_frame}
@@ -34,7 +34,7 @@ use Rattle.mesh_laws.proofs.Schedule.Members.{get_either, one_some}
 use Rattle.mesh_tie.specs.Originators.{last_number, log_of, number_at_root}
 use Rattle.mesh_tie.specs.Sayings.{FrameSays}
 use Rattle.mesh_tie.specs.Sources.{IsWhole, KeepsOriginators}
-use Rattle.mesh_tie.specs.Steps.{IsReachable, Steps, begins, frame_comes, goes_on, lan_comes, lan_joins, line_gives, link_joins, node_joins, node_ticks, put_comes, put_reaches, time_passes, TellsClient}
+use Rattle.mesh_tie.specs.Steps.{IsReachable, Steps, begins, frame_comes, goes_on, lan_comes, lan_joins, line_gives, link_joins, node_joins, node_ticks, put_comes, put_reaches, time_passes, TellsClient, routes_told}
 use Rattle.mesh_tie.specs.Tie.{CommitsFit, FitsAnswer, FitsEntry, IsOrderly, IsTied, NodeIsTied, known_at_node}
 use Rattle.mesh_tie.specs.TieLaws.{AllKeep}
 use Rattle.mesh_tie.proofs.CommitLemmas.{Chain, Committed, Follows, announced_are, as_before, chain, chain_committed, committed_is, last_and_older, last_at, none_in_order, number_now, one_more, told_are}
@@ -53,6 +53,7 @@ use Rattle.mesh_tie.proofs.PacketSteps.{CameIn}
 use Rattle.mesh_tie.proofs.Sayable.{ActSays, Sayable, calm_row, frame_more, nothing_says, one_or_two, then_path}
 use Rattle.mesh_tie.proofs.SentLemmas.{HasGiven, IsFromActs, given_is}
 use Rattle.mesh_tie.proofs.TableLemmas.{FitsChange}
+use Rattle.mesh_model.specs.declared.route_line.RouteLine.{RouteLine}
 
 -- ---- commits
 -- a world whose commits are these, and all else as before
@@ -305,11 +306,11 @@ tick_does : (queries : Mac → Queries) (orig : Mac) (mesh : Mesh) (place now : 
     → FitsLog node (entry_of (scenario_setup queries) node now (Tick (suc (ticks_in node.log))))
     → DoesIt queries orig mesh place node (entry_of (scenario_setup queries) node now (Tick (suc (ticks_in node.log)))) (suc (ticks_in node.log)) log
 tick_does queries orig mesh place now node before log keeps o found l fit v midway =
-    subst (Goes orig log mesh.frames index v place acts) (sym (tick_same q now index known))
+    subst (Goes orig log mesh.frames index v place acts) (sym (tick_same q node.mac now index (table_behind node.mac node.log now index) known))
     (goes_by orig log mesh.frames index v place acts known.tables
     (each_appended (Sayable orig log index v) ticks told
     (tick_row orig log v q node.mac known.services.settings known.routes ms old (bridge node.log) now index keeps announcer)
-    (calm_row orig log index v told (calm_store node.mac told (round_stores q (before_round q now index known) (record { me = node.mac; now = now }) index)))) (stays_tied orig log mesh.frames v place known.tables (midway.nodes place node found)))
+    (calm_row orig log index v told (calm_store node.mac told (round_stores q (before_telling q node.mac now index (table_behind node.mac node.log now index) known) (record { me = node.mac; now = now }) index)))) (stays_tied orig log mesh.frames v place known.tables (midway.nodes place node found)))
   where
     q : Queries
     q = queries node.mac
@@ -330,7 +331,7 @@ tick_does queries orig mesh place now node before log keeps o found l fit v midw
     ticks = tick_acts q node.mac known.services.settings known.routes ms old (bridge node.log) now index
 
     told : List Act
-    told = fact_round_acts q (before_round q now index known) (record { me = node.mac; now = now }) index
+    told = fact_round_acts q (before_telling q node.mac now index (table_behind node.mac node.log now index) known) (record { me = node.mac; now = now }) index
 
     acts : List Act
     acts = ticks ++ told
@@ -481,6 +482,7 @@ step_tied queries mesh after keep h fit (lan_comes _ _ place now number node put
     given_step queries orig mesh after place now 0 node (LanFrame put.bytes) w h.orderly found tt is
     (lan_does queries orig mesh place now node put.bytes (log_of orig (noted_at place (entry_of (scenario_setup queries) node now (LanFrame put.bytes)) mesh.nodes)) h.orderly found (h.puts number put among)) base tied
 step_tied queries mesh _ keep h fit (time_passes _ happening) orig w base tied = record { world = w; path = no_move w; tied = record { commits = tied.commits; frames = tied.frames; nodes = tied.nodes; absent = tied.absent } }
+step_tied queries mesh _ keep h fit (routes_told _ lines watch) orig w base tied = record { world = w; path = no_move w; tied = record { commits = tied.commits; frames = tied.frames; nodes = tied.nodes; absent = tied.absent } }
 
 -- every commit of every mesh that is reached can be told
 abbrev pub AlwaysFit : (Mac → Queries) → Type 0
@@ -491,8 +493,8 @@ pub record Reached (queries : Mac → Queries) (mesh : Mesh) : Type 0 where
   pub holds : Holds queries mesh
   pub ties : (orig : Mac) → (w : World) × Reaches start w × IsTied queries orig mesh w
 
-empty_tied : (queries : Mac → Queries) (orig : Mac) → IsTied queries orig empty_mesh start
-empty_tied queries orig = record {
+empty_tied : (queries : Mac → Queries) (watch : Option (List RouteLine)) (orig : Mac) → IsTied queries orig (begun_mesh watch) start
+empty_tied queries watch orig = record {
   commits = refl;
   frames = λ place frame got. cc;
   nodes = λ place node got. cc;
@@ -507,9 +509,9 @@ holds_at : (queries : Mac → Queries) → AlwaysFit queries → AlwaysBring que
 holds_at queries fit bring mesh r = record { orderly = orderly queries mesh r; fits = fit mesh r; puts = bring mesh r }
 
 pub reached_by : (queries : Mac → Queries) → AllKeep queries → AlwaysFit queries → AlwaysBring queries → (mesh : Mesh) → IsReachable queries mesh → Reached queries mesh
-reached_by queries keep fit bring _ begins = record {
-  holds = holds_at queries fit bring empty_mesh begins;
-  ties = λ orig. (start, no_move start, empty_tied queries orig);
+reached_by queries keep fit bring _ (begins watch) = record {
+  holds = holds_at queries fit bring (begun_mesh watch) (begins watch);
+  ties = λ orig. (start, no_move start, empty_tied queries watch orig);
 }
 reached_by queries keep fit bring _ (goes_on mesh after r s) =
     let before = reached_by queries keep fit bring mesh r in

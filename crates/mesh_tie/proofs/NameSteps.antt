@@ -15,7 +15,7 @@ use Rattle.mesh_model.specs.Clients.Log.{Given, Tick, LinkFrame, Frame, Gone, Jo
 use Rattle.mesh_model.specs.Clients.Mentions.{Mention, key_of, mentions, next_mentions, passed_from_lan}
 use Rattle.mesh_model.specs.Commits.History.{commits, history, restarted}
 use Rattle.mesh_model.specs.Knowledge.Known.{Knowledge}
-use Rattle.mesh_model.specs.Knowledge.Steps.{Coming, advertised, after_packet, after_sighting, before_round, knowledge, stays_on_lan}
+use Rattle.mesh_model.specs.Knowledge.Steps.{Coming, advertised, after_packet, after_sighting, before_telling, knowledge, stays_on_lan, table_behind}
 use Rattle.mesh_model.specs.Net.Due.{ticks_in}
 use Rattle.mesh_model.specs.Net.Inputs.{entry_of, given_to, noted_at, noting}
 use Rattle.mesh_model.specs.Net.Limits.{scenario_setup}
@@ -37,7 +37,7 @@ use Rattle.mesh_tie.specs.ByTable.{FramesByTable, HadCome, IsOfPacket, IsSentByT
 use Rattle.mesh_tie.specs.Originators.{commits_of, log_of}
 use Rattle.mesh_tie.specs.Sayings.{PacketSays}
 use Rattle.mesh_tie.specs.Sources.{IsWhole, KeepsOriginators}
-use Rattle.mesh_tie.specs.Steps.{IsReachable, Steps, TellsClient, begins, frame_comes, goes_on, lan_comes, lan_joins, line_gives, link_joins, node_joins, node_ticks, put_comes, put_reaches, time_passes}
+use Rattle.mesh_tie.specs.Steps.{IsReachable, Steps, TellsClient, begins, frame_comes, goes_on, lan_comes, lan_joins, line_gives, link_joins, node_joins, node_ticks, put_comes, put_reaches, time_passes, routes_told}
 use Rattle.mesh_tie.specs.Tie.{CommitsFit, IsTied, KnowsWhole, NodeIsTied, known_at_node}
 use Rattle.mesh_tie.specs.TieLaws.{AllKeep}
 use Rattle.mesh_tie.proofs.BridgeActs.{claimed_puts}
@@ -365,7 +365,7 @@ tick_names queries mesh place now node orig log =
     let known = known_at_node queries node in
     let q = queries node.mac in
     let index = suc (ticks_in node.log) in
-    let before = before_round q now index known in
+    let before = before_telling q node.mac now index (table_behind node.mac node.log now index) known in
     let at : Place = record { me = node.mac; now = now } in
     let told = fact_round_acts q before at index in
     cut_names queries orig node.mac log mesh.frames node.log now (Tick index)
@@ -439,9 +439,10 @@ step_named queries mesh after keep h fit (lan_comes _ _ place now number node pu
     given_named queries orig mesh after place now 0 node given (named (none_before (commits orig (log_of orig mesh.nodes)) (commits orig log) (commits_kept orig node entry (log_of orig mesh.nodes) log l) clear)) found tt l is
     (lan_acts_name queries mesh place now node put.bytes orig h found clear)
 step_named queries mesh _ keep h fit (time_passes _ happening) orig named none = named none
+step_named queries mesh _ keep h fit (routes_told _ lines watch) orig named none = named none
 
 all_named : (queries : Mac → Queries) → AllKeep queries → (mesh : Mesh) → IsReachable queries mesh → (orig : Mac) → NamedIf queries orig mesh
-all_named queries keep _ begins orig = λ none place node newer older entry got split. cc
+all_named queries keep _ (begins watch) orig = λ none place node newer older entry got split. cc
 all_named queries keep _ (goes_on mesh after r s) orig =
     step_named queries mesh after keep (reached queries keep mesh r) (commits_always_fit queries keep after (goes_on mesh after r s)) s orig (all_named queries keep mesh r orig)
 

@@ -72,6 +72,7 @@ use Rattle.mesh_tie.proofs.BridgeActs.{AreBridging, IsBridging, hands_out, out_p
 use Rattle.mesh_tie.proofs.CommitLemmas.{at_root}
 use Rattle.mesh_tie.proofs.EntryLemmas.{each_appended, each_flat, each_of_any}
 use Rattle.mesh_tie.proofs.FactActs.{IsStoring, Storing, came_stores, each_storing, sends_announcement, sends_message, tells_fact, tells_none}
+use Rattle.mesh_tie.proofs.FactLemmas.{any_facts}
 use Rattle.mesh_tie.proofs.KnowsLemmas.{addressee_whole}
 use Rattle.mesh_tie.proofs.ServingActs.{IsServing, call_serves, each_serving, for_gateway, for_group, group_serves, serves_all, serves_here, serves_one}
 use Rattle.mesh_tie.proofs.ProbeActs.{AreProbing, IsProbing, icmp_puts, puts_message, puts_pinged, puts_traced, session_puts}
@@ -214,14 +215,14 @@ pub plain_unicast4 : (q : Queries) (me : Mac) (came : Coming) (known : Knowledge
 plain_unicast4 q me came known ttl ttvn dst src subtype tail =
     each_asking IsPlain plain_asking (unicast4_acts q me came known ttl ttvn dst src subtype tail) (unicast4_puts q me came known ttl ttvn dst src subtype tail)
 
-plain_storing : (me : Mac) (act : Act) → IsStoring (λ mac. Unit {0}) (λ fact. Unit {0}) me act → IsPlain act
+plain_storing : (me : Mac) (act : Act) → IsStoring (λ mac. Unit {0}) any_facts me act → IsPlain act
 plain_storing me _ (sends_message next dst message to has) = λ is. cc
 plain_storing me _ (sends_announcement number) = λ is. cc
 plain_storing me _ (tells_fact type_no fact has) = ((λ number moment from to reason bytes is. cc), (λ me n e is. cc))
 plain_storing me _ (tells_none type_no result none) = ((λ number moment from to reason bytes is. cc), (λ me n e is. cc))
 
 pub plain_store : (me : Mac) (acts : List Act) → Storing me acts → AllByRecursion IsPlain acts
-plain_store me acts all = each_storing (λ mac. Unit {0}) (λ fact. Unit {0}) me IsPlain (plain_storing me) acts all
+plain_store me acts all = each_storing (λ mac. Unit {0}) any_facts me IsPlain (plain_storing me) acts all
 
 -- ---- why something is sent by table
 some_one : {X : Type 0} (x y : X) → Some x ≡ Some y → x ≡ y

@@ -8,7 +8,7 @@ use Rattle.mesh_model.specs.Net.Inputs.{entry_of, given_to}
 use Rattle.mesh_model.specs.Net.Limits.{scenario_setup}
 use Rattle.mesh_model.specs.Net.Mesh.{NodeLog, Mesh}
 use Rattle.mesh_model.specs.Routes.Queries.{Queries}
-use Rattle.mesh_tie.specs.Steps.{IsReachable, Steps, begins, frame_comes, goes_on, lan_comes, lan_joins, line_gives, link_joins, node_joins, node_ticks, put_comes, put_reaches, time_passes}
+use Rattle.mesh_tie.specs.Steps.{IsReachable, Steps, begins, frame_comes, goes_on, lan_comes, lan_joins, line_gives, link_joins, node_joins, node_ticks, put_comes, put_reaches, time_passes, routes_told}
 use Rattle.mesh_tie.proofs.NodeLists.{got_noted}
 use Rattle.mesh_tie.proofs.SentLemmas.{given_is}
 
@@ -43,9 +43,10 @@ step_anyhow q r mesh _ (put_comes _ put frame by is tells) none = (none, put_com
 step_anyhow q r mesh _ (put_reaches _ number now put frame found carries) none = (none, put_reaches mesh number now put frame found carries)
 step_anyhow q r mesh after (lan_comes _ _ place now number node put found may among is) none = absurd (given_some q mesh after place now 0 node (LanFrame put.bytes) found is none)
 step_anyhow q r mesh _ (time_passes _ happening) none = (none, time_passes mesh happening)
+step_anyhow q r mesh _ (routes_told _ lines watch) none = (none, routes_told mesh lines watch)
 
 pub reachable_anyhow : (q r : Mac → Queries) (mesh : Mesh) → IsReachable q mesh → mesh.nodes ≡ [] → IsReachable r mesh
-reachable_anyhow q r _ begins none = begins
+reachable_anyhow q r _ (begins watch) none = begins watch
 reachable_anyhow q r _ (goes_on mesh after reach step) none =
     let s = step_anyhow q r mesh after step none in
     goes_on mesh after (reachable_anyhow q r mesh reach s.0) s.1

@@ -2,6 +2,7 @@
 use Rattle.std.proofs.Common.{◌≡◌, ◌≢◌, ◌⊎◌, inl, inr, ◌≤◌, ℕ, Bool, true, false, cond, ◌==◌, List, [], ◌∷◌, ◌++◌, length, is_some, Option, Some, None, refl, sym, ap, subst, ◌∙◌, arith}
 use Rattle.std.specs.List.{AllByRecursion}
 use Rattle.mesh_base.specs.declared.address.Mac.{Mac}
+use Rattle.mesh_base.specs.declared.client.Entry.{Entry}
 use Rattle.mesh_base.specs.declared.client.Key.{Key}
 use Rattle.mesh_model.specs.declared.act.Act.{Act}
 use Rattle.mesh_model.specs.declared.packet.Head.{Head}
@@ -43,7 +44,7 @@ use Rattle.mesh_model.specs.Tables.Versions.{Stamp, Version}
 use Rattle.mesh_laws.specs.Machine.Moves.{AreLastChanges, Reaches, announcement_of, announces}
 use Rattle.mesh_laws.specs.Machine.World.{Announcement, Node, Saying, World, WasSaid, start}
 use Rattle.mesh_laws.proofs.LastLogLemmas.{reboot_line}
-use Rattle.mesh_laws.proofs.StoreLemmas.{get_rest, round_at_rest}
+use Rattle.mesh_laws.proofs.StoreLemmas.{get_rest, tick_rest}
 use Rattle.mesh_tvlv.specs.Laws.{FitsKey}
 use Rattle.mesh_tie.specs.Originators.{last_number, number_at_root}
 use Rattle.mesh_tie.specs.Sayings.{FrameSays, IsAnnounced, PacketSays}
@@ -335,8 +336,8 @@ call_same q now known = go (is_some (gateway_way q known now))
     go false = refl
 
 -- a tick
-pub tick_knows : (q : Queries) (now index : ℕ) (known : Knowledge) → KnowsWhole known → KnowsWhole (after_tick q now index known)
-tick_knows q now index known k = (rest_leaves before (after_tick q now index known) (round_at_rest q now index before)).knows (go (is_commit_tick index))
+pub tick_knows : (q : Queries) (me : Mac) (now index : ℕ) (table : List Entry) (known : Knowledge) → KnowsWhole known → KnowsWhole (after_tick q me now index table known)
+tick_knows q me now index table known k = (rest_leaves before (after_tick q me now index table known) (tick_rest q me now index table known)).knows (go (is_commit_tick index))
   where
     before : Knowledge
     before = before_round q now index known
@@ -348,8 +349,8 @@ tick_knows q now index known k = (rest_leaves before (after_tick q now index kno
     go true = record { tables = k.tables; marks = k.marks; services = record { offers = k.services.offers; choice = choice_whole known.services.settings.gateway q ticked now k.services } }
     go false = record { tables = k.tables; marks = k.marks; services = k.services }
 
-pub tick_same : (q : Queries) (now index : ℕ) (known : Knowledge) → (after_tick q now index known).tables ≡ known.tables
-tick_same q now index known = (rest_leaves before (after_tick q now index known) (round_at_rest q now index before)).tables ∙ go (is_commit_tick index)
+pub tick_same : (q : Queries) (me : Mac) (now index : ℕ) (table : List Entry) (known : Knowledge) → (after_tick q me now index table known).tables ≡ known.tables
+tick_same q me now index table known = (rest_leaves before (after_tick q me now index table known) (tick_rest q me now index table known)).tables ∙ go (is_commit_tick index)
   where
     before : Knowledge
     before = before_round q now index known

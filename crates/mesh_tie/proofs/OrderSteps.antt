@@ -2,7 +2,7 @@
 use Rattle.std.proofs.Common.{◌≡◌, ◌⊎◌, inl, inr, ℕ, suc, [], ◌∷◌, ◌++◌, slice_get, Some, None, Ok, refl, sym, ap, subst, ◌∙◌}
 use Rattle.mesh_base.specs.declared.address.Mac.{Mac}
 use Rattle.mesh_model.specs.Clients.Log.{Given, Tick, LinkFrame, LanFrame, Line, LogEntry}
-use Rattle.mesh_model.specs.Knowledge.Steps.{knowledge, next_knowledge}
+use Rattle.mesh_model.specs.Knowledge.Steps.{knowledge, next_knowledge, table_behind}
 use Rattle.mesh_model.specs.Net.Due.{ticks_in}
 use Rattle.mesh_model.specs.Net.Inputs.{entry_of, given_to, noted_at, noting}
 use Rattle.mesh_model.specs.Net.Limits.{scenario_setup}
@@ -11,7 +11,7 @@ use Rattle.mesh_model.specs.Packets.LinkFrame.{link_frame}
 use Rattle.mesh_model.specs.Routes.Queries.{Queries}
 use Rattle.mesh_laws.proofs.Schedule.Members.{one_some}
 use Rattle.mesh_tie.specs.Sources.{IsWhole}
-use Rattle.mesh_tie.specs.Steps.{IsNew, IsReachable, Steps, begins, frame_comes, goes_on, lan_comes, lan_joins, line_gives, link_joins, node_joins, node_ticks, put_comes, put_reaches, time_passes}
+use Rattle.mesh_tie.specs.Steps.{IsNew, IsReachable, Steps, begins, frame_comes, goes_on, lan_comes, lan_joins, line_gives, link_joins, node_joins, node_ticks, put_comes, put_reaches, time_passes, routes_told}
 use Rattle.mesh_tie.specs.Tie.{IsOrderly, KnowsWhole, known_at_node}
 use Rattle.mesh_tie.proofs.AddressLemmas.{heads_whole}
 use Rattle.mesh_tie.proofs.LanSteps.{lan_knows}
@@ -83,7 +83,7 @@ step_orderly queries mesh after o (line_gives _ _ place now node line found may 
     knows_after queries node.mac mesh after place now 0 node (Line line) o found is (line_knows (queries node.mac) node.mac node.log (known_at_node queries node) now line (o.knows place node found))
 step_orderly queries mesh after o (node_ticks _ _ place now node found may is) =
     let index = suc (ticks_in node.log) in
-    knows_after queries node.mac mesh after place now index node (Tick index) o found is (tick_knows (queries node.mac) now index (known_at_node queries node) (o.knows place node found))
+    knows_after queries node.mac mesh after place now index node (Tick index) o found is (tick_knows (queries node.mac) node.mac now index (table_behind node.mac node.log now index) (known_at_node queries node) (o.knows place node found))
 step_orderly queries mesh after o (frame_comes _ _ place now number throughput from node frame found may sent whole is) =
     knows_after queries node.mac mesh after place now frame.root node (LinkFrame (suc number) from throughput frame.bytes) o found is
     (packets_know (queries node.mac) node.mac (record { now = now; from = from; throughput = throughput; number = suc number }) (link_frame frame.bytes).packets (known_at_node queries node)
@@ -94,9 +94,10 @@ step_orderly queries mesh _ o (put_reaches _ number now put frame found carries)
 step_orderly queries mesh after o (lan_comes _ _ place now number node put found may among is) =
     knows_after queries node.mac mesh after place now 0 node (LanFrame put.bytes) o found is (lan_knows (queries node.mac) node.mac node.log (known_at_node queries node) now put.bytes (o.knows place node found))
 step_orderly queries mesh _ o (time_passes _ happening) = record { whole = o.whole; distinct = o.distinct; knows = o.knows }
+step_orderly queries mesh _ o (routes_told _ lines watch) = record { whole = o.whole; distinct = o.distinct; knows = o.knows }
 
 pub orderly : (queries : Mac → Queries) (mesh : Mesh) → IsReachable queries mesh → IsOrderly queries mesh
-orderly queries _ begins = record {
+orderly queries _ (begins watch) = record {
   whole = λ place node got. cc;
   distinct = λ place other node second got more same. cc;
   knows = λ place node got. cc;

@@ -25,11 +25,12 @@ use Rattle.mesh_laws.proofs.Schedule.Sends.{as_ok, ok_one, on_ok_ok}
 use Rattle.mesh_laws.proofs.Schedule.Steps.{get_front, step_is}
 use Rattle.mesh_tie.specs.PlainRuns.{NoneIsLater}
 use Rattle.mesh_tie.specs.Sources.{IsWhole}
-use Rattle.mesh_tie.specs.Steps.{IsReachable, Steps, bridged_event, frame_comes, goes_on, lan_comes, line_gives, newest_moment, TellsClient, node_ticks, put_reaches, time_passes}
+use Rattle.mesh_tie.specs.Steps.{IsReachable, Steps, bridged_event, frame_comes, goes_on, lan_comes, line_gives, newest_moment, TellsClient, node_ticks, put_reaches, time_passes, routes_told}
 use Rattle.mesh_tie.specs.TieLaws.{AllKeep}
 use Rattle.mesh_tie.proofs.NodeLists.{Renewed, another, itself, renewed}
 use Rattle.mesh_tie.proofs.OrderSteps.{orderly}
 use Rattle.mesh_tie.proofs.SentLemmas.{given_is}
+use Rattle.mesh_model.specs.Net.Watching.{lines_told, with_lines}
 
 -- ---- one input
 -- a mesh that is reached after some step, or none
@@ -165,11 +166,14 @@ effect_comes queries mesh after NodeTick place now keep r settled is = ticked_co
 
 pub happening_comes : (queries : Mac → Queries) (mesh after : Mesh) (h : Happening) → AllKeep queries → IsReachable queries mesh → NoneIsLater mesh h.moment → after_happening (scenario_setup queries) h mesh ≡ Ok after → Comes queries mesh after h.moment
 happening_comes queries mesh after h keep r settled is =
-    let p = on_ok_ok (with_last h) (effect (scenario_setup queries) h.class h.place h.moment mesh) after is in
+    let p = on_ok_ok (with_last (scenario_setup queries) h) (effect (scenario_setup queries) h.class h.place h.moment mesh) after is in
     let c = effect_comes queries mesh p.0 h.class h.place h.moment keep r settled p.1 in
-    let last : Mesh = record p.0 { last = h } in
+    let lines = lines_told (scenario_setup queries) h p.0 in
+    let told : Mesh = with_lines lines p.0 in
+    let last : Mesh = record told { last = h } in
     let same : last ≡ after = ok_one last after p.2 in
-    subst (λ m. Comes queries mesh m h.moment) same (record { reachable = goes_on p.0 last c.reachable (time_passes p.0 h); settled = c.settled })
+    subst (λ m. Comes queries mesh m h.moment) same
+    (record { reachable = goes_on told last (goes_on p.0 told c.reachable (routes_told p.0 lines told.watch)) (time_passes told h); settled = c.settled })
 
 -- ---- a run
 -- how far a run came: nothing was later than a bound, and what is next isn't before it

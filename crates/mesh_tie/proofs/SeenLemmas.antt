@@ -1,5 +1,5 @@
 -- An event tells of an alias exactly where a commit has it, so while none told of one, there is none.
-use Rattle.std.proofs.Common.{◌≡◌, ◌≢◌, ◌-◌, ◌⊎◌, ◌↔◌, inl, inr, ◌&&◌, ◌==◌, nat_lt, drop, ℕ, suc, Bool, true, false, cond, not, List, [], ◌∷◌, ◌++◌, length, slice_get, Option, Some, None, is_none, Ok, refl, sym, ap, subst, ◌∙◌, arith}
+use Rattle.std.proofs.Common.{◌≡◌, ◌≢◌, ◌-◌, ◌⊎◌, ◌↔◌, inl, inr, ◌&&◌, ◌==◌, nat_lt, drop, ℕ, suc, Bool, true, false, cond, not, List, [], ◌∷◌, ◌++◌, length, slice_get, Option, Some, None, is_none, Ok, refl, sym, ap, subst, ◌∙◌, arith, map}
 use Rattle.std.specs.Option.{option_or}
 use Rattle.std.proofs.lemmas.Bool.{and_parts, eq-eqb, false≢true, ltb-false, ltb-true, true≢false}
 use Rattle.mesh_base.specs.declared.address.Mac.{Mac}
@@ -10,7 +10,7 @@ use Rattle.mesh_model.specs.declared.act.Act.{Act}
 use Rattle.mesh_model.specs.declared.act.Act.TheVariants.{Print}
 use Rattle.mesh_model.specs.Acts.Choosing.{cutter_by, whole_acts}
 use Rattle.mesh_model.specs.Clients.Lans.{bridge}
-use Rattle.mesh_model.specs.Knowledge.Steps.{before_round, knowledge}
+use Rattle.mesh_model.specs.Knowledge.Steps.{before_telling, knowledge, table_behind}
 use Rattle.mesh_model.specs.Net.Sending.{put_event}
 use Rattle.mesh_model.specs.Clients.Log.{Given, Tick, LinkFrame, Log, LogEntry, LanFrame, Line, line_reboots}
 use Rattle.mesh_model.specs.Clients.Mentions.{mentions}
@@ -20,7 +20,7 @@ use Rattle.mesh_model.specs.Commits.Versions.{commit_numbered, first_commit, sam
 use Rattle.mesh_model.specs.Net.Due.{ticks_in}
 use Rattle.mesh_model.specs.Net.Inputs.{entry_of, given_to, noted_at}
 use Rattle.mesh_model.specs.Net.Limits.{scenario_setup}
-use Rattle.mesh_model.specs.Net.Mesh.{NodeLog, Mesh}
+use Rattle.mesh_model.specs.Net.Mesh.{NodeLog, Mesh, begun_mesh}
 use Rattle.mesh_model.specs.Net.Next.{Has}
 use Rattle.mesh_model.specs.Routes.Queries.{Queries}
 use Rattle.mesh_model.specs.Tables.Changes.{same_entry}
@@ -36,7 +36,7 @@ use Rattle.mesh_laws.proofs.MachineInvariant.{newest_or_older}
 use Rattle.mesh_laws.proofs.Schedule.Members.{has_either, has_left}
 use Rattle.mesh_tie.specs.AliasesSeen.{AliasesAreSeen, AliasesAreTold, HasAlias}
 use Rattle.mesh_tie.specs.Originators.{commits_of, log_of}
-use Rattle.mesh_tie.specs.Steps.{IsReachable, Steps, begins, frame_comes, goes_on, lan_comes, lan_joins, line_gives, link_joins, node_joins, node_ticks, put_comes, put_reaches, time_passes, bridged_event, with_lan_frame}
+use Rattle.mesh_tie.specs.Steps.{IsReachable, Steps, begins, frame_comes, goes_on, lan_comes, lan_joins, line_gives, link_joins, node_joins, node_ticks, put_comes, put_reaches, time_passes, bridged_event, with_lan_frame, routes_told}
 use Rattle.mesh_tie.proofs.AliasRows.{AreQuiet, Gains, frame_quiet, gains_cut, gains_none, gains_one, lan_quiet, line_gains, quiet_none, ticks_gain}
 use Rattle.mesh_tie.proofs.CutActs.{none_passed}
 use Rattle.mesh_tie.proofs.LogLemmas.{AreDistinct, log_found, log_itself, log_other}
@@ -44,6 +44,9 @@ use Rattle.mesh_tie.proofs.MeshSteps.{log_joined}
 use Rattle.mesh_tie.proofs.NodeLists.{Renewed, another, got_front, itself, no_length, renewed}
 use Rattle.mesh_tie.proofs.Sayable.{one_or_two}
 use Rattle.mesh_tie.proofs.SentLemmas.{HasGiven, IsOfActs, given_is}
+use Rattle.mesh_tie.proofs.RouteEvents.{no_route_event}
+use Rattle.mesh_model.specs.Net.Watching.{route_event}
+use Rattle.mesh_model.specs.declared.route_line.RouteLine.{RouteLine}
 
 -- ---- commits that can be taken for one another
 from_same_table : (a b : List Entry) → same_table a b ≡ true → a ≡ b
@@ -238,6 +241,18 @@ told_beside orig mesh event events made same other told number earlier = (
     go (inr (inl is)) = absurd (other number earlier is)
     go (inr (inr none)) = absurd none
 
+-- events of lines of routes tell of no alias
+routes_beside : (orig : Mac) (mesh : Mesh) (lines : List RouteLine) (made : List Version) → AreTold orig mesh made
+    → (number earlier : ℕ) → Has (mesh.events ++ map route_event lines) (Alias orig number earlier) ↔ HasAlias made number earlier
+routes_beside orig mesh lines made told number earlier = (
+  λ has. go (has_either mesh.events (map route_event lines) (Alias orig number earlier) has),
+  λ is. has_left mesh.events (map route_event lines) (Alias orig number earlier) ((told number earlier).1 is),
+)
+  where
+    go : Has mesh.events (Alias orig number earlier) ⊎ Has (map route_event lines) (Alias orig number earlier) → HasAlias made number earlier
+    go (inl old) = (told number earlier).0 old
+    go (inr new) = absurd (no_route_event lines (Alias orig number earlier) (λ line e. cc) new)
+
 step_told : (queries : Mac → Queries) (mesh after : Mesh) → AreDistinct mesh.nodes → Steps queries mesh after → (orig : Mac) → AreTold orig mesh (commits_of orig mesh) → AreTold orig after (commits_of orig after)
 step_told queries mesh _ distinct (node_joins _ node empty whole fresh) orig told = subst (λ l. AreTold orig mesh (commits orig l)) (sym (log_joined orig mesh.nodes node empty)) told
 step_told queries mesh _ distinct (link_joins _ link) orig told = told
@@ -251,7 +266,7 @@ step_told queries mesh after distinct (node_ticks _ _ place now node found may i
     let known = knowledge (queries node.mac) node.mac node.log in
     given_told queries orig mesh after place now index node (Tick index) distinct found is
     (gains_cut node.mac (commits node.mac node.log) (commits node.mac (entry_of (scenario_setup queries) node now (Tick index) ∷ node.log)) (cutter_by (queries node.mac) node.mac node.log)
-    (whole_acts (queries node.mac) node.mac node.log now (Tick index)) (none_passed queries place now index node (Tick index) mesh after found is) (ticks_gain (queries node.mac) node.mac known.services.settings known.routes (mentions node.mac node.log) (history node.mac node.log) (bridge node.log) now index (before_round (queries node.mac) now index known))) told
+    (whole_acts (queries node.mac) node.mac node.log now (Tick index)) (none_passed queries place now index node (Tick index) mesh after found is) (ticks_gain (queries node.mac) node.mac known.services.settings known.routes (mentions node.mac node.log) (history node.mac node.log) (bridge node.log) now index (before_telling (queries node.mac) node.mac now index (table_behind node.mac node.log now index) known))) told
 step_told queries mesh after distinct (frame_comes _ _ place now number throughput from node frame found may sent whole is) orig told =
     let given = LinkFrame (suc number) from throughput frame.bytes in
     given_told queries orig mesh after place now frame.root node given distinct found is
@@ -263,6 +278,7 @@ step_told queries mesh after distinct (lan_comes _ _ place now number node put f
     given_told queries orig mesh after place now 0 node (LanFrame put.bytes) distinct found is
     (calm_gains queries node now (LanFrame put.bytes) tt (lan_quiet (queries node.mac) node.mac node.log now put.bytes)) told
 step_told queries mesh _ distinct (time_passes _ happening) orig told = told
+step_told queries mesh _ distinct (routes_told _ lines watch) orig told = routes_beside orig mesh lines (commits_of orig mesh) told
 
 -- ---- nodes have distinct addresses
 given_distinct : (queries : Mac → Queries) (mesh after : Mesh) (place now root : ℕ) (node : NodeLog) (given : Given) → AreDistinct mesh.nodes → slice_get mesh.nodes place ≡ Some node → given_to (scenario_setup queries) place now root given mesh ≡ Ok after → AreDistinct after.nodes
@@ -297,14 +313,15 @@ step_distinct queries mesh _ d (put_comes _ put frame by is tells) = d
 step_distinct queries mesh _ d (put_reaches _ number now put frame found carries) = d
 step_distinct queries mesh after d (lan_comes _ _ place now number node put found may among is) = given_distinct queries mesh after place now 0 node (LanFrame put.bytes) d found is
 step_distinct queries mesh _ d (time_passes _ happening) = d
+step_distinct queries mesh _ d (routes_told _ lines watch) = d
 
 -- what holds of every mesh that is reached
 pub record Tells (mesh : Mesh) : Type 0 where
   pub distinct : AreDistinct mesh.nodes
   pub told : (orig : Mac) → AreTold orig mesh (commits_of orig mesh)
 
-first_told : (orig : Mac) → AreTold orig Rattle.mesh_model.specs.Net.Mesh.empty_mesh (first_commit ∷ [])
-first_told orig number earlier = (λ has. absurd has, λ is. absurd (none is))
+first_told : (watch : Option (List RouteLine)) (orig : Mac) → AreTold orig (begun_mesh watch) (first_commit ∷ [])
+first_told watch orig number earlier = (λ has. absurd has, λ is. absurd (none is))
   where
     none : HasAlias (first_commit ∷ []) number earlier → ⊥
     none h =
@@ -314,7 +331,7 @@ first_told orig number earlier = (λ has. absurd has, λ is. absurd (none is))
         cc
 
 pub all_tell : (queries : Mac → Queries) (mesh : Mesh) → IsReachable queries mesh → Tells mesh
-all_tell queries _ begins = record { distinct = λ place other n second got more same. cc; told = first_told }
+all_tell queries _ (begins watch) = record { distinct = λ place other n second got more same. cc; told = first_told watch }
 all_tell queries _ (goes_on mesh after r s) =
     let before = all_tell queries mesh r in
     record { distinct = step_distinct queries mesh after before.distinct s; told = λ orig. step_told queries mesh after before.distinct s orig (before.told orig) }

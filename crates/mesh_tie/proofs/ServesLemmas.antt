@@ -6,7 +6,7 @@ use Rattle.mesh_base.specs.Ordered.{placed}
 use Rattle.mesh_base.specs.declared.address.Mac.{Mac}
 use Rattle.mesh_base.specs.declared.client.Key.{Key}
 use Rattle.mesh_model.specs.declared.service.GwRow.{GwRow}
-use Rattle.mesh_model.specs.Clients.Settings.{GatewayPart, NoPart, Serves, Chooses, Setting, Wifi, Gateway, Multicast, ArpTable, FactStore, LongestWhole}
+use Rattle.mesh_model.specs.Clients.Settings.{GatewayPart, NoPart, Serves, Chooses, Setting, Wifi, Gateway, Multicast, ArpTable, FactStore, Pictures, LongestWhole}
 use Rattle.mesh_model.specs.Knowledge.Known.{Knowledge}
 use Rattle.mesh_model.specs.Knowledge.Offers.{choice_by, choosable_rows, gateway_row, gateway_rows, has_route, is_receiver, live_offering, offering, receivers, row_of_gateway}
 use Rattle.mesh_model.specs.Knowledge.Served.{Offer, Offered, Services, after_set, offer_of, with_offer}
@@ -80,6 +80,7 @@ set_whole (Multicast flags) services s = record { offers = s.offers; choice = s.
 set_whole (ArpTable on) services s = record { offers = s.offers; choice = s.choice }
 set_whole (FactStore mode) services s = record { offers = s.offers; choice = s.choice }
 set_whole (LongestWhole size) services s = record { offers = s.offers; choice = s.choice }
+set_whole (Pictures on) services s = record { offers = s.offers; choice = s.choice }
 
 pub offer_whole : (accepted : Bool) (orig : Mac) (containers : List Container) (services : Services) → IsWhole orig → ServesWhole services → ServesWhole (with_offer accepted orig containers services)
 offer_whole true orig containers services whole s = record { offers = (whole, s.offers); choice = s.choice }

@@ -1,7 +1,7 @@
 -- Where an alias stands among the events of a mesh: in the step of the tick, or of the reboot, that
 -- made its commit.
 use Rattle.std.specs.List.{AllByRecursion}
-use Rattle.std.proofs.Common.{◌≡◌, ◌⊎◌, inl, inr, ℕ, suc, Bool, true, false, cond, List, [], ◌∷◌, ◌++◌, length, slice_get, Option, Some, None, Ok, refl, sym, ap, subst, ◌∙◌, append-nil, arith}
+use Rattle.std.proofs.Common.{◌≡◌, ◌⊎◌, inl, inr, ℕ, suc, Bool, true, false, cond, List, [], ◌∷◌, ◌++◌, length, slice_get, Option, Some, None, Ok, refl, sym, ap, subst, ◌∙◌, append-nil, arith, map}
 use Rattle.std.proofs.lemmas.Bool.{eq-eqb, ne_eqb, true≢false}
 use Rattle.mesh_base.specs.declared.address.Mac.{Mac}
 use Rattle.mesh_base.specs.declared.event.Event.{Event}
@@ -22,7 +22,7 @@ use Rattle.mesh_model.specs.Commits.Announcements.{announcement}
 use Rattle.mesh_model.specs.Commits.History.{History, history, is_commit_tick, restarted}
 use Rattle.mesh_model.specs.Commits.Versions.{first_commit}
 use Rattle.mesh_model.specs.Knowledge.Known.{Knowledge}
-use Rattle.mesh_model.specs.Knowledge.Steps.{before_round, knowledge}
+use Rattle.mesh_model.specs.Knowledge.Steps.{before_telling, knowledge, table_behind}
 use Rattle.mesh_model.specs.Net.Inputs.{entry_of, given_to}
 use Rattle.mesh_model.specs.Net.Lans.{with_events}
 use Rattle.mesh_model.specs.Net.Limits.{scenario_setup}
@@ -38,7 +38,7 @@ use Rattle.mesh_laws.proofs.Schedule.Sends.{ok_one}
 use Rattle.mesh_tie.specs.AliasesStand.{AliasesStandInSteps, LeadsTo, StandsInStep, elp_in_tick, history_in_tick, is_of_reboot, message_in_tick, next_tick, ticking}
 use Rattle.mesh_tie.specs.Originators.{log_of}
 use Rattle.mesh_tie.specs.Sources.{KeepsOriginators}
-use Rattle.mesh_tie.specs.Steps.{IsReachable, Steps, begins, frame_comes, goes_on, lan_comes, lan_joins, line_gives, link_joins, node_joins, node_ticks, put_comes, put_reaches, time_passes, bridged_event}
+use Rattle.mesh_tie.specs.Steps.{IsReachable, Steps, begins, frame_comes, goes_on, lan_comes, lan_joins, line_gives, link_joins, node_joins, node_ticks, put_comes, put_reaches, time_passes, bridged_event, routes_told}
 use Rattle.mesh_tie.proofs.AliasRows.{AreQuiet, cut_quiet, frame_quiet, lan_quiet, line_quiet, plain_quiet}
 use Rattle.mesh_tie.proofs.CommitLemmas.{Committed, as_before, committed_is, one_more}
 use Rattle.mesh_tie.proofs.CutActs.{GoesWhole, aliases_whole, elps_whole, front_whole, messages_whole, round_whole}
@@ -52,6 +52,8 @@ use Rattle.mesh_tie.proofs.SeenLemmas.{all_tell}
 use Rattle.mesh_tie.proofs.SentLemmas.{HasSent, acts_sent, given_is}
 use Rattle.mesh_tie.proofs.StandParts.{CarriesActs, StandsBefore, acts_apart, carries_acts, no_place, one_or_older, peeled, quiet_events}
 use Rattle.mesh_tie.proofs.StandSteps.{AllStand, WasMade, calm_stand, none_before, now_made, quiet_follow, stand_on, was_made, with_more}
+use Rattle.mesh_tie.proofs.RouteEvents.{no_route_event}
+use Rattle.mesh_model.specs.Net.Watching.{route_event}
 
 -- ---- ticks
 -- what a tick tells between its ELP and its rounds: nothing, or of an alias and then its message
@@ -124,7 +126,7 @@ tick_stand queries mesh after place now node keeps r found is all before back or
     round = round_acts here (bridge node.log) index
 
     later : Knowledge
-    later = before_round q now index known
+    later = before_telling q node.mac now index (table_behind node.mac node.log now index) known
 
     facts : List Act
     facts = fact_round_acts q later here index
@@ -382,7 +384,9 @@ step_stand queries keep mesh _ r (put_reaches _ number now put frame found carri
 step_stand queries keep mesh after r (lan_comes _ _ place now number node put found may among is) all =
     calm_stand queries mesh after place now 0 node (LanFrame put.bytes) found is (lan_quiet (queries node.mac) node.mac node.log now put.bytes) (given_on queries mesh after place now 0 node (LanFrame put.bytes) r found is all)
 step_stand queries keep mesh _ r (time_passes _ happening) all = all
+step_stand queries keep mesh _ r (routes_told _ lines watch) all =
+    quiet_follow queries mesh.nodes mesh.events (mesh.events ++ map route_event lines) (map route_event lines) (λ orig number earlier has. no_route_event lines (Alias orig number earlier) (λ line e. cc) has) refl all
 
 pub aliases_stand_in_steps : AliasesStandInSteps
-aliases_stand_in_steps queries keep _ begins = λ before back orig number earlier is. absurd (no_place before (Alias orig number earlier) back is)
+aliases_stand_in_steps queries keep _ (begins watch) = λ before back orig number earlier is. absurd (no_place before (Alias orig number earlier) back is)
 aliases_stand_in_steps queries keep _ (goes_on mesh after r s) = step_stand queries keep mesh after r s (aliases_stand_in_steps queries keep mesh r)

@@ -8,15 +8,15 @@ use Rattle.mesh_model.specs.declared.ending.Refusal.{Refusal}
 use Rattle.mesh_model.specs.declared.ending.Stop.TheVariants.{Limit}
 use Rattle.mesh_model.specs.declared.frame_choice.FrameChoice.{FrameChoice}
 use Rattle.mesh_model.specs.declared.line_form.Command.{Command}
-use Rattle.mesh_model.specs.declared.line_form.Command.TheVariants.{Nothing, Algo, Node, Link, Lan, Frame, Gone, Join, Leave, Arp, Dhcp, Wifi, GwOff, GwServer, GwClient, Mcast, Dat, Frag, Alfred, Put, Get, Ping, Trace, Reboot, Run as RunFor, Deliver, Show, Decode}
+use Rattle.mesh_model.specs.declared.line_form.Command.TheVariants.{Nothing, Algo, Node, Link, Lan, Frame, Gone, Join, Leave, Arp, Dhcp, Wifi, GwOff, GwServer, GwClient, Mcast, Dat, Frag, Vis, Alfred, Put, Get, Ping, Trace, Reboot, Run as RunFor, Deliver, Show, Decode}
 use Rattle.mesh_model.specs.declared.line_form.Table.{Table}
-use Rattle.mesh_model.specs.declared.line_form.Table.TheVariants.{Originators, Neighbors, Locals, Globals, Claims, Gateways, Groups, Addresses, Facts}
+use Rattle.mesh_model.specs.declared.line_form.Table.TheVariants.{Originators, Neighbors, Locals, Globals, Claims, Gateways, Groups, Addresses, Facts, Pictures}
 use Rattle.mesh_model.specs.Clients.Log.{Line, LineGiven, Sets}
 use Rattle.mesh_model.specs.Clients.Settings.{NoPart, Serves, Chooses}
-use Rattle.mesh_model.specs.Clients.Settings.{ArpTable as ArpTableSet, FactStore as FactStoreSet, Gateway as GatewaySet, LongestWhole as LongestWholeSet, Multicast as MulticastSet, Wifi as WifiSet}
+use Rattle.mesh_model.specs.Clients.Settings.{ArpTable as ArpTableSet, FactStore as FactStoreSet, Gateway as GatewaySet, LongestWhole as LongestWholeSet, Multicast as MulticastSet, Pictures as PicturesSet, Wifi as WifiSet}
 use Rattle.mesh_model.specs.Clients.Log.{Frame as FrameGiven, Gone as GoneGiven, Join as JoinGiven, Leave as LeaveGiven, Arp as ArpGiven, Dhcp as DhcpGiven, Put as PutGiven, Get as GetGiven, Ping as PingGiven, Trace as TraceGiven, Reboot as RebootGiven}
 use Rattle.mesh_model.specs.Net.Inputs.{all_given, given_to}
-use Rattle.mesh_model.specs.Net.Lans.{joins_lan}
+use Rattle.mesh_model.specs.Net.Lans.{gateways_at, joins_lan}
 use Rattle.mesh_model.specs.Net.Limits.{clock_limit, lans_limit, links_limit, nodes_limit}
 use Rattle.mesh_model.specs.Net.Mesh.{NodeLog, NetLink, Mesh, address_at}
 use Rattle.mesh_model.specs.Net.Next.{Has}
@@ -29,7 +29,7 @@ use Rattle.mesh_model.specs.Run.PlainRun.{Run, after_line, after_lines, after_ou
 use Rattle.mesh_model.specs.Run.Rules.{carried_out, first_refused_rule, setup_of, unless_refused}
 use Rattle.mesh_model.specs.Run.Shown.{after_print, global_table, shown}
 use Rattle.mesh_model.specs.Run.State.{Printed, GlobalsShown, Decoded, Happened, State, names_of, lan_place_of, node_named, place_of}
-use Rattle.mesh_model.specs.Run.Steps.{Step, at_node, at_place, gateways_at, gateways_step, lan_frame_step, places_named, input_step, link_step, new_node, session_step, show_step, step_of, with_link, with_node}
+use Rattle.mesh_model.specs.Run.Steps.{Step, at_node, at_place, gateways_step, lan_frame_step, places_named, input_step, link_step, new_node, session_step, show_step, step_of, with_link, with_node}
 use Rattle.mesh_model.specs.Scenario.Commands.{command_of_line}
 use Rattle.mesh_model.specs.Scenario.Halt.{Halt}
 use Rattle.mesh_model.specs.Scenario.Lines.{content}
@@ -144,6 +144,7 @@ prints_own state Gateways node table is = cc
 prints_own state Groups node table is = cc
 prints_own state Addresses node table is = cc
 prints_own state Facts node table is = cc
+prints_own state Pictures node table is = cc
 
 node_at : (state : State) (o : Option ℕ) (node : NodeLog) → option_and_then (slice_get state.mesh.nodes) o ≡ Some node → (place : ℕ) × (slice_get state.mesh.nodes place ≡ Some node)
 node_at state None node is = cc
@@ -182,6 +183,7 @@ adds_command state (GwClient node policy) = adds_line state node (Sets (GatewayS
 adds_command state (Mcast node flags) = adds_line state node (Sets (MulticastSet flags))
 adds_command state (Dat node on) = adds_line state node (Sets (ArpTableSet on))
 adds_command state (Frag node longest) = adds_line state node (Sets (LongestWholeSet longest))
+adds_command state (Vis node on) = adds_line state node (Sets (PicturesSet on))
 adds_command state (Alfred node mode) = adds_line state node (Sets (FactStoreSet mode))
 adds_command state (Put node type_no version text) = adds_line state node (PutGiven type_no version text)
 adds_command state (Get node type_no) = adds_line state node (GetGiven type_no)

@@ -18,13 +18,13 @@ use Rattle.mesh_model.specs.declared.ending.Stop.TheVariants.{Refused, Limit}
 use Rattle.mesh_model.specs.declared.line_form.Policy.TheVariants.{Best, Stable}
 use Rattle.mesh_model.specs.declared.line_form.Command.{Command}
 use Rattle.mesh_model.specs.declared.line_form.Command.TheVariants.{Nothing, Node, Lan, Frame, Gone, Join, Leave, Arp, Dhcp, GwOff, GwClient}
-use Rattle.mesh_model.specs.Scenario.AlfredForms.{read_alfred, read_alfred_form, read_get, read_mode, read_put}
+use Rattle.mesh_model.specs.Scenario.AlfredForms.{fact_type_field, read_alfred, read_alfred_form, read_get, read_mode, read_put}
 use Rattle.mesh_model.specs.Scenario.Commands.{command_of_line, command_of_words, is_comment, node_forms, read_form}
 use Rattle.mesh_model.specs.Scenario.Fields.{group_field, mac_field, passing, target_field, unicast_field, vid_field, word_field}
 use Rattle.mesh_model.specs.Scenario.LinkOptions.{LinkOptions, after_options, link_with, options_of, the_options}
 use Rattle.mesh_model.specs.Scenario.NetForms.{net_forms, the_gateways}
 use Rattle.mesh_model.specs.Scenario.Readings.{Reading, a_field, a_key, a_text, a_text_up_to, after_field, listed_form, the_end}
-use Rattle.mesh_model.specs.Scenario.SettingForms.{read_dat, read_frag, read_gateway, read_late, read_mcast, read_policy, read_server, read_set, read_setting, read_wifi}
+use Rattle.mesh_model.specs.Scenario.SettingForms.{read_dat, read_frag, read_gateway, read_late, read_mcast, read_policy, read_server, read_set, read_setting, read_vis, read_wifi}
 use Rattle.mesh_model.specs.Scenario.Terms.{number_of, tagged, vid_of}
 use Rattle.mesh_model.specs.Scenario.Words.{Word, line_words}
 use Rattle.mesh_tie.specs.PlainRuns.{IsTellable, ReadIsTellable}
@@ -118,6 +118,20 @@ unicast_tells word mac is = mac_tells word mac (ok_is (mac_of_text word) BadMac 
 
 group_tells : Gives Tells group_field
 group_tells word mac is = mac_tells word mac (ok_is (mac_of_text word) BadMac mac (passed (λ m. is_group m && not (is_broadcast m)) (mac_field word) mac is))
+
+-- the type of a fact that a line puts
+tested_if : {A : Type 0} (test : A → Bool) (b : Bool) (x value : A) → test x ≡ b → ◌≡◌ {A = Result A Refusal} (cond b (Ok x) (Err OutOfRange)) (Ok value) → test value ≡ true
+tested_if test true x value is e = let same : x ≡ value = cc in subst (λ y. test y ≡ true) same is
+tested_if test false x value is e = cc
+
+tested : {A : Type 0} (test : A → Bool) (read : Result A Refusal) (value : A) → passing test read ≡ Ok value → test value ≡ true
+tested test (Ok x) value is = tested_if test (test x) x value refl is
+tested test (Err refusal) value is = cc
+
+fact_type_tells : Gives (λ t. 64 ≤ t) fact_type_field
+fact_type_tells word t is =
+    let within : (nat_le 64 t && nat_le t 255) ≡ true = tested (λ n. nat_le 64 n && nat_le n 255) (ok_or (number_of word) BadNumber) t is in
+    grind (arith, nat_tests, within)
 
 -- a VLAN's wire number fits two bytes
 abbrev SmallVid : Vid → Type 0
@@ -232,8 +246,8 @@ gateway_modes node word = listed ((codes "off", the_end (GwOff node)) ∷ (codes
 
 setting : (node word : List ℕ) → FormTells (read_setting node word)
 setting node word = listed ((codes "wifi", read_wifi node) ∷ (codes "gw", a_field word_field (read_gateway node)) ∷ (codes "mcast", read_mcast node) ∷ (codes "dat", read_dat node)
-    ∷ (codes "frag", read_frag node) ∷ []) OutOfRange word
-    (field _ _ (λ on. end _ tt), (field word_field (read_gateway node) (λ w. gateway_modes node w), (field _ _ (λ n. end _ tt), (field _ _ (λ on. end _ tt), (field _ _ (λ size. end _ tt), tt)))))
+    ∷ (codes "frag", read_frag node) ∷ (codes "vis", read_vis node) ∷ []) OutOfRange word
+    (field _ _ (λ on. end _ tt), (field word_field (read_gateway node) (λ w. gateway_modes node w), (field _ _ (λ n. end _ tt), (field _ _ (λ on. end _ tt), (field _ _ (λ size. end _ tt), (field _ _ (λ on. end _ tt), tt))))))
 
 settings : FormTells read_set
 settings = field _ _ (λ node. field word_field (read_setting node) (λ word. setting node word))
@@ -248,7 +262,7 @@ text_up_to most command h (first ∷ rest) = if_short _ _ (h first.text)
 
 alfred_form : (node word : List ℕ) → FormTells (read_alfred_form node word)
 alfred_form node word = listed ((codes "mode", read_mode node) ∷ (codes "put", read_put node) ∷ (codes "get", read_get node) ∷ []) OutOfRange word
-    (field _ _ (λ mode. end _ tt), (field _ _ (λ t. field _ _ (λ v. text_up_to _ _ (λ x. tt))), (field _ _ (λ t. end _ tt), tt)))
+    (field _ _ (λ mode. end _ tt), (field_with (λ t. 64 ≤ t) fact_type_field _ fact_type_tells (λ t tells. field _ _ (λ v. text_up_to _ _ (λ x. tells))), (field_with (λ t. 64 ≤ t) fact_type_field _ fact_type_tells (λ t tells. end _ tells), tt)))
 
 alfred_forms : FormTells read_alfred
 alfred_forms = field _ _ (λ node. field word_field (read_alfred_form node) (λ word. alfred_form node word))

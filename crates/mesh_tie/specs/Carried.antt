@@ -4,9 +4,11 @@
 -- what holds of payloads and goes on to hold with each step holds of all others that were ever
 -- sent, if it holds of those that are begun: the client frames that lines give. That each is one of
 -- these, as it was spelled, is such a thing, and that each client frame in them is from a client
--- that records can tell. The facts that nodes keep and print are those that lines put. The main
--- words are `Carries`, `CarriesGivenFrames`, `CarriesClients` and `TellsPutFacts`.
-use Rattle.std.specs.Prelude.{◌≡◌, ◌⊎◌, ℕ, List, slice_get, Option, Some, None, ⊤}
+-- that records can tell. The facts that nodes keep, send and print are those that lines put, and
+-- pictures that nodes put of themselves. The main words are `Carries`, `CarriesGivenFrames`,
+-- `CarriesClients`, `TellsPutFacts` and `SendsPutFacts`.
+use Rattle.std.specs.Prelude.{◌≡◌, ◌≤◌, ◌⊎◌, ℕ, true, List, ◌∷◌, ◌++◌, slice_get, Option, Some, None, ⊤}
+use Rattle.std.specs.List.{AllByRecursion}
 use Rattle.mesh_base.specs.declared.address.Mac.{Mac}
 use Rattle.mesh_base.specs.declared.client.Vid.{Vid}
 use Rattle.mesh_base.specs.declared.event.Event.TheVariants.{Alfred, Bridged, Received}
@@ -16,17 +18,22 @@ use Rattle.mesh_model.specs.declared.packet.Head.TheVariants.{IvOgm, Bcast, Elp,
 use Rattle.mesh_model.specs.declared.service.Fact.{Fact}
 use Rattle.mesh_model.specs.declared.service.KeptFact.{KeptFact}
 use Rattle.mesh_model.specs.Acts.Choosing.{call_frame}
-use Rattle.mesh_model.specs.Clients.Log.{Line, LineGiven, LogEntry, Attach, Frame, Gone, Join, Leave, Arp, Dhcp, Sets, Put, Get, Ping, Trace, Reboot}
+use Rattle.mesh_model.specs.Clients.Log.{Line, LineGiven, Log, LogEntry, Tick, Attach, Frame, Gone, Join, Leave, Arp, Dhcp, Sets, Put, Get, Ping, Trace, Reboot}
 use Rattle.mesh_model.specs.Clients.Mentions.{key_of}
+use Rattle.mesh_model.specs.Knowledge.Pictured.{picture_by}
 use Rattle.mesh_model.specs.Net.Mesh.{NodeLog, SentFrame, LanPut, Mesh}
 use Rattle.mesh_model.specs.Net.Next.{Has}
-use Rattle.mesh_model.specs.Packets.FactMessages.{FactMessage, fact_message_spelling}
+use Rattle.mesh_model.specs.Packets.FactMessages.{CameFact, FactMessage, HasPart, Primary, Requests, HasEnd, fact_message_of, fact_message_spelling}
 use Rattle.mesh_model.specs.Packets.FirstPacket.{Packet}
 use Rattle.mesh_model.specs.Packets.LanFrames.{client_frame_in, lan_message_of}
 use Rattle.mesh_model.specs.Packets.LinkFrame.{link_frame}
 use Rattle.mesh_model.specs.Packets.Payload.{ClientFrame, client_frame_of, payload_spelling}
 use Rattle.mesh_model.specs.Routes.Queries.{Queries}
+use Rattle.mesh_model.specs.Routes.RouteLog.{is_round}
+use Rattle.mesh_model.specs.Scenario.AlfredForms.{least_fact_type}
 use Rattle.mesh_model.specs.Services.Facts.{facts_at}
+use Rattle.mesh_model.specs.Services.Pictures.{picture_fact, picture_type}
+use Rattle.mesh_model.specs.Services.Transactions.{APart, TxnCall}
 use Rattle.mesh_tie.specs.Sources.{IsWhole}
 use Rattle.mesh_tie.specs.Steps.{IsClient, IsReachable, Steps, TellsClient}
 use Rattle.mesh_tie.specs.Tie.{known_at_node}
@@ -169,7 +176,8 @@ CarriesClients = (queries : Mac → Queries) → AllKeep queries → (mesh : Mes
 
 -- ---- facts
 
--- a line put a fact at a node of a mesh, which is the fact's source
+-- a line put a fact at a node of a mesh, which is the fact's source; it is of a type that lines may
+-- put
 pub record WasPut (mesh : Mesh) (fact : Fact) : Type 0 where
   pub place : ℕ
   pub node : NodeLog
@@ -178,8 +186,33 @@ pub record WasPut (mesh : Mesh) (fact : Fact) : Type 0 where
   pub noted : Has node.log entry
   pub given_is : entry.given ≡ Line (Put fact.type_no fact.version fact.bytes)
   pub source_is : fact.source ≡ node.mac
+  pub type_is : least_fact_type ≤ fact.type_no
 
--- each fact that was ever printed is one that a line put, byte by byte
+-- a node of a mesh put a fact at a round: its picture at the tick, by its log before it
+pub record WasPictured (queries : Mac → Queries) (mesh : Mesh) (fact : Fact) : Type 0 where
+  pub place : ℕ
+  pub node : NodeLog
+  pub newer : Log
+  pub entry : LogEntry
+  pub older : Log
+  pub index : ℕ
+  pub found : slice_get mesh.nodes place ≡ Some node
+  pub log_is : node.log ≡ newer ++ entry ∷ older
+  pub given_is : entry.given ≡ Tick index
+  pub round : is_round index ≡ true
+  pub fact_is : fact ≡ picture_fact node.mac
+      (picture_by (queries node.mac) node.mac older entry.moment index)
+
+-- a line put a fact, or its source did
+abbrev pub IsPutFact : (Mac → Queries) → Mesh → Fact → Type 0
+IsPutFact queries mesh fact = WasPut mesh fact ⊎ WasPictured queries mesh fact
+
+-- a fact of the type of pictures that was put is the picture of its source at one of its rounds
+abbrev pub PicturesAreTrue : Type 0
+PicturesAreTrue = (queries : Mac → Queries) (mesh : Mesh) (fact : Fact) →
+    IsPutFact queries mesh fact → fact.type_no ≡ picture_type → WasPictured queries mesh fact
+
+-- each fact that was ever printed for a question is one that a line put, byte by byte
 abbrev pub TellsPutFacts : Type 0
 TellsPutFacts = (queries : Mac → Queries) → AllKeep queries → (mesh : Mesh) →
     IsReachable queries mesh → (me : Mac) (asked : ℕ) (source : Mac) (version : ℕ)
@@ -191,9 +224,54 @@ TellsPutFacts = (queries : Mac → Queries) → AllKeep queries → (mesh : Mesh
       bytes = text;
     })
 
--- each fact that a node has at a moment is one that a line put, byte by byte
+-- each fact that a node has at a moment is one that was put, byte by byte
 abbrev pub KeepsPutFacts : Type 0
 KeepsPutFacts = (queries : Mac → Queries) → AllKeep queries → (mesh : Mesh) →
     IsReachable queries mesh → (place : ℕ) (node : NodeLog) →
     slice_get mesh.nodes place ≡ Some node → (now : ℕ) (kept : KeptFact) →
-    Has (facts_at (known_at_node queries node).services.facts now) kept → WasPut mesh kept.fact
+    Has (facts_at (known_at_node queries node).services.facts now) kept →
+    IsPutFact queries mesh kept.fact
+
+-- something holds of each fact that a message of the store brings
+abbrev pub BringsFacts : (Fact → Type 0) → FactMessage → Type 0
+BringsFacts F (HasPart push id number facts) = AllByRecursion F facts
+BringsFacts F Primary = ⊤
+BringsFacts F (Requests id type_no) = ⊤
+BringsFacts F (HasEnd push id count) = ⊤
+
+-- of each that comes with the payload of a packet
+abbrev pub PayloadBrings : (Fact → Type 0) → List ℕ → Head → Type 0
+PayloadBrings F tail (IvOgm ttl flags seq orig prev tq) = ⊤
+PayloadBrings F tail (Bcast ttl seq orig) =
+    (came : CameFact) → fact_message_of tail ≡ Some came → BringsFacts F came.message
+PayloadBrings F tail (Elp orig seq interval) = ⊤
+PayloadBrings F tail (Ogm2 ttl flags seq orig throughput) = ⊤
+PayloadBrings F tail (Unicast ttl ttvn dst) =
+    (came : CameFact) → fact_message_of tail ≡ Some came → BringsFacts F came.message
+PayloadBrings F tail (Frag ttl number priority dst orig seq total) = ⊤
+PayloadBrings F tail (Unicast4 ttl ttvn dst src subtype) = ⊤
+PayloadBrings F tail (Icmp ttl msg dst orig uid seq) = ⊤
+PayloadBrings F tail (Utvlv ttl dst src) = ⊤
+
+-- of each that a message of a transaction brought
+abbrev pub CallBringsFacts : (Fact → Type 0) → TxnCall → Type 0
+CallBringsFacts F call = (number : ℕ) (facts : List Fact) →
+    call.brought ≡ APart number facts → AllByRecursion F facts
+
+-- something holds of each fact that stands in a broadcast or in a packet for one node that was ever
+-- sent, and of each that came to a node with a transaction
+pub record SendsOnly (F : Fact → Type 0) (queries : Mac → Queries) (mesh : Mesh) : Type 0 where
+  pub sent : (place : ℕ) (frame : SentFrame) → slice_get mesh.frames place ≡ Some frame →
+      (packet : Packet) → Has (link_frame frame.bytes).packets packet →
+      PayloadBrings F packet.tail packet.head
+  pub pushed : (place : ℕ) (node : NodeLog) → slice_get mesh.nodes place ≡ Some node →
+      (call : TxnCall) → Has (known_at_node queries node).services.pushes call →
+      CallBringsFacts F call
+  pub answered : (place : ℕ) (node : NodeLog) → slice_get mesh.nodes place ≡ Some node →
+      (call : TxnCall) → Has (known_at_node queries node).services.answers call →
+      CallBringsFacts F call
+
+-- each of these was put
+abbrev pub SendsPutFacts : Type 0
+SendsPutFacts = (queries : Mac → Queries) → AllKeep queries → (mesh : Mesh) →
+    IsReachable queries mesh → SendsOnly (IsPutFact queries mesh) queries mesh

@@ -4,7 +4,7 @@
 use Rattle.std.specs.Prelude.{◌≡◌, ◌≤◌, ℕ, List, slice_get, Some, Ok, ⊤}
 use Rattle.mesh_model.specs.declared.frame_choice.FrameChoice.{FrameChoice}
 use Rattle.mesh_model.specs.declared.line_form.Command.{Command}
-use Rattle.mesh_model.specs.declared.line_form.Command.TheVariants.{Nothing, Algo, Node, Link, Lan, Frame, Gone, Join, Leave, Arp, Dhcp, Wifi, GwOff, GwServer, GwClient, Mcast, Dat, Frag, Alfred, Put, Get, Ping, Trace, Reboot, Run, Deliver, Show, Decode}
+use Rattle.mesh_model.specs.declared.line_form.Command.TheVariants.{Nothing, Algo, Node, Link, Lan, Frame, Gone, Join, Leave, Arp, Dhcp, Wifi, GwOff, GwServer, GwClient, Mcast, Dat, Frag, Vis, Alfred, Put, Get, Ping, Trace, Reboot, Run, Deliver, Show, Decode}
 use Rattle.mesh_model.specs.Clients.Mentions.{key_of}
 use Rattle.mesh_model.specs.Net.Mesh.{NodeLog, Mesh}
 use Rattle.mesh_model.specs.Routes.Algorithms.{queries_of}
@@ -12,12 +12,14 @@ use Rattle.mesh_model.specs.Run.Outcome.{reached}
 use Rattle.mesh_model.specs.Run.PlainRun.{plain_run}
 use Rattle.mesh_model.specs.Run.Rules.{carried_out, setup_of}
 use Rattle.mesh_model.specs.Run.State.{State}
+use Rattle.mesh_model.specs.Scenario.AlfredForms.{least_fact_type}
 use Rattle.mesh_model.specs.Scenario.Commands.{command_of_line}
 use Rattle.mesh_laws.specs.LineLaws.{HasDelay, IsQuietNow, IsReached}
 use Rattle.mesh_tie.specs.Sources.{IsWhole}
 use Rattle.mesh_tie.specs.Steps.{IsClient, IsReachable, newest_moment}
 
--- the addresses and clients of a command are those that records can tell
+-- the addresses and clients of a command are those that records can tell, and the type of facts is
+-- one that lines may name
 abbrev pub IsTellable : Command → Type 0
 IsTellable Nothing = ⊤
 IsTellable (Algo algorithm) = ⊤
@@ -37,9 +39,10 @@ IsTellable (GwClient node policy) = ⊤
 IsTellable (Mcast node flags) = ⊤
 IsTellable (Dat node on) = ⊤
 IsTellable (Frag node longest) = ⊤
+IsTellable (Vis node on) = ⊤
 IsTellable (Alfred node mode) = ⊤
-IsTellable (Put node type_no version text) = ⊤
-IsTellable (Get node type_no) = ⊤
+IsTellable (Put node type_no version text) = least_fact_type ≤ type_no
+IsTellable (Get node type_no) = least_fact_type ≤ type_no
 IsTellable (Ping node target) = ⊤
 IsTellable (Trace node target) = ⊤
 IsTellable (Reboot node) = ⊤
