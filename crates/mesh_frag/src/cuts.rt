@@ -10,7 +10,7 @@ use std::alloc::Global;
 use std::marker::Model;
 
 /// The bytes of a fragment's header.
-const HEAD_SIZE: usize = 20;
+pub const HEAD_SIZE: usize = 20;
 
 /// The fragments of a packet, in order of place.
 #[derive(Debug, Drop)]
@@ -93,9 +93,9 @@ fn piece_at(bytes: &[u8], size: usize, place: usize) -> &[u8]
     &rest[..size.min(rest.len())]
 }
 
-// How many hops the packet that bytes begin with has left, and where it goes, where it is for one
-// node.
-fn reach_of(bytes: &[u8]) -> Option<(u8, Mac)>
+/// How many hops the packet that bytes begin with has left, and where it goes, where it is for one
+/// node.
+pub fn reach_of(bytes: &[u8]) -> Option<(u8, Mac)>
     ensures { result ≡ option_map (λ reach. (reach.ttl, reach.dst)) (reach_of bytes.now) }
 {
     match decode(bytes) {
@@ -104,8 +104,8 @@ fn reach_of(bytes: &[u8]) -> Option<(u8, Mac)>
     }
 }
 
-// The same of a head.
-fn reach_of_head(head: Head) -> Option<(u8, Mac)>
+/// How many hops a packet with this head has left, and where it goes, where it is for one node.
+pub fn reach_of_head(head: Head) -> Option<(u8, Mac)>
     ensures { result ≡ option_map (λ reach. (reach.ttl, reach.dst)) (reach_of_head head) }
 {
     match head {

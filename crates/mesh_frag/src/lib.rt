@@ -10,7 +10,8 @@ mod frags;
 pub mod laws;
 mod parts;
 
-pub use cuts::{Cuts, cut};
+pub use cuts::{Cuts, HEAD_SIZE, cut, reach_of, reach_of_head};
 pub use frag::Frag;
 pub use frags::Frags;
 pub use mesh_model::Head;
+pub use parts::MOST_FRAGMENTS;

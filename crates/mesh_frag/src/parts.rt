@@ -8,7 +8,7 @@ use std::alloc::Global;
 use std::marker::Model;
 
 /// How many fragments a packet has at most.
-const MOST_FRAGMENTS: u8 = 16;
+pub const MOST_FRAGMENTS: u8 = 16;
 
 /// The parts of a packet, in the order in which they came.
 #[derive(Debug, Drop)]

@@ -44,22 +44,26 @@ carried_by tail reach = option_map (λ (reach : Reach). record { ttl = reach.ttl
 carried_head : (bytes : List ℕ) (head : Head) (tail : List ℕ) (used : ℕ) → IsPacket bytes head tail used → carried_in (first_packet bytes) ≡ carried_by tail (reach_of_head head)
 carried_head bytes head tail used is = ap carried_in (first_packet-found bytes head tail used is)
 
+-- these are the hops and the receiver of a packet's reach
+abbrev IsReach : Option (ℕ × Mac) → Option Reach → Type 0
+IsReach pair reach = pair ≡ option_map (λ (reach : Reach). (reach.ttl, reach.dst)) reach
+
 -- nor is one for a node where its head is for none
-pub another_carried : (bytes : List ℕ) (head : Head) (tail : List ℕ) (used : ℕ) → IsPacket bytes head tail used → None ≡ option_map (λ (reach : Reach). reach.ttl) (reach_of_head head) → carried_in (first_packet bytes) ≡ None
+pub another_carried : (bytes : List ℕ) (head : Head) (tail : List ℕ) (used : ℕ) → IsPacket bytes head tail used → IsReach None (reach_of_head head) → carried_in (first_packet bytes) ≡ None
 another_carried bytes head tail used is none = carried_head bytes head tail used is ∙ go (reach_of_head head) none
   where
-    go : (reach : Option Reach) → None ≡ option_map (λ (reach : Reach). reach.ttl) reach → carried_by tail reach ≡ None
+    go : (reach : Option Reach) → IsReach None reach → carried_by tail reach ≡ None
     go None none = refl
     go (Some reach) none = absurd cc
 
 -- a packet for one node carries its tail
-pub one_carried : (bytes : List ℕ) (head : Head) (tail : List ℕ) (used ttl : ℕ) → IsPacket bytes head tail used → Some ttl ≡ option_map (λ (reach : Reach). reach.ttl) (reach_of_head head)
+pub one_carried : (bytes : List ℕ) (head : Head) (tail : List ℕ) (used ttl : ℕ) (dst : Mac) → IsPacket bytes head tail used → IsReach (Some (ttl, dst)) (reach_of_head head)
     → carried_in (first_packet bytes) ≡ Some (record { ttl = ttl; payload = tail })
-one_carried bytes head tail used ttl is some = carried_head bytes head tail used is ∙ go (reach_of_head head) some
+one_carried bytes head tail used ttl dst is some = carried_head bytes head tail used is ∙ go (reach_of_head head) some
   where
-    go : (reach : Option Reach) → Some ttl ≡ option_map (λ (reach : Reach). reach.ttl) reach → carried_by tail reach ≡ Some (record { ttl = ttl; payload = tail })
+    go : (reach : Option Reach) → IsReach (Some (ttl, dst)) reach → carried_by tail reach ≡ Some (record { ttl = ttl; payload = tail })
     go None some = absurd cc
-    go (Some reach) some = ap (λ n. Some (record { ttl = n; payload = tail })) (sym (same_Some ttl reach.ttl some))
+    go (Some reach) some = ap (λ n. Some (record { ttl = n; payload = tail })) (sym (ap (λ (pair : ℕ × Mac). pair.0) (same_Some {A = ℕ × Mac} (ttl, dst) (reach.ttl, reach.dst) some)))
 
 -- ---- with one part more
 frame_same : (q : Queries) (call : PartCall) (known : Knowledge) (mentions : List Mention) (bridge : Bridge) (at : Place) (ttl : ℕ) (payload : List ℕ)

@@ -9,14 +9,13 @@ use Rattle.mesh_model.specs.declared.packet.Head.{Head}
 use Rattle.mesh_model.specs.declared.service.Fact.{Fact}
 use Rattle.mesh_model.specs.Clients.Log.{Given, Tick, LinkFrame, LanFrame, Line, LineGiven, Attach, Frame, Gone, Join, Leave, Arp, Dhcp, Sets, Put, Get, Ping, Trace, Reboot, Log}
 use Rattle.mesh_model.specs.Clients.Mentions.{key_of, mentions, next_mentions, passed_from_lan}
-use Rattle.mesh_model.specs.Clients.Settings.{Setting, Wifi, Gateway, Multicast, ArpTable, FactStore, LongestWhole}
 use Rattle.mesh_model.specs.Fragments.Assembly.{PartCall}
 use Rattle.mesh_model.specs.Knowledge.FactStore.{after_answering, after_brought, after_closing, after_fact_message, after_get, after_push, after_store_message, after_whole_push, closed_by, txn_call, with_fact, with_facts}
 use Rattle.mesh_model.specs.Knowledge.Known.{Knowledge}
 use Rattle.mesh_model.specs.Knowledge.Pairs.{after_arp, after_came, after_question, is_asked, with_ask, with_learned}
 use Rattle.mesh_model.specs.Knowledge.PutTogether.{fact_carried, put_together, with_part}
 use Rattle.mesh_model.specs.Knowledge.Served.{FactRequest}
-use Rattle.mesh_model.specs.Knowledge.Steps.{Coming, after_call, after_frame, after_packet, after_packets, after_passed, after_sighting, after_tick, knowledge, line_knowledge, next_knowledge, with_set}
+use Rattle.mesh_model.specs.Knowledge.Steps.{Coming, after_call, after_frame, after_packet, after_packets, after_passed, after_sighting, after_tick, knowledge, line_knowledge, next_knowledge, table_behind, with_set}
 use Rattle.mesh_model.specs.Knowledge.Told.{message_of}
 use Rattle.mesh_model.specs.Packets.ArpMessages.{ArpCame, Asks, Puts, Tells}
 use Rattle.mesh_model.specs.Packets.FactMessages.{CameFact, FactMessage, HasPart, Primary, Requests, HasEnd}
@@ -153,7 +152,9 @@ line_past q me older known now Reboot past = omega arith
 
 -- ---- the log
 given_past : (q : Queries) (me : Mac) (older : Log) (known : Knowledge) (now : ℕ) (given : Given) → newest_part known.parts ≤ now → newest_part (next_knowledge q me older known now given).parts ≤ now
-given_past q me older known now (Tick index) past = parts_same known (after_tick q now index known) now (parts_kept known (after_tick q now index known) (tick_kept q now index known)) past
+given_past q me older known now (Tick index) past =
+    let table = table_behind me older now index in
+    parts_same known (after_tick q me now index table known) now (ap (λ (k : Kept). k.parts) (tick_kept q me now index table known)) past
 given_past q me older known now (LinkFrame number from throughput bytes) past =
     packets_past q me (record { now = now; from = from; throughput = throughput; number = number }) known (link_frame bytes).packets past
 given_past q me older known now (LanFrame bytes) past =

@@ -12,13 +12,13 @@ use Rattle.mesh_model.specs.declared.packet.Head.{Head}
 use Rattle.mesh_model.specs.declared.packet.Head.TheVariants.{IvOgm, Bcast, Elp, Ogm2, Unicast, Frag, Unicast4, Icmp, Utvlv}
 use Rattle.mesh_model.specs.Clients.Log.{Given, Tick, LinkFrame, LanFrame, Line, LineGiven, Attach, Frame, Gone, Join, Leave, Arp, Dhcp, Sets, Put, Get, Ping, Trace, Reboot, Log}
 use Rattle.mesh_model.specs.Clients.Mentions.{key_of, mentions, next_mentions, passed_from_lan}
-use Rattle.mesh_model.specs.Clients.Settings.{Setting, Wifi, Gateway, Multicast, ArpTable, FactStore, LongestWhole}
+use Rattle.mesh_model.specs.Clients.Settings.{Setting, Wifi, Gateway, Multicast, ArpTable, FactStore, Pictures, LongestWhole}
 use Rattle.mesh_model.specs.Knowledge.FactStore.{after_answering, after_brought, after_fact_message, after_get, after_push, after_store_message, txn_call}
 use Rattle.mesh_model.specs.Fragments.Assembly.{PartCall, part_of}
 use Rattle.mesh_model.specs.Knowledge.Known.{Knowledge}
 use Rattle.mesh_model.specs.Knowledge.Pairs.{after_arp, after_came, after_question, is_asked, with_ask, with_learned}
 use Rattle.mesh_model.specs.Knowledge.PutTogether.{fact_carried, put_together, with_part}
-use Rattle.mesh_model.specs.Knowledge.Steps.{Coming, after_call, after_frame, after_packet, after_packets, after_passed, after_sighting, after_tick, knowledge, line_knowledge, next_knowledge, with_set}
+use Rattle.mesh_model.specs.Knowledge.Steps.{Coming, after_call, after_frame, after_packet, after_packets, after_passed, after_sighting, knowledge, line_knowledge, next_knowledge, table_behind, with_set}
 use Rattle.mesh_model.specs.Knowledge.Told.{message_of}
 use Rattle.mesh_model.specs.Packets.ArpMessages.{ArpCame, Asks, Puts, Tells}
 use Rattle.mesh_model.specs.Packets.FactMessages.{CameFact, FactMessage, HasPart, Primary, Requests, HasEnd}
@@ -137,6 +137,7 @@ set_before (Gateway part) known now before = before
 set_before (Multicast flags) known now before = before
 set_before (ArpTable on) known now before = before
 set_before (FactStore mode) known now before = before
+set_before (Pictures on) known now before = before
 set_before (LongestWhole size) known now before = before
 
 line_before : (q : Queries) (me : Mac) (older : Log) (known : Knowledge) (now : ℕ) (line : LineGiven) → IsBefore (store_in known) now → IsBefore (store_in (line_knowledge q me older known now line)) now
@@ -164,7 +165,12 @@ line_before q me older known now Reboot before = record { pushes = omega arith; 
 -- ---- the log
 
 given_before : (q : Queries) (me : Mac) (older : Log) (known : Knowledge) (now : ℕ) (given : Given) → IsBefore (store_in known) now → IsBefore (store_in (next_knowledge q me older known now given)) now
-given_before q me older known now (Tick index) before = stays known (after_tick q now index known) now (tick_kept q now index known) before
+given_before q me older known now (Tick index) before =
+    let same = tick_kept q me now index (table_behind me older now index) known in
+    record {
+      pushes = subst (λ (k : Kept). newest_message k.pushes ≤ now) (sym same) before.pushes;
+      answers = subst (λ (k : Kept). newest_message k.answers ≤ now) (sym same) before.answers;
+    }
 given_before q me older known now (LinkFrame number from throughput bytes) before =
     packets_before q me (record { now = now; from = from; throughput = throughput; number = number }) known (link_frame bytes).packets before
 given_before q me older known now (LanFrame bytes) before =

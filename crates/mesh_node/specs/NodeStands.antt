@@ -18,7 +18,7 @@ use Rattle.node_ground.specs.KnowledgeStands.{KnowledgeStands}
 use Rattle.node_ground.specs.OwnStands.{HasClients, newest_moment}
 use Rattle.node_lans.specs.BridgeStands.{BridgeStands}
 use Rattle.mesh_node.specs.declared.input.Input.{Input}
-use Rattle.mesh_node.specs.declared.input.Input.TheVariants.{Tick, Link, Lan, Attach, Frame, Gone, Join, Leave, Arp, Dhcp, Wifi, GwOff, GwServer, GwClient, Mcast, Dat, Frag, Alfred, Put, Get, Ping, Trace, Reboot}
+use Rattle.mesh_node.specs.declared.input.Input.TheVariants.{Tick, Link, Lan, Attach, Frame, Gone, Join, Leave, Arp, Dhcp, Wifi, GwOff, GwServer, GwClient, Mcast, Dat, Frag, Vis, Alfred, Put, Get, Ping, Trace, Reboot}
 use Rattle.mesh_node.specs.declared.node.Node.{Node}
 
 -- moments never fall from input to input
@@ -63,6 +63,7 @@ given_by number (GwClient policy) =
 given_by number (Mcast flags) = log.Line (log.Sets (settings.Multicast flags))
 given_by number (Dat on) = log.Line (log.Sets (settings.ArpTable on))
 given_by number (Frag size) = log.Line (log.Sets (settings.LongestWhole size))
+given_by number (Vis on) = log.Line (log.Sets (settings.Pictures on))
 given_by number (Alfred mode) = log.Line (log.Sets (settings.FactStore mode))
 given_by number (Put type_no version text) = log.Line (log.Put type_no version text.now)
 given_by number (Get type_no) = log.Line (log.Get type_no)
@@ -102,6 +103,7 @@ MayFollow known (GwClient policy) = ⊤
 MayFollow known (Mcast flags) = ⊤
 MayFollow known (Dat on) = ⊤
 MayFollow known (Frag size) = ⊤
+MayFollow known (Vis on) = ⊤
 MayFollow known (Alfred mode) = ⊤
 MayFollow known (Put type_no version text) = ⊤
 MayFollow known (Get type_no) = ⊤

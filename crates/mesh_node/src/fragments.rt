@@ -1,10 +1,9 @@
 //! The row of fragments: those for this node, and those on their way to another one.
 
-ghost use Rattle.std.specs.Prelude.{◌≡◌, ◌-◌, if◌then◌else◌, option_map, OnOk};
+ghost use Rattle.std.specs.Prelude.{◌≡◌, ◌-◌, if◌then◌else◌, OnOk};
 ghost use Rattle.mesh_model.specs.declared.packet.Head.TheVariants.{Frag};
 ghost use Rattle.mesh_model.specs.Acts.FragmentRows.{carried_here, passed_fragment};
 ghost use Rattle.mesh_model.specs.Acts.Rows.{Own};
-ghost use Rattle.mesh_model.specs.Fragments.Cutting.{reach_of_head};
 ghost use Rattle.mesh_model.specs.Knowledge.FactStore.{after_fact_message};
 ghost use Rattle.mesh_model.specs.Knowledge.Known.{Knowledge};
 ghost use Rattle.mesh_model.specs.Knowledge.PutTogether.{after_part, carried_in, fact_carried, put_together};
@@ -23,7 +22,7 @@ use crate::carrying::unicast_came;
 use mesh_algo::Algo;
 use mesh_base::Mac;
 use mesh_codec::{Head, decode};
-use mesh_frag::Frag;
+use mesh_frag::{Frag, reach_of_head};
 use node_ground::messages::send_over;
 use node_ground::{NodeErr, NodeKnowledge, Place, Port};
 use node_lans::Bridge;
@@ -58,23 +57,6 @@ impl Fragment {
     }
 }
 
-// How many hops a packet with this head has left, where it is for one node.
-fn hops_left(head: Head) -> Option<u8>
-    ensures { result ≡ option_map (λ reach. reach.ttl) (reach_of_head head) }
-{
-    match head {
-        Head::Unicast { ttl, .. } => Some(ttl),
-        Head::IvOgm { .. }
-        | Head::Bcast { .. }
-        | Head::Elp { .. }
-        | Head::Ogm2 { .. }
-        | Head::Frag { .. }
-        | Head::Unicast4 { .. }
-        | Head::Icmp { .. }
-        | Head::Utvlv { .. } => None,
-    }
-}
-
 // A packet that was put together here: one for one node is taken as though it had come.
 fn whole<A: Algo, P: Port>(
     kept: &mut NodeKnowledge<A>,
@@ -98,7 +80,7 @@ fn whole<A: Algo, P: Port>(
     let Ok((head, tail, _)) = decode(bytes) else {
         return Ok(());
     };
-    let Some(ttl) = hops_left(head) else {
+    let Some((ttl, _)) = reach_of_head(head) else {
         return Ok(());
     };
     unicast_came(kept, port, locals, bridge, at, ttl, tail)?;

@@ -73,6 +73,8 @@ pub enum Input<'a> {
     Dat(bool),
     /// The greatest length of a packet for one node that goes whole, 0 where all do.
     Frag(u16),
+    /// Whether this node puts its picture in the fact store.
+    Vis(bool),
     /// The part of this node in the fact store.
     Alfred(AlfredMode),
     /// This node puts a fact of its own.

@@ -29,6 +29,7 @@ use node_arp::Question;
 use node_clients::client_frames::frame;
 use node_clients::lan_frames::lan_frame;
 use node_clients::roaming::note_roamed;
+use node_facts::pictures::put_picture;
 use node_facts::rounds::round;
 use node_ground::{Coming, GatewayPart, NodeErr, Place, Port, Setting};
 use node_probes::probes::session;
@@ -108,6 +109,7 @@ impl<A: Algo> Node<A> {
             Input::Mcast(flags) => self.set(now, Setting::Multicast(flags)),
             Input::Dat(on) => self.set(now, Setting::ArpTable(on)),
             Input::Frag(size) => self.set(now, Setting::LongestWhole(size)),
+            Input::Vis(on) => self.set(now, Setting::Pictures(on)),
             Input::Alfred(mode) => self.set(now, Setting::FactStore(mode)),
             Input::Put {
                 type_no,
@@ -146,6 +148,7 @@ impl<A: Algo> Node<A> {
             at,
             index,
         )?;
+        put_picture(&mut self.kept, &self.locals, at, index)?;
         round(&mut self.kept, port, at, index)?;
         Ok(())
     }

@@ -5,7 +5,7 @@
 
 mod json;
 pub mod laws;
-mod layout;
+pub mod layout;
 mod network;
 mod text;
 mod view;

@@ -4,14 +4,13 @@ ghost use Rattle.std.specs.Prelude.{◌≡◌, ◌≤◌, ◌+◌, ◌∷◌, []
 ghost use Rattle.mesh_model.specs.declared.act.Act.TheVariants.{Link};
 ghost use Rattle.mesh_model.specs.Acts.Cuts.{after_act, cut_act, cut_acts, cuts_among, fragment_act, is_too_long};
 ghost use Rattle.mesh_model.specs.Acts.NodeLimits.{cut_limit};
-ghost use Rattle.mesh_model.specs.Fragments.Cutting.{reach_of, reach_of_head};
+ghost use Rattle.mesh_model.specs.Fragments.Cutting.{reach_of};
 ghost use Rattle.mesh_frag.specs.Frags.{HeadsFragment};
 ghost use Rattle.node_cuts.specs.Collected.{cutter_of, one_cut_limit};
 ghost use Rattle.node_ground.specs.Puts.{Leaves, Puts};
 
 use mesh_base::{Bytes, Mac, Reason};
-use mesh_codec::{Head, decode};
-use mesh_frag::{Cuts, cut};
+use mesh_frag::{Cuts, HEAD_SIZE, Head, MOST_FRAGMENTS, cut, reach_of};
 use mesh_model::Act;
 use node_ground::messages::send;
 use node_ground::{NodeErr, Port};
@@ -22,12 +21,6 @@ const CUTS_LIMIT: u16 = 65_535;
 
 /// The least that the greatest length of a packet may be.
 const LEAST_MOST: usize = 300;
-
-/// How many fragments a packet has at most.
-const MOST_FRAGMENTS: usize = 16;
-
-/// The bytes of a fragment's header.
-const HEAD_SIZE: usize = 20;
 
 /// How a node cuts the packets for one node that are too long to go whole.
 #[derive(Clone, Copy, Debug)]
@@ -47,35 +40,15 @@ fn is_too_long(most: u16, size: usize) -> bool
     let most = usize::from(most);
     LEAST_MOST <= most
         && most < size
-        && size <= MOST_FRAGMENTS * (most - HEAD_SIZE)
+        && size <= usize::from(MOST_FRAGMENTS) * (most - HEAD_SIZE)
         && size < 65_536
-}
-
-// Whether a packet with this head is for one node.
-fn is_unicast(head: Head) -> bool
-    ensures { result ≡ is_some (reach_of_head head) }
-{
-    match head {
-        Head::Unicast { .. } => true,
-        Head::IvOgm { .. }
-        | Head::Bcast { .. }
-        | Head::Elp { .. }
-        | Head::Ogm2 { .. }
-        | Head::Frag { .. }
-        | Head::Unicast4 { .. }
-        | Head::Icmp { .. }
-        | Head::Utvlv { .. } => false,
-    }
 }
 
 // Whether bytes begin with a packet for one node.
 fn is_for_one_node(bytes: &[u8]) -> bool
     ensures { result ≡ is_some (reach_of bytes.now) }
 {
-    match decode(bytes) {
-        Ok((head, _, _)) => is_unicast(head),
-        Err(_) => false,
-    }
+    reach_of(bytes).is_some()
 }
 
 // Puts a fragment on the way of its packet.

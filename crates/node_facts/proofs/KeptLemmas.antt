@@ -1,11 +1,13 @@
 -- How what a node keeps goes on to stand for what it knows, once the store changed.
-use Rattle.std.proofs.Common.{◌≡◌, ℕ, Bool, true, false, List, [], ◌∷◌, refl, sym, ap, subst, ◌∙◌, Option, Some, None}
+use Rattle.std.proofs.Common.{◌≡◌, ℕ, Bool, true, false, cond, List, [], ◌∷◌, ◌++◌, refl, sym, ap, subst, ◌∙◌, Option, Some, None}
 use Rattle.std.specs.Prelude.{◌^◌, ◌%◌}
 use Rattle.std.proofs.lemmas.Bool.{false≢true}
+use Rattle.alfred_core.specs.Facts.{FactsStand}
 use Rattle.alfred_store.specs.Answers.{Answered, answer_to, answer_with}
 use Rattle.alfred_store.specs.StoreStands.{StoreStands, store_in}
 use Rattle.alfred_store.specs.declared.store.Store.{Store}
 use Rattle.mesh_base.specs.declared.address.Mac.{Mac}
+use Rattle.mesh_base.specs.declared.client.Entry.{Entry}
 use Rattle.mesh_model.specs.declared.line_form.AlfredMode.{AlfredMode}
 use Rattle.mesh_model.specs.declared.line_form.AlfredMode.TheVariants.{Off, Primary as IsPrimary, Secondary}
 use Rattle.mesh_model.specs.declared.service.Fact.{Fact}
@@ -13,14 +15,18 @@ use Rattle.mesh_model.specs.Acts.BridgeRows.{Place}
 use Rattle.mesh_model.specs.Acts.FactRows.{answer_told, answering_acts, brought_acts, whole_answer}
 use Rattle.mesh_model.specs.Clients.Settings.{Settings}
 use Rattle.mesh_model.specs.Fragments.Assembly.{PartCall}
-use Rattle.mesh_model.specs.Knowledge.FactStore.{after_announced, after_answering, after_brought, after_closing, after_push, after_whole_push, closed_by, open_request, with_fact, with_facts, with_primary}
+use Rattle.mesh_model.specs.Knowledge.FactStore.{after_announced, after_answering, after_brought, after_closing, after_push, after_put, after_whole_push, closed_by, open_request, with_fact, with_facts, with_primary}
 use Rattle.mesh_model.specs.Knowledge.Known.{Knowledge, TakenBroadcast}
+use Rattle.mesh_model.specs.Knowledge.OwnPictures.{put_pictures, puts_picture, with_picture}
 use Rattle.mesh_model.specs.Knowledge.Served.{FactRequest, Offered, Services}
 use Rattle.mesh_model.specs.Marks.Calls.{Calls}
 use Rattle.mesh_model.specs.Probes.OpenProbes.{ProbeCall}
+use Rattle.mesh_model.specs.Packets.Pictures.{picture_spelling}
+use Rattle.mesh_model.specs.Routes.Queries.{Queries}
 use Rattle.mesh_model.specs.Routes.RouteLog.{RouteLog}
 use Rattle.mesh_model.specs.Services.ArpTable.{Learned, PairCall}
-use Rattle.mesh_model.specs.Services.Facts.{CameFrom}
+use Rattle.mesh_model.specs.Services.Facts.{CameFrom, FactCall, WasPut}
+use Rattle.mesh_model.specs.Services.Pictures.{own_picture, picture_fact, picture_type, picture_version}
 use Rattle.mesh_model.specs.Services.Transactions.{TxnCall, made_whole}
 use Rattle.mesh_model.specs.Tables.Known.{TableCalls}
 use Rattle.mesh_dat.specs.Cache.{CacheStands}
@@ -93,6 +99,75 @@ stands_with stands kept store me known after same is stored = by_parts (sym same
 -- what is kept stands for what is the same
 pub stands_as : {A : Type 0} (stands : A → Mac → RouteLog → Type 0) (kept : NodeKnowledge A) (me : Mac) (known after : Knowledge) → known ≡ after → KnowledgeStands stands kept me known → KnowledgeStands stands kept me after
 stands_as stands kept me known after same is = subst (KnowledgeStands stands kept me) same is
+
+-- ---- pictures
+-- facts that stand for those that came, with the calls that a picture is put by
+with_facts_of : {A : Type 0} (stands : A → Mac → RouteLog → Type 0) (q : Queries) (kept : NodeKnowledge A) (me : Mac) (now index : ℕ) (table : List Entry) (known : Knowledge) (calls : List FactCall)
+    → KnowledgeStands stands kept me (record known { services = record known.services { facts = calls } }) → calls ≡ put_pictures q me now index table known ++ known.services.facts
+    → KnowledgeStands stands kept me (with_picture q me now index table known)
+with_facts_of stands q kept me now index table known calls is same = record {
+  routes = is.routes;
+  tables = is.tables;
+  marks = is.marks;
+  probes = is.probes;
+  taken = is.taken;
+  parts = is.parts;
+  sent = is.sent;
+  services = record {
+    settings = is.services.settings;
+    offers = is.services.offers;
+    choice = is.services.choice;
+    cache = is.services.cache;
+    asks = is.services.asks;
+    store = record {
+      facts = subst (FactsStand kept.services.store.facts me) same is.services.store.facts;
+      primaries = is.services.store.primaries;
+      pushes = is.services.store.pushes;
+      answers = is.services.store.answers;
+      requests = is.services.store.requests;
+      ids = is.services.store.ids;
+    };
+  };
+}
+
+-- where no picture is put, all stands as before
+pub not_pictured : {A : Type 0} (stands : A → Mac → RouteLog → Type 0) (q : Queries) (kept : NodeKnowledge A) (me : Mac) (now index : ℕ) (table : List Entry) (known : Knowledge)
+    → puts_picture known.services.settings index ≡ false → KnowledgeStands stands kept me known → KnowledgeStands stands kept me (with_picture q me now index table known)
+not_pictured stands q kept me now index table known puts is =
+    with_facts_of stands q kept me now index table known known.services.facts (record {
+      routes = is.routes;
+      tables = is.tables;
+      marks = is.marks;
+      probes = is.probes;
+      taken = is.taken;
+      parts = is.parts;
+      sent = is.sent;
+      services = record {
+        settings = is.services.settings;
+        offers = is.services.offers;
+        choice = is.services.choice;
+        cache = is.services.cache;
+        asks = is.services.asks;
+        store = record {
+          facts = is.services.store.facts;
+          primaries = is.services.store.primaries;
+          pushes = is.services.store.pushes;
+          answers = is.services.store.answers;
+          requests = is.services.store.requests;
+          ids = is.services.store.ids;
+        };
+      };
+    }) (sym (ap (λ (b : Bool). cond b (WasPut now (picture_fact me (own_picture q known.routes now table)) ∷ []) [] ++ known.services.facts) puts))
+
+-- where the picture is put, it is one more fact
+pub pictured : {A : Type 0} (stands : A → Mac → RouteLog → Type 0) (q : Queries) (kept : NodeKnowledge A) (me : Mac) (now index : ℕ) (table : List Entry) (known : Knowledge) (bytes : List ℕ)
+    → puts_picture known.services.settings index ≡ true → bytes ≡ picture_spelling (own_picture q known.routes now table)
+    → KnowledgeStands stands kept me (after_put me now picture_type picture_version bytes known) → KnowledgeStands stands kept me (with_picture q me now index table known)
+pictured stands q kept me now index table known bytes puts spelled is =
+    with_facts_of stands q kept me now index table known
+    (WasPut now (record { source = me; type_no = picture_type; version = picture_version; bytes = bytes }) ∷ known.services.facts) is
+    (ap (λ (bs : List ℕ). WasPut now (record { source = me; type_no = picture_type; version = picture_version; bytes = bs }) ∷ known.services.facts) spelled
+    ∙ sym (ap (λ (b : Bool). cond b (WasPut now (picture_fact me (own_picture q known.routes now table)) ∷ []) [] ++ known.services.facts) puts))
 
 -- ---- transactions
 facts_beside : (now : ℕ) (sender : Mac) (facts : List Fact) (known : Knowledge) → beside (with_facts now sender facts known) ≡ beside known

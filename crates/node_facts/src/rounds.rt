@@ -26,7 +26,7 @@ use node_ground::packing::FIRST_TTL;
 use node_ground::{NodeErr, NodeKnowledge, Place, Port};
 
 /// How many ticks pass from round to round.
-const TICKS_OF_ROUND: u64 = 20;
+pub(crate) const TICKS_OF_ROUND: u64 = 20;
 
 // A primary announces itself to all, by the node's next broadcast.
 fn announce<A: Algo, P: Port>(

@@ -1,5 +1,5 @@
 -- The settings of a node as the definitions see them. The main word is `settings_seen`.
-use Rattle.mesh_model.specs.Clients.Settings.{GatewayPart, NoPart, Serves, Chooses, Setting, Wifi, Gateway, Multicast, ArpTable, FactStore, LongestWhole, Settings}
+use Rattle.mesh_model.specs.Clients.Settings.{GatewayPart, NoPart, Serves, Chooses, Setting, Wifi, Gateway, Multicast, ArpTable, FactStore, Pictures, LongestWhole, Settings}
 use Rattle.mesh_serv.specs.OffersStand.{bandwidth}
 use Rattle.node_ground.specs.declared.settings.GatewayPart as kept_part
 use Rattle.node_ground.specs.declared.settings.GatewayPart.TheVariants as kept
@@ -20,6 +20,7 @@ setting_seen (one.Gateway part) = Gateway (part_seen part)
 setting_seen (one.Multicast flags) = Multicast flags
 setting_seen (one.ArpTable on) = ArpTable on
 setting_seen (one.FactStore mode) = FactStore mode
+setting_seen (one.Pictures on) = Pictures on
 setting_seen (one.LongestWhole size) = LongestWhole size
 
 -- all settings
@@ -30,5 +31,6 @@ settings_seen settings = record {
   multicast = settings.multicast;
   arp_table = settings.arp_table;
   fact_store = settings.fact_store;
+  pictures = settings.pictures;
   longest_whole = settings.longest_whole;
 }

@@ -31,6 +31,8 @@ pub enum Setting {
     ArpTable(bool),
     /// The part in the fact store.
     FactStore(AlfredMode),
+    /// Whether the node puts its picture in the fact store.
+    Pictures(bool),
     /// The greatest length of a packet for one node that goes whole, 0 where all do.
     LongestWhole(u16),
 }
@@ -47,6 +49,8 @@ pub struct Settings {
     pub arp_table: bool,
     /// Its part in the fact store.
     pub fact_store: AlfredMode,
+    /// Whether it puts its picture in the fact store.
+    pub pictures: bool,
     /// The greatest length of a packet for one node that goes whole, 0 where all do.
     pub longest_whole: u16,
 }
@@ -62,6 +66,7 @@ impl Settings {
             multicast: 0,
             arp_table: true,
             fact_store: AlfredMode::Off,
+            pictures: false,
             longest_whole: 0,
         }
     }
@@ -77,6 +82,7 @@ impl Settings {
             Setting::Multicast(flags) => self.multicast = flags,
             Setting::ArpTable(on) => self.arp_table = on,
             Setting::FactStore(mode) => self.fact_store = mode,
+            Setting::Pictures(on) => self.pictures = on,
             Setting::LongestWhole(size) => self.longest_whole = size,
         }
     }

@@ -21,15 +21,15 @@ returns-in_default-clause-noted g c = λ known stands before.
     (sym (none_carried c.args.bytes.now c.in_default.field-0 c.in_default.ensures.cause)) stands
 
 -- ---- a packet of another kind
-pub returns-in_default-hops_left-clause-puts : goal.returns-in_default-hops_left-clause-puts
-returns-in_default-hops_left-clause-puts g c = λ known own stands before owns bridged.
+pub returns-in_default-reach_of_head-clause-puts : goal.returns-in_default-reach_of_head-clause-puts
+returns-in_default-reach_of_head-clause-puts g c = λ known own stands before owns bridged.
     subst (λ (o : Option Carried). TakesAll g.P.Port.takes g.P.Port.over c.args.port.now (carried_here (g.A.Algo.queries c.args.at.me) known own.mentions own.bridge (place c.args.at) o) c.args.port.now)
-    (sym (another_carried c.args.bytes.now c.in-Ok.head c.in-Ok.tail.now c.in-Ok.field-0-2 c.in-Ok.ensures.ok c.in_default-hops_left.ensures)) refl
+    (sym (another_carried c.args.bytes.now c.in-Ok.head c.in-Ok.tail.now c.in-Ok.field-0-2 c.in-Ok.ensures.ok c.in_default-reach_of_head.ensures)) refl
 
-pub returns-in_default-hops_left-clause-noted : goal.returns-in_default-hops_left-clause-noted
-returns-in_default-hops_left-clause-noted g c = λ known stands before.
+pub returns-in_default-reach_of_head-clause-noted : goal.returns-in_default-reach_of_head-clause-noted
+returns-in_default-reach_of_head-clause-noted g c = λ known stands before.
     subst (λ (o : Option Carried). KnowledgeStands g.A.Algo.stands c.args.kept.now c.args.at.me (after_fact_message c.args.at.now (fact_carried o) known))
-    (sym (another_carried c.args.bytes.now c.in-Ok.head c.in-Ok.tail.now c.in-Ok.field-0-2 c.in-Ok.ensures.ok c.in_default-hops_left.ensures)) stands
+    (sym (another_carried c.args.bytes.now c.in-Ok.head c.in-Ok.tail.now c.in-Ok.field-0-2 c.in-Ok.ensures.ok c.in_default-reach_of_head.ensures)) stands
 
 -- ---- a packet for one node
 pub returns-in_err-unicast_came-clause-puts : goal.returns-in_err-unicast_came-clause-puts
@@ -37,17 +37,17 @@ returns-in_err-unicast_came-clause-puts g c = λ known own stands before owns br
     let p = err_from_is_err_and c.from_residual.result c.from_residual.ensures.1 in
     rw (p.1, p.2)
     (subst (λ (o : Option Carried). Puts g.P.Port.takes g.P.Port.same g.P.Port.over c.args.port.now (carried_here (g.A.Algo.queries c.args.at.me) known own.mentions own.bridge (place c.args.at) o) (Err c.in_err-unicast_came.field-0.0) c.unicast_came.new.port)
-    (sym (one_carried c.args.bytes.now c.in-Ok.head c.in-Ok.tail.now c.in-Ok.field-0-2 c.in-Some.ttl c.in-Ok.ensures.ok c.in-Some.ensures))
+    (sym (one_carried c.args.bytes.now c.in-Ok.head c.in-Ok.tail.now c.in-Ok.field-0-2 c.in-Some.ttl c.in-Some.field-0-1 c.in-Ok.ensures.ok c.in-Some.ensures))
     (c.in_err-unicast_came.ensures.puts known own stands before owns bridged))
 
 pub returns-clause-puts : goal.returns-clause-puts
 returns-clause-puts g c = λ known own stands before owns bridged.
     subst (λ (o : Option Carried). TakesAll g.P.Port.takes g.P.Port.over c.args.port.now (carried_here (g.A.Algo.queries c.args.at.me) known own.mentions own.bridge (place c.args.at) o) c.unicast_came.new.port)
-    (sym (one_carried c.args.bytes.now c.in-Ok.head c.in-Ok.tail.now c.in-Ok.field-0-2 c.in-Some.ttl c.in-Ok.ensures.ok c.in-Some.ensures))
+    (sym (one_carried c.args.bytes.now c.in-Ok.head c.in-Ok.tail.now c.in-Ok.field-0-2 c.in-Some.ttl c.in-Some.field-0-1 c.in-Ok.ensures.ok c.in-Some.ensures))
     (c.in_ok-unicast_came.ensures.puts known own stands before owns bridged)
 
 pub returns-clause-noted : goal.returns-clause-noted
 returns-clause-noted g c = λ known stands before.
     subst (λ (o : Option Carried). KnowledgeStands g.A.Algo.stands c.unicast_came.new.kept c.args.at.me (after_fact_message c.args.at.now (fact_carried o) known))
-    (sym (one_carried c.args.bytes.now c.in-Ok.head c.in-Ok.tail.now c.in-Ok.field-0-2 c.in-Some.ttl c.in-Ok.ensures.ok c.in-Some.ensures))
+    (sym (one_carried c.args.bytes.now c.in-Ok.head c.in-Ok.tail.now c.in-Ok.field-0-2 c.in-Some.ttl c.in-Some.field-0-1 c.in-Ok.ensures.ok c.in-Some.ensures))
     (c.in_ok-unicast_came.ensures.noted known stands before)
