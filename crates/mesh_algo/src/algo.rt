@@ -7,6 +7,7 @@ ghost use Rattle.mesh_algo.specs.AlgoLaws.{HasElps, HasLiveRoutes, HasOgmAtEvenT
 
 use mesh_base::{Mac, Millis, NoMemory};
 use mesh_model::{Beats, Head, Hearing, LinkRow, OrigRow};
+use std::alloc::Global;
 
 /// A routing algorithm of one node. What it answers follows from its log, the list of all its own
 /// ticks and of all heads that came to it.
@@ -67,6 +68,11 @@ pub trait Algo {
             result ≡ slice_get ((queries me).originators log now) i }
         ensures past_end { (me : Mac) (log : RouteLog) → stands self.now me log →
             IsNone result ↔ (length ((queries me).originators log now) ≤ i) };
+
+    /// The live originators, in the order of addresses.
+    fn originators(&self, alloc: Global, now: Millis) -> Result<Vec<OrigRow>, NoMemory>
+        ensures { IfOk result (λ rows. (me : Mac) (log : RouteLog) → stands self.now me log →
+            rows.items ≡ (queries me).originators log now) };
 
     /// The neighbour at this place in the order of addresses, from 0.
     fn link_at(&self, now: Millis, i: usize) -> Option<LinkRow>

@@ -21,7 +21,7 @@ use Rattle.mesh_algo.specs.declared.pair.Pair.{Pair}
 use Rattle.mesh_iv.specs.Came.{ogm_in}
 use Rattle.mesh_iv.specs.Hears.{input_of, hearing_of}
 use Rattle.mesh_iv.specs.Rows.{blank, five, path_row, echo_row}
-use Rattle.mesh_iv.specs.Tables.{Tables, StandsFor, LivesStand, path_at}
+use Rattle.mesh_iv.specs.Tables.{BestsStand, Tables, StandsFor, LivesStand, path_at}
 use Rattle.mesh_iv.proofs.HeardRows.{unwrapped}
 
 module _ (me : Mac) (log : RouteLog) (came : OgmCame) where
@@ -41,6 +41,7 @@ module _ (me : Mac) (log : RouteLog) (came : OgmCame) where
       are = λ pair. stands.paths_stand.are pair ∙ sym (ap₂ (λ l f. path_at me l f pair) (unheard_is tp p) (λ i k. echoed tp false e k i));
       rise = stands.paths_stand.rise;
     };
+    bests_stand = subst (λ l. BestsStand l tables.bests) (sym (unheard_is tp p)) stands.bests_stand;
   }
 
   -- the row of an echo, with a number more
@@ -52,11 +53,11 @@ module _ (me : Mac) (log : RouteLog) (came : OgmCame) where
 
   -- an echo has its number in the row of its neighbour
   pub echo_stands : (tp : ℕ) (old new : Tables) (row : Path) → StandsFor me old log → passes me (ogm_in came) ≡ false → is_echo me (own_ogms log) (ogm_in came) ≡ true
-      → new.me ≡ old.me → new.sent ≡ old.sent → new.lives ≡ old.lives
+      → new.me ≡ old.me → new.sent ≡ old.sent → new.lives ≡ old.lives → new.bests ≡ old.bests
       → row ≡ echo_with (unwrap_or (echo_row (echoes_from me came.from log)) blank)
       → ((pair : Pair) → lookup (same_pair pair) new.paths ≡ cond (same_pair (record { orig = me; from = came.from }) pair) (Some row) (lookup (same_pair pair) old.paths))
       → IsStrictlySortedBy pair_order (keys_of new.paths) → StandsFor me new (input_of came tp ∷ log)
-  echo_stands tp old new row stands p e same_me same_sent same_lives row_is updated sorted = record {
+  echo_stands tp old new row stands p e same_me same_sent same_lives same_bests row_is updated sorted = record {
     me_is = same_me ∙ stands.me_is;
     sent_is = same_sent ∙ stands.sent_is;
     lives_stand = subst (λ l. LivesStand l new.lives) (sym (unheard_is tp p)) (subst (λ l. LivesStand (heard me log) l) (sym same_lives) stands.lives_stand);
@@ -64,6 +65,7 @@ module _ (me : Mac) (log : RouteLog) (came : OgmCame) where
       are = λ pair. updated pair ∙ next pair ∙ sym (ap₂ (λ l f. path_at me l f pair) (unheard_is tp p) (λ i k. echoed tp true e k i));
       rise = sorted;
     };
+    bests_stand = subst (λ l. BestsStand l new.bests) (sym (unheard_is tp p)) (subst (λ bs. BestsStand (heard me log) bs) (sym same_bests) stands.bests_stand);
   }
     where
       on_path : (pair : Pair) (b : Bool) (f : Mac → List ℕ) → same_mac pair.orig me ≡ b → path_at me (heard me log) f pair ≡ cond b (echo_row (f pair.from)) (path_row pair.from (latest (of pair.orig (heard me log))))

@@ -31,7 +31,7 @@ use Rattle.mesh_iv.specs.Writing.{IsWritten, is_over_after, life_then}
 use Rattle.mesh_iv.proofs.BestWalk.{walk_finds}
 use Rattle.mesh_iv.proofs.HeardRows.{first_row, other_row}
 use Rattle.mesh_iv.proofs.ValueLemmas.{is_met}
-use Rattle.mesh_iv.proofs.StepLemmas.{hearings, echoes, v, other_orig, lives_step, paths_step, step_stands}
+use Rattle.mesh_iv.proofs.StepLemmas.{bests_step, hearings, echoes, v, other_orig, lives_step, paths_step, step_stands}
 
 -- the mark of being sent on changes no route
 marked_route : (g : HeardOgm) (b : Bool) (l : List HeardOgm) → iv_route (record g { sent_on = b } ∷ l) ≡ iv_route (g ∷ l)
@@ -116,13 +116,18 @@ module _ (me : Mac) (log : RouteLog) (came : OgmCame) (first : is_first (hearing
     life_is : restarted ≡ began_wild (own ∷ lived) → Some (life_then came restarted row value new.paths) ≡ life_row (own ∷ lived)
     life_is began = next_life own lived row restarted _ is.row_is began on_time sent_then
 
-    pub first_stands : (tp : ℕ) → restarted ≡ began_wild (own ∷ lived) → new.me ≡ old.me → new.sent ≡ old.sent → StandsFor me new (input_of came tp ∷ log)
-    first_stands tp began same_me same_sent =
+    top_is : max (newest_by row) came.seq ≡ newest (own ∷ lived)
+    top_is = let n = newest_by_row lived row is.row_is in let t = newest_then in omega (arith, n, t)
+
+    pub first_stands : (tp : ℕ) → restarted ≡ began_wild (own ∷ lived) → new.me ≡ old.me → new.sent ≡ old.sent
+        → ((q : Mac) → lookup (same_mac q) new.bests ≡ cond (same_mac came.orig q) (Some (walk (path_score (max (newest_by row) came.seq)) came.orig None new.paths)) (lookup (same_mac q) old.bests)) → StandsFor me new (input_of came tp ∷ log)
+    first_stands tp began same_me same_sent bests =
         step_stands me log came tp old new is.stands is.passing same_me same_sent
         (lives_step me log came old.lives new.lives is.stands.lives_stand
         (λ q. written.lives_are q is.stands.paths_stand.rise ∙ ap (λ r. cond (same_mac came.orig q) r (lookup (same_mac q) old.lives)) (life_is began))
         (written.lives_rise is.stands.lives_stand.rise))
         paths_then
+        (bests_step me log came old.bests new.bests new.paths (max (newest_by row) came.seq) is.stands.bests_stand paths_then (other_orig me log came is.passing) top_is bests)
 
     -- ---- the answer
     pub first_answer : (a b : Bool) (f : Option _) → a ≡ (is_none row || nat_lt (newest_by row) came.seq) → b ≡ is_none row

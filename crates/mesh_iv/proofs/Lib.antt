@@ -11,3 +11,4 @@ pub mod ValueLemmas
 pub mod EchoLemmas
 pub mod TableLemmas
 pub mod KeyLemmas
+pub mod OrigLemmas

@@ -26,7 +26,9 @@ use Rattle.mesh_algo.specs.declared.life.Life.{Life}
 use Rattle.mesh_algo.specs.declared.pair.Pair.{Pair}
 use Rattle.mesh_iv.specs.Answers.{count_of}
 use Rattle.mesh_iv.specs.Rows.{path_score, row_of, path_row, echo_row}
-use Rattle.mesh_iv.specs.Tables.{StandsFor, Tables, path_at}
+use Rattle.mesh_iv.specs.Tables.{StandsFor, Tables, best_row, path_at}
+use Rattle.mesh_algo.specs.declared.best.Best.{Best}
+use Rattle.std.specs.Option.{option_flatten}
 use Rattle.mesh_iv.proofs.BestWalk.{walk_finds}
 
 -- ---- own numbers
@@ -122,9 +124,9 @@ best_some me tables log moment o row stands e =
 nothing_at : (me : Mac) (pair : Pair) → path_at me [] (λ k. []) pair ≡ None
 nothing_at me pair = elim (same_mac pair.orig me) as (λ b. cond b (echo_row []) (path_row pair.from []) ≡ None) [ true ↦ refl | false ↦ refl ]
 
-pub new_stands : (me : Mac) (lives : List (Mac × Life)) (paths : List (Pair × Path)) → lives ≡ [] → paths ≡ [] → StandsFor me (record { me = me; sent = 0; lives = lives; paths = paths }) []
+pub new_stands : (me : Mac) (lives : List (Mac × Life)) (paths : List (Pair × Path)) (bests : List (Mac × Option Best)) → lives ≡ [] → paths ≡ [] → bests ≡ [] → StandsFor me (record { me = me; sent = 0; lives = lives; paths = paths; bests = bests }) []
 unfolding IsStrictlySortedBy
-new_stands me lives paths none empty = record {
+new_stands me lives paths bests none empty no_bests = record {
   me_is = refl;
   sent_is = refl;
   lives_stand = record {
@@ -135,4 +137,17 @@ new_stands me lives paths none empty = record {
     are = λ pair. ap (λ rows. lookup (same_pair pair) rows) empty ∙ sym (nothing_at me pair);
     rise = subst (λ rows. IsStrictlySortedBy pair_order (keys_of rows)) (sym empty) tt;
   };
+  bests_stand = λ o. ap (λ rows. lookup (same_mac o) rows) no_bests;
 }
+
+-- ---- the best neighbour
+-- that of a life, by the one that is kept
+pub kept_best : (me : Mac) (tables : Tables) (log : RouteLog) (moment : ℕ) (o : Mac) (row : Life) → StandsFor me tables log → life_row (iv_life me log moment o) ≡ Some row
+    → option_flatten (lookup (same_mac o) tables.bests) ≡ best_in (average_quality (iv_life me log moment o)) (iv_life me log moment o)
+kept_best me tables log moment o row stands e =
+    let last = life_is_latest moment (of o (heard me log)) row e in
+    ap option_flatten (stands.bests_stand o ∙ ap best_row (sym last)) ∙ go (iv_life me log moment o) e
+  where
+    go : (alive : List HeardOgm) → life_row alive ≡ Some row → option_flatten (best_row alive) ≡ best_in (average_quality alive) alive
+    go [] none = let bad : ◌≡◌ {A = Option Life} None (Some row) = none in cc
+    go (h ∷ older) some = refl

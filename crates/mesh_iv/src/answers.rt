@@ -1,4 +1,4 @@
-ghost use Rattle.std.specs.Prelude.{◌≡◌, ◌↔◌, ◌≤◌, ℕ, false, ◌∷◌, length, slice_get, is_some, Option, Some, IfOk, IfSome, IfNone, OnOk, OnErr, IsNone, Ok};
+ghost use Rattle.std.specs.Prelude.{◌≡◌, ◌↔◌, ◌≤◌, ℕ, false, ◌∷◌, length, slice_get, is_some, option_and_then, Option, Some, IfOk, IfSome, IfNone, OnOk, OnErr, IsNone, Ok};
 ghost use Rattle.mesh_base.specs.declared.address.Mac.{Mac};
 ghost use Rattle.mesh_model.specs.declared.packet.Head.{Head};
 ghost use Rattle.mesh_model.specs.Routes.AlgorithmIv.{iv_beats, iv_life, iv_link, iv_queries};
@@ -7,6 +7,9 @@ ghost use Rattle.mesh_model.specs.Routes.Ogm.{ogm_of_head};
 ghost use Rattle.mesh_model.specs.Routes.Quality.{average_quality};
 ghost use Rattle.mesh_model.specs.Routes.Queries.{unheard};
 ghost use Rattle.mesh_model.specs.Routes.RouteLog.{RouteLog, OwnTick, HeadCame, MayTick};
+ghost use Rattle.mesh_model.specs.Routes.Hearings.{heard};
+ghost use Rattle.mesh_model.specs.Routes.Life.{heard_originators};
+ghost use Rattle.mesh_iv.specs.Answers.{row_of_orig, row_with};
 ghost use Rattle.mesh_iv.specs.Came.{head_of, ogm_in};
 ghost use Rattle.mesh_iv.specs.Hears.{IsCame};
 ghost use Rattle.mesh_iv.specs.Tables.{StandsFor};
@@ -15,8 +18,10 @@ use crate::hearing::UNHEARD;
 use crate::iv::Iv;
 use crate::ogm::OgmCame;
 use crate::quality::FULL_QUALITY;
-use mesh_algo::{Algo, Beats, Head, Hearing, LinkRow, OrigRow};
+use mesh_algo::table::row_near;
+use mesh_algo::{Algo, Beats, Best, Head, Hearing, Life, LinkRow, OrigRow};
 use mesh_base::{Mac, Millis, NoMemory};
+use std::alloc::Global;
 
 /// How many hops an own OGM may go.
 const FIRST_TTL: u8 = 50;
@@ -88,6 +93,7 @@ impl Algo for Iv {
         self.sent = 0;
         self.lives.clear();
         self.paths.clear();
+        self.bests.clear();
     }
 
     fn metric(&self, now: Millis, orig: Mac) -> u32 {
@@ -109,6 +115,17 @@ impl Algo for Iv {
             .nth(i)
     }
 
+    fn originators(&self, alloc: Global, now: Millis) -> Result<Vec<OrigRow>, NoMemory> {
+        let mut rows = Vec::new(alloc);
+        rows.reserve(self.lives.len())?;
+        for place in 0..self.lives.len() {
+            if let Some(row) = self.orig_row_at(place, now) {
+                rows.push(row)?;
+            }
+        }
+        Ok(rows)
+    }
+
     fn link_at(&self, now: Millis, i: usize) -> Option<LinkRow> {
         self.lives
             .keys()
@@ -124,15 +141,27 @@ impl Iv {
             let alive = iv_life me log now orig in
             result ≡ orig_row (average_quality alive) now orig alive }
     {
-        let life = self.life(now, orig)?;
-        let row = OrigRow {
-            orig,
-            seq: life.newest,
-            seen: now.saturating_sub(life.last),
-            next: self.route(now, orig),
-            metric: self.metric(now, orig),
-        };
-        Some(row)
+        self.orig_row_near(self.guesses.of(orig).life as usize, now, orig)
+    }
+
+    // The row of the originator at a place, if it is live.
+    fn orig_row_at(&self, place: usize, now: Millis) -> Option<OrigRow>
+        ensures { (me : Mac) (log : RouteLog) → StandsFor me self.now log →
+            result ≡ option_and_then (row_of_orig me log now)
+            (slice_get (heard_originators (heard me log)) place) }
+    {
+        let (orig, _) = self.lives.get_index(place)?;
+        self.orig_row_near(place, now, *orig)
+    }
+
+    // The row of an originator, if it is live, whose row may stand at a place.
+    fn orig_row_near(&self, place: usize, now: Millis, orig: Mac) -> Option<OrigRow>
+        ensures { (me : Mac) (log : RouteLog) → StandsFor me self.now log →
+            result ≡ row_of_orig me log now orig }
+    {
+        let life = self.life_near(place, now, orig)?;
+        let best = row_near(&self.bests, place, orig).flatten();
+        Some(row_with(now, orig, &life, &best))
     }
 
     // The row of a neighbour of which something is received.
@@ -183,5 +212,22 @@ fn ogm_came(moment: Millis, from: Mac, head: &Head) -> Option<OgmCame>
         | Head::Unicast4 { .. }
         | Head::Icmp { .. }
         | Head::Utvlv { .. } => None,
+    }
+}
+
+// The row of an originator of this life, with the best neighbour to it.
+fn row_with(now: Millis, orig: Mac, life: &Life, best: &Option<Best>) -> OrigRow
+    ensures { result ≡ row_with now orig life.now best.now }
+{
+    let (next, metric) = match best {
+        Some(best) => (Some(best.from), best.score),
+        None => (None, 0),
+    };
+    OrigRow {
+        orig,
+        seq: life.newest,
+        seen: now.saturating_sub(life.last),
+        next,
+        metric,
     }
 }

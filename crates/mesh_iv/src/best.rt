@@ -8,17 +8,22 @@ ghost use Rattle.mesh_iv.specs.Rows.{path_score};
 use crate::path::Path;
 use indexmap::IndexMap;
 use mesh_algo::best::better;
-use mesh_algo::table::first_path;
+use mesh_algo::table::first_path_near;
 use mesh_algo::{Best, Pair};
 use mesh_base::Mac;
 
-/// The best neighbour to an originator of this newest number: a walk over the originator's rows
-/// alone.
-pub(crate) fn best_of(paths: &IndexMap<Pair, Path>, orig: Mac, newest: u32) -> Option<Best>
+/// The best neighbour to an originator of this newest number, whose rows may stand from a place on: a
+/// walk over them alone.
+pub(crate) fn best_near(
+    paths: &IndexMap<Pair, Path>,
+    near: usize,
+    orig: Mac,
+    newest: u32,
+) -> Option<Best>
     ensures { IsStrictlySortedBy pair_order (keys paths.now) →
         result ≡ walk (path_score newest) orig None paths.now.entries }
 {
-    best_from(paths, first_path(paths, orig), orig, newest)
+    best_from(paths, first_path_near(paths, near, orig), orig, newest)
 }
 
 /// The best of the rows from this place on, up to the first of another originator.

@@ -12,13 +12,14 @@ ghost use Rattle.mesh_iv.specs.Tables.{StandsFor};
 ghost use Rattle.mesh_algo.specs.LifeRows.{newest_by};
 ghost use Rattle.mesh_algo.specs.declared.life.Life.{Life};
 
+use crate::best::best_near;
 use crate::iv::Iv;
 use crate::ogm::{OgmCame, Places};
 use crate::path::Path;
 use crate::quality::transmit_quality;
 use crate::writing::write;
 use mesh_algo::life::{going_on, is_accepted, meeting, newest_of, restarted_then};
-use mesh_algo::table::{place_of, put, put_near};
+use mesh_algo::table::put_near;
 use mesh_algo::{Hearing, Life, Pair};
 use mesh_base::{Millis, NoMemory};
 
@@ -46,10 +47,7 @@ impl Iv {
             self.note_echo(ogm)?;
             return Ok(UNHEARD);
         }
-        let near = Places {
-            life: place_of(&self.lives, ogm.orig),
-            path: place_of(&self.paths, ogm.pair()),
-        };
+        let near = self.places(ogm);
         let lived = self.life_near(near.life, ogm.moment, ogm.orig);
         let met = meeting(ogm.moment, ogm.seq, &lived);
         let life = going_on(lived, met);
@@ -77,9 +75,10 @@ impl Iv {
             orig: self.me,
             from: ogm.from,
         };
-        let mut path = self.path(pair).unwrap_or(Path::new());
+        let near = self.guesses.of(ogm.from).echo as usize;
+        let mut path = self.path_near(near, pair).unwrap_or(Path::new());
         path.heard.see(ogm.seq);
-        put(&mut self.paths, pair, path)?;
+        put_near(&mut self.paths, near, pair, path)?;
         Ok(())
     }
 
@@ -105,13 +104,17 @@ impl Iv {
         let Some(life) = life else {
             return Ok(());
         };
+        let newest = life.newest;
         let life = Life {
             last: ogm.moment,
-            newest: life.newest,
+            newest,
             forwarded: life.forwarded,
             restarted: life.restarted,
         };
+        self.bests.reserve(1)?;
         put_near(&mut self.lives, near.life, ogm.orig, life)?;
+        let best = best_near(&self.paths, near.first, ogm.orig, newest);
+        put_near(&mut self.bests, near.life, ogm.orig, best).unwrap();
         Ok(())
     }
 
@@ -136,6 +139,7 @@ impl Iv {
         let newest = newest_of(life).max(ogm.seq);
         let value = self.value(ogm, path, newest);
         let row = path.with(ogm.seq, value);
+        self.bests.reserve(1)?;
         let forward = write(
             &mut self.lives,
             &mut self.paths,
@@ -146,6 +150,8 @@ impl Iv {
             row,
             value,
         )?;
+        let best = best_near(&self.paths, near.first, ogm.orig, newest);
+        put_near(&mut self.bests, near.life, ogm.orig, best).unwrap();
         Ok(Hearing {
             accepted: is_accepted(ogm.seq, life),
             began: life.is_none(),

@@ -9,7 +9,7 @@ ghost use Rattle.mesh_algo.specs.Walk.{best_in};
 ghost use Rattle.mesh_iv.specs.Tables.{StandsFor, path_at};
 ghost use Rattle.mesh_iv.specs.Answers.{count_of};
 
-use crate::best::best_of;
+use crate::guesses::Guesses;
 use crate::path::Path;
 use indexmap::IndexMap;
 use mesh_algo::table::row_near;
@@ -30,6 +30,10 @@ pub struct Iv {
     /// A row for each originator and neighbour, in their order; under the own address those of
     /// echoes.
     pub(crate) paths: IndexMap<Pair, Path>,
+    /// The best neighbour to each originator in its last life, in the order of addresses.
+    pub(crate) bests: IndexMap<Mac, Option<Best>>,
+    /// Where rows stood last.
+    pub(crate) guesses: Guesses,
 }
 
 impl Model for Iv {
@@ -42,6 +46,7 @@ impl Model for Iv {
       sent = iv.sent;
       lives = iv.lives.entries;
       paths = iv.paths.entries;
+      bests = iv.bests.entries;
     } };
 }
 
@@ -55,6 +60,8 @@ impl Iv {
             sent: 0,
             lives: IndexMap::new(alloc),
             paths: IndexMap::new(alloc),
+            bests: IndexMap::new(alloc),
+            guesses: Guesses::new(),
         }
     }
 
@@ -63,7 +70,7 @@ impl Iv {
         ensures { (me : Mac) (log : RouteLog) → StandsFor me self.now log →
             result ≡ life_row (iv_life me log now orig) }
     {
-        self.lives.get(&orig)?.at(now)
+        self.life_near(self.guesses.of(orig).life as usize, now, orig)
     }
 
     // The life of an originator, whose row may stand at a place.
@@ -72,14 +79,6 @@ impl Iv {
             result ≡ life_row (iv_life me log now orig) }
     {
         row_near(&self.lives, near, orig)?.at(now)
-    }
-
-    // The row of an originator and a neighbour.
-    pub(crate) fn path(&self, pair: Pair) -> Option<Path>
-        ensures { (me : Mac) (log : RouteLog) → StandsFor me self.now log →
-            result ≡ path_at me (heard me log) (λ k. echoes_from me k log) pair }
-    {
-        self.paths.get(&pair).copied()
     }
 
     // The row of an originator and a neighbour, which may stand at a place.
@@ -99,7 +98,11 @@ impl Iv {
         let Some(life) = self.life(now, k) else {
             return 0;
         };
-        count(&self.path(Pair { orig: k, from: k }), life.newest)
+        let near = self.guesses.of(k).own as usize;
+        count(
+            &self.path_near(near, Pair { orig: k, from: k }),
+            life.newest,
+        )
     }
 
     // How many of the own last numbers came back from a neighbour.
@@ -111,7 +114,8 @@ impl Iv {
             orig: self.me,
             from: k,
         };
-        count(&self.path(pair), self.sent)
+        let near = self.guesses.of(k).echo as usize;
+        count(&self.path_near(near, pair), self.sent)
     }
 
     // The best neighbour to an originator.
@@ -120,8 +124,9 @@ impl Iv {
             let alive = iv_life me log now orig in
             result ≡ best_in (average_quality alive) alive }
     {
-        let life = self.life(now, orig)?;
-        best_of(&self.paths, orig, life.newest)
+        let near = self.guesses.of(orig).life as usize;
+        let _life = self.life_near(near, now, orig)?;
+        row_near(&self.bests, near, orig).flatten()
     }
 }
 

@@ -6,11 +6,13 @@
 mod answers;
 mod best;
 mod forward;
+mod guesses;
 mod hearing;
 pub mod iv;
 pub mod laws;
 mod ogm;
 mod path;
+mod places;
 mod quality;
 mod writing;
 

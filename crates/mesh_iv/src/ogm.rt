@@ -30,6 +30,8 @@ pub(crate) struct OgmCame {
 pub(crate) struct Places {
     pub(crate) life: usize,
     pub(crate) path: usize,
+    /// The first row of the originator.
+    pub(crate) first: usize,
 }
 
 impl OgmCame {

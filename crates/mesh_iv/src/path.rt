@@ -79,8 +79,14 @@ fn mean(values: &[u8]) -> u32
     requires { length values.now ≤ 5 }
     ensures { result ≡ mean_of values.now }
 {
-    let good = values.iter().filter(|value| **value > 0).count() as u32;
-    let sum: u32 = values.iter().map(|value| u32::from(*value)).sum();
+    let mut good = 0;
+    let mut sum = 0;
+    for value in values {
+        if *value > 0 {
+            good += 1;
+        }
+        sum += u32::from(*value);
+    }
     quotient(sum, good)
 }
 

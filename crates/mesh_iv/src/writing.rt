@@ -64,6 +64,6 @@ fn is_over(
         return false;
     }
     let newest = newest_of(life).max(ogm.seq);
-    let first = first_path_near(paths, near.path, ogm.orig);
+    let first = first_path_near(paths, near.first, ogm.orig);
     is_best(ogm.from, &best_from(paths, first, ogm.orig, newest))
 }

@@ -14,6 +14,7 @@ use crate::row::elp_in;
 use crate::v::V;
 use mesh_algo::{Algo, Beats, Head, Hearing, LinkRow, OrigRow};
 use mesh_base::{Mac, Millis, NoMemory};
+use std::alloc::Global;
 
 /// How many hops an own OGM may go.
 const FIRST_TTL: u8 = 50;
@@ -141,6 +142,15 @@ impl Algo for V {
             .keys()
             .filter_map(|orig| self.orig_row(now, *orig))
             .nth(i)
+    }
+
+    fn originators(&self, alloc: Global, now: Millis) -> Result<Vec<OrigRow>, NoMemory> {
+        let rows = self
+            .origs
+            .keys()
+            .filter_map(|orig| self.orig_row(now, *orig))
+            .collect(alloc)?;
+        Ok(rows)
     }
 
     fn link_at(&self, now: Millis, i: usize) -> Option<LinkRow> {

@@ -11,7 +11,7 @@ returns c =
     λ me log stands.
     c.count.ensures.counted
     ∙ ap₂ (λ n p. count_of n p) (ap (λ t. t.sent) c.self.view_is ∙ stands.sent_is)
-    (c.path.ensures me log stands
+    (c.path_near.ensures me log stands
     ∙ ap (λ m. path_at me (heard me log) (λ k. echoes_from me k log) (record { orig = m; from = c.args.k })) (ap (λ t. t.me) c.self.view_is ∙ stands.me_is)
     ∙ echo_at me c.args.k (heard me log) (λ k. echoes_from me k log))
     ∙ echo_some me log c.args.k

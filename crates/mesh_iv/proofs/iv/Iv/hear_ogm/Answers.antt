@@ -1,4 +1,4 @@
-use Rattle.std.proofs.Common.{◌≡◌, ◌∙◌, ap, sym, cond, true, false, rules}
+use Rattle.std.proofs.Common.{◌≡◌, ◌∙◌, ap, sym, subst, cond, true, false, rules}
 use Rattle.mesh_model.specs.Routes.AlgorithmIv.{answer_to}
 use Rattle.mesh_model.specs.Routes.Hearings.{heard}
 use Rattle.mesh_model.specs.Routes.Life.{is_first, of}
@@ -7,6 +7,7 @@ use Rattle.mesh_model.specs.Routes.Ogm.{passes}
 use Rattle.mesh_model.specs.Routes.Queries.{unheard}
 use Rattle.mesh_iv.specs.Came.{ogm_in}
 use Rattle.mesh_iv.specs.Hears.{IsHeard, hearing_of, life_before, lived_at}
+use Rattle.mesh_iv.specs.Tables.{StandsFor}
 use Rattle.mesh_algo.proofs.HearingLemmas.{first_from, goes_on_with, late_not_first, restarted_is, seen_not_first}
 use Rattle.mesh_iv.proofs.ValueLemmas.{is_met, touched_answer}
 use Rattle.mesh_iv.proofs.iv.Iv.hear_ogm.Goals as goal
@@ -25,11 +26,12 @@ returns-then-met-clause-noted c =
     let came = c.args.ogm.now in
     let my : c.self.inside.me ≡ me = ap (λ t. t.me) c.self.view_is ∙ stands.me_is in
     let passed : c.passes.result ≡ true = search rules in
-    let lived = c.life_near-lived.ensures me log stands in
+    let still : StandsFor me c.places-near.new.self log = subst (λ t. StandsFor me t log) (sym c.places-near.ensures) stands in
+    let lived = c.life_near-lived.ensures me log still in
     let met = c.meeting-met.ensures (lived_at me log came) lived in
-    let is : IsHeard me c.args.self.now log came c.going_on-life.result
+    let is : IsHeard me c.places-near.new.self log came c.going_on-life.result
     = record {
-      stands = stands;
+      stands = still;
       passing = sym (c.passes.ensures ∙ ap (λ m. passes m (ogm_in came)) my) ∙ passed;
       row_is = goes_on_with (hearing_of me log came) (of came.orig (heard me log)) (is_met me log came) c.life_near-lived.result c.going_on-life.result c.meeting-met.result lived met c.going_on-life.ensures;
     } in
@@ -46,11 +48,12 @@ returns-then-met-clause-heard c =
     let came = c.args.ogm.now in
     let my : c.self.inside.me ≡ me = ap (λ t. t.me) c.self.view_is ∙ stands.me_is in
     let passed : c.passes.result ≡ true = search rules in
-    let lived = c.life_near-lived.ensures me log stands in
+    let still : StandsFor me c.places-near.new.self log = subst (λ t. StandsFor me t log) (sym c.places-near.ensures) stands in
+    let lived = c.life_near-lived.ensures me log still in
     let met = c.meeting-met.ensures (lived_at me log came) lived in
-    let is : IsHeard me c.args.self.now log came c.going_on-life.result
+    let is : IsHeard me c.places-near.new.self log came c.going_on-life.result
     = record {
-      stands = stands;
+      stands = still;
       passing = sym (c.passes.ensures ∙ ap (λ m. passes m (ogm_in came)) my) ∙ passed;
       row_is = goes_on_with (hearing_of me log came) (of came.orig (heard me log)) (is_met me log came) c.life_near-lived.result c.going_on-life.result c.meeting-met.result lived met c.going_on-life.ensures;
     } in
@@ -68,11 +71,12 @@ returns-clause-noted c =
     let came = c.args.ogm.now in
     let my : c.self.inside.me ≡ me = ap (λ t. t.me) c.self.view_is ∙ stands.me_is in
     let passed : c.passes.result ≡ true = search rules in
-    let lived = c.life_near-lived.ensures me log stands in
+    let still : StandsFor me c.places-near.new.self log = subst (λ t. StandsFor me t log) (sym c.places-near.ensures) stands in
+    let lived = c.life_near-lived.ensures me log still in
     let met = c.meeting-met.ensures (lived_at me log came) lived in
-    let is : IsHeard me c.args.self.now log came c.going_on-life.result
+    let is : IsHeard me c.places-near.new.self log came c.going_on-life.result
     = record {
-      stands = stands;
+      stands = still;
       passing = sym (c.passes.ensures ∙ ap (λ m. passes m (ogm_in came)) my) ∙ passed;
       row_is = goes_on_with (hearing_of me log came) (of came.orig (heard me log)) (is_met me log came) c.life_near-lived.result c.going_on-life.result c.meeting-met.result lived met c.going_on-life.ensures;
     } in
@@ -88,11 +92,12 @@ returns-clause-heard c =
     let came = c.args.ogm.now in
     let my : c.self.inside.me ≡ me = ap (λ t. t.me) c.self.view_is ∙ stands.me_is in
     let passed : c.passes.result ≡ true = search rules in
-    let lived = c.life_near-lived.ensures me log stands in
+    let still : StandsFor me c.places-near.new.self log = subst (λ t. StandsFor me t log) (sym c.places-near.ensures) stands in
+    let lived = c.life_near-lived.ensures me log still in
     let met = c.meeting-met.ensures (lived_at me log came) lived in
-    let is : IsHeard me c.args.self.now log came c.going_on-life.result
+    let is : IsHeard me c.places-near.new.self log came c.going_on-life.result
     = record {
-      stands = stands;
+      stands = still;
       passing = sym (c.passes.ensures ∙ ap (λ m. passes m (ogm_in came)) my) ∙ passed;
       row_is = goes_on_with (hearing_of me log came) (of came.orig (heard me log)) (is_met me log came) c.life_near-lived.result c.going_on-life.result c.meeting-met.result lived met c.going_on-life.ensures;
     } in

@@ -18,7 +18,7 @@ returns-clause-noted c =
     λ me log tp stands passing.
     let came = c.args.ogm.now in
     let old : Tables = c.args.self.now in
-    let new : Tables = record { me = c.self.inside.me; sent = c.self.inside.sent; lives = c.self.inside.lives.entries; paths = c.put.new.table.entries } in
+    let new : Tables = record { me = c.self.inside.me; sent = c.self.inside.sent; lives = c.self.inside.lives.entries; paths = c.put_near.new.table.entries; bests = c.self.inside.bests.entries } in
     let paths : c.self.inside.paths.entries ≡ old.paths = ap (λ t. t.paths) c.self.view_is in
     let my : c.self.inside.me ≡ me = ap (λ t. t.me) c.self.view_is ∙ stands.me_is in
     let echo : is_echo me (own_ogms log) (ogm_in came) ≡ true
@@ -27,10 +27,10 @@ returns-clause-noted c =
     let row_is : row ≡ echo_with me log came (unwrap_or (echo_row (echoes_from me came.from log)) blank)
     = ap (λ w. record c.unwrap_or-path.result { heard = w }) c.see.ensures
     ∙ ap (λ p. echo_with me log came p) (c.unwrap_or-path.ensures ∙ ap₂ (λ p b. unwrap_or p b)
-    (c.path.ensures me log stands ∙ ap (λ m. path_at me (heard me log) (λ k. echoes_from me k log) (record { orig = m; from = came.from })) my
+    (c.path_near.ensures me log stands ∙ ap (λ m. path_at me (heard me log) (λ k. echoes_from me k log) (record { orig = m; from = came.from })) my
     ∙ echo_at me came.from (heard me log) (λ k. echoes_from me k log)) c.new.ensures) in
-    echo_stands me log came tp old new row stands passing echo (ap (λ t. t.me) c.self.view_is) (ap (λ t. t.sent) c.self.view_is) (ap (λ t. t.lives) c.self.view_is)
+    echo_stands me log came tp old new row stands passing echo (ap (λ t. t.me) c.self.view_is) (ap (λ t. t.sent) c.self.view_is) (ap (λ t. t.lives) c.self.view_is) (ap (λ t. t.bests) c.self.view_is)
     row_is
-    (λ pair. c.in_ok-put.ensures.updated.0 pair
+    (λ pair. c.in_ok-put_near.ensures.updated pair
     ∙ ap₂ (λ m rows. cond (same_pair (record { orig = m; from = came.from }) pair) (Some row) (lookup (same_pair pair) rows)) my paths)
-    (c.in_ok-put.ensures.rises (subst (λ rows. IsStrictlySortedBy pair_order (keys_of rows)) (sym paths) stands.paths_stand.rise))
+    (c.in_ok-put_near.ensures.rises (subst (λ rows. IsStrictlySortedBy pair_order (keys_of rows)) (sym paths) stands.paths_stand.rise))

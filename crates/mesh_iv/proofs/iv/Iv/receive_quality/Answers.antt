@@ -10,5 +10,5 @@ returns-in_default-clause-quality c =
 pub returns-clause-quality : goal.returns-clause-quality
 returns-clause-quality c =
     λ me log stands.
-    c.count.ensures.counted ∙ ap (λ p. count_of c.in-Some.life.newest p) (c.path.ensures me log stands)
+    c.count.ensures.counted ∙ ap (λ p. count_of c.in-Some.life.newest p) (c.path_near.ensures me log stands)
     ∙ receive_some me log c.args.now c.args.k c.in-Some.life (sym (c.life.ensures me log stands) ∙ c.in-Some.is)

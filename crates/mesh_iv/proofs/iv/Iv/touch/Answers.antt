@@ -1,4 +1,4 @@
-use Rattle.std.proofs.Common.{◌≡◌, ◌∙◌, ap, sym, subst, cond, Some, None, rules}
+use Rattle.std.proofs.Common.{◌≡◌, ◌∙◌, ap, ap₂, sym, subst, cond, Some, None, rules}
 use Rattle.std.specs.List.Sorted.{IsStrictlySortedBy}
 use Rattle.std.specs.Map.{keys_of, lookup}
 use Rattle.mesh_model.specs.Routes.Addresses.{mac_order, same_mac}
@@ -6,6 +6,7 @@ use Rattle.mesh_model.specs.Routes.Hearings.{heard}
 use Rattle.mesh_model.specs.Routes.Life.{of}
 use Rattle.mesh_iv.specs.Hears.{IsHeard, hearing_of, life_before}
 use Rattle.mesh_iv.specs.Tables.{Tables}
+use Rattle.mesh_algo.specs.Pairs.{pair_order}
 use Rattle.mesh_algo.proofs.HearingLemmas.{touched, touches_life}
 use Rattle.mesh_iv.proofs.StepLemmas.{touch_stands}
 use Rattle.mesh_iv.proofs.ValueLemmas.{is_met}
@@ -22,10 +23,13 @@ returns-clause-noted c =
     λ me log tp is first.
     let came = c.args.ogm.now in
     let old : Tables = c.args.self.now in
-    let new : Tables = record { me = c.self.inside.me; sent = c.self.inside.sent; lives = c.put_near.new.table.entries; paths = c.self.inside.paths.entries } in
+    let new : Tables = record { me = c.self.inside.me; sent = c.self.inside.sent; lives = c.put_near.new.table.entries; paths = c.self.inside.paths.entries; bests = c.put_near-2.new.table.entries } in
     let lives : c.self.inside.lives.entries ≡ old.lives = ap (λ t. t.lives) c.self.view_is in
     let heard : IsHeard me old log came (Some c.in-Some.life) = subst (λ row. IsHeard me old log came row) c.in-Some.is is in
+    let put = rw c.unwrap.ensures at c.put_near-2.ensures in
     touch_stands me log came tp c.in-Some.life old new heard first (ap (λ t. t.me) c.self.view_is) (ap (λ t. t.sent) c.self.view_is)
     (λ q. c.in_ok-put_near.ensures.updated q ∙ ap (λ rows. cond (same_mac came.orig q) (Some (touched (hearing_of me log came) (life_before me log came) c.in-Some.life)) (lookup (same_mac q) rows)) lives)
     (c.in_ok-put_near.ensures.rises (subst (λ rows. IsStrictlySortedBy mac_order (keys_of rows)) (sym lives) is.stands.lives_stand.rise))
     (ap (λ t. t.paths) c.self.view_is)
+    (λ q. put.updated q
+    ∙ ap₂ (λ b rows. cond (same_mac came.orig q) (Some b) (lookup (same_mac q) rows)) (c.best_near-best.ensures (subst (λ t. IsStrictlySortedBy pair_order (keys_of t.paths)) (sym c.self.view_is) is.stands.paths_stand.rise)) (c.reserve.ensures.entries ∙ ap (λ t. t.bests) c.self.view_is))
