@@ -13,7 +13,7 @@ use Rattle.mesh_model.specs.declared.route_line.RouteLine.{RouteLine}
 use Rattle.mesh_model.specs.declared.route_line.RoutePair.{RoutePair}
 use Rattle.mesh_model.specs.declared.route_loop.Loop.{Loop}
 use Rattle.mesh_model.specs.Loops.Reports.{gone_from, has_loop}
-use Rattle.mesh_model.specs.Loops.Routes.{if_least, is_least_of, loop_at, loop_from, loops_of, next_of, pair_of_line, pair_order, pairs_of}
+use Rattle.mesh_model.specs.Loops.Routes.{has_pair, if_least, is_least_of, loop_at, loop_from, loops_of, next_of, pair_of_line, pair_order, pairs_of, same_pair}
 use Rattle.mesh_model.specs.Routes.Addresses.{same_mac}
 use Rattle.mesh_laws.proofs.KeyLists.{item_at, item_at_filter, sorted_filter}
 use Rattle.mesh_laws.proofs.ListedInOrder.{rows_in_order}
@@ -21,7 +21,7 @@ use Rattle.mesh_laws.proofs.MacLemmas.{same_exact, same_self}
 use Rattle.mesh_loops.specs.declared.when.When.{When}
 use Rattle.mesh_loops.specs.declared.when.When.TheVariants.{Before, Now}
 use Rattle.mesh_loops.specs.Changed.{changed_loop, changed_loops, found_from, has_changed, have_changed, if_changed, loop_with, nexts_at, pair_of}
-use Rattle.mesh_loops.specs.Watch.{Kept, WatchCall, WatchStands, has_pair, lines_at, next_at, other, same_pair}
+use Rattle.mesh_loops.specs.Watch.{Kept, WatchCall, WatchStands, lines_at, next_at, other}
 use Rattle.mesh_loops.specs.Walks.{Leads}
 use Rattle.mesh_loops.proofs.LoopLemmas.{HasRoom, IsLoopAt, at_is, at_known, filter_made, is_at, is_made, leads_alike, none_changed, room_kept, room_of_lines, same_room, was_made}
 use Rattle.mesh_loops.proofs.PairLemmas.{has_line, pair_equiv, pair_exact, pair_same, pair_total, same_by_pair_order}

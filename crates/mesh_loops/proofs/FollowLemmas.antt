@@ -12,7 +12,8 @@ use Rattle.mesh_model.specs.declared.route_line.RoutePair.{RoutePair}
 use Rattle.mesh_loops.specs.declared.when.When.{When}
 use Rattle.mesh_loops.specs.Changed.{nexts_at, pair_of}
 use Rattle.mesh_loops.specs.Walks.{AreAmong, AreNoted, HasHead, HasMet, IsNoted, IsOnWay, IsWay}
-use Rattle.mesh_loops.specs.Watch.{Kept, same_pair}
+use Rattle.mesh_model.specs.Loops.Routes.{same_pair}
+use Rattle.mesh_loops.specs.Watch.{Kept}
 use Rattle.mesh_loops.proofs.HeadLemmas.{head_leads, head_moves}
 use Rattle.mesh_loops.proofs.PairLemmas.{pair_same}
 

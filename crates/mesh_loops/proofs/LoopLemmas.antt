@@ -15,13 +15,13 @@ use Rattle.mesh_model.specs.declared.route_line.RouteLine.{RouteLine}
 use Rattle.mesh_model.specs.declared.route_line.RoutePair.{RoutePair}
 use Rattle.mesh_model.specs.declared.route_loop.Loop.{Loop}
 use Rattle.mesh_model.specs.Loops.Reports.{has_loop, same_loop}
-use Rattle.mesh_model.specs.Loops.Routes.{if_least, is_least_of, loop_at, loop_from, next_of, pairs_of}
+use Rattle.mesh_model.specs.Loops.Routes.{has_pair, if_least, is_least_of, loop_at, loop_from, next_of, pairs_of, same_pair}
 use Rattle.mesh_model.specs.Routes.Addresses.{same_mac}
 use Rattle.mesh_laws.proofs.MacLemmas.{same_equiv, same_exact, same_self}
 use Rattle.mesh_loops.specs.declared.when.When.{When}
 use Rattle.mesh_loops.specs.declared.when.When.TheVariants.{Before, Now}
 use Rattle.mesh_loops.specs.Changed.{nexts_at, pair_of}
-use Rattle.mesh_loops.specs.Watch.{AreKept, Kept, has_pair, next_at, same_pair}
+use Rattle.mesh_loops.specs.Watch.{AreKept, Kept, next_at}
 use Rattle.mesh_loops.specs.Walks.{Leads}
 use Rattle.mesh_loops.proofs.HeadLemmas.{both}
 use Rattle.mesh_loops.proofs.PairLemmas.{any_of_pairs, has_next, pair_equiv, pairs_differ}

@@ -4,13 +4,13 @@ use Rattle.std.specs.List.{best_of, list_any}
 use Rattle.std.proofs.lemmas.Bool.{false≢true}
 use Rattle.mesh_base.specs.declared.address.Mac.{Mac}
 use Rattle.mesh_model.specs.declared.route_line.RoutePair.{RoutePair}
-use Rattle.mesh_model.specs.Loops.Routes.{is_least_of}
+use Rattle.mesh_model.specs.Loops.Routes.{is_least_of, same_pair}
 use Rattle.mesh_model.specs.Routes.Addresses.{is_smaller, same_mac}
 use Rattle.mesh_laws.proofs.MacLemmas.{same_self}
 use Rattle.mesh_loops.specs.declared.when.When.{When}
 use Rattle.mesh_loops.specs.Changed.{changed_loop, found_from, has_changed, have_changed, if_changed, loop_with, nexts_at, pair_of}
 use Rattle.mesh_loops.specs.Walks.{AreAmong, HasHead, IsNoted}
-use Rattle.mesh_loops.specs.Watch.{AreKept, Kept, same_pair}
+use Rattle.mesh_loops.specs.Watch.{AreKept, Kept}
 use Rattle.mesh_loops.proofs.HeadLemmas.{best_among, best_is_least, both, head_along, one_least}
 use Rattle.mesh_loops.proofs.LoopLemmas.{room_kept}
 use Rattle.mesh_loops.proofs.PairLemmas.{pair_equiv}

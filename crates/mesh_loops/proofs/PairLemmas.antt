@@ -12,12 +12,11 @@ use Rattle.std.proofs.lemmas.Map.Lookups.{CmpEqualImpliesEq, exact_pairs}
 use Rattle.mesh_base.specs.declared.address.Mac.{Mac}
 use Rattle.mesh_model.specs.declared.route_line.RouteLine.{RouteLine}
 use Rattle.mesh_model.specs.declared.route_line.RoutePair.{RoutePair}
-use Rattle.mesh_model.specs.Loops.Routes.{next_of, pair_of_line, pair_order, pairs_of, tells_of}
+use Rattle.mesh_model.specs.Loops.Routes.{has_pair, next_of, pair_of_line, pair_order, pairs_of, same_pair, tells_of}
 use Rattle.mesh_model.specs.Routes.Addresses.{mac_order, same_mac}
 use Rattle.mesh_laws.proofs.ListedInOrder.{has_in_order}
 use Rattle.mesh_laws.proofs.MacLemmas.{mac_exact, mac_total, same_by_order, same_equiv, same_exact}
 use Rattle.mesh_loops.specs.Changed.{pair_of}
-use Rattle.mesh_loops.specs.Watch.{has_pair, same_pair}
 use Rattle.mesh_loops.proofs.HeadLemmas.{both}
 
 -- ---- the order

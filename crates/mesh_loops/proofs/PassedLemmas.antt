@@ -15,7 +15,8 @@ use Rattle.mesh_loops.specs.declared.when.When.{When}
 use Rattle.mesh_loops.specs.declared.when.When.TheVariants.{Before, Now}
 use Rattle.mesh_loops.specs.Changed.{has_changed, pair_of}
 use Rattle.mesh_loops.specs.Walks.{AreAmong, IsNoted}
-use Rattle.mesh_loops.specs.Watch.{Kept, next_at, same_pair}
+use Rattle.mesh_model.specs.Loops.Routes.{same_pair}
+use Rattle.mesh_loops.specs.Watch.{Kept, next_at}
 use Rattle.mesh_loops.proofs.ChangedLemmas.{not_changed}
 use Rattle.mesh_loops.proofs.NotedLemmas.{stays_noted}
 use Rattle.mesh_loops.proofs.PairLemmas.{pair_same}

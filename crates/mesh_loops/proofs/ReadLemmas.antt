@@ -17,12 +17,13 @@ use Rattle.mesh_base.specs.Address.{bytes_of_pairs, byte_of_pair, colon, hex_of_
 use Rattle.mesh_base.specs.declared.address.Mac.{Mac}
 use Rattle.mesh_model.specs.declared.route_line.RouteLine.{RouteLine}
 use Rattle.mesh_model.specs.declared.route_line.RouteReading.TheVariants.{Route}
-use Rattle.mesh_model.specs.Loops.RouteLines.{moment_of, next_named, next_text, reading_of_words, route_of_line, route_text}
+use Rattle.mesh_model.specs.Loops.RouteLines.{moment_of, next_named, reading_of_words, route_of_line}
 use Rattle.mesh_model.specs.Scenario.LinkOptions.{number_within}
 use Rattle.mesh_model.specs.Scenario.Lines.{newline}
 use Rattle.mesh_model.specs.Scenario.NetForms.{time_limit}
 use Rattle.mesh_model.specs.Scenario.Terms.{digits_value, number_of}
 use Rattle.mesh_model.specs.Scenario.Words.{Word, is_separator, line_words, space, word_at, word_tails}
+use Rattle.mesh_model.specs.Text.Routes.{next_text, route_text}
 use Rattle.mesh_loops.specs.Laws.{CanBeTold, IsAddress, RoutesComeBack}
 use Rattle.mesh_loops.proofs.HeadLemmas.{both, unless}
 

@@ -12,11 +12,11 @@ use Rattle.std.proofs.lemmas.Map.Made.{is_some-lookup, length-from_same_keys}
 use Rattle.mesh_base.specs.declared.address.Mac.{Mac}
 use Rattle.mesh_model.specs.declared.route_line.RouteLine.{RouteLine}
 use Rattle.mesh_model.specs.declared.route_line.RoutePair.{RoutePair}
-use Rattle.mesh_model.specs.Loops.Routes.{next_of, pair_of_line, pair_order, pairs_of, tells_of}
+use Rattle.mesh_model.specs.Loops.Routes.{has_pair, next_of, pair_of_line, pair_order, pairs_of, same_pair, tells_of}
 use Rattle.mesh_laws.proofs.ListedInOrder.{sorted_in_order}
 use Rattle.mesh_loops.specs.declared.when.When.{When}
 use Rattle.mesh_loops.specs.declared.when.When.TheVariants.{Before, Now}
-use Rattle.mesh_loops.specs.Watch.{AreKept, Kept, WasSet, WasSettled, WatchCall, WatchStands, has_pair, lines_at, lines_set, next_at, PassesPairs, same_pair}
+use Rattle.mesh_loops.specs.Watch.{AreKept, Kept, WasSet, WasSettled, WatchCall, WatchStands, lines_at, lines_set, next_at, PassesPairs}
 use Rattle.mesh_loops.proofs.PairLemmas.{has_line, pair_equiv, pair_exact, pair_same, pair_total, same_by_pair_order, tells}
 
 -- pairs that are kept with one more, of which something may have been kept

@@ -11,10 +11,11 @@ use Rattle.mesh_model.specs.declared.route_line.RouteReading.TheVariants.{Route}
 use Rattle.mesh_model.specs.declared.route_loop.Loop.{Loop}
 use Rattle.mesh_model.specs.Loops.Reports.{has_loop}
 use Rattle.mesh_model.specs.Loops.Routes.{is_least_of, loops_of, next_of}
-use Rattle.mesh_model.specs.Loops.RouteLines.{route_of_line, route_text}
+use Rattle.mesh_model.specs.Loops.RouteLines.{route_of_line}
 use Rattle.mesh_model.specs.Routes.Addresses.{same_mac}
 use Rattle.mesh_model.specs.Scenario.Lines.{newline}
 use Rattle.mesh_model.specs.Scenario.NetForms.{time_limit}
+use Rattle.mesh_model.specs.Text.Routes.{route_text}
 
 -- ---- loops
 

@@ -4,11 +4,11 @@ use Rattle.std.specs.Prelude.{◌≡◌, true, false, List, [], ◌∷◌, Optio
 use Rattle.std.specs.List.{list_any}
 use Rattle.mesh_base.specs.declared.address.Mac.{Mac}
 use Rattle.mesh_model.specs.declared.route_line.RoutePair.{RoutePair}
-use Rattle.mesh_model.specs.Loops.Routes.{is_least_of}
+use Rattle.mesh_model.specs.Loops.Routes.{is_least_of, same_pair}
 use Rattle.mesh_model.specs.Routes.Addresses.{same_mac}
 use Rattle.mesh_loops.specs.declared.when.When.{When}
 use Rattle.mesh_loops.specs.Changed.{nexts_at, pair_of}
-use Rattle.mesh_loops.specs.Watch.{Kept, same_pair}
+use Rattle.mesh_loops.specs.Watch.{Kept}
 
 -- next nodes lead to a goal from a node over others, none of which is the goal
 abbrev pub Leads : (Mac → Option Mac) → Mac → Mac → List Mac → Type 0

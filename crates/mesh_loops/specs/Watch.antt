@@ -1,16 +1,15 @@
 -- How what a watch keeps stands for the calls that were made of it: of each pair its next node, now
 -- and before, which is when loops were looked at last. A report is that of the lines of all calls
 -- and of those before. The main words are `WatchStands` and `report_of`.
-use Rattle.std.specs.Prelude.{◌≡◌, ℕ, ◌≤◌, ◌&&◌, Bool, false, is_some, IsSome, length, List, [], ◌∷◌, Option}
-use Rattle.std.specs.List.{list_any}
+use Rattle.std.specs.Prelude.{◌≡◌, ◌≤◌, false, is_some, IsSome, length, List, [], ◌∷◌, Option}
 use Rattle.std.specs.Map.{lookup}
 use Rattle.std.specs.Option.{option_flatten, option_or}
 use Rattle.mesh_base.specs.declared.address.Mac.{Mac}
 use Rattle.mesh_model.specs.declared.route_line.RouteLine.{RouteLine}
 use Rattle.mesh_model.specs.declared.route_line.RoutePair.{RoutePair}
+use Rattle.mesh_model.specs.Loops.Bisecting.{pairs_limit}
 use Rattle.mesh_model.specs.Loops.Reports.{gone_from, new_in}
-use Rattle.mesh_model.specs.Loops.Routes.{loops_of, next_of, pairs_of}
-use Rattle.mesh_model.specs.Routes.Addresses.{same_mac}
+use Rattle.mesh_model.specs.Loops.Routes.{has_pair, loops_of, next_of, pairs_of, same_pair}
 use Rattle.mesh_loops.specs.declared.report.LoopReport.{LoopReport}
 use Rattle.mesh_loops.specs.declared.when.When.{When}
 use Rattle.mesh_loops.specs.declared.when.When.TheVariants.{Before, Now}
@@ -40,18 +39,6 @@ report_of calls = record {
 }
 
 -- ---- pairs
-
--- how many pairs may be set
-abbrev pub pairs_limit : ℕ
-pairs_limit = 65536
-
--- whether two pairs are one
-abbrev pub same_pair : RoutePair → RoutePair → Bool
-same_pair a b = same_mac a.orig b.orig && same_mac a.node b.node
-
--- whether lines tell of a pair
-abbrev pub has_pair : List RouteLine → RoutePair → Bool
-has_pair lines pair = list_any (same_pair pair) (pairs_of lines)
 
 -- a pair is new to lines, and would be one too many
 abbrev pub PassesPairs : List RouteLine → RoutePair → Type 0

@@ -26,6 +26,9 @@ use std::marker::Model;
 /// How many pairs may be set.
 const PAIRS_LIMIT: usize = 65_536;
 
+/// Of how many pairs the room is kept that were set between two looks.
+const FEW_PAIRS: usize = 64;
+
 /// The routes that were set, and which of them were since loops were looked at last.
 #[derive(Debug, Drop)]
 pub struct Watch {
@@ -95,8 +98,21 @@ impl Watch {
     {
         let gone = self.changed_loops(When::Before)?;
         let fresh = self.changed_loops(When::Now)?;
-        self.before = IndexMap::new(self.alloc);
+        self.forget();
         Ok(LoopReport { gone, fresh })
+    }
+
+    // Forgets which next nodes pairs had. The room of a few stays, that of many goes: it would be
+    // cleared each time.
+    fn forget(&mut self)
+        ensures routes { self.new.routes ≡ self.old.routes }
+        ensures before { self.new.before ≡ [] }
+    {
+        if self.before.len() <= FEW_PAIRS {
+            self.before.clear();
+        } else {
+            self.before = IndexMap::new(self.alloc);
+        }
     }
 
     // Sets the next node of a pair.
@@ -218,6 +234,35 @@ impl Watch {
         }))
     }
 
+    // The same walk where no other one follows, so that nothing tells where it was. In a loop it ends
+    // where it was at the last power of two of its steps.
+    fn pass(&self, when: When, start: RoutePair) -> Option<RoutePair>
+        ensures { (heads seen : List RoutePair) → AreNoted self.now when heads seen →
+            HasMet self.now when heads seen start result }
+    {
+        let mut node = start.node;
+        let mut mark = start.node;
+        let mut span = 1_usize;
+        for step in 0..self.routes.len() {
+            let pair = RoutePair {
+                orig: start.orig,
+                node,
+            };
+            node = self.next(when, pair)?;
+            if node == mark {
+                break;
+            }
+            if step == span {
+                mark = node;
+                span = span.saturating_mul(2);
+            }
+        }
+        Some(RoutePair {
+            orig: start.orig,
+            node,
+        })
+    }
+
     // Walks from a pair, and adds the least node of a loop that is found.
     fn follow(
         &self,
@@ -232,7 +277,12 @@ impl Watch {
         ensures noted { AreKept self.now → AreNoted self.now when heads.old.keys seen.old.keys →
             OnOk result (IsNoted self.now when heads.new.keys start) }
     {
-        if let Some(pair) = self.meet(when, start, seen)? {
+        let met = if self.before.len() == 1 {
+            self.pass(when, start)
+        } else {
+            self.meet(when, start, seen)?
+        };
+        if let Some(pair) = met {
             self.add_head(when, pair, heads)?;
         }
         Ok(())

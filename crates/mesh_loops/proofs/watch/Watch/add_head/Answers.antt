@@ -2,7 +2,7 @@ use Rattle.std.proofs.Common.{◌≡◌, ◌∙◌, None, Some, ap, rules, subst
 use Rattle.std.specs.List.{best_of, list_any}
 use Rattle.mesh_model.specs.Routes.Addresses.{is_smaller}
 use Rattle.mesh_loops.specs.Changed.{found_from, pair_of}
-use Rattle.mesh_loops.specs.Watch.{same_pair}
+use Rattle.mesh_model.specs.Loops.Routes.{same_pair}
 use Rattle.mesh_loops.proofs.NotedLemmas.{is_among, least_noted, none_noted}
 use Rattle.mesh_loops.proofs.watch.Watch.add_head.Goals as goal
 

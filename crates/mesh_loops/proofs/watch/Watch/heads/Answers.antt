@@ -3,7 +3,8 @@ use Rattle.std.specs.List.{list_any}
 use Rattle.std.specs.Map.{keys_of}
 use Rattle.std.proofs.lemmas.Bool.{true≢false}
 use Rattle.std.proofs.lemmas.List.{take_all}
-use Rattle.mesh_loops.specs.Watch.{Kept, same_pair}
+use Rattle.mesh_model.specs.Loops.Routes.{same_pair}
+use Rattle.mesh_loops.specs.Watch.{Kept}
 use Rattle.mesh_loops.proofs.PairLemmas.{strictly_sorted}
 use Rattle.mesh_loops.proofs.PassedLemmas.{changed_is_set, noted_sorted, passed_further}
 use Rattle.mesh_loops.proofs.watch.Watch.heads.Goals.{then-has_changed+in_ok-follow, else-has_changed}

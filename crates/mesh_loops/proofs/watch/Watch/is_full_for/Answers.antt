@@ -1,7 +1,8 @@
 use Rattle.std.proofs.Common.{◌≡◌, is_some, false, true, rules, subst, sym}
 use Rattle.std.specs.Map.{lookup}
 use Rattle.mesh_loops.specs.Changed.{pair_of}
-use Rattle.mesh_loops.specs.Watch.{Kept, WatchStands, same_pair}
+use Rattle.mesh_model.specs.Loops.Routes.{same_pair}
+use Rattle.mesh_loops.specs.Watch.{Kept, WatchStands}
 use Rattle.mesh_loops.proofs.SetLemmas.{full_for, not_full_for}
 use Rattle.mesh_loops.proofs.watch.Watch.is_full_for.Goals as goal
 

@@ -1,7 +1,8 @@
 use Rattle.std.proofs.Common.{◌≡◌, ◌∙◌, None, Some, IsSome, ap, ap₂, cond, rules, subst, sym}
 use Rattle.std.specs.Map.{lookup}
 use Rattle.std.specs.Option.{option_flatten}
-use Rattle.mesh_loops.specs.Watch.{Kept, WatchStands, same_pair}
+use Rattle.mesh_model.specs.Loops.Routes.{same_pair}
+use Rattle.mesh_loops.specs.Watch.{Kept, WatchStands}
 use Rattle.mesh_loops.proofs.SetLemmas.{first_set, set_again}
 use Rattle.mesh_loops.proofs.watch.Watch.note.Goals as goal
 
