@@ -1,6 +1,6 @@
 -- The end of a step: what was sent stands behind the others, and the net stands for the mesh after
 -- the step.
-use Rattle.std.proofs.Common.{◌≡◌, ◌↔◌, ℕ, suc, ◌+◌, ◌*◌, ◌<◌, ◌≤◌, ◌⊎◌, inl, inr, true, false, List, [], ◌∷◌, ◌++◌, filter, length, take, drop, slice_get, Some, None, Result, Ok, Err, is_ok, refl, sym, ap, ◌∙◌, subst, arith, append-nil}
+use Rattle.std.proofs.Common.{◌≡◌, ◌↔◌, ℕ, suc, ◌+◌, ◌*◌, ◌<◌, ◌≤◌, ◌⊎◌, inl, inr, true, false, List, [], ◌∷◌, ◌++◌, filter, length, take, drop, slice_get, Option, Some, None, Result, Ok, Err, is_ok, refl, sym, ap, ◌∙◌, subst, arith, append-nil}
 use Rattle.std.proofs.Math.Seq.{drop-append_seam}
 use Rattle.std.specs.Result.{OnOk, OnErr, IfOk, IfErr}
 use Rattle.mesh_base.specs.declared.address.Mac.{Mac}
@@ -9,12 +9,14 @@ use Rattle.mesh_model.specs.declared.frame_choice.FrameChoice.{FrameChoice}
 use Rattle.mesh_model.specs.declared.happening.Class.{Class}
 use Rattle.mesh_model.specs.declared.happening.Class.TheVariants.{LinkDelivery, LanDelivery, NodeTick}
 use Rattle.mesh_model.specs.declared.happening.Happening.{Happening}
+use Rattle.mesh_model.specs.declared.route_line.RouteLine.{RouteLine}
 use Rattle.mesh_model.specs.Net.Due.{first_ticks, next_happening, tick_at, tick_time, ticks_in}
 use Rattle.mesh_model.specs.Net.Happenings.{Before, is_before}
 use Rattle.mesh_model.specs.Net.Limits.{clock_limit, lans_limit, scenario_setup}
 use Rattle.mesh_model.specs.Net.Mesh.{NodeLog, LanPut, Mesh, Setup}
 use Rattle.mesh_model.specs.Net.Next.{Has, IsNext}
 use Rattle.mesh_model.specs.Net.Runs.{after_happening, delivered, effect, with_last}
+use Rattle.mesh_model.specs.Net.Watching.{with_lines}
 use Rattle.mesh_model.specs.Net.Inputs.{all_given, given_to}
 use Rattle.mesh_model.specs.Net.Lans.{joins_lan, with_lan}
 use Rattle.mesh_model.specs.Net.Sending.{Attempt, on_ok, with_put}
@@ -41,10 +43,12 @@ use Rattle.mesh_net.specs.NetStands.{NetStands, SeatsStand, IsNet, IsLive}
 use Rattle.mesh_net.proofs.PopLemmas.{not_lan, not_link, popped_next, popped_waits, ticker_is, all_others, tick_or_later, ticks_next}
 use Rattle.mesh_net.specs.Reached.{IsNewLan, IsReached, all_are_given, is_given, is_delivered, happens, lan_comes, lan_joins, IsOfLine}
 use Rattle.mesh_post.specs.Sent.{InStep, Logged, Grew}
-use Rattle.mesh_net.specs.Steps.{AreOnLans, AreOnLinks, HasStage, ArePast, Begun, Gave, HasNodes, KeepsNet, MayTickAt, Settled, SettleTells, StepFails, Stepped, net_error, ticks_amid}
+use Rattle.mesh_net.specs.Steps.{AreOnLans, AreOnLinks, HasStage, ArePast, Begun, Gave, HasHappened, HasNodes, KeepsNet, KeepsSent, MayTickAt, Settled, SettleTells, StepFails, Stepped, net_error, ticks_amid}
 use Rattle.mesh_net.specs.Tells.{Carried, Gains, StandsAfter, StepTells}
+use Rattle.mesh_net.specs.Watching.{WatchStands}
 use Rattle.mesh_post.specs.Waiting.{IsPopped, all_deliveries}
 use Rattle.mesh_post.proofs.LookUps.{some_one}
+use Rattle.mesh_told.specs.declared.told_routes.ToldRoutes.{ToldRoutes}
 use Rattle.mesh_net.proofs.MomentLemmas.{are_past, past_later}
 use Rattle.mesh_net.proofs.ReachedLemmas.{reached, of_line}
 use Rattle.mesh_net.proofs.TickLemmas.{may_tick, not_before}
@@ -104,12 +108,12 @@ step_ticks post older last a b mesh same step = record {
     from x (inl p) = inl p
     from x (inr p) = inr ((same x).1 p)
 
--- the mesh after a step, with its last happening
-abbrev pub with_happening : Happening → Mesh → Mesh
-with_happening h mesh = record mesh { last = h }
+-- the mesh after a happening, whose lines are told
+abbrev pub ended_with : List RouteLine → Happening → Mesh → Mesh
+ended_with lines h mesh = record (with_lines lines mesh) { last = h }
 
-pub step_last : (post : Post) (older : List Sending) (last h : Happening) (ticks : List Happening) (mesh : Mesh) → InStep post older last ticks mesh → InStep post older last ticks (with_happening h mesh)
-step_last post older last h ticks mesh step = record {
+pub step_ended : (post : Post) (older : List Sending) (last h : Happening) (ticks : List Happening) (lines : List RouteLine) (mesh : Mesh) → InStep post older last ticks mesh → InStep post older last ticks (ended_with lines h mesh)
+step_ended post older last h ticks lines mesh step = record {
   amid = record {
     stands = record {
       rows = step.amid.stands.rows;
@@ -159,14 +163,15 @@ module _ {A : Type 0} where
     pub post : b.post ≡ a.post
     pub sent : b.sent ≡ a.sent
     pub seats : b.seats ≡ a.seats
+    pub watch : b.watch ≡ a.watch
     pub dead : b.dead ≡ a.dead
 
   -- the net stands for the mesh after a step
   pub stands_for : (queries : Mac → Queries) (stands : A → Mac → RouteLog → Type 0) (net done end : Net A) (choice : FrameChoice) (last : Happening) (ticks : List Happening) (clock : ℕ) (after : Mesh)
       → Settled net done → SameBut done end → net.dead ≡ false → net.post.choice ≡ choice → end.clock ≡ clock → end.last ≡ last → after.last ≡ last → last.moment ≤ clock → clock ≤ clock_limit
-      → SeatsStand queries stands net.seats.items after.nodes → InStep net.post net.sent last ticks after → ((x : Happening) → Has ticks x ↔ Has (first_ticks 0 after.nodes) x) → IsReached (scenario_setup queries) clock after
+      → SeatsStand queries stands net.seats.items after.nodes → InStep net.post net.sent last ticks after → ((x : Happening) → Has ticks x ↔ Has (first_ticks 0 after.nodes) x) → WatchStands net.watch after.watch → IsReached (scenario_setup queries) clock after
       → NetStands queries stands end choice clock after
-  stands_for queries stands net done end choice last ticks clock after s b alive choice_is clock_is last_is is past low seats step same way = record {
+  stands_for queries stands net done end choice last ticks clock after s b alive choice_is clock_is last_is is past low seats step same watched way = record {
     alive = b.dead ∙ s.dead ∙ alive;
     choice_is = ap (λ (p : Post). p.choice) (b.post ∙ s.post) ∙ choice_is;
     clock_is = clock_is;
@@ -178,6 +183,7 @@ module _ {A : Type 0} where
         (subst (λ (v : List Sending). InStep done.post v after.last (first_ticks 0 after.nodes) after) (sym b.sent)
         (subst (λ h. InStep done.post done.sent h (first_ticks 0 after.nodes) after) (sym is) (step_ticks done.post done.sent last ticks (first_ticks 0 after.nodes) after same (settled_step net done last ticks after s step))));
     settled = ap (λ (p : Post). p.fresh.items) b.post ∙ s.fresh;
+    watched = subst (λ w. WatchStands w after.watch) (sym (b.watch ∙ s.watch)) watched;
     reached = way;
   }
 
@@ -199,10 +205,19 @@ pub settle_tells : (attempt : Attempt) (r : Result Unit NodeErr) (error : NetErr
 settle_tells attempt (Ok done) error s t = subst (StepTells attempt) (sym s) tt
 settle_tells attempt (Err refused) error s t = subst (StepTells attempt) (sym s) (refused_tells attempt refused t)
 
-pub happening_tells : (setup : Setup) (mesh : Mesh) (h : Happening) (error : NetErr) → StepTells (effect setup h.class h.place h.moment mesh) error → StepTells (after_happening setup h mesh) error
-happening_tells setup mesh h (net_errors.Limit limit) t = ap (on_ok (with_last h)) t
-happening_tells setup mesh h net_errors.Dead t = t
-happening_tells setup mesh h net_errors.Memory t = tt
+-- a node that refuses what happens refuses the happening
+pub happening_tells : (setup : Setup) (mesh : Mesh) (h : Happening) (error : NodeErr) → GiveTells (effect setup h.class h.place h.moment mesh) error → GiveTells (after_happening setup h mesh) error
+happening_tells setup mesh h node_errors.Memory t = tt
+happening_tells setup mesh h node_errors.Clients t = ap (on_ok (with_last setup h)) t
+happening_tells setup mesh h node_errors.Vlans t = ap (on_ok (with_last setup h)) t
+happening_tells setup mesh h node_errors.Frames t = ap (on_ok (with_last setup h)) t
+happening_tells setup mesh h node_errors.FrameBytes t = ap (on_ok (with_last setup h)) t
+happening_tells setup mesh h node_errors.Cuts t = ap (on_ok (with_last setup h)) t
+happening_tells setup mesh h node_errors.Dead t = t
+
+-- what is watched stays where neither a net nor its mesh changes it
+pub still_watched : (a b : Option ToldRoutes) (v w : Option (List RouteLine)) → b ≡ a → w ≡ v → WatchStands a v → WatchStands b w
+still_watched a b v w kept same stands = subst (λ x. WatchStands b x) (sym same) (subst (λ x. WatchStands x v) (sym kept) stands)
 
 module _ {A : Type 0} (queries : Mac → Queries) (stands : A → Mac → RouteLog → Type 0) where
   -- ---- a line, and a frame that is delivered again
@@ -221,13 +236,13 @@ module _ {A : Type 0} (queries : Mac → Queries) (stands : A → Mac → RouteL
 
   pub carried : (net amid done : Net A) (choice : FrameChoice) (mesh : Mesh) (old new new' : List Event) (attempt : Attempt)
       → NetStands queries stands net choice net.clock mesh → KeepsNet net amid → Settled amid done → new' ≡ new → (g : Gave queries stands amid choice mesh.last (first_ticks 0 mesh.nodes) mesh old new attempt)
-      → first_ticks 0 g.after.nodes ≡ first_ticks 0 mesh.nodes → g.after.last ≡ mesh.last → IsReached (scenario_setup queries) net.clock g.after
+      → first_ticks 0 g.after.nodes ≡ first_ticks 0 mesh.nodes → g.after.last ≡ mesh.last → g.after.watch ≡ mesh.watch → IsReached (scenario_setup queries) net.clock g.after
       → Carried queries stands done choice net.clock mesh old new' attempt
-  carried net amid done choice mesh old new new' attempt s k d told g same last way = record {
+  carried net amid done choice mesh old new new' attempt s k d told g same last watch way = record {
     after = g.after;
     is = g.is;
-    standing = stands_for queries stands amid done done choice mesh.last (first_ticks 0 mesh.nodes) net.clock g.after d (record { post = refl; sent = refl; seats = refl; dead = refl })
-        (k.dead ∙ s.alive) g.choice_is (d.clock ∙ k.clock) (d.last ∙ k.last ∙ s.last_is) last s.past s.low g.seats_stand g.step (same_has (first_ticks 0 mesh.nodes) (first_ticks 0 g.after.nodes) same) way;
+    standing = stands_for queries stands amid done done choice mesh.last (first_ticks 0 mesh.nodes) net.clock g.after d (record { post = refl; sent = refl; seats = refl; watch = refl; dead = refl })
+        (k.dead ∙ s.alive) g.choice_is (d.clock ∙ k.clock) (d.last ∙ k.last ∙ s.last_is) last s.past s.low g.seats_stand g.step (same_has (first_ticks 0 mesh.nodes) (first_ticks 0 g.after.nodes) same) (still_watched net.watch amid.watch mesh.watch g.after.watch k.watch watch s.watched) way;
     gains = gains choice mesh g.after old new' (subst (Logged choice mesh g.after old) (sym told) g.logged);
   }
 
@@ -239,7 +254,7 @@ module _ {A : Type 0} (queries : Mac → Queries) (stands : A → Mac → RouteL
       let l = of_line mesh.frames given line in
       let e = tickless (scenario_setup queries) mesh place net.clock 0 given g.after l.0 l.1 g.is in
       carried net amid done choice mesh old new new' (given_to (scenario_setup queries) place net.clock 0 given mesh) s k d told g
-      (tickless_same mesh g.after e.nodes e.count) e.last (is_given net.clock mesh g.after place given s.reached line g.is)
+      (tickless_same mesh g.after e.nodes e.count) e.last e.watch (is_given net.clock mesh g.after place given s.reached line g.is)
 
   pub carried_frame : (net amid done : Net A) (choice : FrameChoice) (mesh : Mesh) (old new new' : List Event) (place : ℕ)
       → NetStands queries stands net choice net.clock mesh → KeepsNet net amid → Settled amid done → new' ≡ new
@@ -248,7 +263,7 @@ module _ {A : Type 0} (queries : Mac → Queries) (stands : A → Mac → RouteL
   carried_frame net amid done choice mesh old new new' place s k d told g =
       let e = delivered_effect (scenario_setup queries) mesh place net.clock g.after g.is in
       carried net amid done choice mesh old new new' (delivered (scenario_setup queries) place net.clock mesh) s k d told g
-      (tickless_same mesh g.after e.nodes e.count) e.last (is_delivered net.clock mesh g.after place s.reached g.is)
+      (tickless_same mesh g.after e.nodes e.count) e.last e.watch (is_delivered net.clock mesh g.after place s.reached g.is)
 
   -- a net that isn't dead stands for something
   pub live_of : (net : Net A) → IsNet queries stands net → net.dead ≡ false → IsLive queries stands net
@@ -267,7 +282,7 @@ module _ {A : Type 0} (queries : Mac → Queries) (stands : A → Mac → RouteL
       let l = of_line mesh.frames given line in
       let e = all_effect (scenario_setup queries) places net.clock given mesh g.after l.0 (λ frames. (of_line frames given line).1) g.is in
       carried net amid done choice mesh old new new' (all_given (scenario_setup queries) places net.clock given mesh) s k d told g
-      (tickless_same mesh g.after e.nodes e.count) e.last (line_reached net.clock mesh g.after places given line s.reached g.is)
+      (tickless_same mesh g.after e.nodes e.count) e.last e.watch (line_reached net.clock mesh g.after places given line s.reached g.is)
     where
       line_reached : (clock : ℕ) (mesh after : Mesh) (places : List ℕ) (given : Given) → IsOfLine given → IsReached (scenario_setup queries) clock mesh → all_given (scenario_setup queries) places clock given mesh ≡ Ok after → IsReached (scenario_setup queries) clock after
       line_reached clock mesh after places (Tick index) of way is = absurd of
@@ -283,22 +298,22 @@ module _ {A : Type 0} (queries : Mac → Queries) (stands : A → Mac → RouteL
   carried_put net amid done choice mesh old new new' put s k d told none now low g =
       let e = put_joins (scenario_setup queries) put mesh g.after low g.is in
       carried net amid done choice mesh old new new' (with_put (scenario_setup queries) put mesh) s k d told g
-      (tickless_same mesh g.after e.nodes e.count) e.last (lan_comes net.clock mesh g.after put s.reached none now low g.is)
+      (tickless_same mesh g.after e.nodes e.count) e.last e.watch (lan_comes net.clock mesh g.after put s.reached none now low g.is)
 
   -- a LAN that joins, when its gateways were told
   pub carried_lan : (net amid done : Net A) (choice : FrameChoice) (mesh : Mesh) (old new : List Event) (name gateways : List ℕ)
-      → NetStands queries stands net choice net.clock mesh → amid.clock ≡ net.clock → amid.last ≡ net.last → amid.dead ≡ net.dead → Settled amid done → length mesh.lans < lans_limit → IsNewLan mesh gateways
+      → NetStands queries stands net choice net.clock mesh → amid.clock ≡ net.clock → amid.last ≡ net.last → amid.watch ≡ net.watch → amid.dead ≡ net.dead → Settled amid done → length mesh.lans < lans_limit → IsNewLan mesh gateways
       → Gave queries stands amid choice mesh.last (first_ticks 0 mesh.nodes) (with_lan (record { name = name; gateways = gateways }) mesh) old new (joins_lan (scenario_setup queries) name gateways net.clock mesh)
       → StandsAfter queries stands done choice net.clock (joins_lan (scenario_setup queries) name gateways net.clock mesh)
-  carried_lan net amid done choice mesh old new name gateways s clock last dead d few joins g =
+  carried_lan net amid done choice mesh old new name gateways s clock last watch dead d few joins g =
       let e = joined_effect (scenario_setup queries) name gateways net.clock mesh g.after g.is in
       let same = tickless_same (with_lan (record { name = name; gateways = gateways }) mesh) g.after e.nodes e.count in
       record {
         after = g.after;
         is = g.is;
-        standing = stands_for queries stands amid done done choice mesh.last (first_ticks 0 mesh.nodes) net.clock g.after d (record { post = refl; sent = refl; seats = refl; dead = refl })
+        standing = stands_for queries stands amid done done choice mesh.last (first_ticks 0 mesh.nodes) net.clock g.after d (record { post = refl; sent = refl; seats = refl; watch = refl; dead = refl })
             (dead ∙ s.alive) g.choice_is (d.clock ∙ clock) (d.last ∙ last ∙ s.last_is) e.last s.past s.low g.seats_stand g.step (same_has (first_ticks 0 mesh.nodes) (first_ticks 0 g.after.nodes) same)
-            (lan_joins net.clock mesh g.after name gateways s.reached few joins g.is);
+            (still_watched net.watch amid.watch mesh.watch g.after.watch watch e.watch s.watched) (lan_joins net.clock mesh g.after name gateways s.reached few joins g.is);
       }
 
   -- a net stands amid a step that begins now
@@ -408,29 +423,29 @@ module _ {A : Type 0} (queries : Mac → Queries) (stands : A → Mac → RouteL
         subst (λ c. Has (ticks_amid c h.place h.moment waiting_ticks) x ↔ Has (first_ticks 0 after.nodes) x) (sym e)
         (ticks_next mesh after h k.node k.found k.is (λ place n f. subst (λ c. Was mesh.nodes after.frames (ticks_of c h.place place) place n) e (step.nodes place n f)) step.count (tick_or_later net.post.queue rest t h mesh sound s.kept.amid.waits popped) x)
 
-    pub stepped : (amid done end : Net A) (old new new' : List Event) → KeepsNet (popped_net net rest) amid → Settled amid done → SameBut done end → end.clock ≡ h.moment → end.last ≡ h → new' ≡ new
-        → Gave queries stands amid choice h (ticks_amid h.class h.place h.moment waiting_ticks) mesh old new (effect (scenario_setup queries) h.class h.place h.moment mesh)
+    pub stepped : (amid done end : Net A) (old new new' : List Event) → KeepsSent (popped_net net rest) amid → Settled amid done → SameBut done end → end.clock ≡ h.moment → end.last ≡ h → new' ≡ new
+        → HasHappened queries stands amid choice h (ticks_amid h.class h.place h.moment waiting_ticks) mesh old new h
         → Stepped queries stands end choice mesh t old new'
-    stepped amid done end old new new' k d b clock_is last_is told g =
-        let is : after_happening (scenario_setup queries) h mesh ≡ Ok (with_happening h g.after) = ap (on_ok (with_last h)) g.is in
+    stepped amid done end old new new' k d b clock_is last_is told happened =
+        let g = happened.gave in
         let next = next_is in
         let due = next_due_some t mesh h (next_happening mesh) refl (((finds_next t mesh sound).0 h).1 next) in
         record {
           happening = h;
           next = next;
-          after = with_happening h g.after;
-          is = is;
-          standing = stands_for queries stands amid done end choice h (ticks_amid h.class h.place h.moment waiting_ticks) h.moment (with_happening h g.after) d b (k.dead ∙ s.alive) g.choice_is clock_is last_is refl (omega arith) h_low
-              g.seats_stand (step_last amid.post amid.sent h h (ticks_amid h.class h.place h.moment waiting_ticks) g.after g.step) (ticks_match (with_happening h g.after) h.class refl is)
-              (happens clock mesh (with_happening h g.after) h s.reached due.0 h_later h_low is);
-          logged = subst (Logged choice mesh (with_happening h g.after) old) (sym told) (record { more = g.logged.more; came = g.logged.came; told = g.logged.told });
+          after = g.after;
+          is = g.is;
+          standing = stands_for queries stands amid done end choice h (ticks_amid h.class h.place h.moment waiting_ticks) h.moment g.after d b (k.dead ∙ s.alive) g.choice_is clock_is last_is (step_is (scenario_setup queries) mesh h g.after g.is).last (omega arith) h_low
+              g.seats_stand g.step (ticks_match g.after h.class refl g.is) happened.watched
+              (happens clock mesh g.after h s.reached due.0 h_later h_low g.is);
+          logged = subst (Logged choice mesh g.after old) (sym told) g.logged;
         }
 
-    pub failed : (r : Result Unit NodeErr) (error : NetErr) → SettleTells r error → IfErr r (GiveTells (effect (scenario_setup queries) h.class h.place h.moment mesh)) → StepFails queries mesh t error
+    pub failed : (r : Result Unit NodeErr) (error : NetErr) → SettleTells r error → IfErr r (GiveTells (after_happening (scenario_setup queries) h mesh)) → StepFails queries mesh t error
     failed r error tells given = record {
       happening = h;
       next = next_is;
-      tells = happening_tells (scenario_setup queries) mesh h error (settle_tells (effect (scenario_setup queries) h.class h.place h.moment mesh) r error tells given);
+      tells = settle_tells (after_happening (scenario_setup queries) h mesh) r error tells given;
     }
 
 -- ---- results

@@ -13,7 +13,7 @@ use Rattle.mesh_model.specs.Net.Runs.{delivered, frame_given, frame_over, tick_g
 use Rattle.mesh_model.specs.Routes.Queries.{Queries}
 use Rattle.mesh_model.specs.Routes.RouteLog.{RouteLog, MayTick}
 use Rattle.mesh_node.specs.declared.input.Input.{Input}
-use Rattle.mesh_node.specs.declared.input.Input.TheVariants.{Tick, Link, Lan, Attach, Frame, Gone, Join, Leave, Arp, Dhcp, Wifi, GwOff, GwServer, GwClient, Mcast, Dat, Frag, Alfred, Put, Get, Ping, Trace, Reboot}
+use Rattle.mesh_node.specs.declared.input.Input.TheVariants.{Tick, Link, Lan, Attach, Frame, Gone, Join, Leave, Arp, Dhcp, Wifi, GwOff, GwServer, GwClient, Mcast, Dat, Frag, Vis, Alfred, Put, Get, Ping, Trace, Reboot}
 use Rattle.mesh_node.specs.NodeStands.{MayTake, MayFollow, given_by}
 use Rattle.mesh_post.specs.declared.row.Arrival.{Arrival}
 use Rattle.mesh_post.specs.declared.row.Sending.{Sending}
@@ -46,6 +46,7 @@ line_counts ticks number (GwClient policy) line = tt
 line_counts ticks number (Mcast flags) line = tt
 line_counts ticks number (Dat on) line = tt
 line_counts ticks number (Frag size) line = tt
+line_counts ticks number (Vis on) line = tt
 line_counts ticks number (Alfred mode) line = tt
 line_counts ticks number (Put type_no version text) line = tt
 line_counts ticks number (Get type_no) line = tt
@@ -71,6 +72,7 @@ line_follows before number (GwClient policy) line = tt
 line_follows before number (Mcast flags) line = tt
 line_follows before number (Dat on) line = tt
 line_follows before number (Frag size) line = tt
+line_follows before number (Vis on) line = tt
 line_follows before number (Alfred mode) line = tt
 line_follows before number (Put type_no version text) line = tt
 line_follows before number (Get type_no) line = tt

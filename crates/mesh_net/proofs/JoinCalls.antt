@@ -40,6 +40,7 @@ module _ {A : Type 0} (queries : Mac → Queries) (stands : A → Mac → RouteL
     seats = st.seats;
     kept = st.kept;
     settled = st.settled;
+    watched = st.watched;
     reached = st.reached;
   }
 

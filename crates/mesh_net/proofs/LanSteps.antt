@@ -10,14 +10,13 @@ use Rattle.mesh_model.specs.Clients.Log.{Given, LanFrame}
 use Rattle.mesh_model.specs.Knowledge.Steps.{knowledge}
 use Rattle.mesh_model.specs.Net.Due.{first_ticks}
 use Rattle.mesh_model.specs.Net.Inputs.{all_given, given_to}
-use Rattle.mesh_model.specs.Net.Lans.{gets, lan_delivered, put_given, put_over, reach_events, with_events, with_lan}
+use Rattle.mesh_model.specs.Net.Lans.{gateways_at, gets, lan_delivered, put_given, put_over, reach_events, with_events, with_lan}
 use Rattle.mesh_model.specs.Net.Limits.{scenario_setup}
 use Rattle.mesh_model.specs.Net.Mesh.{NetLan, LanPut, Mesh, Setup}
 use Rattle.mesh_model.specs.Net.Sending.{Attempt, on_ok, with_put}
 use Rattle.mesh_model.specs.Packets.LanFrames.{client_frame_in, lan_message_of}
 use Rattle.mesh_model.specs.Routes.Queries.{Queries}
 use Rattle.mesh_model.specs.Routes.RouteLog.{RouteLog}
-use Rattle.mesh_model.specs.Run.Steps.{gateways_at}
 use Rattle.mesh_model.specs.Text.Events.{is_shown}
 use Rattle.node_ground.specs.declared.failure.NodeErr.{NodeErr}
 use Rattle.node_ground.specs.declared.failure.PortErr.{PortErr}

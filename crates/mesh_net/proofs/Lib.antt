@@ -12,6 +12,7 @@ pub mod PopLemmas
 pub mod Ends
 pub mod ToldLemmas
 pub mod RightLemmas
+pub mod WatchLemmas
 pub mod Slices
 pub mod JoinCalls
 pub mod EmptyLemmas

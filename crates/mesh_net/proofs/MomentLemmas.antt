@@ -9,6 +9,7 @@ use Rattle.mesh_model.specs.Net.Inputs.{all_given, noted_at, noted, after_entry,
 use Rattle.mesh_model.specs.Net.Lans.{attachment, gets, put_given, put_over, reach_events, with_events, with_lan}
 use Rattle.mesh_model.specs.Net.Mesh.{NodeLog, NetLan, NetLink, LanPut, SentFrame, Mesh, Setup, address_at}
 use Rattle.mesh_model.specs.Net.Runs.{effect, after_happening, delivered, frame_given, frame_over, tick_given, throughput_between, with_last}
+use Rattle.mesh_model.specs.Net.Watching.{lines_told, with_lines}
 use Rattle.mesh_model.specs.Net.Sending.{Actor, after_acts}
 use Rattle.mesh_model.specs.Packets.LanFrames.{client_frame_in, lan_message_of}
 use Rattle.mesh_model.specs.Packets.Payload.{ClientFrame}
@@ -101,11 +102,11 @@ effect_keeps setup mesh NodeTick place now after e = tick_keeps setup mesh place
 
 happening_keeps : (setup : Setup) (mesh : Mesh) (h : Happening) (after : Mesh) → after_happening setup h mesh ≡ Ok after → KeepsPast h.moment mesh after
 happening_keeps setup mesh h after e =
-    let p = on_ok_ok (with_last h) (effect setup h.class h.place h.moment mesh) after e in
-    subst (KeepsPast h.moment mesh) (ok_one (record p.0 { last = h }) after p.2) (effect_keeps setup mesh h.class h.place h.moment p.0 p.1)
+    let p = on_ok_ok (with_last setup h) (effect setup h.class h.place h.moment mesh) after e in
+    subst (KeepsPast h.moment mesh) (ok_one (record (with_lines (lines_told setup h p.0) p.0) { last = h }) after p.2) (effect_keeps setup mesh h.class h.place h.moment p.0 p.1)
 
 pub are_past : (setup : Setup) (clock : ℕ) (mesh : Mesh) → IsReached setup clock mesh → ArePast clock mesh.nodes
-are_past setup _ _ begins = tt
+are_past setup _ _ (begins watched) = tt
 are_past setup _ _ (joins clock mesh name mac way few) = past_more clock mesh.nodes (new_node name mac clock) (omega arith) (are_past setup clock mesh way)
 are_past setup _ _ (links clock mesh link way few new) = are_past setup clock mesh way
 are_past setup _ _ (lan_joins clock mesh after name gateways way few new e) = all_keep setup gateways clock (attachment mesh gateways) (with_lan (record { name = name; gateways = gateways }) mesh) after e (are_past setup clock mesh way)

@@ -22,7 +22,7 @@ use Rattle.mesh_laws.proofs.Schedule.Members.{get_last}
 use Rattle.mesh_laws.proofs.Schedule.Sound.{steps_keep_sound, lines_keep_sound}
 use Rattle.mesh_laws.proofs.Schedule.Steps.{all_effect, delivered_effect, no_ticks, put_joins, step_is, tickless, ticks_of}
 use Rattle.mesh_laws.proofs.Schedule.Steps.{lan_joins as joined_effect}
-use Rattle.mesh_net.specs.Reached.{IsReached, begins, joins, links, lan_joins, lan_comes, all_are_given, is_given, is_delivered, happens, passes, IsOfLine, LeavesPlace}
+use Rattle.mesh_net.specs.Reached.{IsReached, begun_watch, begins, joins, links, lan_joins, lan_comes, all_are_given, is_given, is_delivered, happens, passes, IsOfLine, LeavesPlace}
 use Rattle.mesh_post.specs.Joining.{with_node}
 
 -- what holds of a mesh that is reached, with the clock
@@ -69,7 +69,7 @@ node_bytes mesh new empty bytes place node found entry h = elim (get_last mesh.n
 ]
 
 pub reached : (queries : Mac → Queries) (clock : ℕ) (mesh : Mesh) → IsReached (scenario_setup queries) clock mesh → Reached clock mesh
-reached queries _ _ begins = record { sound = empty_sound; lans = empty_stands; bytes = empty_bytes; past = omega arith; low = omega arith }
+reached queries _ _ (begins watched) = record { sound = empty_sound (begun_watch watched); lans = empty_stands (begun_watch watched); bytes = empty_bytes (begun_watch watched); past = omega arith; low = omega arith }
 reached queries _ _ (joins clock mesh name mac way few) =
     let r = reached queries clock mesh way in
     record { sound = nodes_sound mesh (new_node name mac clock) r.sound refl r.past (omega (arith, few)); lans = nodes_stand mesh (new_node name mac clock) r.lans refl; bytes = node_bytes mesh (new_node name mac clock) refl r.bytes; past = r.past; low = r.low }

@@ -24,6 +24,7 @@ use Rattle.mesh_tie.specs.PlainRuns.{NoneIsLater}
 use Rattle.mesh_tie.specs.Steps.{IsReachable, Steps, MayBeGiven, goes_on, line_gives, put_comes, with_lan_frame}
 use Rattle.mesh_tie.specs.TieLaws.{AllKeep}
 use Rattle.mesh_tie.proofs.CutPut.{put_together_was_cut}
+use Rattle.mesh_tie.proofs.PictureRuns.{reached_pictures_are_right}
 use Rattle.mesh_tie.proofs.GainLemmas.{put_is}
 use Rattle.mesh_tie.proofs.RunReach.{delivered_comes, given_comes, happening_comes, later_settled, lines_all}
 use Rattle.mesh_net.specs.declared.net.Net.{Net}
@@ -45,6 +46,7 @@ told_rightly queries choice before after old new keep r l = record {
   tables = tables_are_right queries after keep r;
   events = gains_are_right queries before after l.more old new (is_shown choice) keep r l.came (λ orig number earlier. refl) l.told;
   packets = put_together_was_cut queries keep after r;
+  pictures = reached_pictures_are_right queries keep after r;
 }
 
 pub rightly : (queries : Mac → Queries) (choice : FrameChoice) (brings : Type 0) (clock : ℕ) (before after : Mesh) (old new : List Event) → IsReached (scenario_setup queries) clock after → (AllKeep queries → IsReachable queries before → brings → IsReachable queries after)

@@ -233,6 +233,7 @@ module _ {A : Type 0} (queries : Mac → Queries) (stands : A → Mac → RouteL
             seats = s.seats;
             kept = s.kept;
             settled = s.settled;
+            watched = s.watched;
             reached = passes u.went.now t u.went.after s.reached within soon quiet;
           };
           gains = gains choice mesh u.went.after old new u.went.logged;

@@ -15,7 +15,7 @@ use Rattle.mesh_model.specs.Routes.Queries.{Queries}
 use Rattle.mesh_model.specs.Routes.RouteLog.{RouteLog}
 use Rattle.node_ground.specs.declared.failure.NodeErr.{NodeErr}
 use Rattle.mesh_node.specs.declared.input.Input.{Input}
-use Rattle.mesh_node.specs.declared.input.Input.TheVariants.{Tick, Link, Lan, Attach, Frame, Gone, Join, Leave, Arp, Dhcp, Wifi, GwOff, GwServer, GwClient, Mcast, Dat, Frag, Alfred, Put, Get, Ping, Trace, Reboot}
+use Rattle.mesh_node.specs.declared.input.Input.TheVariants.{Tick, Link, Lan, Attach, Frame, Gone, Join, Leave, Arp, Dhcp, Wifi, GwOff, GwServer, GwClient, Mcast, Dat, Frag, Vis, Alfred, Put, Get, Ping, Trace, Reboot}
 use Rattle.mesh_node.specs.NodeStands.{given_by}
 use Rattle.mesh_post.specs.declared.post.Post.{Post}
 use Rattle.mesh_net.specs.declared.give.Occasion.{Occasion}
@@ -52,6 +52,7 @@ ticks_are ticks number (GwClient policy) counts = omega arith
 ticks_are ticks number (Mcast flags) counts = omega arith
 ticks_are ticks number (Dat on) counts = omega arith
 ticks_are ticks number (Frag size) counts = omega arith
+ticks_are ticks number (Vis on) counts = omega arith
 ticks_are ticks number (Alfred mode) counts = omega arith
 ticks_are ticks number (Put type_no version text) counts = omega arith
 ticks_are ticks number (Get type_no) counts = omega arith

@@ -20,7 +20,7 @@ use Rattle.mesh_model.specs.Knowledge.Known.{Broadcast, Knowledge, agreed_byte, 
 use Rattle.mesh_model.specs.Knowledge.Offers.{after_choice, gateway_way}
 use Rattle.mesh_model.specs.Knowledge.Pairs.{after_arp, after_asking, after_came, after_question, is_asked, with_ask, with_learned}
 use Rattle.mesh_model.specs.Knowledge.PutTogether.{after_part, fact_carried, put_together, with_part}
-use Rattle.mesh_model.specs.Knowledge.Steps.{Coming, announced_by, before_round, stays_on_lan, knowledge, next_knowledge, after_announcement, after_answer, after_broadcast, after_call, after_containers, after_frame, after_head, after_message, after_reply, after_packet, after_packets, after_passed, after_roaming, after_sent, after_sighting, after_taken, before_announcement, is_flooded, released_under, with_head, with_offered, line_knowledge}
+use Rattle.mesh_model.specs.Knowledge.Steps.{Coming, announced_by, stays_on_lan, knowledge, next_knowledge, table_behind, after_announcement, after_answer, after_broadcast, after_call, after_containers, after_frame, after_head, after_message, after_reply, after_packet, after_packets, after_passed, after_roaming, after_sent, after_sighting, after_taken, before_announcement, is_flooded, released_under, with_head, with_offered, line_knowledge}
 use Rattle.mesh_model.specs.Knowledge.Told.{Message, TableMessage, Asks, Answers, Neither, message_in, message_of, part_told}
 use Rattle.mesh_model.specs.Marks.Calls.{Forgotten}
 use Rattle.mesh_model.specs.Net.Due.{ticks_by, ticks_in}
@@ -31,6 +31,7 @@ use Rattle.mesh_model.specs.Net.Limits.{scenario_setup}
 use Rattle.mesh_model.specs.Net.Mesh.{NodeLog, NetLan, NetLink, LanPut, SentFrame, Mesh, Setup, address_at}
 use Rattle.mesh_model.specs.Net.Next.{Happens}
 use Rattle.mesh_model.specs.Net.Runs.{after_happening, effect, frame_given, frame_over, throughput_between, tick_given, with_last}
+use Rattle.mesh_model.specs.Net.Watching.{lines_told, with_lines}
 use Rattle.mesh_model.specs.Net.Sending.{Actor, after_acts}
 use Rattle.mesh_model.specs.Packets.ArpMessages.{ArpCame, Puts, Asks as AsksPair, Tells, arp_came}
 use Rattle.mesh_model.specs.Packets.Containers.{containers_of}
@@ -50,7 +51,7 @@ use Rattle.mesh_model.specs.Tables.Known.{Answered, Dropped, known_by}
 use Rattle.mesh_laws.proofs.Schedule.Added.{added}
 use Rattle.mesh_laws.proofs.Schedule.Members.{get_last}
 use Rattle.mesh_laws.proofs.Schedule.Order.{moments}
-use Rattle.mesh_laws.proofs.StoreLemmas.{Rest, get_rest, message_rest, round_at_rest}
+use Rattle.mesh_laws.proofs.StoreLemmas.{Rest, get_rest, message_rest, tick_rest}
 use Rattle.mesh_laws.proofs.LanLemmas.{effect_later, joined_later}
 use Rattle.mesh_laws.proofs.Schedule.Sends.{ok_one, on_ok_ok, acts_send, sends_put}
 use Rattle.mesh_laws.proofs.Schedule.Steps.{all_effect, delivered_effect, no_ticks, not_passed, put_joins, step_is, tickless}
@@ -218,7 +219,7 @@ next_counted : (q : Queries) (me : Mac) (older : Log) (known : Knowledge) (now :
 next_counted q me older known now (Tick index) =
     let ticked : Knowledge = record known { routes = OwnTick now index ∷ known.routes } in
     let n : own_ticks ticked.routes ≡ suc (own_ticks known.routes) = refl in
-    ap counted_left (round_at_rest q now index (before_round q now index known)) ∙ choice_counted q now index ticked ∙ ap (λ m. (m, Some index)) (omega (arith, n))
+    ap counted_left (tick_rest q me now index (table_behind me older now index) known) ∙ choice_counted q now index ticked ∙ ap (λ m. (m, Some index)) (omega (arith, n))
 next_counted q me older known now (LinkFrame number from throughput bytes) =
     packets_counted q me (record { now = now; from = from; throughput = throughput; number = number }) known (link_frame bytes).packets ∙ no_more known
 next_counted q me older known now (LanFrame bytes) =
@@ -327,11 +328,11 @@ effect_numbered setup mesh after NodeTick place now e all = tick_numbered setup 
 
 happening_numbered : (setup : Setup) (mesh after : Mesh) (h : Happening) → after_happening setup h mesh ≡ Ok after → AllNumbered mesh.nodes → AllNumbered after.nodes
 happening_numbered setup mesh after h e all =
-    let p = on_ok_ok (with_last h) (effect setup h.class h.place h.moment mesh) after e in
-    subst (λ (m : Mesh). AllNumbered m.nodes) (ok_one (record p.0 { last = h }) after p.2) (effect_numbered setup mesh p.0 h.class h.place h.moment p.1 all)
+    let p = on_ok_ok (with_last setup h) (effect setup h.class h.place h.moment mesh) after e in
+    subst (λ (m : Mesh). AllNumbered m.nodes) (ok_one (record (with_lines (lines_told setup h p.0) p.0) { last = h }) after p.2) (effect_numbered setup mesh p.0 h.class h.place h.moment p.1 all)
 
 pub all_numbered : (queries : Mac → Queries) (clock : ℕ) (mesh : Mesh) → IsReached (scenario_setup queries) clock mesh → AllNumbered mesh.nodes
-all_numbered queries _ _ begins = λ place node e. cc
+all_numbered queries _ _ (begins watched) = λ place node e. cc
 all_numbered queries _ _ (joins clock mesh name mac way few) = λ place node e. elim (get_last mesh.nodes (new_node name mac clock) place node e) as (λ _. Numbered node.log) [
   | inl old ↦ all_numbered queries clock mesh way place node old
   | inr new ↦ subst (λ (n : NodeLog). Numbered n.log) (sym new) (omega arith, omega arith)
@@ -361,7 +362,7 @@ may_tick queries clock mesh place node way found few =
 
 -- ---- what is to come
 pub not_before : (queries : Mac → Queries) (clock : ℕ) (mesh : Mesh) → IsReached (scenario_setup queries) clock mesh → (x : Happening) → Happens mesh x → Before mesh.last x → clock ≤ x.moment
-not_before queries _ _ begins x h b = omega arith
+not_before queries _ _ (begins watched) x h b = omega arith
 not_before queries _ _ (joins clock mesh name mac way few) x h b = elim (nodes_add_later mesh (new_node name mac clock) x h) as (λ _. clock ≤ x.moment) [
   | inl old ↦ not_before queries clock mesh way x old b
   | inr l ↦ omega (arith, l)

@@ -3,6 +3,7 @@
 pub mod Reached
 pub mod Given
 pub mod Kept
+pub mod Watching
 pub mod NetStands
 pub mod Tells
 pub mod Steps

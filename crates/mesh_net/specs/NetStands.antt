@@ -14,6 +14,7 @@ use Rattle.mesh_node.specs.NodeStands.{NodeStands}
 use Rattle.mesh_net.specs.declared.net.Net.{Net}
 use Rattle.mesh_net.specs.declared.seat.Seat.{Seat}
 use Rattle.mesh_net.specs.Reached.{IsReached}
+use Rattle.mesh_net.specs.Watching.{WatchStands}
 use Rattle.mesh_post.specs.Sent.{InStep}
 
 -- a node at its place stands for a node of the mesh
@@ -45,6 +46,7 @@ pub record NetStands {A : Type 0} (queries : Mac → Queries) (stands : A → Ma
   -- what is kept besides the nodes, between two steps; those wait that are to come
   pub kept : InStep net.post net.sent mesh.last (first_ticks 0 mesh.nodes) mesh
   pub settled : net.post.fresh.items ≡ []
+  pub watched : WatchStands net.watch mesh.watch
   pub reached : IsReached (scenario_setup queries) clock mesh
 
 -- a call was refused before

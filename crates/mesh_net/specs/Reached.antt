@@ -1,12 +1,13 @@
--- The meshes that a net can come to: from the empty one, by new nodes, links and LANs, by what
+-- The meshes that a net can come to: from the one at the begin, by new nodes, links and LANs, by what
 -- lines give nodes, one or several, by frames that come on a LAN or are delivered again, by
 -- happenings, each the next, and by the passing of time in which nothing happens. What is proved of
 -- every run can be applied to them. The main word is `IsReached`.
-use Rattle.std.specs.Prelude.{◌≡◌, ℕ, ◌<◌, ◌≤◌, List, length, Ok, Some, None}
+use Rattle.std.specs.Prelude.{◌≡◌, ℕ, ◌<◌, ◌≤◌, Bool, true, false, List, [], length, Ok, Option, Some, None}
 use Rattle.mesh_base.specs.declared.address.Mac.{Mac}
 use Rattle.mesh_model.specs.declared.happening.Happening.{Happening}
+use Rattle.mesh_model.specs.declared.route_line.RouteLine.{RouteLine}
 use Rattle.mesh_model.specs.Clients.Log.{Given, Tick, LinkFrame, LanFrame, Line, LineGiven, Attach, Frame, Gone, Join, Leave, Arp, Dhcp, Sets, Put, Get, Ping, Trace, Reboot}
-use Rattle.mesh_model.specs.Net.Mesh.{NetLink, LanPut, Mesh, Setup, empty_mesh}
+use Rattle.mesh_model.specs.Net.Mesh.{NetLink, LanPut, Mesh, Setup, begun_mesh}
 use Rattle.mesh_model.specs.Net.Inputs.{all_given, given_to}
 use Rattle.mesh_model.specs.Net.Lans.{joins_lan}
 use Rattle.mesh_model.specs.Net.Due.{next_happening}
@@ -55,9 +56,14 @@ IsOfLine (LinkFrame number from throughput bytes) = ⊥
 IsOfLine (LanFrame bytes) = ⊥
 IsOfLine (Line line) = LeavesPlace line
 
+-- what is watched at the begin, by whether routes are watched: nothing was told yet
+abbrev pub begun_watch : Bool → Option (List RouteLine)
+begun_watch true = Some []
+begun_watch false = None
+
 -- a mesh that is reached, with the clock
 pub data IsReached (setup : Setup) : ℕ → Mesh → Type 0 where
-  begins : IsReached setup 0 empty_mesh
+  begins : (watched : Bool) → IsReached setup 0 (begun_mesh (begun_watch watched))
   joins : (clock : ℕ) (mesh : Mesh) (name : List ℕ) (mac : Mac) → IsReached setup clock mesh
       → length mesh.nodes < nodes_limit
       → IsReached setup clock (with_node (new_node name mac clock) mesh)

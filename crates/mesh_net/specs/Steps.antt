@@ -24,7 +24,7 @@ use Rattle.mesh_model.specs.Routes.RouteLog.{RouteLog, MayTick}
 use Rattle.node_ground.specs.declared.failure.NodeErr.{NodeErr}
 use Rattle.node_ground.specs.declared.failure.NodeErr.TheVariants as node_errors
 use Rattle.mesh_node.specs.declared.input.Input.{Input}
-use Rattle.mesh_node.specs.declared.input.Input.TheVariants.{Tick, Link, Lan, Attach, Frame, Gone, Join, Leave, Arp, Dhcp, Wifi, GwOff, GwServer, GwClient, Mcast, Dat, Frag, Alfred, Put, Get, Ping, Trace, Reboot}
+use Rattle.mesh_node.specs.declared.input.Input.TheVariants.{Tick, Link, Lan, Attach, Frame, Gone, Join, Leave, Arp, Dhcp, Wifi, GwOff, GwServer, GwClient, Mcast, Dat, Frag, Vis, Alfred, Put, Get, Ping, Trace, Reboot}
 use Rattle.node_ground.specs.OwnStands.{newest_moment}
 use Rattle.mesh_node.specs.NodeStands.{MayFollow}
 use Rattle.mesh_net.specs.declared.failure.NetErr.{NetErr}
@@ -39,6 +39,7 @@ use Rattle.mesh_net.specs.NetStands.{SeatsStand, NetStands}
 use Rattle.mesh_net.specs.Reached.{IsReached}
 use Rattle.mesh_post.specs.Sent.{InStep, Logged}
 use Rattle.mesh_net.specs.Tells.{Ran, StepTells}
+use Rattle.mesh_net.specs.Watching.{WatchStands}
 
 -- ---- one node
 -- how many ticks a node had with an input
@@ -60,6 +61,7 @@ ticks_with ticks (GwClient policy) = ticks
 ticks_with ticks (Mcast flags) = ticks
 ticks_with ticks (Dat on) = ticks
 ticks_with ticks (Frag size) = ticks
+ticks_with ticks (Vis on) = ticks
 ticks_with ticks (Alfred mode) = ticks
 ticks_with ticks (Put type_no version text) = ticks
 ticks_with ticks (Get type_no) = ticks
@@ -86,6 +88,7 @@ Counts ticks (GwClient policy) = ⊤
 Counts ticks (Mcast flags) = ⊤
 Counts ticks (Dat on) = ⊤
 Counts ticks (Frag size) = ⊤
+Counts ticks (Vis on) = ⊤
 Counts ticks (Alfred mode) = ⊤
 Counts ticks (Put type_no version text) = ⊤
 Counts ticks (Get type_no) = ⊤
@@ -172,7 +175,23 @@ pub record KeepsNet {A : Type 0} (old new : Net A) : Type 0 where
   pub sent : new.sent ≡ old.sent
   pub clock : new.clock ≡ old.clock
   pub last : new.last ≡ old.last
+  pub watch : new.watch ≡ old.watch
   pub dead : new.dead ≡ old.dead
+
+-- what a happening leaves as it is, until it is settled
+pub record KeepsSent {A : Type 0} (old new : Net A) : Type 0 where
+  pub sent : new.sent ≡ old.sent
+  pub clock : new.clock ≡ old.clock
+  pub last : new.last ≡ old.last
+  pub dead : new.dead ≡ old.dead
+
+-- something happened in a step of a net, up to the lines of routes with which it ends
+pub record HasHappened {A : Type 0} (queries : Mac → Queries)
+    (stands : A → Mac → RouteLog → Type 0) (net : Net A) (choice : FrameChoice) (last : Happening)
+    (ticks : List Happening) (before : Mesh) (old new : List Event) (h : Happening) : Type 0 where
+  pub gave : Gave queries stands net choice last ticks before old new
+      (after_happening (scenario_setup queries) h before)
+  pub watched : WatchStands net.watch gave.after.watch
 
 -- each frame was sent over a link
 abbrev pub AreOnLinks : Mesh → Type 0
@@ -231,6 +250,7 @@ pub record Settled {A : Type 0} (old new : Net A) : Type 0 where
   pub seats : new.seats ≡ old.seats
   pub clock : new.clock ≡ old.clock
   pub last : new.last ≡ old.last
+  pub watch : new.watch ≡ old.watch
   pub dead : new.dead ≡ old.dead
 
 -- something was given in a step of a net, and what it sent stands behind the others

@@ -22,6 +22,7 @@ use Rattle.mesh_model.specs.Text.Events.{is_shown}
 use Rattle.mesh_laws.specs.GatewayLaws.{LansStand}
 use Rattle.mesh_tie.specs.CutPackets.{PacketsWereCut}
 use Rattle.mesh_tie.specs.NetTables.{GainsAreRight, SayingsAreRight, TablesAreRight}
+use Rattle.mesh_tie.specs.ShownPictures.{PicturesAreRight}
 use Rattle.mesh_tie.specs.Steps.{IsReachable}
 use Rattle.mesh_tie.specs.TieLaws.{AllKeep}
 use Rattle.mesh_net.specs.declared.failure.NetErr.{NetErr}
@@ -57,7 +58,8 @@ pub record Carried {A : Type 0} (queries : Mac → Queries) (stands : A → Mac 
 -- answers say is right, as are its tables, and the events that the log gained: each frame that was
 -- sent by table is for a client that the addressee's commit names, as its sender was told last when
 -- it sent the frame. Where an event told of an alias of an originator, this says nothing of it. And
--- each packet that a node put together is one that the originator of its fragments cut
+-- each packet that a node put together is one that the originator of its fragments cut, and each
+-- picture that a node keeps, that was sent or came is that of its source at one of its rounds
 pub record IsToldRightly (queries : Mac → Queries) (before after : Mesh) (old new : List Event)
     : Type 0 where
   pub reachable : IsReachable queries after
@@ -65,6 +67,7 @@ pub record IsToldRightly (queries : Mac → Queries) (before after : Mesh) (old 
   pub tables : TablesAreRight queries after
   pub events : GainsAreRight queries before after old new
   pub packets : PacketsWereCut queries after
+  pub pictures : PicturesAreRight queries after
 
 -- the LANs of the mesh behind a call stand, with gateways that have the same claims; and where the
 -- algorithm keeps originator messages their originators', steps reach the mesh before, and what the

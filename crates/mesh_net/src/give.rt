@@ -119,6 +119,7 @@ fn ticks_with(ticks: u64, input: &Input<'_>) -> u64
         | Input::Mcast(_)
         | Input::Dat(_)
         | Input::Frag(_)
+        | Input::Vis(_)
         | Input::Alfred(_)
         | Input::Put { .. }
         | Input::Get { .. }

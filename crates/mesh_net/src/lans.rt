@@ -3,7 +3,7 @@ ghost use Rattle.mesh_model.specs.Net.Inputs.{all_given};
 ghost use Rattle.mesh_model.specs.Net.Limits.{scenario_setup};
 ghost use Rattle.mesh_model.specs.Net.Mesh.{NodeLog, Mesh, address_at};
 ghost use Rattle.mesh_model.specs.Net.Sending.{lan_of, with_put};
-ghost use Rattle.mesh_model.specs.Run.Steps.{gateways_at};
+ghost use Rattle.mesh_model.specs.Net.Lans.{gateways_at};
 ghost use Rattle.mesh_model.specs.declared.frame_choice.FrameChoice.{FrameChoice};
 ghost use Rattle.mesh_model.specs.declared.happening.Happening.{Happening};
 ghost use Rattle.mesh_net.specs.Given.{GiveTells};

@@ -14,6 +14,7 @@ mod net;
 mod runs;
 mod seat;
 mod steps;
+mod watch;
 
 pub use failure::NetErr;
 pub use link::Link;

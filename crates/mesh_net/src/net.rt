@@ -1,11 +1,12 @@
-ghost use Rattle.std.specs.Prelude.{◌≡◌, ◌↔◌, ◌-◌, ◌+◌, ℕ, nat_lt, ◌<◌, ◌≤◌, false, List, length, Some, slice_get};
+ghost use Rattle.std.specs.Prelude.{◌≡◌, ◌↔◌, ◌-◌, ◌+◌, ℕ, nat_lt, ◌<◌, ◌≤◌, false, List, length, Some, is_some, slice_get};
 ghost use Rattle.mesh_model.specs.declared.frame_choice.FrameChoice.{FrameChoice};
 ghost use Rattle.mesh_model.specs.declared.frame_choice.FrameChoice.TheVariants.{All};
-ghost use Rattle.mesh_model.specs.Net.Mesh.{Mesh, NodeLog, empty_mesh, address_at};
+ghost use Rattle.mesh_model.specs.Net.Mesh.{Mesh, NodeLog, begun_mesh, empty_mesh, address_at};
 ghost use Rattle.mesh_model.specs.declared.happening.Happening.{Happening};
 ghost use Rattle.mesh_model.specs.Net.Limits.{clock_limit};
 ghost use Rattle.mesh_node.specs.NodeStands.{NodeStands};
 ghost use Rattle.mesh_net.specs.NetStands.{NetStands, IsNet, IsDead, HasNode, SeatsStand};
+ghost use Rattle.mesh_net.specs.Reached.{begun_watch};
 ghost use Rattle.mesh_net.specs.declared.seat.Seat.{Seat};
 
 use crate::kept::Kept;
@@ -15,6 +16,7 @@ use mesh_base::{Mac, Millis};
 use mesh_model::{Class, FrameChoice, Happening};
 use mesh_node::Node;
 use mesh_post::Post;
+use mesh_told::ToldRoutes;
 use std::alloc::Global;
 
 /// A net of nodes with a routing algorithm.
@@ -28,6 +30,8 @@ pub struct Net<A: Algo> {
     pub(crate) clock: Millis,
     /// The last happening that was carried out.
     pub(crate) last: Happening,
+    /// The routes that were told, where they are watched.
+    pub(crate) watch: Option<ToldRoutes>,
     /// A call was refused.
     pub(crate) dead: bool,
 }
@@ -48,6 +52,7 @@ impl<A: Algo + Drop> Net<A> {
                 class: Class::LinkDelivery,
                 place: 0,
             },
+            watch: None,
             dead: false,
         }
     }
@@ -101,14 +106,14 @@ impl<A: Algo + Drop> Net<A> {
         self.mac_at(node)
     }
 
-    /// Whether there is a node. A mesh without nodes is the empty one, at whatever moment.
+    /// Whether there is a node. A mesh without nodes is the one at the begin, at whatever moment.
     pub fn has_nodes(&self) -> bool
         ensures told { (choice : FrameChoice) (clock : ℕ) (mesh : Mesh) →
             NetStands A.queries A.stands self.now choice clock mesh →
             result ≡ nat_lt 0 (length mesh.nodes) }
         ensures empty { (choice : FrameChoice) (clock : ℕ) (mesh : Mesh) →
             NetStands A.queries A.stands self.now choice clock mesh →
-            result ≡ false → mesh ≡ empty_mesh }
+            result ≡ false → mesh ≡ begun_mesh (begun_watch (is_some mesh.watch)) }
     {
         !self.seats.is_empty()
     }

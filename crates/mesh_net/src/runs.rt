@@ -160,7 +160,7 @@ impl<A: Algo + Drop> Net<A> {
             return Ok(false);
         };
         let before = log.len();
-        let given = self.happen(h, log);
+        let given = self.happen_whole(h, log);
         self.settle(given, before, log)?;
         self.last = h;
         self.clock = h.moment;

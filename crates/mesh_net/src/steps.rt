@@ -6,13 +6,14 @@ ghost use Rattle.mesh_model.specs.declared.happening.Happening.{Happening};
 ghost use Rattle.mesh_model.specs.Net.Due.{tick_time};
 ghost use Rattle.mesh_model.specs.Net.Limits.{scenario_setup};
 ghost use Rattle.mesh_model.specs.Net.Inputs.{given_to};
-ghost use Rattle.mesh_model.specs.Net.Runs.{delivered, effect, ticked};
+ghost use Rattle.mesh_model.specs.Net.Runs.{after_happening, delivered, effect, ticked};
 ghost use Rattle.mesh_node.specs.NodeStands.{given_by};
 ghost use Rattle.mesh_net.specs.NetStands.{NetStands, IsNet, IsDead};
 ghost use Rattle.mesh_net.specs.declared.seat.Seat.{Seat};
 ghost use Rattle.mesh_net.specs.Given.{GiveTells};
 ghost use Rattle.mesh_post.specs.Sent.{Grew};
-ghost use Rattle.mesh_net.specs.Steps.{AreOnLans, AreOnLinks, Begun, Gave, HasNodes, HasStage, KeepsNet, MayTickAt, Settled, SettleTells, net_error, tick_now, ticks_amid};
+ghost use Rattle.mesh_net.specs.Steps.{AreOnLans, AreOnLinks, Begun, Gave, HasHappened, HasNodes, HasStage, KeepsNet, KeepsSent, MayTickAt, Settled, SettleTells, net_error, tick_now, ticks_amid};
+ghost use Rattle.mesh_net.specs.Watching.{WatchStands};
 ghost use Rattle.mesh_net.specs.Reached.{IsOfLine};
 ghost use Rattle.mesh_net.specs.Tells.{Carried, StepTells, TellsRightly};
 ghost use Rattle.mesh_tie.specs.NetTables.{NamesClients};
@@ -212,6 +213,28 @@ impl<A: Algo + Drop> Net<A> {
             Class::LanDelivery => self.deliver_on_lan(h.place, h.moment, log),
             Class::NodeTick => self.tick_at(h.place, h.moment, log),
         }
+    }
+
+    // Carries out what happens, and tells the lines of routes with which it ends.
+    pub(crate) fn happen_whole(&mut self, h: Happening, log: &mut Events) -> Result<(), NodeErr>
+        requires stage { HasStage A.queries A.stands self.old.seats.items self.old.post h.moment }
+        requires tick { h.class ≡ NodeTick →
+            MayTickAt A.queries A.stands self.old h.place h.moment }
+        ensures happened { (choice : FrameChoice) (last : Happening) (others : List Happening)
+            (mesh : Mesh) → Begun A.queries A.stands self.old choice last others h.moment mesh →
+            AreOnLinks mesh → AreOnLans mesh → WatchStands self.old.watch mesh.watch →
+            OnOk result (HasHappened A.queries A.stands self.new choice last
+            (ticks_amid h.class h.place h.moment others) mesh log.old log.new h) }
+        ensures cause { (choice : FrameChoice) (last : Happening) (others : List Happening)
+            (mesh : Mesh) → Begun A.queries A.stands self.old choice last others h.moment mesh →
+            AreOnLinks mesh → AreOnLans mesh →
+            IfErr result (GiveTells (after_happening (scenario_setup A.queries) h mesh)) }
+        ensures kept { KeepsSent self.old self.new }
+        ensures grew { Grew log.old log.new }
+    {
+        self.happen(h, log)?;
+        self.tell_routes(h, log)?;
+        Ok(())
     }
 
     // Keeps what a step sent, or takes back what it told.

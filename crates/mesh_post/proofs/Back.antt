@@ -1,7 +1,7 @@
 -- The throughput of the link back, found among the links that leave a node.
-use Rattle.std.proofs.Common.{◌≡◌, ℕ, zero, suc, ◌+◌, ◌<◌, ◌≤◌, nat_eq, ◌&&◌, Bool, true, false, cond, if◌then◌else◌, List, [], ◌∷◌, ◌++◌, drop, find, length, slice_get, slice_index_or, Option, Some, None, option_and_then, refl, sym, ap, ◌∙◌, subst, arith}
+use Rattle.std.proofs.Common.{◌≡◌, ℕ, zero, suc, ◌+◌, ◌<◌, ◌≤◌, nat_eq, ◌&&◌, Bool, true, false, cond, if◌then◌else◌, List, [], ◌∷◌, ◌++◌, drop, find, length, slice_get, slice_index_or, Option, Some, None, option_and_then, option_map, refl, sym, ap, ◌∙◌, subst, arith}
 use Rattle.std.specs.Option.{option_map_or}
-use Rattle.std.proofs.lemmas.Option.{get_or_from_slice_get}
+use Rattle.std.proofs.lemmas.Option.{get_or_from_slice_get, slice_get_past, slice_get_within}
 use Rattle.mesh_model.specs.Net.Mesh.{NetLink, SentFrame, LanPut, Mesh}
 use Rattle.mesh_model.specs.Net.Runs.{leads, throughput_between}
 use Rattle.mesh_model.specs.Net.Sending.{ways}
@@ -98,6 +98,49 @@ no_frame sendings [] (q ∷ kept) place posted all n e = all
 no_frame sendings (x ∷ frames) [] place posted all n e = cc
 no_frame sendings (x ∷ frames) (q ∷ kept) zero posted all n e = cc
 no_frame sendings (x ∷ frames) (q ∷ kept) (suc place) posted all n e = no_frame sendings frames kept place posted all.1 n e
+
+pub frame_back : (sendings : List Sending) (frames : List SentFrame) (kept : List Posted) (place : ℕ) (posted : Posted) → FramesAre sendings frames kept → slice_get kept place ≡ Some posted → (frame : SentFrame) × (slice_get frames place ≡ Some frame) × FrameIs sendings frame posted
+frame_back sendings [] [] place posted all e = cc
+frame_back sendings [] (q ∷ kept) place posted all e = absurd all
+frame_back sendings (x ∷ frames) [] place posted all e = absurd all
+frame_back sendings (x ∷ frames) (q ∷ kept) zero posted all e = (x, refl, subst (FrameIs sendings x) (some_one q posted e) all.0)
+frame_back sendings (x ∷ frames) (q ∷ kept) (suc place) posted all e = frame_back sendings frames kept place posted all.1 e
+
+pub frame_gone : (sendings : List Sending) (frames : List SentFrame) (kept : List Posted) (place : ℕ) → FramesAre sendings frames kept → slice_get kept place ≡ None → slice_get frames place ≡ None
+frame_gone sendings [] [] place all e = refl
+frame_gone sendings [] (q ∷ kept) place all e = absurd all
+frame_gone sendings (x ∷ frames) [] place all e = absurd all
+frame_gone sendings (x ∷ frames) (q ∷ kept) zero all e = cc
+frame_gone sendings (x ∷ frames) (q ∷ kept) (suc place) all e = frame_gone sendings frames kept place all.1 e
+
+-- ---- the node at the end of the link of a frame
+
+abbrev pub receiver_in : List NetLink → Option SentFrame → Option ℕ
+receiver_in links frame = option_map (λ (link : NetLink). link.to) (option_and_then (λ (f : SentFrame). slice_get links f.link) frame)
+
+module _ (post : Post) (sendings : List Sending) (mesh : Mesh) (place : ℕ) (stands : PostStands post sendings mesh) where
+  -- there is no such frame
+  pub receiver_none : slice_get post.frames.items place ≡ None → receiver_in mesh.links (slice_get mesh.frames place) ≡ None
+  receiver_none none = ap (receiver_in mesh.links) (frame_gone sendings mesh.frames post.frames.items place stands.frames none)
+
+  -- nor such a link
+  pub receiver_off : (posted : Posted) → slice_get post.frames.items place ≡ Some posted → length post.rows.items ≤ posted.link → receiver_in mesh.links (slice_get mesh.frames place) ≡ None
+  receiver_off posted found past =
+      let f = frame_back sendings mesh.frames post.frames.items place posted stands.frames found in
+      let at = f.2.link in
+      let count = stands.rows.count in
+      ap (receiver_in mesh.links) f.1 ∙ ap (option_map (λ (link : NetLink). link.to)) (slice_get_past mesh.links f.0.link (omega (arith, past, at, count)))
+
+  pub receiver_row : (posted : Posted) (row : Row) → slice_get post.frames.items place ≡ Some posted → slice_get post.rows.items posted.link ≡ Some row → receiver_in mesh.links (slice_get mesh.frames place) ≡ Some row.to
+  receiver_row posted row found read =
+      let f = frame_back sendings mesh.frames post.frames.items place posted stands.frames found in
+      let low = slice_get_within post.rows.items posted.link row read in
+      let count = stands.rows.count in
+      let link = got_there mesh.links posted.link (omega (arith, low, count)) in
+      let h = stands.rows.each posted.link link.0 link.1 in
+      let same : h.row ≡ row = some_one h.row row (sym h.found ∙ read) in
+      ap (receiver_in mesh.links) f.1 ∙ ap (λ i. option_map (λ (l : NetLink). l.to) (slice_get mesh.links i)) (sym f.2.link) ∙ ap (option_map (λ (l : NetLink). l.to)) link.1
+      ∙ ap (λ n. Some n) (sym h.is.to ∙ ap (λ (r : Row). r.to) same)
 
 -- ---- the LAN frame at a place
 pub put_there : (sendings : List Sending) (puts : List LanPut) (kept : List Put) (place : ℕ) (k : Put) → PutsAre sendings puts kept → slice_get kept place ≡ Some k → (put : LanPut) × (slice_get puts place ≡ Some put) × PutIs sendings put k

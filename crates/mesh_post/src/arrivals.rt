@@ -1,4 +1,4 @@
-ghost use Rattle.std.specs.Prelude.{◌≡◌, [], ◌<◌, List, slice_get, slice_index_or, option_and_then, Some, None};
+ghost use Rattle.std.specs.Prelude.{◌≡◌, [], ◌<◌, List, slice_get, slice_index_or, option_and_then, option_map, Some, None};
 ghost use Rattle.mesh_model.specs.Net.Mesh.{NetLink, SentFrame, Mesh};
 ghost use Rattle.mesh_post.specs.declared.row.Arrival.{Arrival};
 ghost use Rattle.mesh_post.specs.Lanes.{ArrivalIs, first_throughput, if_leads};
@@ -9,6 +9,18 @@ use crate::post::Post;
 use crate::row::Arrival;
 
 impl Post {
+    // The place of the node at the end of the link of the frame at a place, where there is one.
+    pub fn receiver(&self, place: u32) -> Option<u32>
+        ensures { (sendings : List Sending) (mesh : Mesh) → PostStands self.now sendings mesh →
+            result ≡ option_map (λ (link : NetLink). link.to) (option_and_then
+            (λ (frame : SentFrame). slice_get mesh.links frame.link)
+            (slice_get mesh.frames place)) }
+    {
+        let frame = self.frames.get(place as usize)?;
+        let row = self.rows.get(frame.link as usize)?;
+        Some(row.to)
+    }
+
     // What the frame at a place brings, and whom.
     pub fn arrival(&self, place: u32) -> Option<Arrival>
         ensures some { (sendings : List Sending) (mesh : Mesh) (frame : SentFrame)

@@ -18,7 +18,7 @@ pub(crate) fn shows(choice: FrameChoice, bytes: &[u8]) -> bool
 {
     let kind = bytes.first().copied().unwrap_or(NO_TYPE);
     match choice {
-        FrameChoice::Hidden => false,
+        FrameChoice::Hidden | FrameChoice::Route => false,
         FrameChoice::All => true,
         FrameChoice::Client => CLIENT_TYPES.contains(&kind),
         FrameChoice::Ogm => OGM_TYPES.contains(&kind),
@@ -31,7 +31,7 @@ pub(crate) fn shows_lan(choice: FrameChoice) -> bool
 {
     match choice {
         FrameChoice::All => true,
-        FrameChoice::Hidden | FrameChoice::Client | FrameChoice::Ogm => false,
+        FrameChoice::Hidden | FrameChoice::Client | FrameChoice::Ogm | FrameChoice::Route => false,
     }
 }
 
@@ -49,6 +49,7 @@ pub(crate) fn is_shown(choice: FrameChoice, event: &Event) -> bool
         | Event::Pinged { .. }
         | Event::Traced { .. }
         | Event::Arp { .. }
-        | Event::Alfred { .. } => true,
+        | Event::Alfred { .. }
+        | Event::Route { .. } => true,
     }
 }

@@ -1,4 +1,4 @@
-use Rattle.std.proofs.Common.{refl, arith}
+use Rattle.std.proofs.Common.{false, refl, arith}
 use Rattle.mesh_model.specs.Net.Limits.{scenario_setup}
 use Rattle.mesh_net.proofs.EmptyLemmas.{empty_reached}
 use Rattle.mesh_net.proofs.net.Net.begin.Goals as goal
@@ -16,5 +16,6 @@ returns g c =
       seats = new.seats;
       kept = new.kept;
       settled = new.settled;
-      reached = empty_reached (scenario_setup g.A.Algo.queries) c.args.clock c.requires;
+      watched = new.watched;
+      reached = empty_reached (scenario_setup g.A.Algo.queries) false c.args.clock c.requires;
     }

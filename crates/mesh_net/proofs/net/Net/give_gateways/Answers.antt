@@ -2,7 +2,7 @@ use Rattle.std.proofs.Common.{◌≡◌, ◌∙◌, List, ℕ, subst}
 use Rattle.std.specs.Result.{IfErr, OnOk}
 use Rattle.mesh_model.specs.Net.Inputs.{all_given}
 use Rattle.mesh_model.specs.Net.Limits.{scenario_setup}
-use Rattle.mesh_model.specs.Run.Steps.{gateways_at}
+use Rattle.mesh_model.specs.Net.Lans.{gateways_at}
 use Rattle.mesh_node.specs.NodeStands.{given_by}
 use Rattle.mesh_net.specs.Given.{GiveTells}
 use Rattle.mesh_net.specs.Steps.{Gave}

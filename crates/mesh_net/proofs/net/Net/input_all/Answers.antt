@@ -3,7 +3,7 @@ use Rattle.std.specs.Result.{OnOk, IfErr}
 use Rattle.mesh_model.specs.Net.Due.{first_ticks}
 use Rattle.mesh_model.specs.Net.Inputs.{all_given}
 use Rattle.mesh_model.specs.Net.Limits.{scenario_setup}
-use Rattle.mesh_model.specs.Run.Steps.{gateways_at}
+use Rattle.mesh_model.specs.Net.Lans.{gateways_at}
 use Rattle.mesh_node.specs.NodeStands.{given_by}
 use Rattle.mesh_net.specs.NetStands.{NetStands}
 use Rattle.mesh_net.specs.Tells.{Carried, StepTells}

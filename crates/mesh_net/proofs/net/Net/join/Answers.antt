@@ -99,6 +99,7 @@ returns-clause-joins g c = λ choice clock mesh st.
               older_is = st.kept.older_is;
             }));
             settled = (λ i. (c.add_node.ensures.settled i).items) ∙ st.settled;
+            watched = st.watched;
             reached = joins clock mesh name c.args.me st.reached few;
           };
     }

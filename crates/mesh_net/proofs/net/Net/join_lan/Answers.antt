@@ -66,5 +66,5 @@ returns-clause-joins g c = λ choice clock mesh st.
           let gave = c.in_ok-attach.ensures.given choice mesh.last (first_ticks 0 mesh.nodes) (with_lan lan mesh) begun in
           let joins = subst (λ (given : Given). Gave q state gave.amid choice mesh.last (first_ticks 0 mesh.nodes) (with_lan lan mesh) gave.told gave.log (all_given (scenario_setup q) c.args.gateways.now net.clock given (with_lan lan mesh))) told_is gave.gave in
           subst (λ k. StandsAfter q state c.attach.new.self choice k (joins_lan (scenario_setup q) name c.args.gateways.now k mesh)) st.clock_is
-          (carried_lan q state net gave.amid c.attach.new.self choice mesh gave.told gave.log name c.args.gateways.now s gave.kept.clock gave.kept.last gave.kept.dead gave.settled few (c.requires.rules choice clock mesh st) joins);
+          (carried_lan q state net gave.amid c.attach.new.self choice mesh gave.told gave.log name c.args.gateways.now s gave.kept.clock gave.kept.last gave.kept.watch gave.kept.dead gave.settled few (c.requires.rules choice clock mesh st) joins);
     }

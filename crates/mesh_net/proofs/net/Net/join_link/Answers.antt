@@ -39,6 +39,7 @@ returns-clause-joins g c = λ choice clock mesh st.
           most = new.most;
         });
         settled = (λ i. (c.add_link.ensures.settled i).items) ∙ st.settled;
+        watched = st.watched;
         reached = links clock mesh link st.reached few new;
       };
     }

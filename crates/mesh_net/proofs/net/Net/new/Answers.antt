@@ -1,4 +1,4 @@
-use Rattle.std.proofs.Common.{refl, arith}
+use Rattle.std.proofs.Common.{false, refl, arith}
 use Rattle.mesh_net.specs.Reached.{begins}
 use Rattle.mesh_net.proofs.net.Net.new.Goals as goal
 
@@ -13,5 +13,6 @@ returns g c = record {
   seats = rw c.new.ensures.items tt;
   kept = rw c.new-3.ensures c.new-2.ensures.stands;
   settled = c.new-2.ensures.settled;
-  reached = begins;
+  watched = tt;
+  reached = begins false;
 }

@@ -6,13 +6,13 @@ use Rattle.mesh_net.proofs.ReachedLemmas.{reached}
 use Rattle.mesh_net.proofs.Ends.{begun_step, failed, stage_due, ok_has, on_lans, on_links, popped_net, stepped, tick_due, waiting_ticks}
 use Rattle.mesh_net.proofs.net.Net.step.Goals as goal
 
-pub happen-given-requires-clause-stage : goal.happen-given-requires-clause-stage
-happen-given-requires-clause-stage g c =
+pub happen_whole-given-requires-clause-stage : goal.happen_whole-given-requires-clause-stage
+happen_whole-given-requires-clause-stage g c =
     let live = c.requires.live in
     stage_due g.A.Algo.queries g.A.Algo.stands c.args.self.now c.pop_due.new.self c.args.t c.in-Some.h live.choice live.clock live.mesh live.standing c.in-Some.ensures.some c.requires.soon
 
-pub happen-given-requires-clause-tick : goal.happen-given-requires-clause-tick
-happen-given-requires-clause-tick g c =
+pub happen_whole-given-requires-clause-tick : goal.happen_whole-given-requires-clause-tick
+happen_whole-given-requires-clause-tick g c =
     let live = c.requires.live in
     tick_due g.A.Algo.queries g.A.Algo.stands c.args.self.now c.pop_due.new.self c.args.t c.in-Some.h live.choice live.clock live.mesh live.standing c.in-Some.ensures.some c.requires.soon
 
@@ -33,8 +33,8 @@ returns-in_err-settle-clause-cause g c = λ choice clock mesh s.
     let ticks = waiting_ticks q st net rest c.args.t c.in-Some.h choice clock mesh s popped c.requires.soon in
     let begun = begun_step q st net rest c.args.t c.in-Some.h choice clock mesh s popped c.requires.soon in
     let p = err_from_is_err_and c.from_residual.result c.from_residual.ensures.1 in
-    rw (p.1, p.2) (failed q st net rest c.args.t c.in-Some.h choice clock mesh s popped c.requires.soon c.happen-given.result c.in_err-settle.field-0.0 c.in_err-settle.ensures.cause
-    (c.happen-given.ensures.cause choice c.in-Some.h ticks mesh begun (on_links q st net choice clock mesh s) (on_lans q st net choice clock mesh s)))
+    rw (p.1, p.2) (failed q st net rest c.args.t c.in-Some.h choice clock mesh s popped c.requires.soon c.happen_whole-given.result c.in_err-settle.field-0.0 c.in_err-settle.ensures.cause
+    (c.happen_whole-given.ensures.cause choice c.in-Some.h ticks mesh begun (on_links q st net choice clock mesh s) (on_lans q st net choice clock mesh s)))
 
 pub returns-clause-stepped : goal.returns-clause-stepped
 returns-clause-stepped g c = λ choice clock mesh s.
@@ -46,6 +46,6 @@ returns-clause-stepped g c = λ choice clock mesh s.
     let ticks = waiting_ticks q st net rest c.args.t c.in-Some.h choice clock mesh s popped c.requires.soon in
     let begun = begun_step q st net rest c.args.t c.in-Some.h choice clock mesh s popped c.requires.soon in
     let ok = c.in_ok-settle.ensures.ok in
-    stepped q st net rest c.args.t c.in-Some.h choice clock mesh s popped c.requires.soon c.happen-given.new.self c.settle.new.self _ c.args.log.now c.happen-given.new.log c.settle.new.log
-    c.happen-given.ensures.kept ok.1 (record { post = refl; sent = refl; seats = refl; dead = refl }) refl refl ok.2
-    (ok_has c.happen-given.result ok.0 (c.happen-given.ensures.given choice c.in-Some.h ticks mesh begun (on_links q st net choice clock mesh s) (on_lans q st net choice clock mesh s)))
+    stepped q st net rest c.args.t c.in-Some.h choice clock mesh s popped c.requires.soon c.happen_whole-given.new.self c.settle.new.self _ c.args.log.now c.happen_whole-given.new.log c.settle.new.log
+    c.happen_whole-given.ensures.kept ok.1 (record { post = refl; sent = refl; seats = refl; watch = refl; dead = refl }) refl refl ok.2
+    (ok_has c.happen_whole-given.result ok.0 (c.happen_whole-given.ensures.happened choice c.in-Some.h ticks mesh begun (on_links q st net choice clock mesh s) (on_lans q st net choice clock mesh s) s.watched))
