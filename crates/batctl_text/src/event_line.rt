@@ -8,10 +8,12 @@ use crate::part::Part::{self, Address, Hex, Number, Text, Vlan};
 use crate::part::{lan_part, name_part};
 use crate::probe_line::{ping_line, trace_line};
 use crate::question_line::{arp_line, fact_line};
+use crate::route_lines::route_line;
 use crate::whole_line::put_line;
 use mesh_base::{Event, LossReason, Mac, Millis, Names, NoMemory, Reason, Vid};
 use mesh_codec::numbers::{BCAST, ELP, FRAG, ICMP, IV_OGM, OGM2, UNICAST, UNICAST4, UTVLV};
 use mesh_codec::{CLAIM_TYPE, UNCLAIM_TYPE, gateway_type};
+use mesh_model::RouteLine;
 
 // The word of a frame's kind, or `-` where its first byte is of none.
 fn kind_word(bytes: &[u8]) -> &'static [u8]
@@ -250,5 +252,19 @@ pub fn line<'a>(out: &mut Vec<u8>, names: &'a Names, event: &'a Event) -> Result
             type_no,
             result,
         } => fact_line(out, names, *node, *type_no, result),
+        Event::Route {
+            at,
+            node,
+            orig,
+            next,
+        } => {
+            let line = RouteLine {
+                moment: *at,
+                node: *node,
+                orig: *orig,
+                next: *next,
+            };
+            route_line(out, line)
+        }
     }
 }

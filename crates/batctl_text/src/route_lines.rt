@@ -2,7 +2,7 @@
 
 ghost use Rattle.std.specs.Prelude.{◌≡◌, ◌++◌, OnOk, OnErr, codes, take};
 ghost use Rattle.mesh_model.specs.Loops.Reports.{clear_line, line_on, loop_line, nodes_text};
-ghost use Rattle.mesh_model.specs.Loops.RouteLines.{next_text, route_text};
+ghost use Rattle.mesh_model.specs.Text.Routes.{next_text, route_text};
 ghost use Rattle.batctl_text.specs.Inner.Parts.{part_text};
 
 use crate::line_text::LineText;
@@ -23,7 +23,7 @@ fn next_part(next: Option<Mac>) -> Part<'static>
 }
 
 /// Appends the line of a route.
-#[tactic(auto, unfolding(mesh_model::specs::Loops::RouteLines::route_text))]
+#[tactic(auto, unfolding(mesh_model::specs::Text::Routes::route_text))]
 pub fn route_line(out: &mut Vec<u8>, line: RouteLine) -> Result<(), NoMemory>
     ensures ok { OnOk result (out.new.items ≡ out.old.items ++ route_text line) }
     ensures err { OnErr result (out.new.items ≡ out.old.items) }

@@ -69,6 +69,8 @@ pub fn table(word: &[u8]) -> Option<Table>
         Some(Table::Addresses)
     } else if word == b"alf".as_slice() {
         Some(Table::Facts)
+    } else if word == b"vis".as_slice() {
+        Some(Table::Pictures)
     } else {
         None
     }

@@ -1,7 +1,7 @@
 //! The forms of lines that set how a node behaves.
 
 ghost use Rattle.std.specs.Prelude.{◌≡◌, Ok, IfOk, IfErr};
-ghost use Rattle.mesh_model.specs.Scenario.SettingForms.{read_wifi, read_server, read_late, read_policy, read_gateway, read_mcast, read_dat, read_frag, read_setting, read_set};
+ghost use Rattle.mesh_model.specs.Scenario.SettingForms.{read_wifi, read_server, read_late, read_policy, read_gateway, read_mcast, read_dat, read_frag, read_vis, read_setting, read_set};
 ghost use Rattle.mesh_scenario.specs.LineErr.{Refuses};
 ghost use Rattle.mesh_model.specs.Scenario.Readings.{the_end};
 ghost use Rattle.mesh_model.specs.declared.line_form.Command.TheVariants.{GwOff, GwClient};
@@ -165,6 +165,17 @@ fn read_frag(alloc: Global, node: &[u8], words: &mut Words<'_>) -> Result<Comman
     Ok(Command::Frag { node, longest })
 }
 
+/// `set NODE vis on`, or `off`
+fn read_vis(alloc: Global, node: &[u8], words: &mut Words<'_>) -> Result<Command, LineErr>
+    ensures ok { IfOk result (λ command. read_vis node.now words.old ≡ Ok command) }
+    ensures refused { IfErr result (Refuses (read_vis node.now words.old)) }
+{
+    let on = words.switch()?;
+    words.end()?;
+    let node = Bytes::from_slice(alloc, node)?;
+    Ok(Command::Vis { node, on })
+}
+
 /// What is set at a node.
 fn read_setting(
     alloc: Global,
@@ -186,6 +197,8 @@ fn read_setting(
         read_dat(alloc, node, words)
     } else if word == b"frag".as_slice() {
         read_frag(alloc, node, words)
+    } else if word == b"vis".as_slice() {
+        read_vis(alloc, node, words)
     } else {
         Err(LineErr::OutOfRange)
     }

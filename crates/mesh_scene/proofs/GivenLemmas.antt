@@ -13,7 +13,7 @@ use Rattle.mesh_model.specs.declared.line_form.Command.TheVariants.{Node, Link, 
 use Rattle.mesh_model.specs.Clients.Log.{Given, Line, Sets}
 use Rattle.mesh_model.specs.Clients.Log.{Frame as GivenFrame, Gone as GivenGone, Join as GivenJoin, Leave as GivenLeave, Put as GivenPut, Get as GivenGet}
 use Rattle.mesh_model.specs.Clients.Settings.{Setting, NoPart, Serves, Chooses}
-use Rattle.mesh_model.specs.Clients.Settings.{ArpTable as SetsArpTable, FactStore as SetsFactStore, Gateway as SetsGateway, LongestWhole as SetsLongestWhole, Multicast as SetsMulticast, Wifi as SetsWifi}
+use Rattle.mesh_model.specs.Clients.Settings.{ArpTable as SetsArpTable, FactStore as SetsFactStore, Gateway as SetsGateway, LongestWhole as SetsLongestWhole, Multicast as SetsMulticast, Pictures as SetsPictures, Wifi as SetsWifi}
 use Rattle.mesh_model.specs.Net.Mesh.{Mesh, Setup}
 use Rattle.mesh_model.specs.Net.Runs.{delivered}
 use Rattle.mesh_model.specs.Packets.Payload.{payload_spelling}
@@ -27,7 +27,7 @@ use Rattle.mesh_scene.specs.Inner.AtNodes.{given_at, given_step}
 use Rattle.mesh_scene.specs.Inner.AtPlaces.{all_step, placed_at}
 use Rattle.std.specs.Prelude.{IfSome, Option}
 use Rattle.mesh_model.specs.declared.line_form.Command.{Command}
-use Rattle.mesh_model.specs.declared.line_form.Command.TheVariants.{Nothing, Algo, Lan, Arp, Dhcp, GwOff, GwServer, GwClient, Mcast, Dat, Frag, Alfred, Put, Get, Ping, Trace, Reboot, Run, Decode}
+use Rattle.mesh_model.specs.declared.line_form.Command.TheVariants.{Nothing, Algo, Lan, Arp, Dhcp, GwOff, GwServer, GwClient, Mcast, Dat, Frag, Vis, Alfred, Put, Get, Ping, Trace, Reboot, Run, Decode}
 use Rattle.mesh_scene.specs.Inner.AtNodes.{given_of}
 
 -- ---- what a line gives a node
@@ -65,6 +65,7 @@ given_so setup state (GwClient node policy) = set_so setup state node (SetsGatew
 given_so setup state (Mcast node flags) = set_so setup state node (SetsMulticast flags)
 given_so setup state (Dat node on) = set_so setup state node (SetsArpTable on)
 given_so setup state (Frag node longest) = set_so setup state node (SetsLongestWhole longest)
+given_so setup state (Vis node on) = set_so setup state node (SetsPictures on)
 given_so setup state (Alfred node mode) = set_so setup state node (SetsFactStore mode)
 given_so setup state (Put node type_no version text) = one_rule state (name_refusal state (OfNode node)) (at_node node (input_step setup (GivenPut type_no version text)) state)
 given_so setup state (Get node type_no) = one_rule state (name_refusal state (OfNode node)) (at_node node (input_step setup (GivenGet type_no)) state)

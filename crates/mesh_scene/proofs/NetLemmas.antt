@@ -117,7 +117,7 @@ one_more : (lans : List NetLan) (lan : NetLan) (new : List NetLan) → new ≡ l
 one_more lans lan new is room = let long = length-append lans (lan ∷ []) in subst (λ (all : List NetLan). length all ≤ 16) (sym is) (omega (arith, long, room))
 
 reached_few : (setup : Setup) (clock : ℕ) (mesh : Mesh) → IsReached setup clock mesh → length mesh.lans ≤ 16
-reached_few setup _ _ begins = omega arith
+reached_few setup _ _ (begins watched) = omega arith
 reached_few setup _ _ (joins clock mesh name mac way few) = reached_few setup clock mesh way
 reached_few setup _ _ (links clock mesh link way few new) = reached_few setup clock mesh way
 reached_few setup _ _ (lan_joins clock mesh after name gateways way few new e) =

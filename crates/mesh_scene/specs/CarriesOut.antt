@@ -3,7 +3,7 @@
 use Rattle.std.specs.Prelude.{◌≡◌, ◌<◌, Bool, true, false, List, ℕ, ◌++◌, length, Result, OnOk, IfErr}
 use Rattle.mesh_base.specs.declared.address.Mac.{Mac}
 use Rattle.mesh_model.specs.declared.line_form.Command.{Command}
-use Rattle.mesh_model.specs.declared.line_form.Command.TheVariants.{Nothing, Algo, Node, Link, Lan, Frame, Gone, Join, Leave, Arp, Dhcp, Wifi, GwOff, GwServer, GwClient, Mcast, Dat, Frag, Alfred, Put, Get, Ping, Trace, Reboot, Run, Deliver, Show, Decode}
+use Rattle.mesh_model.specs.declared.line_form.Command.TheVariants.{Nothing, Algo, Node, Link, Lan, Frame, Gone, Join, Leave, Arp, Dhcp, Wifi, GwOff, GwServer, GwClient, Mcast, Dat, Frag, Vis, Alfred, Put, Get, Ping, Trace, Reboot, Run, Deliver, Show, Decode}
 use Rattle.mesh_model.specs.Net.Limits.{scenario_setup}
 use Rattle.mesh_model.specs.Routes.Queries.{Queries}
 use Rattle.mesh_model.specs.Run.Outcome.{Outcome, Goes, Ends}
@@ -68,6 +68,7 @@ is_for_scene (GwClient node policy) = true
 is_for_scene (Mcast node flags) = true
 is_for_scene (Dat node on) = true
 is_for_scene (Frag node longest) = true
+is_for_scene (Vis node on) = true
 is_for_scene (Alfred node mode) = true
 is_for_scene (Put node type_no version text) = true
 is_for_scene (Get node type_no) = true

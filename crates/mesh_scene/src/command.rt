@@ -111,6 +111,7 @@ impl<A: Choosable + Drop> Scene<A> {
             | Command::Mcast { .. }
             | Command::Dat { .. }
             | Command::Frag { .. }
+            | Command::Vis { .. }
             | Command::Alfred { .. }
             | Command::Put { .. }
             | Command::Get { .. } => unreachable!(),

@@ -39,6 +39,7 @@ pub fn given_of(command: &Command) -> Option<(&[u8], Input<'_>)>
         Command::Mcast { node, flags } => Some((node.as_slice(), Input::Mcast(*flags))),
         Command::Dat { node, on } => Some((node.as_slice(), Input::Dat(*on))),
         Command::Frag { node, longest } => Some((node.as_slice(), Input::Frag(*longest))),
+        Command::Vis { node, on } => Some((node.as_slice(), Input::Vis(*on))),
         Command::Alfred { node, mode } => Some((node.as_slice(), Input::Alfred(*mode))),
         Command::Put {
             node,

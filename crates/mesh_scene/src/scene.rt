@@ -3,8 +3,10 @@
 ghost use Rattle.std.specs.Prelude.{◌≡◌, ◌≤◌, ◌==◌, ◌&&◌};
 ghost use Rattle.std.specs.List.{list_any};
 ghost use Rattle.mesh_model.specs.Net.Limits.{clock_limit};
-ghost use Rattle.mesh_model.specs.Net.Mesh.{empty_mesh};
+ghost use Rattle.mesh_model.specs.Net.Mesh.{begun_mesh};
 ghost use Rattle.mesh_model.specs.Run.State.{State};
+ghost use Rattle.mesh_net.specs.NetStands.{NetStands};
+ghost use Rattle.mesh_net.specs.Reached.{begun_watch};
 ghost use Rattle.mesh_scene.specs.SceneStands.{SceneStands};
 
 use crate::link_ends::LinkEnds;
@@ -27,19 +29,35 @@ pub struct Scene<A: Algo> {
     pub events: Events,
 }
 
+/// A net without nodes, at a moment, with this choice of frames, where routes are watched or not.
+fn begun_net<A: Choosable + Drop>(
+    alloc: Global,
+    choice: FrameChoice,
+    watched: bool,
+    clock: Millis,
+) -> Net<A>
+    requires { clock ≤ clock_limit }
+    ensures { NetStands A.queries A.stands result choice clock (begun_mesh (begun_watch watched)) }
+{
+    let mut net = Net::begin(alloc, clock);
+    net.show_frames(choice);
+    if watched {
+        net.watch_routes();
+    }
+    net
+}
+
 impl<A: Choosable + Drop> Scene<A> {
-    /// No nodes, at a moment, with this choice of frames.
-    pub fn begin(alloc: Global, choice: FrameChoice, clock: Millis) -> Scene<A>
+    /// No nodes, at a moment, with this choice of frames, where routes are watched or not.
+    pub fn begin(alloc: Global, choice: FrameChoice, watched: bool, clock: Millis) -> Scene<A>
         requires low { clock ≤ clock_limit }
-        ensures { (state : State) → state.mesh ≡ empty_mesh → state.clock ≡ clock →
-            state.algorithm ≡ A.algorithm → state.choice ≡ choice →
+        ensures { (state : State) → state.mesh ≡ begun_mesh (begun_watch watched) →
+            state.clock ≡ clock → state.algorithm ≡ A.algorithm → state.choice ≡ choice →
             SceneStands A.algorithm A.queries A.stands result state }
     {
-        let mut net = Net::begin(alloc, clock);
-        net.show_frames(choice);
         Scene {
             alloc,
-            net,
+            net: begun_net(alloc, choice, watched, clock),
             names: Names::new(alloc),
             ends: Vec::new(alloc),
             events: Events::new(alloc),

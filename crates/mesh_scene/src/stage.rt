@@ -1,10 +1,11 @@
 //! The stage: the scene of a scenario, under the routing algorithm that is chosen.
 
-ghost use Rattle.std.specs.Prelude.{◌≡◌, ◌≤◌, false, length, nat_lt, [], IfOk, OnErr};
+ghost use Rattle.std.specs.Prelude.{◌≡◌, ◌≤◌, false, length, nat_lt, [], is_some, IfOk, OnErr};
 ghost use Rattle.mesh_model.specs.declared.line_form.Command.TheVariants as command;
 ghost use Rattle.mesh_model.specs.Net.Limits.{clock_limit};
-ghost use Rattle.mesh_model.specs.Net.Mesh.{empty_mesh};
-ghost use Rattle.mesh_model.specs.Run.State.{State, first_state};
+ghost use Rattle.mesh_model.specs.Net.Mesh.{begun_mesh};
+ghost use Rattle.mesh_model.specs.Run.State.{State, first_state, first_watch};
+ghost use Rattle.mesh_net.specs.Reached.{begun_watch};
 ghost use Rattle.mesh_scene.specs.CarriesOut.{CarriesFrom, FailsFrom};
 ghost use Rattle.mesh_scene.specs.Counts.{HasCounts};
 ghost use Rattle.mesh_scene.specs.StageStands.{IsOnStage, StageStands, outcome_on_stage};
@@ -24,6 +25,16 @@ pub enum Stage {
     V(Scene<V>),
 }
 
+/// Whether routes are watched with a choice of frames.
+fn watches(choice: FrameChoice) -> bool
+    ensures { begun_watch result ≡ first_watch choice }
+{
+    match choice {
+        FrameChoice::Route => true,
+        FrameChoice::Hidden | FrameChoice::All | FrameChoice::Client | FrameChoice::Ogm => false,
+    }
+}
+
 /// The scene goes. Written out, it is one call where a stage goes, and not the parts of two scenes.
 impl Drop for Stage {
     fn drop(self) {
@@ -39,7 +50,7 @@ impl Stage {
     pub fn new(alloc: Global, choice: FrameChoice) -> Stage
         ensures { StageStands result (first_state choice) }
     {
-        Stage::Iv(Scene::begin(alloc, choice, 0))
+        Stage::Iv(Scene::begin(alloc, choice, watches(choice), 0))
     }
 
     /// The allocator.
@@ -62,7 +73,13 @@ impl Stage {
         if self.has_nodes() {
             return Err(refused(Refusal::AlgoAfterNode));
         }
-        *self = Stage::begin(self.alloc(), algorithm, self.choice(), self.now());
+        *self = Stage::begin(
+            self.alloc(),
+            algorithm,
+            self.choice(),
+            self.is_watched(),
+            self.now(),
+        );
         Ok(())
     }
 
@@ -78,24 +95,32 @@ impl Stage {
         }
     }
 
-    /// No nodes, at a moment, under an algorithm, with this choice of frames.
-    fn begin(alloc: Global, algorithm: Algorithm, choice: FrameChoice, clock: Millis) -> Stage
+    /// No nodes, at a moment, under an algorithm, with this choice of frames, where routes are
+    /// watched or not.
+    fn begin(
+        alloc: Global,
+        algorithm: Algorithm,
+        choice: FrameChoice,
+        watched: bool,
+        clock: Millis,
+    ) -> Stage
         requires low { clock ≤ clock_limit }
-        ensures { (state : State) → state.mesh ≡ empty_mesh → state.clock ≡ clock →
-            state.algorithm ≡ algorithm → state.choice ≡ choice → StageStands result state }
+        ensures { (state : State) → state.mesh ≡ begun_mesh (begun_watch watched) →
+            state.clock ≡ clock → state.algorithm ≡ algorithm → state.choice ≡ choice →
+            StageStands result state }
     {
         match algorithm {
-            Algorithm::Iv => Stage::Iv(Scene::begin(alloc, choice, clock)),
-            Algorithm::V => Stage::V(Scene::begin(alloc, choice, clock)),
+            Algorithm::Iv => Stage::Iv(Scene::begin(alloc, choice, watched, clock)),
+            Algorithm::V => Stage::V(Scene::begin(alloc, choice, watched, clock)),
         }
     }
 
-    /// Whether there is a node. Without one the mesh is the empty one.
+    /// Whether there is a node. Without one the mesh is the one at the begin.
     fn has_nodes(&self) -> bool
         ensures told { (state : State) → StageStands self.now state →
             result ≡ nat_lt 0 (length state.mesh.nodes) }
         ensures empty { (state : State) → StageStands self.now state →
-            result ≡ false → state.mesh ≡ empty_mesh }
+            result ≡ false → state.mesh ≡ begun_mesh (begun_watch (is_some state.mesh.watch)) }
     {
         match self {
             Stage::Iv(scene) => scene.net.has_nodes(),
@@ -110,6 +135,17 @@ impl Stage {
         match self {
             Stage::Iv(scene) => scene.net.choice(),
             Stage::V(scene) => scene.net.choice(),
+        }
+    }
+
+    /// Whether routes are watched.
+    fn is_watched(&self) -> bool
+        ensures { (state : State) → StageStands self.now state →
+            result ≡ is_some state.mesh.watch }
+    {
+        match self {
+            Stage::Iv(scene) => scene.net.is_watched(),
+            Stage::V(scene) => scene.net.is_watched(),
         }
     }
 

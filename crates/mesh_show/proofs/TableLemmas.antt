@@ -3,12 +3,13 @@ use Rattle.std.proofs.Common.{◌≡◌, ℕ, List, [], ◌++◌, sym, ap, ◌�
 use Rattle.mesh_base.specs.Names.{NamesGiven}
 use Rattle.mesh_model.specs.declared.line_form.Algorithm.{Algorithm}
 use Rattle.mesh_model.specs.declared.line_form.Table.{Table}
-use Rattle.mesh_model.specs.declared.line_form.Table.TheVariants.{Originators, Neighbors, Locals, Globals, Claims}
+use Rattle.mesh_model.specs.declared.line_form.Table.TheVariants.{Originators, Neighbors, Locals, Globals, Claims, Pictures}
 use Rattle.mesh_model.specs.Net.Mesh.{NodeLog}
-use Rattle.mesh_model.specs.Run.Shown.{claim_table, global_table, link_table, local_table, orig_table, shown}
+use Rattle.mesh_model.specs.Run.Shown.{claim_table, global_table, link_table, local_table, orig_table, picture_table, shown}
 use Rattle.mesh_model.specs.Run.State.{State, names_of, printed_text}
 use Rattle.mesh_model.specs.Text.Claims.{claim_table_text}
 use Rattle.mesh_model.specs.Text.GlobalTables.{global_table_text}
+use Rattle.mesh_model.specs.Text.Services.{picture_table_text}
 use Rattle.mesh_model.specs.Text.Tables.{link_table_text, orig_table_text, table_text}
 use Rattle.mesh_show.specs.Shown.{AppendsTable, IsSeenAt}
 
@@ -32,6 +33,10 @@ neighbors_shown algorithm names now state row old new seen is =
 pub claims_shown : (algorithm : Algorithm) (names : NamesGiven) (now : ℕ) (state : State) (row : NodeLog) (old new : List ℕ) → IsSeenAt algorithm names now state → new ≡ old ++ claim_table_text (claim_table names now row) → AppendsTable state Claims row old new
 claims_shown algorithm names now state row old new seen is =
     is ∙ ap (λ (n : ℕ). old ++ claim_table_text (claim_table names n row)) (sym seen.clock_is) ∙ ap (λ (ns : NamesGiven). old ++ claim_table_text (claim_table ns state.clock row)) (sym seen.names_are)
+
+pub pictures_shown : (algorithm : Algorithm) (names : NamesGiven) (now : ℕ) (state : State) (row : NodeLog) (old new : List ℕ) → IsSeenAt algorithm names now state → new ≡ old ++ picture_table_text (picture_table algorithm now row) → AppendsTable state Pictures row old new
+pictures_shown algorithm names now state row old new seen is =
+    is ∙ ap (λ (n : ℕ). old ++ picture_table_text (picture_table algorithm n row)) (sym seen.clock_is) ∙ ap (λ (a : Algorithm). old ++ picture_table_text (picture_table a state.clock row)) (sym seen.algorithm_is)
 
 -- ---- a text of its own
 

@@ -11,6 +11,7 @@ mod facts;
 mod gateways;
 mod groups;
 mod known;
+mod pictures;
 mod routes;
 mod tables;
 

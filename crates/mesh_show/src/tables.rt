@@ -13,6 +13,7 @@ use crate::facts::show_facts;
 use crate::gateways::show_gateways;
 use crate::groups::show_groups;
 use crate::known::show_globals;
+use crate::pictures::show_pictures;
 use crate::routes::{show_neighbors, show_originators};
 use mesh_base::{Millis, Names, NoMemory};
 use mesh_model::Table;
@@ -43,6 +44,7 @@ fn put_shown<A: Choosable>(
         Table::Groups => show_groups(alloc, node, name, now, out)?,
         Table::Addresses => show_addresses(alloc, node, name, now, out)?,
         Table::Facts => show_facts(node, name, now, out)?,
+        Table::Pictures => show_pictures(alloc, node, name, now, out)?,
     }
     Ok(())
 }

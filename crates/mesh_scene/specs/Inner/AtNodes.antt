@@ -5,10 +5,10 @@ use Rattle.mesh_base.specs.declared.address.Mac.{Mac}
 use Rattle.mesh_model.specs.Clients.Log.{Given, LineGiven, Line, Sets}
 use Rattle.mesh_model.specs.Clients.Log.{Join as GivenJoin, Leave as GivenLeave, Put as GivenPut, Get as GivenGet}
 use Rattle.mesh_model.specs.Clients.Settings.{Setting, NoPart, Serves, Chooses}
-use Rattle.mesh_model.specs.Clients.Settings.{ArpTable as SetsArpTable, FactStore as SetsFactStore, Gateway as SetsGateway, LongestWhole as SetsLongestWhole, Multicast as SetsMulticast, Wifi as SetsWifi}
+use Rattle.mesh_model.specs.Clients.Settings.{ArpTable as SetsArpTable, FactStore as SetsFactStore, Gateway as SetsGateway, LongestWhole as SetsLongestWhole, Multicast as SetsMulticast, Pictures as SetsPictures, Wifi as SetsWifi}
 use Rattle.mesh_model.specs.declared.ending.Stop.TheVariants.{Refused, Limit}
 use Rattle.mesh_model.specs.declared.line_form.Command.{Command}
-use Rattle.mesh_model.specs.declared.line_form.Command.TheVariants.{Nothing, Algo, Node, Link, Lan, Frame, Gone, Join, Leave, Arp, Dhcp, Wifi, GwOff, GwServer, GwClient, Mcast, Dat, Frag, Alfred, Put, Get, Ping, Trace, Reboot, Run, Deliver, Show, Decode}
+use Rattle.mesh_model.specs.declared.line_form.Command.TheVariants.{Nothing, Algo, Node, Link, Lan, Frame, Gone, Join, Leave, Arp, Dhcp, Wifi, GwOff, GwServer, GwClient, Mcast, Dat, Frag, Vis, Alfred, Put, Get, Ping, Trace, Reboot, Run, Deliver, Show, Decode}
 use Rattle.mesh_model.specs.Net.Inputs.{given_to}
 use Rattle.mesh_model.specs.Net.Mesh.{NodeLog, Setup}
 use Rattle.mesh_model.specs.Routes.Queries.{Queries}
@@ -60,6 +60,7 @@ given_of (GwClient node policy) = set_at node (SetsGateway (Chooses policy))
 given_of (Mcast node flags) = set_at node (SetsMulticast flags)
 given_of (Dat node on) = set_at node (SetsArpTable on)
 given_of (Frag node longest) = set_at node (SetsLongestWhole longest)
+given_of (Vis node on) = set_at node (SetsPictures on)
 given_of (Alfred node mode) = set_at node (SetsFactStore mode)
 given_of (Put node type_no version text) = Some (node, Line (GivenPut type_no version text))
 given_of (Get node type_no) = Some (node, Line (GivenGet type_no))

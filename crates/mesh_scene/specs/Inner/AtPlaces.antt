@@ -14,7 +14,8 @@ use Rattle.mesh_model.specs.Run.Outcome.{Outcome}
 use Rattle.mesh_model.specs.Run.Passing.{after_attempt}
 use Rattle.mesh_model.specs.Run.Rules.{names_refusal, unless_refused}
 use Rattle.mesh_model.specs.Run.State.{State, place_of}
-use Rattle.mesh_model.specs.Run.Steps.{Step, at_place, gateways_at}
+use Rattle.mesh_model.specs.Net.Lans.{gateways_at}
+use Rattle.mesh_model.specs.Run.Steps.{Step, at_place}
 use Rattle.mesh_scene.specs.declared.fault.LineFault.{LineFault}
 use Rattle.mesh_scene.specs.declared.fault.LineFault.TheVariants.{Stopped, Memory}
 use Rattle.mesh_scene.specs.declared.places.Whereabouts.{Whereabouts}

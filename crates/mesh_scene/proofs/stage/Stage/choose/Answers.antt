@@ -1,4 +1,6 @@
-use Rattle.std.proofs.Common.{refl, sym, ◌∙◌, append-nil}
+use Rattle.std.proofs.Common.{ap, refl, sym, ◌∙◌, append-nil}
+use Rattle.mesh_model.specs.Net.Mesh.{begun_mesh}
+use Rattle.mesh_net.specs.Reached.{begun_watch}
 use Rattle.mesh_model.specs.Run.Rules.{setup_of}
 use Rattle.mesh_model.specs.Run.State.{text_of}
 use Rattle.mesh_scene.proofs.SessionLemmas.{algo_chosen, algo_late}
@@ -17,6 +19,6 @@ returns-clause-ok c = λ state stands.
     record {
       after = after;
       carried = algo_chosen (setup_of state.algorithm) state c.args.algorithm (sym (c.has_nodes.ensures.told state stands) ∙ c.if-has_nodes.false);
-      standing = c.begin.ensures after (c.has_nodes.ensures.empty state stands c.if-has_nodes.false) (sym (c.now.ensures state stands).0) refl (sym (c.choice.ensures state stands));
+      standing = c.begin.ensures after (c.has_nodes.ensures.empty state stands c.if-has_nodes.false ∙ ap (λ w. begun_mesh (begun_watch w)) (sym (c.is_watched.ensures state stands))) (sym (c.now.ensures state stands).0) refl (sym (c.choice.ensures state stands));
       text = sym (append-nil (text_of state));
     }
