@@ -5,10 +5,9 @@ use Rattle.std.proofs.KnownBytes.{Appends-trans}
 use Rattle.std.proofs.Math.Seq.{take-append-add}
 use Rattle.std.proofs.lemmas.List.{take_at, take-append-le}
 use Rattle.mesh_base.specs.Writes.{AppendsFront}
-use Rattle.mesh_model.specs.Run.Outcome.{Outcome, reached}
-use Rattle.mesh_model.specs.Run.State.{State, text_of}
+use Rattle.mesh_model.specs.Run.Outcome.{OutcomeOf, reached}
 use Rattle.mesh_run.specs.Outcome.{AppendsLess}
-use Rattle.mesh_laws.proofs.RunLemmas.{PrintsOn, text-grows}
+use Rattle.mesh_run.proofs.KindLemmas.{Front}
 
 -- a text is a front of itself and more
 pub front-appends : (base now : Option (List ℕ)) (first all more : List ℕ) → Appends base now first → all ≡ first ++ more → AppendsFront base now all
@@ -52,8 +51,6 @@ less-after base old new first second all printed less is =
     )
 
 -- what was printed before an outcome is a front of what is printed after it
-pub front-before : (base now : Option (List ℕ)) (before : State) (outcome : Outcome) → PrintsOn before outcome → Appends base now (text_of before)
-    → AppendsFront base now (text_of (reached outcome))
-front-before base now before outcome grown printed =
-    let more = text-grows before (reached outcome) grown in
-    front-appends base now (text_of before) (text_of (reached outcome)) more.0 printed more.1
+pub front-before : {X : Type 0} (text : X → List ℕ) (base now : Option (List ℕ)) (before : X) (outcome : OutcomeOf X) → Front (text before) (text (reached outcome)) → Appends base now (text before)
+    → AppendsFront base now (text (reached outcome))
+front-before text base now before outcome grown printed = front-appends base now (text before) (text (reached outcome)) grown.0 printed grown.1

@@ -5,6 +5,7 @@ use Rattle.mesh_generate.specs.declared.summary.Counts.{Counts}
 use Rattle.mesh_laws.specs.Cuts.{IsUnbroken}
 use Rattle.mesh_laws.proofs.CutLemmas.{open_line}
 use Rattle.mesh_model.specs.declared.frame_choice.FrameChoice.TheVariants.{Hidden}
+use Rattle.mesh_model.specs.declared.input_kind.InputKind.TheVariants.{Scenario}
 use Rattle.mesh_model.specs.Run.Generated.{generated_input, generated_run, generated_text, node_lines, ring_lines, second_lines, summary, summary_line, traffic_lines}
 use Rattle.mesh_model.specs.Run.PlainRun.{Run, after_lines, output, plain_run, start}
 use Rattle.mesh_model.specs.Scenario.Lines.{newline}
@@ -15,7 +16,7 @@ use Rattle.mesh_run.specs.Inner.Progress.{FailsIn, HaltsFrom, Stands}
 use Rattle.mesh_run.specs.declared.fault.Fault.{Fault}
 use Rattle.mesh_run.specs.declared.fault.Fault.TheVariants.{Halted, Read, Write, Memory}
 use Rattle.mesh_run.specs.declared.runner.Runner.{Runner}
-use Rattle.mesh_run.proofs.EndLemmas.{nil-from_length, plain_run-end}
+use Rattle.mesh_run.proofs.EndLemmas.{lines_by-end, nil-from_length}
 
 -- ---- the end of the lines
 
@@ -58,12 +59,13 @@ none-left before rest front is whole = either (last-part before rest front is)
     either (inl none) = none
     either (inr ends) = absurd (broken ends.0 (subst IsUnbroken ends.1 whole))
 
-run-is : (nodes : ℕ) (base now : Option (List ℕ)) (runner : Runner) → (stands : Stands Hidden base now runner (generated_input nodes)) → generated_run nodes ≡ after_lines (start Hidden) stands.lines
+run-is : (nodes : ℕ) (base now : Option (List ℕ)) (runner : Runner) → (stands : Stands (Scenario Hidden) base now runner (generated_input nodes)) → generated_run nodes ≡ after_lines (start Hidden) stands.lines
+unfolding plain_run
 run-is nodes base now runner stands =
     let run = after_lines (start Hidden) stands.lines in
     let ends = input-ends nodes in
     let none = none-left (concat stands.lines) runner.line.items ends.0 (sym stands.cut.bytes_are ∙ ends.1) stands.cut.unbroken in
-    plain_run-end Hidden base now runner (generated_input nodes) stands ∙ ap (λ rest. after_lines run (open_line rest)) none
+    lines_by-end (Scenario Hidden) base now runner (generated_input nodes) stands ∙ ap (λ rest. after_lines run (open_line rest)) none
 
 -- ---- the counts
 
@@ -71,7 +73,7 @@ summary-is : (nodes : ℕ) (run : Run) (text : List ℕ) (counts : Counts) → t
     → summary_line counts.nodes counts.frames counts.received counts.commits counts.ok ≡ summary nodes run.state (output run)
 summary-is nodes run text counts printed has = rw (has.nodes_are, has.frames_are, has.received_are, has.commits_are, has.ok_are, printed) refl
 
-pub summarized : (nodes : ℕ) (text line : List ℕ) (runner : Runner) (counts : Counts) → (stands : Stands Hidden (Some []) (Some text) runner (generated_input nodes))
+pub summarized : (nodes : ℕ) (text line : List ℕ) (runner : Runner) (counts : Counts) → (stands : Stands (Scenario Hidden) (Some []) (Some text) runner (generated_input nodes))
     → HasCounts nodes (after_lines (start Hidden) stands.lines).state text counts → line ≡ summary_line counts.nodes counts.frames counts.received counts.commits counts.ok
     → Summarizes nodes line
 unfolding generated_text
@@ -86,11 +88,11 @@ summarized nodes text line runner counts stands has is =
 
 -- ---- faults
 
-halt-of : (nodes least line : ℕ) (stop : _) (base now : Option (List ℕ)) (input : List ℕ) → input ≡ generated_input nodes → HaltsFrom Hidden base now least input line stop
+halt-of : (nodes least line : ℕ) (stop : _) (base now : Option (List ℕ)) (input : List ℕ) → input ≡ generated_input nodes → HaltsFrom (Scenario Hidden) base now least input line stop
     → (generated_run nodes).halt ≡ Some (record { line = line; stop = stop })
 halt-of nodes least line stop base now input is h = ap (λ bytes. (plain_run Hidden bytes).halt) (sym is) ∙ h.halt
 
-pub generated-cause : (nodes least : ℕ) (base now : Option (List ℕ)) (fault : Fault) (input : List ℕ) → input ≡ generated_input nodes → FailsIn Hidden base now least input fault
+pub generated-cause : (nodes least : ℕ) (base now : Option (List ℕ)) (fault : Fault) (input : List ℕ) → input ≡ generated_input nodes → FailsIn (Scenario Hidden) base now least input fault
     → HasGeneratedCause nodes (kept_fault fault)
 generated-cause nodes least base now (Halted line stop) input is h = halt-of nodes least line stop base now input is h
 generated-cause nodes least base now Read input is h = h

@@ -1,4 +1,5 @@
 -- What the proofs rest on.
+pub mod KindLemmas
 pub mod UnfinishedLemmas
 pub mod FrontLemmas
 pub mod ProgressLemmas
@@ -12,3 +13,5 @@ pub mod SliceLemmas
 pub mod GeneratedLemmas
 pub mod RightlyLemmas
 pub mod StageLemmas
+pub mod RouteLemmas
+pub mod CarrierLemmas

@@ -24,9 +24,9 @@ use Rattle.mesh_run.proofs.FrontLemmas.{appends-after, less-after, less-more}
 pub record MidRun {S : Type 0} (stand : S → State → Type 0) (setup : Setup) (t : ℕ) (from : State) (base now : Option (List ℕ)) (scene : S) : Type 0 where
   pub mid : State
   pub same : run_until setup t from ≡ run_until setup t mid
-  pub standing : StandsAt stand base now scene mid
+  pub standing : StandsAt text_of stand base now scene mid
 
-pub begins : {S : Type 0} (stand : S → State → Type 0) (setup : Setup) (t : ℕ) (from : State) (base now : Option (List ℕ)) (scene : S) → StandsAt stand base now scene from → MidRun stand setup t from base now scene
+pub begins : {S : Type 0} (stand : S → State → Type 0) (setup : Setup) (t : ℕ) (from : State) (base now : Option (List ℕ)) (scene : S) → StandsAt text_of stand base now scene from → MidRun stand setup t from base now scene
 begins stand setup t from base now scene stands = record { mid = from; same = refl; standing = stands }
 
 -- one more slice
@@ -35,13 +35,13 @@ goes_further stand setup t from base old now before scene run sliced = record { 
 
 -- the last one
 pub ends_run : {S : Type 0} (stand : S → State → Type 0) (setup : Setup) (t : ℕ) (from : State) (base old now : Option (List ℕ)) (before scene : S) → (run : MidRun stand setup t from base old before) → Sliced stand setup t run.mid base now scene false
-    → Carried stand (run_until setup t from) base now scene
+    → Carried text_of stand (run_until setup t from) base now scene
 ends_run stand setup t from base old now before scene run sliced = record { after = sliced.mid; carried = run.same ∙ sliced.leads; standing = sliced.standing }
 
 -- a fault of a slice is one of the run
 pub fails_so : {S : Type 0} (stand : S → State → Type 0) (setup : Setup) (t : ℕ) (from : State) (base old now : Option (List ℕ)) (before : S) (number : ℕ) (fault : Fault) → (run : MidRun stand setup t from base old before)
-    → CarryFails (run_until setup t run.mid) base now number fault → CarryFails (run_until setup t from) base now number fault
-fails_so stand setup t from base old now before number fault run fails = subst (λ (o : Outcome). CarryFails o base now number fault) (sym run.same) fails
+    → CarryFails text_of (run_until setup t run.mid) base now number fault → CarryFails text_of (run_until setup t from) base now number fault
+fails_so stand setup t from base old now before number fault run fails = subst (λ (o : Outcome). CarryFails text_of o base now number fault) (sym run.same) fails
 
 -- ---- one slice that is written
 
@@ -49,7 +49,7 @@ fails_so stand setup t from base old now before number fault run fails = subst (
 pub run_prints : (setup : Setup) (t : ℕ) (state : State) → Grows state (reached (run_until setup t state))
 run_prints setup t state = course_grows state t (run_to setup t state.mesh).mesh (run_to setup t state.mesh).stop
 
-pub slice_more : {S : Type 0} (stand : S → State → Type 0) (setup : Setup) (t : ℕ) (state : State) (base old now : Option (List ℕ)) (before scene : S) (printed : List ℕ) → StandsAt stand base old before state → Passes stand setup t state scene printed Going
+pub slice_more : {S : Type 0} (stand : S → State → Type 0) (setup : Setup) (t : ℕ) (state : State) (base old now : Option (List ℕ)) (before scene : S) (printed : List ℕ) → StandsAt text_of stand base old before state → Passes stand setup t state scene printed Going
     → Appends old now printed → Sliced stand setup t state base now scene true
 slice_more stand setup t state base old now before scene printed at p wrote = record {
   mid = p.mid;
@@ -57,7 +57,7 @@ slice_more stand setup t state base old now before scene printed at p wrote = re
   standing = record { scene_is = p.standing; printed = appends-after base old now (text_of state) printed (text_of p.mid) at.printed wrote p.text };
 }
 
-pub slice_last : {S : Type 0} (stand : S → State → Type 0) (setup : Setup) (t : ℕ) (state : State) (base old now : Option (List ℕ)) (before scene : S) (printed : List ℕ) → StandsAt stand base old before state → Passes stand setup t state scene printed Ended
+pub slice_last : {S : Type 0} (stand : S → State → Type 0) (setup : Setup) (t : ℕ) (state : State) (base old now : Option (List ℕ)) (before scene : S) (printed : List ℕ) → StandsAt text_of stand base old before state → Passes stand setup t state scene printed Ended
     → Appends old now printed → Sliced stand setup t state base now scene false
 slice_last stand setup t state base old now before scene printed at p wrote = record {
   mid = p.mid;
@@ -65,8 +65,8 @@ slice_last stand setup t state base old now before scene printed at p wrote = re
   standing = record { scene_is = p.standing; printed = appends-after base old now (text_of state) printed (text_of p.mid) at.printed wrote p.text };
 }
 
-pub slice_stops : {S : Type 0} (stand : S → State → Type 0) (setup : Setup) (t : ℕ) (state : State) (base old now : Option (List ℕ)) (before scene : S) (printed : List ℕ) (number : ℕ) (limit : LimitName) → StandsAt stand base old before state
-    → Passes stand setup t state scene printed (StoppedAt limit) → Appends old now printed → CarryFails (run_until setup t state) base now number (Halted number (StopLimit limit))
+pub slice_stops : {S : Type 0} (stand : S → State → Type 0) (setup : Setup) (t : ℕ) (state : State) (base old now : Option (List ℕ)) (before scene : S) (printed : List ℕ) (number : ℕ) (limit : LimitName) → StandsAt text_of stand base old before state
+    → Passes stand setup t state scene printed (StoppedAt limit) → Appends old now printed → CarryFails text_of (run_until setup t state) base now number (Halted number (StopLimit limit))
 slice_stops stand setup t state base old now before scene printed number limit at p wrote = record {
   after = p.mid;
   ended = p.leads;
@@ -83,7 +83,7 @@ slice_front stand setup t state scene printed Going p =
 slice_front stand setup t state scene printed Ended p = ([], ap (λ (o : Outcome). text_of (reached o)) p.leads ∙ sym (append-nil (text_of p.mid)))
 slice_front stand setup t state scene printed (StoppedAt limit) p = ([], ap (λ (o : Outcome). text_of (reached o)) p.leads ∙ sym (append-nil (text_of p.mid)))
 
-pub slice_less : {S : Type 0} (stand : S → State → Type 0) (setup : Setup) (t : ℕ) (state : State) (base old now : Option (List ℕ)) (before scene : S) (printed : List ℕ) (passage : Passage) → StandsAt stand base old before state → Passes stand setup t state scene printed passage
+pub slice_less : {S : Type 0} (stand : S → State → Type 0) (setup : Setup) (t : ℕ) (state : State) (base old now : Option (List ℕ)) (before scene : S) (printed : List ℕ) (passage : Passage) → StandsAt text_of stand base old before state → Passes stand setup t state scene printed passage
     → AppendsLess old now printed → AppendsLess base now (text_of (reached (run_until setup t state)))
 slice_less stand setup t state base old now before scene printed passage at p less =
     let front = slice_front stand setup t state scene printed passage p in

@@ -5,6 +5,7 @@ use Rattle.mesh_model.specs.declared.line_form.Command.{Command}
 use Rattle.mesh_model.specs.Run.Outcome.{Outcome, Goes}
 use Rattle.mesh_model.specs.Run.Rules.{carried_out, setup_of}
 use Rattle.mesh_model.specs.Run.State.{State}
+use Rattle.mesh_model.specs.Run.State.{text_of}
 use Rattle.mesh_run.specs.Inner.Lines.{BreaksOff, Carried, CarriesOn, CarryFails, StandsAt}
 use Rattle.mesh_run.specs.declared.fault.Fault.{Fault}
 use Rattle.mesh_scene.specs.StageStands.{outcome_on_stage}
@@ -18,7 +19,7 @@ pub on_ok : {A E : Type 0} {P Q : Type 0} (result : Result A E) → (P → Q) �
 on_ok (Ok a) goes is = goes is
 on_ok (Err e) goes is = tt
 
-if_err : {A E : Type 0} {P Q : E → Type 0} (result : Result A E) → ((e : E) → P e → Q e) → IfErr result P → IfErr result Q
+pub if_err : {A E : Type 0} {P Q : E → Type 0} (result : Result A E) → ((e : E) → P e → Q e) → IfErr result P → IfErr result Q
 if_err (Ok a) goes is = tt
 if_err (Err e) goes is = goes e is
 
@@ -30,19 +31,19 @@ pub record OnStage {S T : Type 0} (stand : S → State → Type 0) (stand' : T �
   pub chosen : (state : State) → stand' before' state → state.algorithm ≡ algorithm
 
 module _ {S T : Type 0} (stand : S → State → Type 0) (stand' : T → State → Type 0) (algorithm : Algorithm) (before after : S) (before' after' : T) (on : OnStage stand stand' algorithm before after before' after') (old new : Option (List ℕ)) (command : Command) (result : Result (Unit {0}) Fault) where
-  carried_up : (base : Option (List ℕ)) (state : State) → state.algorithm ≡ algorithm → Carried stand (outcome_by algorithm command state) base new after → Carried stand' (outcome_on_stage command state) base new after'
+  carried_up : (base : Option (List ℕ)) (state : State) → state.algorithm ≡ algorithm → Carried text_of stand (outcome_by algorithm command state) base new after → Carried text_of stand' (outcome_on_stage command state) base new after'
   carried_up base state is done = record {
     after = done.after;
     carried = subst (λ a. outcome_by a command state ≡ Goes done.after) (sym is) done.carried;
     standing = record { scene_is = on.up done.after done.standing.scene_is; printed = done.standing.printed };
   }
 
-  at_scene : (base : Option (List ℕ)) (state : State) → StandsAt stand' base old before' state → StandsAt stand base old before state
+  at_scene : (base : Option (List ℕ)) (state : State) → StandsAt text_of stand' base old before' state → StandsAt text_of stand base old before state
   at_scene base state at = record { scene_is = on.down state at.scene_is; printed = at.printed }
 
-  pub carries_on_stage : CarriesOn stand old new before after (outcome_by algorithm command) result → CarriesOn stand' old new before' after' (outcome_on_stage command) result
+  pub carries_on_stage : CarriesOn text_of stand old new before after (outcome_by algorithm command) result → CarriesOn text_of stand' old new before' after' (outcome_on_stage command) result
   carries_on_stage carries = λ base state at. on_ok result (carried_up base state (on.chosen state at.scene_is)) (carries base state (at_scene base state at))
 
-  pub breaks_off_stage : (number : ℕ) → BreaksOff stand old new before (outcome_by algorithm command) number result → BreaksOff stand' old new before' (outcome_on_stage command) number result
+  pub breaks_off_stage : (number : ℕ) → BreaksOff text_of stand old new before (outcome_by algorithm command) number result → BreaksOff text_of stand' old new before' (outcome_on_stage command) number result
   breaks_off_stage number breaks = λ base state at.
-      if_err result (λ fault fails. subst (λ a. CarryFails (outcome_by a command state) base new number fault) (sym (on.chosen state at.scene_is)) fails) (breaks base state (at_scene base state at))
+      if_err result (λ fault fails. subst (λ a. CarryFails text_of (outcome_by a command state) base new number fault) (sym (on.chosen state at.scene_is)) fails) (breaks base state (at_scene base state at))

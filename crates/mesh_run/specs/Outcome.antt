@@ -1,6 +1,6 @@
 -- What a run of the program leaves, by its status: what out took since the call, and what was read
 -- from the intake. The main words are `Finishes`, `IsRefused`, `IsLimited`, `PrintsTaken`,
--- `PrintsLessOf` and `PrintsFrontOf`, each over the choice of frames and the bytes of the input,
+-- `PrintsLessOf` and `PrintsFrontOf`, each over what the lines are and the bytes of the input,
 -- `PrintsSummary` for lines that are generated, `TellsStatus`, and `PrintsRightly`, which holds at
 -- every status.
 use Rattle.std.specs.Prelude.{◌≡◌, ◌≢◌, ℕ, ◌+◌, ◌<◌, ◌≤◌, ◌⊎◌, List, length, take, Option, Some, None, IfSome, option_and_then}
@@ -10,19 +10,23 @@ use Rattle.mesh_model.specs.declared.ending.LimitName.{LimitName}
 use Rattle.mesh_model.specs.declared.ending.Refusal.{Refusal}
 use Rattle.mesh_model.specs.declared.ending.Stop.TheVariants.{Refused, Limit}
 use Rattle.mesh_model.specs.declared.frame_choice.FrameChoice.{FrameChoice}
+use Rattle.mesh_model.specs.declared.input_kind.InputKind.{InputKind}
+use Rattle.mesh_model.specs.declared.input_kind.InputKind.TheVariants.{Scenario, Routes}
 use Rattle.mesh_model.specs.Scenario.Halt.{Halt}
 use Rattle.mesh_model.specs.Scenario.Lines.{complete_lines}
 use Rattle.mesh_model.specs.Text.Messages.{halt_text, memory_text, read_fault_text, usage_text, write_fault_text}
 use Rattle.mesh_model.specs.Run.CommandLine.{Invocation, Source, FromInput, FromFile, Generated}
 use Rattle.mesh_model.specs.Run.Generated.{generated_input, generated_text}
 use Rattle.mesh_model.specs.Run.Halting.{GoesOn, halting_byte}
-use Rattle.mesh_model.specs.Run.PlainRun.{start, after_lines, plain_run, output}
+use Rattle.mesh_model.specs.Run.InputRun.{lines_run, run_of}
+use Rattle.mesh_model.specs.Run.PlainRun.{after_lines, start}
 use Rattle.mesh_model.specs.Run.Statuses.{finished_status, limited_status, memory_status, read_fault_status, refused_status, stop_status, usage_status, write_fault_status}
 use Rattle.mesh_lines.specs.AliasText.{AliasLinesAreRight}
 use Rattle.mesh_lines.specs.FrameText.{TableFramesAreRight}
 use Rattle.mesh_lines.specs.TableText.{OkLinesAreCommitted}
 use Rattle.mesh_lines.specs.TextLaws.{AreFirst, IsFrontOf}
 use Rattle.mesh_tie.specs.CutPackets.{RunPacketsWereCut}
+use Rattle.mesh_tie.specs.ShownPictures.{RunShowsPictures}
 
 -- ---- the lines that words ask for
 
@@ -62,38 +66,38 @@ nodes_asked call = option_and_then (λ asked. nodes_from asked.source) call
 
 -- ---- the end of a run
 
--- the plain run comes to its end, and out took what it prints
-pub record Finishes (choice : FrameChoice) (old new : Option (List ℕ)) (input : List ℕ) : Type 0
+-- the run comes to its end, and out took what it prints
+pub record Finishes (kind : InputKind) (old new : Option (List ℕ)) (input : List ℕ) : Type 0
   where
-    pub halt : (plain_run choice input).halt ≡ None
-    pub printed : Appends old new (output (plain_run choice input))
+    pub halt : (run_of kind input).halt ≡ None
+    pub printed : Appends old new (run_of kind input).text
 
 -- the most bytes that are read past the one at which a run halts
 abbrev pub most_read_past : ℕ
 most_read_past = 4095
 
--- the plain run halts there, out took what it prints, and what was read ends near the byte there
-pub record HaltsNear (choice : FrameChoice) (old new left : Option (List ℕ)) (input : List ℕ)
+-- the run halts there, out took what it prints, and what was read ends near the byte there
+pub record HaltsNear (kind : InputKind) (old new left : Option (List ℕ)) (input : List ℕ)
     (halt : Halt) : Type 0 where
-  pub halts : (plain_run choice input).halt ≡ Some halt
-  pub printed : Appends old new (output (plain_run choice input))
+  pub halts : (run_of kind input).halt ≡ Some halt
+  pub printed : Appends old new (run_of kind input).text
   pub read : List ℕ
   pub took : Consumes (Some input) left read
-  pub near : length read ≤ halting_byte choice input halt + most_read_past
+  pub near : length read ≤ halting_byte kind input halt + most_read_past
 
--- the plain run is refused at a line
-pub record IsRefused (choice : FrameChoice) (old new left : Option (List ℕ)) (input : List ℕ)
+-- the run is refused at a line
+pub record IsRefused (kind : InputKind) (old new left : Option (List ℕ)) (input : List ℕ)
     : Type 0 where
   pub line : ℕ
   pub refusal : Refusal
-  pub halted : HaltsNear choice old new left input (record { line = line; stop = Refused refusal })
+  pub halted : HaltsNear kind old new left input (record { line = line; stop = Refused refusal })
 
--- the plain run reaches a limit at a line
-pub record IsLimited (choice : FrameChoice) (old new left : Option (List ℕ)) (input : List ℕ)
+-- the run reaches a limit at a line
+pub record IsLimited (kind : InputKind) (old new left : Option (List ℕ)) (input : List ℕ)
     : Type 0 where
   pub line : ℕ
   pub name : LimitName
-  pub halted : HaltsNear choice old new left input (record { line = line; stop = Limit name })
+  pub halted : HaltsNear kind old new left input (record { line = line; stop = Limit name })
 
 -- ---- faults
 
@@ -103,28 +107,28 @@ pub record IsUnopened (old new first left : Option (List ℕ)) : Type 0 where
   pub unprinted : Keeps old new
 
 -- what was read of these bytes goes on, and out took what its complete lines print
-pub record PrintsRead (choice : FrameChoice) (old new first left : Option (List ℕ)) : Type 0 where
+pub record PrintsRead (kind : InputKind) (old new first left : Option (List ℕ)) : Type 0 where
   pub read : List ℕ
   pub took : Consumes first left read
-  pub goes_on : GoesOn choice read
-  pub printed : Appends old new (output (after_lines (start choice) (complete_lines read)))
+  pub goes_on : GoesOn kind read
+  pub printed : Appends old new (lines_run kind (complete_lines read)).text
 
 -- the opening failed, or a read of the input did
-abbrev pub PrintsTaken : FrameChoice → (old new first left : Option (List ℕ)) → List ℕ → Type 0
-PrintsTaken choice old new first left input =
-    IsUnopened old new first left ⊎ PrintsRead choice old new (Some input) left
+abbrev pub PrintsTaken : InputKind → (old new first left : Option (List ℕ)) → List ℕ → Type 0
+PrintsTaken kind old new first left input =
+    IsUnopened old new first left ⊎ PrintsRead kind old new (Some input) left
 
 -- known bytes grow by a front of bs that isn't all of it
 abbrev pub AppendsLess : (old new : Option (List ℕ)) → List ℕ → Type 0
 AppendsLess old new bs = (n : ℕ) × (n < length bs) × Appends old new (take n bs)
 
 -- less than the whole output was written
-abbrev pub PrintsLessOf : FrameChoice → (old new : Option (List ℕ)) → List ℕ → Type 0
-PrintsLessOf choice old new input = AppendsLess old new (output (plain_run choice input))
+abbrev pub PrintsLessOf : InputKind → (old new : Option (List ℕ)) → List ℕ → Type 0
+PrintsLessOf kind old new input = AppendsLess old new (run_of kind input).text
 
 -- a front of the whole output was written
-abbrev pub PrintsFrontOf : FrameChoice → (old new : Option (List ℕ)) → List ℕ → Type 0
-PrintsFrontOf choice old new input = AppendsFront old new (output (plain_run choice input))
+abbrev pub PrintsFrontOf : InputKind → (old new : Option (List ℕ)) → List ℕ → Type 0
+PrintsFrontOf kind old new input = AppendsFront old new (run_of kind input).text
 
 -- ---- generated lines
 
@@ -143,32 +147,33 @@ IsStatusOr status wanted = (status ≡ wanted) ⊎ (status ≡ read_fault_status
     ⊎ (status ≡ write_fault_status) ⊎ (status ≡ memory_status)
 
 -- the error output gained the text of a halt of this status: where the input is told, the one at
--- which its plain run halts
-pub record TellsHalt (choice : FrameChoice) (status : ℕ) (named old new : Option (List ℕ)) : Type 0
+-- which its run halts
+pub record TellsHalt (kind : InputKind) (status : ℕ) (named old new : Option (List ℕ)) : Type 0
   where
     pub halt : Halt
     pub status_is : stop_status halt.stop ≡ status
     pub text : Appends old new (halt_text halt)
-    pub plain : IfSome named (λ input. (plain_run choice input).halt ≡ Some halt)
+    pub plain : IfSome named (λ input. (run_of kind input).halt ≡ Some halt)
 
 -- the error output gained the text of a status
-pub record TellsStatus (choice : FrameChoice) (status : ℕ) (named old new : Option (List ℕ))
+pub record TellsStatus (kind : InputKind) (status : ℕ) (named old new : Option (List ℕ))
     : Type 0 where
-  pub refused : status ≡ refused_status → TellsHalt choice status named old new
+  pub refused : status ≡ refused_status → TellsHalt kind status named old new
   pub usage : status ≡ usage_status → Appends old new usage_text
   pub read_fault : status ≡ read_fault_status → Appends old new read_fault_text
   pub write_fault : status ≡ write_fault_status → Appends old new write_fault_text
   pub memory : status ≡ memory_status → Appends old new memory_text
-  pub limited : status ≡ limited_status → TellsHalt choice status named old new
+  pub limited : status ≡ limited_status → TellsHalt kind status named old new
 
 -- ---- tables, frames and aliases
 
 -- whatever the status: what out took since the call is what the first lines of the input print, or
 -- a front of that; each whole line in it of an originator in agreement, of a link frame that was
--- sent by table, and of an alias is right; each commit that has an alias has its line; and each
--- packet that a node put together, as these lines were carried out, is one that the originator of
--- its fragments cut under their number
-pub record PrintsRightly (choice : FrameChoice) (old new : Option (List ℕ)) (input : List ℕ)
+-- sent by table, and of an alias is right; each commit that has an alias has its line; each packet
+-- that a node put together, as these lines were carried out, is one that the originator of its
+-- fragments cut under their number; and each picture that a node has at one of these lines is that
+-- of its source at one of its rounds before
+pub record PrintsScenarioRightly (choice : FrameChoice) (old new : Option (List ℕ)) (input : List ℕ)
     : Type 0 where
   pub lines : List (List ℕ)
   pub first : AreFirst input lines
@@ -179,3 +184,10 @@ pub record PrintsRightly (choice : FrameChoice) (old new : Option (List ℕ)) (i
   pub frames : TableFramesAreRight choice lines text
   pub aliases : AliasLinesAreRight choice lines text
   pub packets : RunPacketsWereCut choice lines
+  pub pictures : RunShowsPictures choice lines
+
+-- whatever the status: what the first lines of a scenario print is right; of lines of routes nothing
+-- more is said than what is printed
+abbrev pub PrintsRightly : InputKind → (old new : Option (List ℕ)) → List ℕ → Type 0
+PrintsRightly (Scenario choice) old new input = PrintsScenarioRightly choice old new input
+PrintsRightly Routes old new input = Unit {0}

@@ -11,7 +11,7 @@ use crate::kept_text::KeptText;
 use crate::output::put_text;
 use mesh_base::{Failed, Sink};
 use mesh_generate::{generated_input, summary_line};
-use mesh_model::FrameChoice;
+use mesh_model::{FrameChoice, InputKind};
 use std::alloc::Global;
 
 /// A fault of a run whose output is kept: its writes fail for want of memory.
@@ -33,12 +33,12 @@ fn summary_of(alloc: Global, nodes: u8) -> Result<Vec<u8>, Fault>
     ensures failed { IfErr result (HasGeneratedCause nodes) }
 {
     let lines = generated_input(alloc, nodes)?;
-    let mut runner = new_runner(alloc, FrameChoice::Hidden);
+    let mut runner = new_runner(alloc, InputKind::Scenario(FrameChoice::Hidden));
     let mut kept = KeptText::new(alloc);
     if let Err(fault) = runner.take_piece(&mut kept, lines.as_slice()) {
         return Err(kept_fault(fault));
     }
-    let counts = runner.stage.counts(nodes, kept.text.as_slice())?;
+    let counts = runner.carrier.counts(nodes, kept.text.as_slice())?;
     let line = summary_line(alloc, counts)?;
     Ok(line)
 }

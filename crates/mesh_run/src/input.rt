@@ -3,26 +3,26 @@
 ghost use Rattle.std.specs.Prelude.{◌≡◌, ℕ, List, [], Option, IfSome, OnOk, IfErr};
 ghost use Rattle.std.specs.Option.{option_copied};
 ghost use Rattle.std.specs.Io.KnownBytes.{IsAtEnd};
-ghost use Rattle.mesh_model.specs.declared.frame_choice.FrameChoice.{FrameChoice};
-ghost use Rattle.mesh_scene.specs.StageStands.{IsOnStage};
+ghost use Rattle.mesh_model.specs.declared.input_kind.InputKind.{InputKind};
+ghost use Rattle.mesh_run.specs.Inner.Kinds.{IsReady};
 ghost use Rattle.mesh_run.specs.Inner.Progress.{Stands};
 ghost use Rattle.mesh_run.specs.Inner.Reading.{CountsFaults, ReadFails, ReadsAll, RunFails};
 ghost use Rattle.mesh_run.specs.Outcome.{Finishes};
 
+use crate::carrier::Carrier;
 use crate::fault::Fault;
 use crate::runner::Runner;
 use mesh_base::{Failed, Intake, OpenErr, PIECE_LIMIT, Sink};
-use mesh_model::FrameChoice;
-use mesh_scene::Stage;
+use mesh_model::InputKind;
 use std::alloc::Global;
 
 /// A run before its first line.
-pub fn new_runner(alloc: Global, choice: FrameChoice) -> Runner
-    ensures stands { (base : Option (List ℕ)) → Stands choice base base result [] }
-    ensures somewhere { IsOnStage result.stage }
+pub fn new_runner(alloc: Global, kind: InputKind) -> Runner
+    ensures stands { (base : Option (List ℕ)) → Stands kind base base result [] }
+    ensures ready { IsReady result.carrier }
 {
     Runner {
-        stage: Stage::new(alloc, choice),
+        carrier: Carrier::new(alloc, kind),
         line: Vec::new(alloc),
         text: Vec::new(alloc),
         lines: 0,
@@ -36,13 +36,13 @@ pub fn read_all<I: Intake, K: Sink>(
     out: &mut K,
     mut runner: Runner,
 ) -> Result<(), Fault>
-    requires somewhere { IsOnStage runner.stage }
-    ensures ok { (choice : FrameChoice) (base : Option (List ℕ)) →
-        Stands choice base (K.taken out.old) runner [] → OnOk result
-        (ReadsAll choice (I.left intake.old) (I.left intake.new) base (K.taken out.new)) }
-    ensures failed { (choice : FrameChoice) (base : Option (List ℕ)) →
-        Stands choice base (K.taken out.old) runner [] → IfErr result
-        (ReadFails choice (I.left intake.old) (I.left intake.new) base (K.taken out.new)) }
+    requires ready { IsReady runner.carrier }
+    ensures ok { (kind : InputKind) (base : Option (List ℕ)) →
+        Stands kind base (K.taken out.old) runner [] → OnOk result
+        (ReadsAll kind (I.left intake.old) (I.left intake.new) base (K.taken out.new)) }
+    ensures failed { (kind : InputKind) (base : Option (List ℕ)) →
+        Stands kind base (K.taken out.old) runner [] → IfErr result
+        (ReadFails kind (I.left intake.old) (I.left intake.new) base (K.taken out.new)) }
     ensures faults { CountsFaults (I.faults intake.old) (I.faults intake.new)
         (K.faults out.old) (K.faults out.new) result }
 {
@@ -61,19 +61,20 @@ pub fn read_all<I: Intake, K: Sink>(
     Ok(())
 }
 
-/// Opens the input of this name, or standard input, and carries it out with this choice of frames.
+/// Opens the input of this name, or standard input, and carries its lines out, by what
+/// they are.
 pub fn run_input<I: Intake, K: Sink>(
     alloc: Global,
-    choice: FrameChoice,
+    kind: InputKind,
     name: Option<&str>,
     intake: &mut I,
     out: &mut K,
 ) -> Result<(), Fault>
     ensures finished { OnOk result (IfSome (I.named intake.old (option_copied name.entry))
-        (Finishes choice (K.taken out.old) (K.taken out.new))) }
+        (Finishes kind (K.taken out.old) (K.taken out.new))) }
     ensures at_end { OnOk result (IsAtEnd (I.left intake.new)) }
     ensures failed { IfErr result (λ fault. IfSome (I.named intake.old (option_copied name.entry))
-        (RunFails choice (K.taken out.old) (K.taken out.new)
+        (RunFails kind (K.taken out.old) (K.taken out.new)
         (I.left intake.old) (I.left intake.new) fault)) }
     ensures faults { CountsFaults (I.faults intake.old) (I.faults intake.new)
         (K.faults out.old) (K.faults out.new) result }
@@ -83,6 +84,6 @@ pub fn run_input<I: Intake, K: Sink>(
         Err(OpenErr::Failed) => return Err(Fault::Read),
         Err(OpenErr::Memory) => return Err(Fault::Memory),
     }
-    read_all(intake, out, new_runner(alloc, choice))?;
+    read_all(intake, out, new_runner(alloc, kind))?;
     Ok(())
 }

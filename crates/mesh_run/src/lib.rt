@@ -2,6 +2,7 @@
 
 #![tactic(auto)]
 
+mod carrier;
 mod fault;
 mod generated;
 mod input;
@@ -11,6 +12,7 @@ mod output;
 mod pieces;
 mod program;
 mod report;
+mod routes;
 mod runner;
 mod time;
 

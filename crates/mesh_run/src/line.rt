@@ -5,6 +5,7 @@ ghost use Rattle.mesh_laws.specs.LineLaws.{IsInRange};
 ghost use Rattle.mesh_model.specs.Scenario.Commands.{command_of_line};
 ghost use Rattle.mesh_model.specs.declared.line_form.Command.TheVariants as command;
 ghost use Rattle.mesh_model.specs.Run.PlainRun.{after_reading};
+ghost use Rattle.mesh_model.specs.Run.State.{text_of};
 ghost use Rattle.mesh_model.specs.Scenario.Readings.{Reading};
 ghost use Rattle.mesh_scenario.specs.LineErr.{Refuses};
 ghost use Rattle.mesh_run.specs.Inner.Faults.{HasReadingCause};
@@ -53,9 +54,9 @@ fn carry_whole<A: Choosable + Drop, K: Sink>(
     requires ranges { IsInRange command }
     requires gateways { HasGateways command }
     requires other { is_for_scene command ≡ true }
-    ensures ok { CarriesOn (SceneStands A.algorithm A.queries A.stands) (K.taken out.old)
+    ensures ok { CarriesOn text_of (SceneStands A.algorithm A.queries A.stands) (K.taken out.old)
         (K.taken out.new) scene.old scene.new (outcome_under A.queries command) result }
-    ensures failed { BreaksOff (SceneStands A.algorithm A.queries A.stands) (K.taken out.old)
+    ensures failed { BreaksOff text_of (SceneStands A.algorithm A.queries A.stands) (K.taken out.old)
         (K.taken out.new) scene.old (outcome_under A.queries command) number result }
     ensures faults { CountsWrites (K.faults out.old) (K.faults out.new) result }
     ensures somewhere { OnOk result (IsSomewhere A.algorithm A.queries A.stands scene.new) }
@@ -82,9 +83,9 @@ fn carry_on_stage<K: Sink>(
     requires ranges { IsInRange command }
     requires gateways { HasGateways command }
     requires other { is_for_scene command ≡ true }
-    ensures ok { CarriesOn StageStands (K.taken out.old) (K.taken out.new) stage.old stage.new
+    ensures ok { CarriesOn text_of StageStands (K.taken out.old) (K.taken out.new) stage.old stage.new
         (outcome_on_stage command) result }
-    ensures failed { BreaksOff StageStands (K.taken out.old) (K.taken out.new) stage.old
+    ensures failed { BreaksOff text_of StageStands (K.taken out.old) (K.taken out.new) stage.old
         (outcome_on_stage command) number result }
     ensures faults { CountsWrites (K.faults out.old) (K.faults out.new) result }
     ensures somewhere { OnOk result (IsOnStage stage.new) }
@@ -104,9 +105,9 @@ fn run_on_stage<K: Sink>(
     number: u64,
 ) -> Result<(), Fault>
     requires somewhere { IsOnStage stage.old }
-    ensures ok { CarriesOn StageStands (K.taken out.old) (K.taken out.new) stage.old stage.new
+    ensures ok { CarriesOn text_of StageStands (K.taken out.old) (K.taken out.new) stage.old stage.new
         (outcome_on_stage (command.Run time)) result }
-    ensures failed { BreaksOff StageStands (K.taken out.old) (K.taken out.new) stage.old
+    ensures failed { BreaksOff text_of StageStands (K.taken out.old) (K.taken out.new) stage.old
         (outcome_on_stage (command.Run time)) number result }
     ensures faults { CountsWrites (K.faults out.old) (K.faults out.new) result }
     ensures somewhere { OnOk result (IsOnStage stage.new) }
@@ -120,9 +121,9 @@ fn run_on_stage<K: Sink>(
 /// `algo A`
 fn choose(stage: &mut Stage, algorithm: Algorithm, number: u64) -> Result<(), Fault>
     requires somewhere { IsOnStage stage.old }
-    ensures ok { (taken : Option (List ℕ)) → CarriesOn StageStands taken taken stage.old stage.new
+    ensures ok { (taken : Option (List ℕ)) → CarriesOn text_of StageStands taken taken stage.old stage.new
         (outcome_on_stage (command.Algo algorithm)) result }
-    ensures failed { (taken : Option (List ℕ)) → BreaksOff StageStands taken taken stage.old
+    ensures failed { (taken : Option (List ℕ)) → BreaksOff text_of StageStands taken taken stage.old
         (outcome_on_stage (command.Algo algorithm)) number result }
     ensures faults { (count : ℕ) → CountsWrites count count result }
     ensures somewhere { OnOk result (IsOnStage stage.new) }
@@ -133,8 +134,8 @@ fn choose(stage: &mut Stage, algorithm: Algorithm, number: u64) -> Result<(), Fa
     Ok(())
 }
 
-/// Carries the line of this number out and writes what it prints, by way of `text`.
-pub fn carry_line<K: Sink>(
+/// Carries the line of a scenario of this number out and writes what it prints, by way of `text`.
+pub fn carry_scenario<K: Sink>(
     stage: &mut Stage,
     text: &mut Vec<u8>,
     out: &mut K,
@@ -142,9 +143,9 @@ pub fn carry_line<K: Sink>(
     number: u64,
 ) -> Result<(), Fault>
     requires somewhere { IsOnStage stage.old }
-    ensures ok { CarriesOn StageStands (K.taken out.old) (K.taken out.new) stage.old stage.new
-        (λ state. after_reading state (command_of_line line.now)) result }
-    ensures failed { BreaksOff StageStands (K.taken out.old) (K.taken out.new) stage.old
+    ensures ok { CarriesOn text_of StageStands (K.taken out.old) (K.taken out.new) stage.old
+        stage.new (λ state. after_reading state (command_of_line line.now)) result }
+    ensures failed { BreaksOff text_of StageStands (K.taken out.old) (K.taken out.new) stage.old
         (λ state. after_reading state (command_of_line line.now)) number result }
     ensures faults { CountsWrites (K.faults out.old) (K.faults out.new) result }
     ensures somewhere { OnOk result (IsOnStage stage.new) }

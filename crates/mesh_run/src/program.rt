@@ -5,9 +5,10 @@ ghost use Rattle.std.specs.Io.KnownBytes.{Appends, IsAtEnd};
 ghost use Rattle.std.specs.Option.{option_copied};
 ghost use Rattle.mesh_base.specs.Faults.{Rose};
 ghost use Rattle.mesh_model.specs.declared.frame_choice.FrameChoice.TheVariants.{Hidden};
-ghost use Rattle.mesh_model.specs.Run.CommandLine.{choice_of, most_nodes, words_of};
+ghost use Rattle.mesh_model.specs.declared.input_kind.InputKind.TheVariants.{Scenario};
+ghost use Rattle.mesh_model.specs.Run.CommandLine.{kind_of, most_nodes, words_of};
 ghost use Rattle.mesh_model.specs.Run.Generated.{generated_input, generated_run};
-ghost use Rattle.mesh_model.specs.Run.PlainRun.{plain_run};
+ghost use Rattle.mesh_model.specs.Run.InputRun.{run_of};
 ghost use Rattle.mesh_model.specs.Run.Statuses.{IsStatus, finished_status, limited_status, memory_status, plain_status, read_fault_status, refused_status, usage_status, write_fault_status};
 ghost use Rattle.mesh_run.specs.Inner.Reading.{fault_status, fault_text};
 ghost use Rattle.mesh_run.specs.Outcome.{Finishes, IsLimited, IsRefused, IsStatusOr, PrintsFrontOf, PrintsLessOf, PrintsRightly, PrintsSummary, PrintsTaken, TellsStatus, nodes_asked, read_input, told_input};
@@ -18,7 +19,7 @@ use crate::generated::run_generated;
 use crate::input::run_input;
 use crate::report::tell_fault;
 use mesh_base::{Failed, Intake, Sink, write_all};
-use mesh_model::{FrameChoice, Stop};
+use mesh_model::{InputKind, Stop};
 use mesh_words::{Source, WordsErr, read_words};
 use std::alloc::Global;
 
@@ -67,7 +68,7 @@ fn tell_status<E: Sink>(err: &mut E, fault: Fault) -> u8
 /// the status with which the program ends.
 fn carry_input<I: Intake, K: Sink, E: Sink>(
     alloc: Global,
-    choice: FrameChoice,
+    kind: InputKind,
     name: Option<&str>,
     intake: &mut I,
     out: &mut K,
@@ -77,38 +78,38 @@ fn carry_input<I: Intake, K: Sink, E: Sink>(
     ensures usage { result ≢ usage_status }
     ensures finished { result ≡ finished_status →
         IfSome (I.named intake.old (option_copied name.entry))
-        (Finishes choice (K.taken out.old) (K.taken out.new)) }
+        (Finishes kind (K.taken out.old) (K.taken out.new)) }
     ensures at_end { result ≡ finished_status → IsAtEnd (I.left intake.new) }
     ensures refused { result ≡ refused_status →
         IfSome (I.named intake.old (option_copied name.entry))
-        (IsRefused choice (K.taken out.old) (K.taken out.new) (I.left intake.new)) }
+        (IsRefused kind (K.taken out.old) (K.taken out.new) (I.left intake.new)) }
     ensures limited { result ≡ limited_status →
         IfSome (I.named intake.old (option_copied name.entry))
-        (IsLimited choice (K.taken out.old) (K.taken out.new) (I.left intake.new)) }
+        (IsLimited kind (K.taken out.old) (K.taken out.new) (I.left intake.new)) }
     ensures read_fault { result ≡ read_fault_status →
         Rose (I.faults intake.old) (I.faults intake.new) }
     ensures taken { result ≡ read_fault_status →
         IfSome (I.named intake.old (option_copied name.entry))
-        (PrintsTaken choice (K.taken out.old) (K.taken out.new)
+        (PrintsTaken kind (K.taken out.old) (K.taken out.new)
         (I.left intake.old) (I.left intake.new)) }
     ensures write_fault { result ≡ write_fault_status →
         Rose (K.faults out.old) (K.faults out.new) }
     ensures less { result ≡ write_fault_status →
         IfSome (I.named intake.old (option_copied name.entry))
-        (PrintsLessOf choice (K.taken out.old) (K.taken out.new)) }
+        (PrintsLessOf kind (K.taken out.old) (K.taken out.new)) }
     ensures front { result ≡ memory_status →
         IfSome (I.named intake.old (option_copied name.entry))
-        (PrintsFrontOf choice (K.taken out.old) (K.taken out.new)) }
+        (PrintsFrontOf kind (K.taken out.old) (K.taken out.new)) }
     ensures complete { IfSome (I.named intake.old (option_copied name.entry))
-        (λ input. IsStatusOr result (plain_status (plain_run choice input).halt)) }
+        (λ input. IsStatusOr result (plain_status (run_of kind input).halt)) }
     ensures told { (Rose (E.faults err.old) (E.faults err.new) → ⊥) →
-        TellsStatus choice result (I.named intake.old (option_copied name.entry))
+        TellsStatus kind result (I.named intake.old (option_copied name.entry))
         (E.taken err.old) (E.taken err.new) }
     ensures right { IfSome (I.named intake.old (option_copied name.entry))
-        (PrintsRightly choice (K.taken out.old) (K.taken out.new)) }
+        (PrintsRightly kind (K.taken out.old) (K.taken out.new)) }
     ensures silent { result ≡ finished_status → err.new ≡ err.old }
 {
-    let fault = match run_input(alloc, choice, name, intake, out) {
+    let fault = match run_input(alloc, kind, name, intake, out) {
         Ok(()) => return FINISHED,
         Err(fault) => fault,
     };
@@ -127,7 +128,7 @@ fn carry_generated<K: Sink, E: Sink>(alloc: Global, nodes: u8, out: &mut K, err:
         Rose (K.faults out.old) (K.faults out.new) }
     ensures complete { IsStatusOr result (plain_status (generated_run nodes).halt) }
     ensures told { (Rose (E.faults err.old) (E.faults err.new) → ⊥) →
-        TellsStatus Hidden result (Some (generated_input nodes))
+        TellsStatus (Scenario Hidden) result (Some (generated_input nodes))
         (E.taken err.old) (E.taken err.new) }
     ensures silent { result ≡ finished_status → err.new ≡ err.old }
 {
@@ -141,9 +142,10 @@ fn carry_generated<K: Sink, E: Sink>(alloc: Global, nodes: u8, out: &mut K, err:
 /// Carries out the lines that words ask for, and answers the status with which the program ends.
 ///
 /// `words` are the command words after the program's name: `--frames` and which link frames are
-/// printed, `none`, `all`, `client` or `ogm`; and FILE, or `--generate` and a number of nodes.
-/// Without both the lines come from standard input. `out` takes what they print, or of a generated
-/// mesh the line of its counts, `err` one line for each status other than `FINISHED`.
+/// printed, `none`, `all`, `client` or `ogm`, or `route`, by which routes are told as they change; or
+/// `--bisect`, by which the lines are those of routes; and FILE, or `--generate` and a number of
+/// nodes. Without both the lines come from standard input. `out` takes what they print, or of a
+/// generated mesh the line of its counts, `err` one line for each status other than `FINISHED`.
 pub fn batmesh<I: Intake, K: Sink, E: Sink>(
     alloc: Global,
     words: &[String],
@@ -156,7 +158,7 @@ pub fn batmesh<I: Intake, K: Sink, E: Sink>(
     // Where the input is told, out took the whole text of its plain run.
     ensures finished { result ≡ finished_status →
         IfSome (read_input (I.named intake.old) (words_of (texts words.now)))
-        (Finishes (choice_of (texts words.now)) (K.taken out.old) (K.taken out.new)) }
+        (Finishes (kind_of (texts words.now)) (K.taken out.old) (K.taken out.new)) }
     ensures at_end { result ≡ finished_status → IfNone (nodes_asked (words_of (texts words.now)))
         (IsAtEnd (I.left intake.new)) }
 
@@ -164,11 +166,11 @@ pub fn batmesh<I: Intake, K: Sink, E: Sink>(
     // it.
     ensures refused { result ≡ refused_status →
         IfSome (read_input (I.named intake.old) (words_of (texts words.now)))
-        (IsRefused (choice_of (texts words.now)) (K.taken out.old) (K.taken out.new)
+        (IsRefused (kind_of (texts words.now)) (K.taken out.old) (K.taken out.new)
         (I.left intake.new)) }
     ensures limited { result ≡ limited_status →
         IfSome (read_input (I.named intake.old) (words_of (texts words.now)))
-        (IsLimited (choice_of (texts words.now)) (K.taken out.old) (K.taken out.new)
+        (IsLimited (kind_of (texts words.now)) (K.taken out.old) (K.taken out.new)
         (I.left intake.new)) }
 
     // Of the plain run of generated lines out took the line of its counts, and the intake isn't
@@ -191,30 +193,30 @@ pub fn batmesh<I: Intake, K: Sink, E: Sink>(
         Rose (I.faults intake.old) (I.faults intake.new) }
     ensures taken { result ≡ read_fault_status →
         IfSome (read_input (I.named intake.old) (words_of (texts words.now)))
-        (PrintsTaken (choice_of (texts words.now)) (K.taken out.old) (K.taken out.new)
+        (PrintsTaken (kind_of (texts words.now)) (K.taken out.old) (K.taken out.new)
         (I.left intake.old) (I.left intake.new)) }
     ensures write_fault { result ≡ write_fault_status →
         Rose (K.faults out.old) (K.faults out.new) }
     ensures less { result ≡ write_fault_status →
         IfSome (read_input (I.named intake.old) (words_of (texts words.now)))
-        (PrintsLessOf (choice_of (texts words.now)) (K.taken out.old) (K.taken out.new)) }
+        (PrintsLessOf (kind_of (texts words.now)) (K.taken out.old) (K.taken out.new)) }
     ensures front { result ≡ memory_status →
         IfSome (read_input (I.named intake.old) (words_of (texts words.now)))
-        (PrintsFrontOf (choice_of (texts words.now)) (K.taken out.old) (K.taken out.new)) }
+        (PrintsFrontOf (kind_of (texts words.now)) (K.taken out.old) (K.taken out.new)) }
 
     // Faults and want of memory aside, the status is that of the plain run.
     ensures complete { IfSome (told_input (I.named intake.old) (words_of (texts words.now)))
         (λ input. IsStatusOr result
-        (plain_status (plain_run (choice_of (texts words.now)) input).halt)) }
+        (plain_status (run_of (kind_of (texts words.now)) input).halt)) }
 
     // A fault of err changes no status.
     ensures told { (Rose (E.faults err.old) (E.faults err.new) → ⊥) →
-        TellsStatus (choice_of (texts words.now)) result
+        TellsStatus (kind_of (texts words.now)) result
         (told_input (I.named intake.old) (words_of (texts words.now)))
         (E.taken err.old) (E.taken err.new) }
     ensures silent { result ≡ finished_status → err.new ≡ err.old }
 
-    // Whatever the status, out took what the first lines of the input print, or a front of that. A
+    // Whatever the status, out took of a scenario what its first lines print, or a front of that. A
     // whole line in it of an originator in agreement, `t ORIG held=B told=B state=ok entries=N`, is
     // that of the commit that the originator made for the message that the shown node accepted
     // last, and the lines of its entries follow, as far as they were taken. A whole line of a link
@@ -223,11 +225,12 @@ pub fn batmesh<I: Intake, K: Sink, E: Sink>(
     // before it tells of an alias of that node. A whole line `alias NAME K J` stands exactly where
     // the node of that name made commit K, whose alias is J. Where a tick made it, that is behind
     // the lines of the tick's ELP, where there is one, and before those of its originator message;
-    // where a reboot did, it tells the only event of the input's line that reboots the node. And each
+    // where a reboot did, it tells the only event of the input's line that reboots the node. Each
     // packet that a node put together by then is one that the originator of its fragments cut under
-    // their number, whatever links lost or repeated.
+    // their number, whatever links lost or repeated. And each picture that a node has at a line, of
+    // which a line `vis NAME ..` tells, is that of its source at one of its rounds before.
     ensures right { IfSome (read_input (I.named intake.old) (words_of (texts words.now)))
-        (PrintsRightly (choice_of (texts words.now)) (K.taken out.old) (K.taken out.new)) }
+        (PrintsRightly (kind_of (texts words.now)) (K.taken out.old) (K.taken out.new)) }
 {
     let call = match read_words(alloc, words) {
         Ok(call) => call,
@@ -239,8 +242,8 @@ pub fn batmesh<I: Intake, K: Sink, E: Sink>(
         Err(WordsErr::Memory) => return tell_status(err, Fault::Memory),
     };
     match call.source {
-        Source::Input => carry_input(alloc, call.choice, None, intake, out, err),
-        Source::File(name) => carry_input(alloc, call.choice, Some(name), intake, out, err),
+        Source::Input => carry_input(alloc, call.kind, None, intake, out, err),
+        Source::File(name) => carry_input(alloc, call.kind, Some(name), intake, out, err),
         Source::Generated(nodes) => carry_generated(alloc, nodes, out, err),
     }
 }

@@ -32,6 +32,8 @@ fn refusal_words(refusal: Refusal) -> &'static [u8]
         Refusal::AlgoAfterNode => b"algo after node",
         Refusal::NoSuchFrame => b"no such frame",
         Refusal::Attached => b"attached",
+        Refusal::BadRoute => b"bad route",
+        Refusal::TimeBack => b"time back",
     }
 }
 
@@ -51,6 +53,7 @@ fn limit_words(name: LimitName) -> &'static [u8]
         LimitName::FrameBytes => b"frame-bytes",
         LimitName::Cuts => b"cuts",
         LimitName::Clock => b"clock",
+        LimitName::Pairs => b"pairs",
     }
 }
 

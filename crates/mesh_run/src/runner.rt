@@ -1,8 +1,8 @@
-//! The runner: the stage, and what came of the line that is not finished.
+//! The runner: what carries lines out, and what came of the line that is not finished.
 
 ghost use Rattle.std.specs.Prelude.{◌+◌, ◌≤◌, vec_len};
 
-use mesh_scene::Stage;
+use crate::carrier::Carrier;
 
 /// The most bytes before a line's newline.
 pub const LINE_LIMIT: usize = 4096;
@@ -13,7 +13,7 @@ pub const INPUT_LIMIT: usize = 67_108_864;
 /// A run between two reads.
 #[derive(Drop)]
 pub struct Runner {
-    pub stage: Stage,
+    pub carrier: Carrier,
     /// What has come of the line that isn't finished.
     pub line: Vec<u8>,
     /// What the line that is carried out prints.

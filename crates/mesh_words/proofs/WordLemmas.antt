@@ -1,13 +1,12 @@
 -- What clap's number is, and what words are where clap finds no fault in them.
-use Rattle.std.proofs.Common.{◌≡◌, ◌≢◌, ◌∙◌, ap, ℕ, Bool, true, false, List, [], ◌∷◌, Option, Some, None, refl, cond, codes}
+use Rattle.std.proofs.Common.{◌≡◌, ◌≢◌, ◌∙◌, ap, sym, ℕ, Bool, true, false, List, [], ◌∷◌, Option, Some, None, refl, cond, codes}
 use Rattle.std.specs.Str.Parse.{digits_value, without_leading_plus}
 use Rattle.clap.proofs.ValueTestLemmas.{Accepts-accepts, accepts-Accepts}
 use Rattle.clap.specs.ValueTests.{is_unsigned_in}
 use Rattle.clap.specs.Values.{Accepts}
 use Rattle.clap.specs.declared.builder.value_parser.ValueParser.TheVariants.{Unsigned}
 use Rattle.clap.specs.Words.{Kinds, Row, fault_of, first_of, matches_of}
-use Rattle.mesh_base.specs.Address.{option_both}
-use Rattle.mesh_model.specs.Run.CommandLine.{call_of_parts, call_of_values, choice_given, nodes_of_word, source_given, the_command, unless_faulty, words_of}
+use Rattle.mesh_model.specs.Run.CommandLine.{call_given, call_of_values, is_set, loop_call, nodes_of_word, scenario_call, the_command, unless_faulty, words_of}
 
 -- where clap finds no fault, the values are those of the rows
 pub faultless : (words : List (List ℕ)) (rows : List Row) → fault_of the_command words ≡ [] → rows ≡ matches_of the_command words → words_of words ≡ call_of_values rows
@@ -37,9 +36,14 @@ unnamed word other = go (is_unsigned_in 3 64 word) (λ e. other (accepts-Accepts
     go false no_test = refl
 
 -- the call of the values that are found by these names
-pub joined : (values : List Row) (frames nodes file : Option (List ℕ)) → frames ≡ first_of (codes "frames") values → nodes ≡ first_of (codes "generate") values
-    → file ≡ first_of (codes "file") values → option_both call_of_parts (choice_given frames) (source_given nodes file) ≡ call_of_values values
-joined values frames nodes file a b c = rw (a, b, c) refl
+module _ (values : List Row) (bisect frames nodes file : Option (List ℕ)) (a : bisect ≡ first_of (codes "bisect") values) (b : frames ≡ first_of (codes "frames") values)
+    (c : nodes ≡ first_of (codes "generate") values) (d : file ≡ first_of (codes "file") values) where
+  joined : call_given (is_set bisect) frames nodes file ≡ call_of_values values
+  joined = rw (a, b, c, d) refl
 
-pub unjoined : (values : List Row) (frames : Option (List ℕ)) → frames ≡ first_of (codes "frames") values → None ≡ choice_given frames → None ≡ call_of_values values
-unjoined values frames a none = ap (λ choice. option_both call_of_parts choice (source_given (first_of (codes "generate") values) (first_of (codes "file") values))) (none ∙ ap choice_given a)
+  -- where `--bisect` is there, and where it isn't
+  pub joined_loop : is_set bisect ≡ true → loop_call frames nodes file ≡ call_of_values values
+  joined_loop set = ap (λ t. call_given t frames nodes file) (sym set) ∙ joined
+
+  pub joined_scenario : is_set bisect ≡ false → scenario_call frames nodes file ≡ call_of_values values
+  joined_scenario set = ap (λ t. call_given t frames nodes file) (sym set) ∙ joined

@@ -17,7 +17,7 @@ source_of (read.Generated nodes) = Generated nodes
 
 -- what words ask for
 abbrev pub call_of : ReadCall → Invocation
-call_of call = record { choice = call.choice; source = source_of call.source }
+call_of call = record { kind = call.kind; source = source_of call.source }
 
 -- a mesh that is generated has 3 to 64 nodes
 abbrev pub HasNodes : ReadSource → Type 0

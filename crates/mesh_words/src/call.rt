@@ -1,4 +1,4 @@
-use mesh_model::FrameChoice;
+use mesh_model::InputKind;
 
 /// The fewest nodes that are generated.
 pub const LEAST_NODES: u8 = 3;
@@ -17,9 +17,9 @@ pub enum Source<'a> {
     Generated(u8),
 }
 
-/// What words ask for: the link frames that are printed, and the lines that are carried out.
+/// What words ask for: what the lines are that are carried out, and from where they come.
 #[derive(Clone, Copy, Debug, PartialEq, Eq)]
 pub struct Call<'a> {
-    pub choice: FrameChoice,
+    pub kind: InputKind,
     pub source: Source<'a>,
 }

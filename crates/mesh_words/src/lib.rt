@@ -1,5 +1,5 @@
-//! The words of the call, read by clap: which link frames are printed, and from where the lines
-//! come. What words ask for is settled by `words_of` of mesh_model.
+//! The words of the call, read by clap: what the lines are, and from where they come. What words
+//! ask for is settled by `words_of` of mesh_model.
 
 #![tactic(auto)]
 

@@ -1,14 +1,14 @@
 -- What one line, or a slice of one, leaves, since out held what it held at some moment before:
 -- where the run stands after it, or the cause of the fault at which it broke off; and the counts of
--- faults. The words are over what a scene stands for. The main words are `CarriesOn` and
--- `BreaksOff`, and for a slice `GoesOnBy`.
+-- faults. The words are over what a scene stands for, and what a state has printed. The main words
+-- are `CarriesOn` and `BreaksOff`, and for a slice `GoesOnBy`.
 use Rattle.std.specs.Prelude.{◌≡◌, ℕ, ◌≤◌, Bool, true, false, List, Option, Result, IfOk, OnOk, IfErr}
 use Rattle.std.specs.Io.KnownBytes.{Appends}
 use Rattle.mesh_base.specs.Faults.{Rose}
 use Rattle.mesh_base.specs.Writes.{AppendsFront}
 use Rattle.mesh_model.specs.declared.ending.Stop.{Stop}
 use Rattle.mesh_model.specs.Net.Mesh.{Setup}
-use Rattle.mesh_model.specs.Run.Outcome.{Outcome, Goes, Ends, reached}
+use Rattle.mesh_model.specs.Run.Outcome.{OutcomeOf, Goes, Ends, reached}
 use Rattle.mesh_model.specs.Run.Passing.{run_until}
 use Rattle.mesh_model.specs.Run.State.{State, text_of}
 use Rattle.mesh_run.specs.Outcome.{AppendsLess}
@@ -18,47 +18,56 @@ use Rattle.mesh_run.specs.declared.fault.Fault.TheVariants.{Halted, Read, Write,
 -- ---- one line
 
 -- a scene stands for a state, and out took what that state has printed since it held base
-pub record StandsAt {S : Type 0} (stands : S → State → Type 0) (base now : Option (List ℕ))
-    (scene : S) (state : State) : Type 0 where
+pub record StandsAt {S X : Type 0} (text : X → List ℕ) (stands : S → X → Type 0)
+    (base now : Option (List ℕ)) (scene : S) (state : X) : Type 0 where
   pub scene_is : stands scene state
-  pub printed : Appends base now (text_of state)
+  pub printed : Appends base now (text state)
 
 -- a line after which the run goes on: where it stands
-pub record Carried {S : Type 0} (stands : S → State → Type 0) (outcome : Outcome)
-    (base now : Option (List ℕ)) (scene : S) : Type 0 where
-  pub after : State
+pub record Carried {S X : Type 0} (text : X → List ℕ) (stands : S → X → Type 0)
+    (outcome : OutcomeOf X) (base now : Option (List ℕ)) (scene : S) : Type 0 where
+  pub after : X
   pub carried : outcome ≡ Goes after
-  pub standing : StandsAt stands base now scene after
+  pub standing : StandsAt text stands base now scene after
 
 -- a line that ends the run: out took what is printed up to there
-pub record HaltsLine (outcome : Outcome) (base now : Option (List ℕ)) (number line : ℕ)
-    (stop : Stop) : Type 0 where
-  pub after : State
+pub record HaltsLine {X : Type 0} (text : X → List ℕ) (outcome : OutcomeOf X)
+    (base now : Option (List ℕ)) (number line : ℕ) (stop : Stop) : Type 0 where
+  pub after : X
   pub ended : outcome ≡ Ends after stop
   pub numbered : line ≡ number
-  pub printed : Appends base now (text_of after)
+  pub printed : Appends base now (text after)
 
 -- the cause of a fault while a line is carried out, which reads nothing
-abbrev pub CarryFails : Outcome → (base now : Option (List ℕ)) → ℕ → Fault → Type 0
-CarryFails outcome base now number (Halted line stop) =
-    HaltsLine outcome base now number line stop
-CarryFails outcome base now number Read = ⊥
-CarryFails outcome base now number Write = AppendsLess base now (text_of (reached outcome))
-CarryFails outcome base now number Memory = AppendsFront base now (text_of (reached outcome))
+abbrev pub CarryFails : {X : Type 0} → (X → List ℕ) → OutcomeOf X → (base now : Option (List ℕ))
+    → ℕ → Fault → Type 0
+CarryFails text outcome base now number (Halted line stop) =
+    HaltsLine text outcome base now number line stop
+CarryFails text outcome base now number Read = ⊥
+CarryFails text outcome base now number Write = AppendsLess base now (text (reached outcome))
+CarryFails text outcome base now number Memory = AppendsFront base now (text (reached outcome))
 
 -- from each state at which the scene stood, a call comes to the one that has this outcome
-abbrev pub CarriesOn : {S : Type 0} → (S → State → Type 0) → (old new : Option (List ℕ))
-    → (before after : S) → (State → Outcome) → Result (Unit {0}) Fault → Type 0
-CarriesOn stands old new before after outcome result =
-    (base : Option (List ℕ)) (state : State) → StandsAt stands base old before state
-    → OnOk result (Carried stands (outcome state) base new after)
+abbrev pub CarriesOn : {S X : Type 0} → (X → List ℕ) → (S → X → Type 0)
+    → (old new : Option (List ℕ)) → (before after : S) → (X → OutcomeOf X)
+    → Result (Unit {0}) Fault → Type 0
+CarriesOn {X = X} text stands old new before after outcome result =
+    (base : Option (List ℕ)) (state : X) → StandsAt text stands base old before state
+    → OnOk result (Carried text stands (outcome state) base new after)
 
 -- from each state at which the scene stood, a call's fault has its cause in this outcome
-abbrev pub BreaksOff : {S A : Type 0} → (S → State → Type 0) → (old new : Option (List ℕ)) → S
-    → (State → Outcome) → ℕ → Result A Fault → Type 0
-BreaksOff stands old new before outcome number result =
-    (base : Option (List ℕ)) (state : State) → StandsAt stands base old before state
-    → IfErr result (CarryFails (outcome state) base new number)
+abbrev pub BreaksOff : {S X A : Type 0} → (X → List ℕ) → (S → X → Type 0)
+    → (old new : Option (List ℕ)) → S → (X → OutcomeOf X) → ℕ → Result A Fault → Type 0
+BreaksOff {X = X} text stands old new before outcome number result =
+    (base : Option (List ℕ)) (state : X) → StandsAt text stands base old before state
+    → IfErr result (CarryFails text (outcome state) base new number)
+
+-- the cause of a fault while the end of an input that prints this is carried out: nothing halts there
+abbrev pub EndFails : (base now : Option (List ℕ)) → List ℕ → Fault → Type 0
+EndFails base now text (Halted line stop) = ⊥
+EndFails base now text Read = ⊥
+EndFails base now text Write = AppendsLess base now text
+EndFails base now text Memory = AppendsFront base now text
 
 -- where the run of a state until a moment leads: on to that of another, or to its end there
 abbrev pub LeadsBy : Setup → ℕ → State → State → Bool → Type 0
@@ -71,13 +80,13 @@ pub record Sliced {S : Type 0} (stands : S → State → Type 0) (setup : Setup)
     (base now : Option (List ℕ)) (scene : S) (more : Bool) : Type 0 where
   pub mid : State
   pub leads : LeadsBy setup t from mid more
-  pub standing : StandsAt stands base now scene mid
+  pub standing : StandsAt text_of stands base now scene mid
 
 -- from each state at which the scene stood, a call carries out a slice of its run until a moment
 abbrev pub GoesOnBy : {S : Type 0} → (S → State → Type 0) → Setup → (old new : Option (List ℕ))
     → (before after : S) → ℕ → Result Bool Fault → Type 0
 GoesOnBy stands setup old new before after t result =
-    (base : Option (List ℕ)) (state : State) → StandsAt stands base old before state
+    (base : Option (List ℕ)) (state : State) → StandsAt text_of stands base old before state
     → IfOk result (Sliced stands setup t state base new after)
 
 -- ---- counts of faults

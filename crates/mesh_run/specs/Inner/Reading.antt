@@ -4,7 +4,7 @@
 use Rattle.std.specs.Prelude.{ℕ, ◌+◌, ◌≤◌, List, ◌++◌, length, Option, IfSome, Result, IfErr}
 use Rattle.std.specs.Io.KnownBytes.{Consumes, IsAtEnd}
 use Rattle.mesh_base.specs.Faults.{Rose}
-use Rattle.mesh_model.specs.declared.frame_choice.FrameChoice.{FrameChoice}
+use Rattle.mesh_model.specs.declared.input_kind.InputKind.{InputKind}
 use Rattle.mesh_model.specs.Run.Statuses.{memory_status, read_fault_status, stop_status, write_fault_status}
 use Rattle.mesh_model.specs.Text.Messages.{halt_text, memory_text, read_fault_text, write_fault_text}
 use Rattle.mesh_run.specs.Inner.Progress.{FailsIn}
@@ -29,39 +29,39 @@ pub record CountsFaults (reads_old reads_new writes_old writes_new : ℕ)
   pub cause : IfErr result (Blames reads_old reads_new writes_old writes_new)
 
 -- the input was read to its end, and its run is at its end too
-pub record ReadsAll (choice : FrameChoice) (first left base now : Option (List ℕ)) : Type 0 where
+pub record ReadsAll (kind : InputKind) (first left base now : Option (List ℕ)) : Type 0 where
   pub read : List ℕ
   pub took : Consumes first left read
   pub at_end : IsAtEnd left
-  pub finished : Finishes choice base now read
+  pub finished : Finishes kind base now read
 
 -- a fault that has its cause in the input, and a halt at most so many bytes before the end of what
 -- was read
-pub record FailsNear (choice : FrameChoice) (first left base now : Option (List ℕ))
+pub record FailsNear (kind : InputKind) (first left base now : Option (List ℕ))
     (fault : Fault) : Type 0 where
   pub read : List ℕ
   pub took : Consumes first left read
   pub least : ℕ
-  pub fails : IfSome left (λ rest. FailsIn choice base now least (read ++ rest) fault)
+  pub fails : IfSome left (λ rest. FailsIn kind base now least (read ++ rest) fault)
   pub near : length read ≤ least + most_read_past
 
 -- the cause of a fault while an open input is read
-abbrev pub ReadFails : FrameChoice → (first left base now : Option (List ℕ)) → Fault → Type 0
-ReadFails choice first left base now (Halted line stop) =
-    FailsNear choice first left base now (Halted line stop)
-ReadFails choice first left base now Read = PrintsRead choice base now first left
-ReadFails choice first left base now Write = FailsNear choice first left base now Write
-ReadFails choice first left base now Memory = FailsNear choice first left base now Memory
+abbrev pub ReadFails : InputKind → (first left base now : Option (List ℕ)) → Fault → Type 0
+ReadFails kind first left base now (Halted line stop) =
+    FailsNear kind first left base now (Halted line stop)
+ReadFails kind first left base now Read = PrintsRead kind base now first left
+ReadFails kind first left base now Write = FailsNear kind first left base now Write
+ReadFails kind first left base now Memory = FailsNear kind first left base now Memory
 
 -- ---- the whole run
 
 -- what a run that met a fault leaves, where its input is told
-abbrev pub RunFails : FrameChoice → (old new first left : Option (List ℕ)) → Fault → List ℕ → Type 0
-RunFails choice old new first left (Halted line stop) input =
-    HaltsNear choice old new left input (record { line = line; stop = stop })
-RunFails choice old new first left Read input = PrintsTaken choice old new first left input
-RunFails choice old new first left Write input = PrintsLessOf choice old new input
-RunFails choice old new first left Memory input = PrintsFrontOf choice old new input
+abbrev pub RunFails : InputKind → (old new first left : Option (List ℕ)) → Fault → List ℕ → Type 0
+RunFails kind old new first left (Halted line stop) input =
+    HaltsNear kind old new left input (record { line = line; stop = stop })
+RunFails kind old new first left Read input = PrintsTaken kind old new first left input
+RunFails kind old new first left Write input = PrintsLessOf kind old new input
+RunFails kind old new first left Memory input = PrintsFrontOf kind old new input
 
 -- the status of a fault
 abbrev pub fault_status : Fault → ℕ

@@ -4,6 +4,7 @@ use Rattle.std.proofs.lemmas.Result.{err_from_is_err_and}
 use Rattle.mesh_model.specs.Net.Limits.{scenario_setup}
 use Rattle.mesh_model.specs.Run.Outcome.{Outcome}
 use Rattle.mesh_model.specs.Run.Passing.{run_until}
+use Rattle.mesh_model.specs.Run.State.{text_of}
 use Rattle.mesh_run.specs.Inner.Lines.{Carried, CarryFails}
 use Rattle.mesh_scene.specs.SceneStands.{SceneStands}
 use Rattle.mesh_scene.proofs.NetLemmas.{net_clock}
@@ -35,7 +36,7 @@ returns-in_err-run_until-clause-failed g c = λ base state stands.
     let is : c.in-Some.end ≡ state.clock + c.args.time = omega (arith, now, end) in
     let within : state.clock + c.args.time ≤ 1099511627776 = omega (arith, is, low) in
     let outcome = time_passes (scenario_setup g.A.Algo.queries) state c.args.time (grind (arith, nat_tests, within)) ∙ ap (λ (t : ℕ). run_until (scenario_setup g.A.Algo.queries) t state) (sym is) in
-    let P : Outcome → Type 0 = λ o. CarryFails o base (g.K.Sink.taken c.run_until.new.out) c.args.number c.in_err-run_until.field-0.0 in
+    let P : Outcome → Type 0 = λ o. CarryFails text_of o base (g.K.Sink.taken c.run_until.new.out) c.args.number c.in_err-run_until.field-0.0 in
     rw (p.1, p.2) (subst P (sym outcome) (c.in_err-run_until.ensures.failed base state stands))
 
 pub returns-clause-ok : goal.returns-clause-ok
@@ -46,5 +47,5 @@ returns-clause-ok g c = λ base state stands.
     let is : c.in-Some.end ≡ state.clock + c.args.time = omega (arith, now, end) in
     let within : state.clock + c.args.time ≤ 1099511627776 = omega (arith, is, low) in
     let outcome = time_passes (scenario_setup g.A.Algo.queries) state c.args.time (grind (arith, nat_tests, within)) ∙ ap (λ (t : ℕ). run_until (scenario_setup g.A.Algo.queries) t state) (sym is) in
-    let P : Outcome → Type 0 = λ o. Carried (SceneStands g.A.Choosable.algorithm g.A.Algo.queries g.A.Algo.stands) o base (g.K.Sink.taken c.run_until.new.out) c.run_until.new.scene in
+    let P : Outcome → Type 0 = λ o. Carried text_of (SceneStands g.A.Choosable.algorithm g.A.Algo.queries g.A.Algo.stands) o base (g.K.Sink.taken c.run_until.new.out) c.run_until.new.scene in
     subst P (sym outcome) (c.in_ok-run_until.ensures.ok base state stands)

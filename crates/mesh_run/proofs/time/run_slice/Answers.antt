@@ -2,7 +2,10 @@ use Rattle.std.proofs.Common.{ℕ, List, subst}
 use Rattle.std.proofs.lemmas.Result.{err_from_is_err_and}
 use Rattle.std.specs.Io.KnownBytes.{Appends}
 use Rattle.mesh_model.specs.Net.Limits.{scenario_setup}
+use Rattle.mesh_model.specs.Run.Outcome.{reached}
 use Rattle.mesh_model.specs.Run.Passing.{run_until}
+use Rattle.mesh_model.specs.Run.State.{text_of}
+use Rattle.mesh_laws.proofs.RunLemmas.{text-grows}
 use Rattle.mesh_scene.specs.SceneStands.{SceneStands}
 use Rattle.mesh_scene.specs.Slices.{Passes}
 use Rattle.mesh_run.specs.Outcome.{AppendsLess}
@@ -14,7 +17,8 @@ use Rattle.mesh_run.proofs.time.run_slice.Goals as goal
 pub returns-in_err-passage-clause-failed : goal.returns-in_err-passage-clause-failed
 returns-in_err-passage-clause-failed g c = λ base state stands.
     let p = err_from_is_err_and c.from_residual.result c.from_residual.ensures.1 in
-    rw (p.1, p.2) (front-before base (g.K.Sink.taken c.args.out.now) state (run_until (scenario_setup g.A.Algo.queries) c.args.end state) (run_prints (scenario_setup g.A.Algo.queries) c.args.end state) stands.printed)
+    let outcome = run_until (scenario_setup g.A.Algo.queries) c.args.end state in
+    rw (p.1, p.2) (front-before text_of base (g.K.Sink.taken c.args.out.now) state outcome (text-grows state (reached outcome) (run_prints (scenario_setup g.A.Algo.queries) c.args.end state)) stands.printed)
 
 pub returns-in-Err-clause-failed : goal.returns-in-Err-clause-failed
 returns-in-Err-clause-failed g c = λ base state stands.

@@ -1,41 +1,24 @@
-use Rattle.std.proofs.Common.{◌≡◌, ◌≢◌, ℕ, ◌+◌, List, vec_len, arith, subst, sym, ◌∙◌}
-use Rattle.std.proofs.lemmas.Bool.{eqb-true, eqb-false}
 use Rattle.std.proofs.lemmas.Result.{err_from_is_err_and}
-use Rattle.mesh_model.specs.Scenario.Commands.{command_of_line}
-use Rattle.mesh_model.specs.Run.PlainRun.{after_lines, after_reading, start}
-use Rattle.mesh_scene.specs.StageStands.{StageStands}
-use Rattle.mesh_run.specs.Inner.Lines.{Carried, CarryFails}
-use Rattle.mesh_run.proofs.EndLemmas.{FailsIn-last, Finishes-empty, Finishes-last, nil-from_length}
+use Rattle.mesh_model.specs.Scenario.Lines.{lines_of}
+use Rattle.mesh_run.specs.Inner.Kinds.{lines_by}
+use Rattle.mesh_run.proofs.EndLemmas.{FailsIn-end, Finishes-end}
 use Rattle.mesh_run.proofs.runner.Runner.finish.Goals as goal
 
-pub returns-then-is_empty-clause-ok : goal.returns-then-is_empty-clause-ok
-returns-then-is_empty-clause-ok g c = λ choice base read stands.
-    let runner = c.args.self in
-    let zero_long : vec_len runner.line ≡ 0 = eqb-true (vec_len runner.line) 0 (sym c.is_empty.ensures ∙ c.if-is_empty.true) in
-    Finishes-empty choice base (g.K.Sink.taken c.args.out.now) runner read stands (nil-from_length runner.line.items (omega (arith, runner.line.ok.0, zero_long)))
-
-pub returns-in_err-carry_line-clause-failed : goal.returns-in_err-carry_line-clause-failed
-returns-in_err-carry_line-clause-failed g c = λ choice base read stands.
+pub returns-in_err-last_line-clause-failed : goal.returns-in_err-last_line-clause-failed
+returns-in_err-last_line-clause-failed g c = λ kind base read stands.
     let p = err_from_is_err_and c.from_residual.result c.from_residual.ensures.1 in
-    let runner = c.args.self in
-    let old = g.K.Sink.taken c.args.out.now in
-    let new = g.K.Sink.taken c.carry_line.new.out in
-    let state = (after_lines (start choice) stands.lines).state in
-    let some : vec_len runner.line ≢ 0 = eqb-false (vec_len runner.line) 0 (sym c.is_empty.ensures ∙ c.if-is_empty.false) in
-    let P : List ℕ → Type 0 = λ line. CarryFails (after_reading state (command_of_line line)) base new (runner.lines + 1) c.in_err-carry_line.field-0.0 in
+    rw (p.1, p.2) (c.in_err-last_line.ensures.failed kind base read stands)
+
+pub returns-in_err-end-clause-failed : goal.returns-in_err-end-clause-failed
+returns-in_err-end-clause-failed g c = λ kind base read stands.
+    let p = err_from_is_err_and c.from_residual-in_err-end.result c.from_residual-in_err-end.ensures.1 in
+    let old = g.K.Sink.taken c.last_line.new.out in
+    let new = g.K.Sink.taken c.end.new.out in
+    let behind = c.in_ok-last_line.ensures.ok kind base read stands in
     rw (p.1, p.2)
-    (FailsIn-last choice base old new runner read c.in_err-carry_line.field-0.0 stands (omega (arith, runner.line.ok.0, runner.short))
-    (omega (arith, runner.line.ok.0, some)) runner.within
-    (subst P c.as_slice-line.ensures.value (c.in_err-carry_line.ensures.failed base state stands.at)))
+    (FailsIn-end kind base old new c.last_line.new.self.carrier read c.in_err-end.field-0.0 behind (c.in_err-end.ensures.failed kind base (lines_by kind (lines_of read)).state behind.at))
 
 pub returns-clause-ok : goal.returns-clause-ok
-returns-clause-ok g c = λ choice base read stands.
-    let runner = c.args.self in
-    let old = g.K.Sink.taken c.args.out.now in
-    let new = g.K.Sink.taken c.carry_line.new.out in
-    let state = (after_lines (start choice) stands.lines).state in
-    let some : vec_len runner.line ≢ 0 = eqb-false (vec_len runner.line) 0 (sym c.is_empty.ensures ∙ c.if-is_empty.false) in
-    let P : List ℕ → Type 0 = λ line. Carried StageStands (after_reading state (command_of_line line)) base new c.carry_line.new.stage in
-    Finishes-last choice base old new runner c.carry_line.new.stage read stands (omega (arith, runner.line.ok.0, runner.short))
-    (omega (arith, runner.line.ok.0, some)) runner.within
-    (subst P c.as_slice-line.ensures.value (c.in_ok-carry_line.ensures.ok base state stands.at))
+returns-clause-ok g c = λ kind base read stands.
+    let behind = c.in_ok-last_line.ensures.ok kind base read stands in
+    Finishes-end kind base (g.K.Sink.taken c.last_line.new.out) (g.K.Sink.taken c.end.new.out) c.last_line.new.self.carrier read behind (c.in_ok-end.ensures.ok kind base (lines_by kind (lines_of read)).state behind.at)

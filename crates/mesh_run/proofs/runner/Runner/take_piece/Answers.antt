@@ -5,17 +5,17 @@ use Rattle.mesh_run.proofs.ProgressLemmas.{Fails-later}
 use Rattle.mesh_run.proofs.runner.Runner.take_piece.Goals as goal
 
 pub returns-in_err-take_lines-2-clause-failed : goal.returns-in_err-take_lines-2-clause-failed
-returns-in_err-take_lines-2-clause-failed g c = λ choice base read stands.
+returns-in_err-take_lines-2-clause-failed g c = λ kind base read stands.
     let p = err_from_is_err_and c.from_residual-in_err-take_lines-2.result c.from_residual-in_err-take_lines-2.ensures.1 in
     let piece = c.args.piece.now in
     let room = 67108864 - c.args.self.now.taken in
     let all = ap (λ bytes. read ++ bytes) (sym (take-append-drop room piece)) ∙ sym (append_assoc read (take room piece) (drop room piece)) in
     rw (p.1, p.2)
-    (Fails-later choice base (g.K.Sink.taken c.take_lines-2.new.out) (length read + 1) (length read + 1) (read ++ take room piece) (read ++ piece) (drop room piece)
-    c.in_err-take_lines-2.field-0.0 (omega arith) all (c.in_err-take_lines-2.ensures.failed choice base read stands))
+    (Fails-later kind base (g.K.Sink.taken c.take_lines-2.new.out) (length read + 1) (length read + 1) (read ++ take room piece) (read ++ piece) (drop room piece)
+    c.in_err-take_lines-2.field-0.0 (omega arith) all (c.in_err-take_lines-2.ensures.failed kind base read stands))
 
 pub returns-clause-failed : goal.returns-clause-failed
-returns-clause-failed g c = λ choice base read stands.
+returns-clause-failed g c = λ kind base read stands.
     let piece = c.args.piece.now in
     let room = 67108864 - c.args.self.now.taken in
     let byte = get_or piece room 0 in
@@ -25,9 +25,9 @@ returns-clause-failed g c = λ choice base read stands.
     let split : piece ≡ take room piece ++ byte ∷ more = sym (take-append-drop room piece) ∙ ap (λ bytes. take room piece ++ bytes) (drop_more piece room 0 (omega arith)) in
     let all : read ++ piece ≡ (front ++ byte ∷ []) ++ more = ap (λ bytes. read ++ bytes) split ∙ sym (append_assoc read (take room piece) (byte ∷ more))
     ∙ sym (append_assoc front (byte ∷ []) more) in
-    Fails-later choice base now (length front + 1) (length read + 1) (front ++ byte ∷ []) (read ++ piece) more c.past_input.result
+    Fails-later kind base now (length front + 1) (length read + 1) (front ++ byte ∷ []) (read ++ piece) more c.past_input.result
     (omega (arith, length-append read (take room piece))) all
-    (c.past_input.ensures.failed choice base now front (c.in_ok-take_lines-2.ensures.ok choice base read stands))
+    (c.past_input.ensures.failed kind base now front (c.in_ok-take_lines-2.ensures.ok kind base read stands))
 
 pub returns-clause-faults : goal.returns-clause-faults
 returns-clause-faults g c = record {

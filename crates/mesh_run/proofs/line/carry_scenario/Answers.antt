@@ -6,16 +6,17 @@ use Rattle.mesh_model.specs.Run.PlainRun.{after_reading}
 use Rattle.mesh_model.specs.Scenario.Commands.{command_of_line}
 use Rattle.mesh_laws.proofs.Lines.ReadRange.{read-has-gateways, read-in-range}
 use Rattle.mesh_scene.specs.StageStands.{outcome_on_stage}
+use Rattle.mesh_model.specs.Run.State.{text_of}
 use Rattle.mesh_run.specs.Inner.Lines.{CarryFails}
 use Rattle.mesh_run.proofs.FaultLemmas.{line_blameless, reading_fails}
-use Rattle.mesh_run.proofs.line.carry_line.Goals as goal
+use Rattle.mesh_run.proofs.line.carry_scenario.Goals as goal
 
 pub returns-in_err-choose-in-Ok-Algo-clause-failed : goal.returns-in_err-choose-in-Ok-Algo-clause-failed
 returns-in_err-choose-in-Ok-Algo-clause-failed g c = λ base state stands.
     let p = err_from_is_err_and c.from_residual.result c.from_residual.ensures.1 in
     let taken = g.K.Sink.taken c.args.out.now in
     let outcome = ap (after_reading state) c.in-Ok-Algo.ensures.ok ∙ ap (λ (command : Command). outcome_on_stage command state) c.in-Ok-Algo.field-0-is in
-    let P : Outcome → Type 0 = λ o. CarryFails o base taken c.args.number c.in_err-choose-in-Ok-Algo.field-0.0 in
+    let P : Outcome → Type 0 = λ o. CarryFails text_of o base taken c.args.number c.in_err-choose-in-Ok-Algo.field-0.0 in
     rw (p.1, p.2) (subst P (sym outcome) (c.in_err-choose-in-Ok-Algo.ensures.failed taken base state stands))
 
 pub returns-in_err-choose-in-Ok-Algo-clause-faults : goal.returns-in_err-choose-in-Ok-Algo-clause-faults
@@ -27,7 +28,7 @@ pub returns-in_err-run_on_stage-in-Ok-Run-clause-failed : goal.returns-in_err-ru
 returns-in_err-run_on_stage-in-Ok-Run-clause-failed g c = λ base state stands.
     let p = err_from_is_err_and c.from_residual-in_err-run_on_stage-in-Ok-Run.result c.from_residual-in_err-run_on_stage-in-Ok-Run.ensures.1 in
     let outcome = ap (after_reading state) c.in-Ok-Run.ensures.ok ∙ ap (λ (command : Command). outcome_on_stage command state) c.in-Ok-Run.field-0-is in
-    let P : Outcome → Type 0 = λ o. CarryFails o base (g.K.Sink.taken c.run_on_stage.new.out) c.args.number c.in_err-run_on_stage-in-Ok-Run.field-0.0 in
+    let P : Outcome → Type 0 = λ o. CarryFails text_of o base (g.K.Sink.taken c.run_on_stage.new.out) c.args.number c.in_err-run_on_stage-in-Ok-Run.field-0.0 in
     rw (p.1, p.2) (subst P (sym outcome) (c.in_err-run_on_stage-in-Ok-Run.ensures.failed base state stands))
 
 pub carry_on_stage-requires : goal.carry_on_stage-requires
@@ -45,7 +46,7 @@ returns-in_err-carry_on_stage-in-Ok g c =
       ok = λ base state stands. rw p.1 tt;
       failed = λ base state stands.
           let outcome = ap (after_reading state) c.in-Ok.ensures.ok in
-          let P : Outcome → Type 0 = λ o. CarryFails o base (g.K.Sink.taken c.carry_on_stage.new.out) c.args.number c.in_err-carry_on_stage-in-Ok.field-0.0 in
+          let P : Outcome → Type 0 = λ o. CarryFails text_of o base (g.K.Sink.taken c.carry_on_stage.new.out) c.args.number c.in_err-carry_on_stage-in-Ok.field-0.0 in
           rw (p.1, p.2) (subst P (sym outcome) (c.in_err-carry_on_stage-in-Ok.ensures.failed base state stands));
       faults = record { kept = c.in_err-carry_on_stage-in-Ok.ensures.faults.kept; cause = rw (p.1, p.2) c.in_err-carry_on_stage-in-Ok.ensures.faults.cause };
       somewhere = rw p.1 tt;
