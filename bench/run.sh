@@ -1,9 +1,9 @@
 #!/bin/sh
 # How many link frames a second the built program carries out, and its peak memory: two nodes with a
 # link each way for 100,000 seconds, and a ring of 64 nodes with links to the eight next to each,
-# until the limit of frames; first with no frame printed, then with all. The files are made in a
-# folder of their own, which is removed. Then how long meshes of 8 and of 64 nodes take that the
-# program makes itself.
+# until the limit of frames; first with no frame printed, then with all, then with the routes told.
+# The files are made in a folder of their own, which is removed. Then how long meshes of 8 and of 64
+# nodes take that the program makes itself.
 set -e
 top=$(cd "$(dirname "$0")/.." && pwd)
 . "$top/bench/measure.sh"
@@ -52,6 +52,7 @@ frames 'two nodes, all printed' all "$work/duo" 400000
 ring 1000000 > "$work/ring"
 frames 'ring to the limit, none printed' none "$work/ring" 4194304
 frames 'ring to the limit, all printed' all "$work/ring" 4194304
+frames 'ring to the limit, routes told' route "$work/ring" 4194304
 
 # The best of five calls that generate a mesh of $1 nodes.
 generate() {

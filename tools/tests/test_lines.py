@@ -120,6 +120,10 @@ show B tl
 > tl B version=0 clients=0
 show B alf
 > alfred B mode=primary facts=0
+set B vis on
+set B vis off
+show B vis
+> vis B []
 """
 MARK = "> "
 LINES = [line for line in EACH_FORM.splitlines() if not line.startswith(MARK)]

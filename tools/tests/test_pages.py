@@ -1,10 +1,11 @@
-"""The examples of tools/README.md and of the vectors' page print what stands below them."""
+"""The examples of the tools, vectors and pictures pages print what stands below them."""
 
+import json
 import os
 import re
 import subprocess
 
-from common import EXAMPLES, PROGRAM, TOOLS, Folder, needs_command, needs_dpkt, needs_program
+from common import EXAMPLES, PROGRAM, TOOLS, TOP, Folder, needs_command, needs_dpkt, needs_program
 
 TELLS = re.compile(r"(prints|begins|ends)\b")
 
@@ -44,6 +45,15 @@ class Pages(Folder):
     def test_the_vectors_page(self):
         vectors = EXAMPLES / "vectors"
         self.assertEqual(self.compare(vectors / "README.md", vectors), 1)
+
+    @needs_command("jq", "jq")
+    def test_the_page_of_pictures(self):
+        printed = (EXAMPLES / "network.out").read_text()
+        network = re.search(r"^vis C (.*)$", printed, re.M)[1]
+        self.assertEqual([len(node["neighbors"]) for node in json.loads(network)], [1, 2, 1])
+        (self.folder / "network.json").write_text(network)
+        (self.folder / "tools").symlink_to(TOOLS)
+        self.assertEqual(self.compare(TOP / "docs" / "PICTURES.md", self.folder), 3)
 
     @needs_command("tshark", "tshark")
     @needs_dpkt

@@ -81,6 +81,8 @@ class Transcript(Folder):
 class WithTheProgram(Folder):
     def test_the_examples_print_what_stands_beside_them(self):
         for scenario in sorted(EXAMPLES.glob("*.scn")):
+            if scenario.with_suffix(".args").exists():
+                continue  # its call has words that a transcript's has not
             with self.subTest(scenario.name):
                 _, out, _ = run_tool("transcript", scenario)
                 bar = " " * 17 + "| "
