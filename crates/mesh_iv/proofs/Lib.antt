@@ -4,7 +4,6 @@ pub mod AverageLemmas
 pub mod BestWalk
 pub mod StandLemmas
 pub mod HeardRows
-pub mod AskLemmas
 pub mod StepLemmas
 pub mod FirstLemmas
 pub mod ValueLemmas

@@ -5,6 +5,7 @@ use Rattle.std.specs.List.Sorted.{IsStrictlySortedBy}
 use Rattle.std.specs.Map.{keys_of, lookup}
 use Rattle.mesh_base.specs.declared.address.Mac.{Mac}
 use Rattle.mesh_model.specs.Routes.Addresses.{mac_order, same_mac}
+use Rattle.mesh_algo.specs.declared.best.Best.{Best}
 use Rattle.mesh_algo.specs.declared.life.Life.{Life}
 use Rattle.mesh_algo.specs.declared.pair.Pair.{Pair}
 use Rattle.mesh_algo.specs.LifeRows.{forwarded_by, life_with, newest_by}
@@ -24,11 +25,14 @@ abbrev pub path_put : OgmCame → Path → List (Pair × Path) → Pair → Opti
 path_put came row rows pair =
     if same_pair (pair_of came) pair then Some row else lookup (same_pair pair) rows
 
--- whether the best neighbour is then that from which the OGM came
+-- the best neighbour is then this
+abbrev pub best_after : OgmCame → Option Life → List (Pair × Path) → Option Best
+best_after came life rows =
+    walk (path_score (max (newest_by life) came.seq)) came.orig None rows
+
+-- whether that is the one from which the OGM came
 abbrev pub is_over_after : OgmCame → Option Life → List (Pair × Path) → Bool
-is_over_after came life rows =
-    is_best came.from
-    (walk (path_score (max (newest_by life) came.seq)) came.orig None rows)
+is_over_after came life rows = is_best came.from (best_after came life rows)
 
 -- the originator's row is then this, in a life that began with a restart at a moment, if so
 abbrev pub life_then : OgmCame → Option ℕ → Option Life → ℕ → List (Pair × Path) → Life

@@ -140,7 +140,7 @@ impl Iv {
         let value = self.value(ogm, path, newest);
         let row = path.with(ogm.seq, value);
         self.bests.reserve(1)?;
-        let forward = write(
+        let written = write(
             &mut self.lives,
             &mut self.paths,
             ogm,
@@ -150,12 +150,11 @@ impl Iv {
             row,
             value,
         )?;
-        let best = best_near(&self.paths, near.first, ogm.orig, newest);
-        put_near(&mut self.bests, near.life, ogm.orig, best).unwrap();
+        put_near(&mut self.bests, near.life, ogm.orig, written.best).unwrap();
         Ok(Hearing {
             accepted: is_accepted(ogm.seq, life),
             began: life.is_none(),
-            forward,
+            forward: written.forward,
         })
     }
 

@@ -1,12 +1,13 @@
-use Rattle.std.proofs.Common.{◌≡◌, ◌∙◌, ap, ap₂, sym, subst, cond, true, ◌&&◌, Some}
+use Rattle.std.proofs.Common.{◌≡◌, ◌∙◌, ap, ap₂, sym, subst, cond, max, None, Some}
 use Rattle.std.specs.List.Sorted.{IsStrictlySortedBy}
 use Rattle.std.specs.Map.{keys_of, lookup}
 use Rattle.mesh_model.specs.Routes.Addresses.{mac_order, same_mac}
-use Rattle.mesh_algo.specs.LifeRows.{forwarded_by, life_with}
+use Rattle.mesh_algo.specs.LifeRows.{forwarded_by, life_with, newest_by}
 use Rattle.mesh_algo.specs.Pairs.{pair_order, rows_kept, same_pair}
+use Rattle.mesh_algo.specs.Walk.{is_best, walk}
 use Rattle.mesh_iv.specs.Hears.{goes_on}
+use Rattle.mesh_iv.specs.Rows.{path_score}
 use Rattle.mesh_iv.specs.Writing.{is_over_after, life_then, path_put}
-use Rattle.mesh_iv.proofs.AskLemmas.{asked_goes}
 use Rattle.mesh_algo.proofs.PutLemmas.{none_test}
 use Rattle.mesh_iv.proofs.writing.write.Goals as goal
 
@@ -18,10 +19,11 @@ returns-clause-written c =
     let same_lives : c.reserve.new.self.entries ≡ c.args.lives.now.entries = c.reserve.ensures.entries in
     let rises : IsStrictlySortedBy pair_order (keys_of c.args.paths.now.entries) → IsStrictlySortedBy pair_order (keys_of c.put_path.new.paths.entries)
     = λ sorted. c.in_ok-put_path.ensures.rises (subst (λ rows. IsStrictlySortedBy pair_order (keys_of rows)) (sym same_paths) sorted) in
-    let over : IsStrictlySortedBy pair_order (keys_of c.args.paths.now.entries) → c.is_over-over.result ≡ (goes_on came c.args.value (forwarded_by life) true && is_over_after came life c.put_path.new.paths.entries)
-    = λ sorted. c.is_over-over.ensures (rises sorted) in
+    let top : c.max-newest.result ≡ max (newest_by life) came.seq = c.max-newest.ensures ∙ ap (λ n. max n came.seq) c.newest_of.ensures in
+    let over : IsStrictlySortedBy pair_order (keys_of c.args.paths.now.entries) → c.is_best-over.result ≡ is_over_after came life c.put_path.new.paths.entries
+    = λ sorted. c.is_best-over.ensures ∙ ap (is_best came.from) (c.best_near-best.ensures (rises sorted) ∙ ap (λ n. walk (path_score n) came.orig None c.put_path.new.paths.entries) top) in
     let row : IsStrictlySortedBy pair_order (keys_of c.args.paths.now.entries) → c.life_after-after.result ≡ life_then came c.args.restarted life c.args.value c.put_path.new.paths.entries
-    = λ sorted. c.life_after-after.ensures ∙ ap (λ b. life_with came.moment came.seq c.args.restarted life b) (c.goes_on-sent.ensures ∙ ap (λ b. goes_on came c.args.value (forwarded_by life) b) (over sorted) ∙ asked_goes came c.args.value (forwarded_by life) (is_over_after came life c.put_path.new.paths.entries)) in
+    = λ sorted. c.life_after-after.ensures ∙ ap (λ b. life_with came.moment came.seq c.args.restarted life b) (c.goes_on-sent.ensures ∙ ap (λ b. goes_on came c.args.value (forwarded_by life) b) (over sorted)) in
     record {
       paths_are = λ pair. c.in_ok-put_path.ensures.updated pair
           ∙ ap (λ p. cond (same_pair p pair) (Some c.args.row) (lookup (same_pair pair) (rows_kept c.is_none.result p.orig c.reserve-2.new.self.entries))) c.pair.ensures

@@ -1,12 +1,11 @@
-use Rattle.std.proofs.Common.{◌≡◌, ◌∙◌, ap, ap₂, cond, sym, subst, max, None, Some}
+use Rattle.std.proofs.Common.{◌≡◌, ◌∙◌, ap, ap₂, cond, sym, subst, max, Some}
 use Rattle.std.specs.List.Sorted.{IsStrictlySortedBy}
 use Rattle.std.specs.Map.{keys_of, lookup}
 use Rattle.mesh_model.specs.Routes.Addresses.{same_mac}
-use Rattle.mesh_algo.specs.Walk.{walk}
 use Rattle.mesh_algo.specs.LifeRows.{newest_by}
 use Rattle.mesh_algo.specs.Pairs.{pair_order}
 use Rattle.mesh_iv.specs.Hears.{hearing_of}
-use Rattle.mesh_iv.specs.Rows.{path_score, path_with}
+use Rattle.mesh_iv.specs.Rows.{path_with}
 use Rattle.mesh_iv.specs.Tables.{Tables}
 use Rattle.mesh_iv.specs.Writing.{IsWritten}
 use Rattle.mesh_iv.proofs.FirstLemmas.{first_stands, first_answer}
@@ -25,12 +24,11 @@ returns-clause-noted c =
     let value_is : c.value-value.result ≡ (hearing_of me log came).value = c.value-value.ensures me log row f top in
     let written : IsWritten came c.args.restarted row (path_with c.args.path.now came.seq c.value-value.result) c.value-value.result (old.lives, old.paths) (new.lives, new.paths)
     = subst (λ t. IsWritten came c.args.restarted row (path_with c.args.path.now came.seq c.value-value.result) c.value-value.result (t.lives, t.paths) (new.lives, new.paths)) c.self.view_is
-    (subst (λ r. IsWritten came c.args.restarted row r c.value-value.result (c.self.inside.lives.entries, c.self.inside.paths.entries) (new.lives, new.paths)) c.with-row.ensures c.in_ok-forward.ensures.written) in
+    (subst (λ r. IsWritten came c.args.restarted row r c.value-value.result (c.self.inside.lives.entries, c.self.inside.paths.entries) (new.lives, new.paths)) c.with-row.ensures c.in_ok-written.ensures.written) in
     let put = rw c.unwrap.ensures at c.put_near.ensures in
-    let best : c.best_near-best.result ≡ walk (path_score (max (newest_by row) came.seq)) came.orig None new.paths
-    = c.best_near-best.ensures (written.paths_rise is.stands.paths_stand.rise) ∙ ap (λ n. walk (path_score n) came.orig None new.paths) top in
+    let sorted = subst (λ t. IsStrictlySortedBy pair_order (keys_of t.paths)) (sym c.self.view_is) is.stands.paths_stand.rise in
     first_stands me log came f.first c.args.restarted row c.args.path.now c.value-value.result old new is f.path_is value_is written tp began (ap (λ t. t.me) c.self.view_is) (ap (λ t. t.sent) c.self.view_is)
-    (λ q. put.updated q ∙ ap₂ (λ b rows. cond (same_mac came.orig q) (Some b) (lookup (same_mac q) rows)) best (c.reserve.ensures.entries ∙ ap (λ t. t.bests) c.self.view_is))
+    (λ q. put.updated q ∙ ap₂ (λ b rows. cond (same_mac came.orig q) (Some b) (lookup (same_mac q) rows)) (c.in_ok-written.ensures.best sorted) (c.reserve.ensures.entries ∙ ap (λ t. t.bests) c.self.view_is))
 
 pub returns-clause-heard : goal.returns-clause-heard
 returns-clause-heard c =
@@ -44,7 +42,7 @@ returns-clause-heard c =
     let value_is : c.value-value.result ≡ (hearing_of me log came).value = c.value-value.ensures me log row f top in
     let written : IsWritten came c.args.restarted row (path_with c.args.path.now came.seq c.value-value.result) c.value-value.result (old.lives, old.paths) (new.lives, new.paths)
     = subst (λ t. IsWritten came c.args.restarted row (path_with c.args.path.now came.seq c.value-value.result) c.value-value.result (t.lives, t.paths) (new.lives, new.paths)) c.self.view_is
-    (subst (λ r. IsWritten came c.args.restarted row r c.value-value.result (c.self.inside.lives.entries, c.self.inside.paths.entries) (new.lives, new.paths)) c.with-row.ensures c.in_ok-forward.ensures.written) in
+    (subst (λ r. IsWritten came c.args.restarted row r c.value-value.result (c.self.inside.lives.entries, c.self.inside.paths.entries) (new.lives, new.paths)) c.with-row.ensures c.in_ok-written.ensures.written) in
     let sorted = subst (λ t. IsStrictlySortedBy pair_order (keys_of t.paths)) (sym c.self.view_is) is.stands.paths_stand.rise in
-    first_answer me log came f.first c.args.restarted row c.args.path.now c.value-value.result old new is f.path_is value_is written c.is_accepted.result c.is_none.result c.in_ok-forward.forward
-    c.is_accepted.ensures (none_test row c.is_none.result c.is_none.ensures) (c.in_ok-forward.ensures.answer sorted)
+    first_answer me log came f.first c.args.restarted row c.args.path.now c.value-value.result old new is f.path_is value_is written c.is_accepted.result c.is_none.result c.in_ok-written.written.forward
+    c.is_accepted.ensures (none_test row c.is_none.result c.is_none.ensures) (c.in_ok-written.ensures.forward sorted)
