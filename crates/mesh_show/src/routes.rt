@@ -12,18 +12,6 @@ use mesh_base::{Millis, NoMemory};
 use mesh_model::{Algorithm, LinkRow, OrigRow};
 use std::alloc::Global;
 
-/// The live originators of a node.
-fn orig_rows<A: Algo>(alloc: Global, algo: &A, now: Millis) -> Result<Vec<OrigRow>, NoMemory>
-    ensures { IfOk result (λ rows. (me : Mac) (log : RouteLog) → A.stands algo.now me log →
-        rows.items ≡ (A.queries me).originators log now) }
-{
-    let mut rows = Vec::new(alloc);
-    while let Some(row) = algo.orig_at(now, rows.len()) {
-        rows.push(row)?;
-    }
-    Ok(rows)
-}
-
 /// The neighbours of a node.
 fn link_rows<A: Algo>(alloc: Global, algo: &A, now: Millis) -> Result<Vec<LinkRow>, NoMemory>
     ensures { IfOk result (λ rows. (me : Mac) (log : RouteLog) → A.stands algo.now me log →
@@ -102,7 +90,7 @@ pub fn show_originators<A: Choosable>(
           rows = (A.queries me).originators log now;
         })) }
 {
-    let rows = orig_rows(alloc, algo, now)?;
+    let rows = algo.originators(alloc, now)?;
     put_originators(out, name, A::algorithm(), rows.as_slice())?;
     Ok(())
 }

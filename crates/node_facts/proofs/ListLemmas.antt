@@ -1,5 +1,5 @@
 -- The first of a list, and one more; and facts that are printed one by one.
-use Rattle.std.proofs.Common.{◌≡◌, ◌<◌, ◌≤◌, ℕ, suc, zero, ◌+◌, length, map, List, [], ◌∷◌, ◌++◌, slice_get, take, Some, refl, sym, ap, ◌∙◌, length-append, arith}
+use Rattle.std.proofs.Common.{◌≡◌, ◌<◌, ◌≤◌, ℕ, suc, zero, ◌+◌, length, map, List, [], ◌∷◌, ◌++◌, slice_get, take, Some, refl, ap, ◌∙◌, arith}
 use Rattle.mesh_model.specs.declared.service.Fact.{Fact}
 use Rattle.mesh_model.specs.Acts.BridgeRows.{Place}
 use Rattle.mesh_model.specs.Acts.FactRows.{fact_line, facts_told}
@@ -14,13 +14,6 @@ taken_next xs i x is = next xs i x is ∙ ap (λ n. take n xs) (more i)
   where
     more : (n : ℕ) → suc n ≡ n + 1
     more n = omega arith
-
--- rows that are the first ones, with the next
-pub rows_next : {X : Type 0} (rows new all : List X) (row : X) → rows ≡ take (length rows) all → new ≡ rows ++ row ∷ [] → Some row ≡ slice_get all (length rows)
-    → new ≡ take (length new) all
-rows_next rows new all row are is there =
-    let longer : length new ≡ suc (length rows) = omega (arith, ap length is, length-append rows (row ∷ [])) in
-    is ∙ ap (λ front. front ++ row ∷ []) are ∙ next all (length rows) row (sym there) ∙ ap (λ n. take n all) (sym longer)
 
 -- the first so many are no more
 pub few_taken : {X : Type 0} (n : ℕ) (xs : List X) → length (take n xs) ≤ n

@@ -9,7 +9,6 @@ ghost use Rattle.mesh_model.specs.Knowledge.Known.{Knowledge};
 ghost use Rattle.mesh_model.specs.Knowledge.OwnPictures.{puts_picture, takes_part, with_picture};
 ghost use Rattle.mesh_model.specs.Packets.Pictures.{picture_spelling};
 ghost use Rattle.mesh_model.specs.Routes.BestRoute.{is_over};
-ghost use Rattle.mesh_model.specs.Routes.RouteLog.{RouteLog};
 ghost use Rattle.mesh_model.specs.Services.Pictures.{clients_in, if_neighbour, most_clients, most_neighbours, own_picture};
 ghost use Rattle.node_ground.specs.KnowledgeStands.{KnowledgeStands};
 ghost use Rattle.node_ground.specs.SettingsSeen.{settings_seen};
@@ -42,18 +41,6 @@ fn puts_picture(settings: Settings, index: u64) -> bool
     ensures { result ≡ puts_picture (settings_seen settings) index }
 {
     index % TICKS_OF_ROUND == 0 && settings.pictures && takes_part(settings.fact_store)
-}
-
-// The live originators.
-fn originators<A: Algo>(alloc: Global, algo: &A, now: Millis) -> Result<Vec<OrigRow>, NoMemory>
-    ensures { IfOk result (λ rows. (me : Mac) (log : RouteLog) → A.stands algo.now me log →
-        rows.items ≡ (A.queries me).originators log now) }
-{
-    let mut rows = Vec::new(alloc);
-    while let Some(row) = algo.orig_at(now, rows.len()) {
-        rows.push(row)?;
-    }
-    Ok(rows)
 }
 
 // Whether the best route to an originator leads straight there.
@@ -105,7 +92,7 @@ fn picture_bytes<A: Algo>(
         bytes.items ≡ picture_spelling (own_picture (A.queries me) known.routes now
         (last_commit history.commits).table)) }
 {
-    let rows = originators(kept.alloc, &kept.algo, now)?;
+    let rows = kept.algo.originators(kept.alloc, now)?;
     let neighbours = first_neighbours(kept.alloc, rows.as_slice())?;
     let clients = first_clients(kept.alloc, locals.last_table().as_slice())?;
     let mut bytes = Vec::new(kept.alloc);
