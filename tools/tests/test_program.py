@@ -24,6 +24,12 @@ class Broken(Folder):
         )
         return done.returncode, done.stdout, done.stderr.decode()
 
+    def unreadable(self):
+        """A folder in the place of an input."""
+        given = os.open(self.folder, os.O_RDONLY)
+        self.addCleanup(os.close, given)
+        return given
+
     def of_bytes(self, data):
         return self.ending(self.write("given", data))
 
@@ -69,9 +75,12 @@ class Broken(Folder):
 
     def test_a_folder_is_a_read_fault(self):
         self.assertEqual(self.ending(self.folder), (3, b"", "batmesh: read fault\n"))
-        given = os.open(self.folder, os.O_RDONLY)
-        self.addCleanup(os.close, given)
-        self.assertEqual(self.ending(given=given), (3, b"", "batmesh: read fault\n"))
+        self.assertEqual(self.ending(given=self.unreadable()), (3, b"", "batmesh: read fault\n"))
+
+    def test_for_a_generated_mesh_nothing_is_read(self):
+        counts = b"generated nodes=3 frames=1384 recv=117 commits=53 ok=6 of=6\n"
+        ended = self.ending("--generate", "3", given=self.unreadable())
+        self.assertEqual(ended, (0, counts, ""))
 
     def test_a_blank_at_the_end_of_a_name_belongs_to_it(self):
         self.write("given", NODE)

@@ -70,6 +70,14 @@ class Generated(unittest.TestCase):
         for choice in ("ogm", "none", "client", "all"):
             ended = run_lines([], "--frames", choice, "--generate", "8")
             self.assertEqual(ended, finished([line]))
+        self.assertEqual(run_lines([], "--generate=8", "--frames=all"), finished([line]))
+
+    @needs_program
+    def test_a_mesh_of_64_nodes_is_counted_alike(self):
+        """The most nodes, twice."""
+        line = "generated nodes=64 frames=88173 recv=1491 commits=60 ok=1973 of=4032"
+        for _ in range(2):
+            self.assertEqual(run_lines([], "--generate", "64"), finished([line]))
 
 
 class Long(unittest.TestCase):

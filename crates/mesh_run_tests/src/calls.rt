@@ -44,28 +44,3 @@ fn words_name_the_lines(rt: HostRuntime) -> Result<(), Fail> {
     ];
     call(&rt, rt.alloc(), &rows)
 }
-
-#[test]
-fn generated_meshes_are_counted(rt: HostRuntime) -> Result<(), Fail> {
-    let three = b"generated nodes=3 frames=1384 recv=117 commits=53 ok=6 of=6\n".as_slice();
-    let eight = b"generated nodes=8 frames=6950 recv=375 commits=74 ok=56 of=56\n".as_slice();
-    let rows: [Row<'_>; 2] = [
-        (&["--generate", "3"], FINISHED, three, b"", false),
-        (
-            &["--generate=8", "--frames=all"],
-            FINISHED,
-            eight,
-            b"",
-            false,
-        ),
-    ];
-    call(&rt, rt.alloc(), &rows)
-}
-
-// The most nodes, twice.
-#[test]
-fn a_mesh_of_64_nodes_is_counted_alike(rt: HostRuntime) -> Result<(), Fail> {
-    let most = b"generated nodes=64 frames=88173 recv=1491 commits=60 ok=1973 of=4032\n".as_slice();
-    let row: Row<'_> = (&["--generate", "64"], FINISHED, most, b"", false);
-    call(&rt, rt.alloc(), &[row, row])
-}
