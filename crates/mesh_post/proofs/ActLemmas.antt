@@ -19,7 +19,7 @@ use Rattle.mesh_model.specs.Routes.Queries.{Queries}
 use Rattle.std.specs.List.{filter, list_any}
 use Rattle.mesh_model.specs.Text.Events.{is_shown}
 use Rattle.mesh_post.specs.declared.post.Post.{Post}
-use Rattle.mesh_post.specs.declared.row.Posted.{Posted}
+use Rattle.mesh_post.specs.Posting.{Posted}
 use Rattle.mesh_post.specs.declared.row.Put.{Put}
 use Rattle.mesh_post.specs.declared.row.Sender.{Sender}
 use Rattle.mesh_post.specs.declared.row.Sending.{Sending}

@@ -6,7 +6,7 @@ use Rattle.mesh_model.specs.Net.Mesh.{NetLink, SentFrame, LanPut, Mesh}
 use Rattle.mesh_model.specs.Net.Runs.{leads, throughput_between}
 use Rattle.mesh_model.specs.Net.Sending.{ways}
 use Rattle.mesh_post.specs.declared.post.Post.{Post}
-use Rattle.mesh_post.specs.declared.row.Posted.{Posted}
+use Rattle.mesh_post.specs.Posting.{Posted}
 use Rattle.mesh_post.specs.declared.row.Put.{Put}
 use Rattle.mesh_post.specs.declared.row.Row.{Row}
 use Rattle.mesh_post.specs.declared.row.Sending.{Sending}

@@ -11,7 +11,7 @@ use Rattle.mesh_model.specs.Net.Next.{Has}
 use Rattle.mesh_laws.proofs.Schedule.Members.{filter_has, has_filter, one_some}
 use Rattle.mesh_post.specs.declared.marks.Mark.{Mark}
 use Rattle.mesh_post.specs.declared.post.Post.{Post}
-use Rattle.mesh_post.specs.declared.row.Posted.{Posted}
+use Rattle.mesh_post.specs.Posting.{Posted}
 use Rattle.mesh_post.specs.declared.row.Put.{Put}
 use Rattle.mesh_post.specs.declared.row.Sending.{Sending}
 use Rattle.mesh_post.specs.Refused.{Enters, IsAsBefore, IsMark, KeepsJoined, TakesBack, is_older, stays}

@@ -11,7 +11,7 @@ use Rattle.mesh_model.specs.Net.Mesh.{NetLink, SentFrame, LanPut, Mesh}
 use Rattle.mesh_model.specs.Net.Next.{Has}
 use Rattle.mesh_model.specs.Net.Sending.{frames_on, put_bytes, total_bytes}
 use Rattle.mesh_model.specs.Scenario.Terms.{held_mark}
-use Rattle.mesh_post.specs.declared.row.Posted.{Posted}
+use Rattle.mesh_post.specs.Posting.{Posted}
 use Rattle.mesh_post.specs.declared.row.Put.{Put}
 use Rattle.mesh_post.specs.declared.row.Sending.{Sending}
 use Rattle.mesh_model.specs.Net.Limits.{frames_limit}

@@ -9,7 +9,7 @@ use Rattle.mesh_model.specs.Net.Sending.{frames_on, put_bytes, total_bytes, ways
 use Rattle.mesh_model.specs.Scenario.LinkOptions.{least_delay, delay_limit}
 use Rattle.mesh_post.specs.declared.post.Post.{Post}
 use Rattle.mesh_post.specs.declared.row.Row.{Row}
-use Rattle.mesh_post.specs.declared.row.Posted.{Posted}
+use Rattle.mesh_post.specs.Posting.{Posted}
 use Rattle.mesh_post.specs.declared.row.Put.{Put}
 use Rattle.mesh_post.specs.declared.row.Sending.{Sending}
 

@@ -9,7 +9,7 @@ use Rattle.mesh_model.specs.Net.Next.{Has}
 use Rattle.mesh_post.specs.declared.marks.Mark.{Mark}
 use Rattle.mesh_post.specs.declared.port.NetPort.{NetPort}
 use Rattle.mesh_post.specs.declared.post.Post.{Post}
-use Rattle.mesh_post.specs.declared.row.Posted.{Posted}
+use Rattle.mesh_post.specs.Posting.{Posted}
 use Rattle.mesh_post.specs.declared.row.Put.{Put}
 use Rattle.mesh_post.specs.declared.row.Sending.{Sending}
 

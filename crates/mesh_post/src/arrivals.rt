@@ -17,7 +17,7 @@ impl Post {
             (slice_get mesh.frames place)) }
     {
         let frame = self.frames.get(place as usize)?;
-        let row = self.rows.get(frame.link as usize)?;
+        let row = self.rows.get(frame.link() as usize)?;
         Some(row.to)
     }
 
@@ -34,9 +34,9 @@ impl Post {
             result ≡ None }
     {
         let frame = self.frames.get(place as usize)?;
-        let row = self.rows.get(frame.link as usize)?;
+        let row = self.rows.get(frame.link() as usize)?;
         Some(Arrival {
-            sending: frame.sending,
+            sending: frame.sending(),
             to: row.to,
             from: row.start,
             tp: self.throughput(row.to, row.from),

@@ -8,6 +8,7 @@ mod leaving;
 mod marks;
 mod port;
 mod post;
+mod posted;
 mod puts;
 mod queue;
 mod rising;

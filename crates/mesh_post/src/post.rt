@@ -9,8 +9,9 @@ ghost use Rattle.mesh_post.specs.Kept.{RowIs};
 ghost use Rattle.mesh_post.specs.Joining.{with_node, with_link};
 ghost use Rattle.mesh_post.specs.Sent.{InStep};
 
+use crate::posted::Posted;
 use crate::queue::Queue;
-use crate::row::{Gateways, Posted, Put, Row, Sending, Ways};
+use crate::row::{Gateways, Put, Row, Sending, Ways};
 use mesh_base::NoMemory;
 use mesh_model::FrameChoice;
 use std::alloc::Global;

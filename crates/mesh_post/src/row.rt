@@ -73,13 +73,6 @@ pub struct Told {
     pub reason: Option<Reason>,
 }
 
-/// A frame that was sent, by the places of its link and its sending.
-#[derive(Clone, Copy, Debug)]
-pub struct Posted {
-    pub link: u32,
-    pub sending: u32,
-}
-
 /// A LAN frame that was put, by the places of its LAN and its sending, and that of the gateway that
 /// put it, where one did.
 #[derive(Clone, Copy, Debug)]

@@ -14,7 +14,8 @@ ghost use Rattle.mesh_post.specs.Refused.{Enters, IsAsBefore};
 ghost use Rattle.mesh_post.specs.declared.row.Lane.{Lane};
 
 use crate::post::{Post, place_of};
-use crate::row::{Lane, Parcel, Posted, Sender, Sending, Told};
+use crate::posted::Posted;
+use crate::row::{Lane, Parcel, Sender, Sending, Told};
 use crate::shown::{is_shown, shows};
 use mesh_base::{Bytes, Event, Events, Mac, NoMemory, Reason};
 use node_ground::PortErr;
@@ -218,10 +219,7 @@ impl Post {
     {
         let place = place_of(self.frames.len())?;
         self.queue.wait(lane.mark, place, sender.now, lane.delay)?;
-        self.frames.push(Posted {
-            link: way,
-            sending: parcel.sending,
-        })?;
+        self.frames.push(Posted::new(way, parcel.sending)?)?;
         if let Some(turn) = self.turns.get_mut(way as usize) {
             *turn = lane.turn.saturating_add(1);
         }

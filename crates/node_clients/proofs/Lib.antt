@@ -3,3 +3,4 @@ pub mod GroupLemmas
 pub mod SightLemmas
 pub mod LanLemmas
 pub mod RoamingLemmas
+pub mod OgmFrames

@@ -1,7 +1,8 @@
 //! The clients that roamed away, by the advertisements that reach their node.
 
-ghost use Rattle.std.specs.Prelude.{◌≡◌, ℕ, List, ◌++◌, filter_map, option_map};
+ghost use Rattle.std.specs.Prelude.{◌≡◌, ℕ, List, [], ◌++◌, true, filter_map, option_map};
 ghost use Rattle.std.specs.List.{cons_option};
+ghost use Rattle.mesh_base.specs.declared.address.Mac.{Mac};
 ghost use Rattle.mesh_codec.specs.Frames.{seen};
 ghost use Rattle.mesh_model.specs.Clients.Mentions.{Mention, roamed, roamed_by};
 ghost use Rattle.mesh_model.specs.Commits.History.{History};
@@ -9,6 +10,7 @@ ghost use Rattle.mesh_model.specs.Packets.LinkFrame.{link_frame};
 ghost use Rattle.tt_local.specs.Locals.{LocalsStand};
 
 use mesh_base::{Key, Mac};
+use mesh_codec::numbers::{IV_OGM, OGM2};
 use mesh_codec::{Head, LinkFrame, Packet};
 use node_ground::reading::first_roaming;
 use tt_local::Locals;
@@ -43,6 +45,17 @@ fn note_packet(locals: &mut Locals, me: Mac, packet: &Packet<'_>)
     }
 }
 
+// Whether a link frame begins as an originator message, and so names no client.
+fn is_ogm(bytes: &[u8]) -> bool
+    ensures { result ≡ true → (me : Mac) (now : ℕ) →
+        filter_map (roamed_by me now) (link_frame bytes.now).packets ≡ [] }
+{
+    let [kind, ..] = bytes else {
+        return false;
+    };
+    *kind == IV_OGM || *kind == OGM2
+}
+
 /// Notes the clients that the advertisements for this node in a link frame name.
 pub fn note_roamed(locals: &mut Locals, me: Mac, bytes: &[u8])
     ensures { (mentions : List Mention) (history : History) (since now : ℕ) →
@@ -50,6 +63,9 @@ pub fn note_roamed(locals: &mut Locals, me: Mac, bytes: &[u8])
         LocalsStand locals.new
         (filter_map (roamed_by me now) (link_frame bytes.now).packets ++ mentions) history since }
 {
+    if is_ogm(bytes) {
+        return;
+    }
     let mut frame = LinkFrame::new(bytes);
     while let Ok(packet) = frame.next() {
         note_packet(locals, me, &packet);

@@ -23,7 +23,7 @@ returns-in_err-row-clause-some c = λ sendings mesh frame link stands found on.
     let low = slice_get_within c.args.self.now.rows.items frame.link h.row h.found in
     let high = c.in_err-row.ensures.lookup.3 in
     let same = ap length c.deref-2.ensures.value in
-    let at = is.link in
+    let at = c.link.ensures ∙ is.link in
     absurd (omega (arith, low, high, same, at))
 
 pub returns-clause-some : goal.returns-clause-some
@@ -34,8 +34,8 @@ returns-clause-some c = λ sendings mesh frame link stands found on.
     let is : FrameIs sendings frame c.in_ok-frame.frame.now = subst (FrameIs sendings frame) posted_is f.2 in
     let h = stands.rows.each frame.link link on in
     let m = c.in_ok-row.ensures.lookup in
-    let read : slice_get c.args.self.now.rows.items c.in_ok-frame.frame.now.link ≡ Some c.in_ok-row.row.now = rw (← c.deref-2.ensures.value) (got c.deref-2.result.now c.in_ok-frame.frame.now.link c.in_ok-row.row.now m.3.0 m.1) in
-    let row_is : h.row ≡ c.in_ok-row.row.now = some_one _ _ (sym h.found ∙ ap (slice_get c.args.self.now.rows.items) (sym is.link) ∙ read) in
+    let read : slice_get c.args.self.now.rows.items c.link.result ≡ Some c.in_ok-row.row.now = rw (← c.deref-2.ensures.value) (got c.deref-2.result.now c.link.result c.in_ok-row.row.now m.3.0 m.1) in
+    let row_is : h.row ≡ c.in_ok-row.row.now = some_one _ _ (sym h.found ∙ ap (slice_get c.args.self.now.rows.items) (sym (c.link.ensures ∙ is.link)) ∙ read) in
     let row : RowIs mesh.nodes link c.in_ok-row.row.now = subst (RowIs mesh.nodes link) row_is h.is in (
       _,
       refl,
@@ -44,7 +44,7 @@ returns-clause-some c = λ sendings mesh frame link stands found on.
         from = row.start;
         throughput = c.throughput.ensures ∙ rw (row.to, row.from) (back_is c.args.self.now sendings mesh link.to link.from stands row.ends);
         sending = is.sending;
-        found = is.found;
+        found = ap (slice_get sendings) c.sending.ensures ∙ is.found;
         bytes = is.bytes;
         root = is.root;
       },

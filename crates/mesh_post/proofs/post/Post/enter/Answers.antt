@@ -10,6 +10,11 @@ returns-in_err-wait-clause-enters c =
     let next : c.in_ok-place.place ≡ length c.args.self.now.frames.items = search rules in
     frame_entered c.args.self.now _ c.in_ok-place.place [] (search rules) next (search rules) (search rules) (search rules) c.wait.ensures.others
 
+pub returns-in_err-new-clause-enters : goal.returns-in_err-new-clause-enters
+returns-in_err-new-clause-enters c =
+    let next : c.in_ok-place.place ≡ length c.args.self.now.frames.items = search rules in
+    frame_entered c.args.self.now _ c.in_ok-place.place [] (search rules) next (search rules) (search rules) (search rules) c.wait.ensures.others
+
 pub returns-in_err-push-clause-enters : goal.returns-in_err-push-clause-enters
 returns-in_err-push-clause-enters c =
     let next : c.in_ok-place.place ≡ length c.args.self.now.frames.items = search rules in

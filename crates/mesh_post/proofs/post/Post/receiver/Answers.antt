@@ -17,13 +17,14 @@ returns-in_err-row c = λ sendings mesh stands.
     let found : slice_get c.args.self.now.frames.items c.args.place ≡ Some c.in_ok-frame.frame.now = rw (← c.deref.ensures.value) (got c.deref.result.now c.args.place c.in_ok-frame.frame.now k.3.0 k.1) in
     let high = c.in_err-row.ensures.lookup.3 in
     let same = ap length c.deref-2.ensures.value in
+    let at = c.link.ensures in
     let none : c.from_residual-in_err-row.result ≡ None = search rules in
-    none ∙ sym (receiver_off c.args.self.now sendings mesh c.args.place stands c.in_ok-frame.frame.now found (omega (arith, high, same)))
+    none ∙ sym (receiver_off c.args.self.now sendings mesh c.args.place stands c.in_ok-frame.frame.now found (omega (arith, high, same, at)))
 
 pub returns : goal.returns
 returns c = λ sendings mesh stands.
     let k = c.in_ok-frame.ensures.lookup in
     let found : slice_get c.args.self.now.frames.items c.args.place ≡ Some c.in_ok-frame.frame.now = rw (← c.deref.ensures.value) (got c.deref.result.now c.args.place c.in_ok-frame.frame.now k.3.0 k.1) in
     let m = c.in_ok-row.ensures.lookup in
-    let read : slice_get c.args.self.now.rows.items c.in_ok-frame.frame.now.link ≡ Some c.in_ok-row.row.now = rw (← c.deref-2.ensures.value) (got c.deref-2.result.now c.in_ok-frame.frame.now.link c.in_ok-row.row.now m.3.0 m.1) in
-    sym (receiver_row c.args.self.now sendings mesh c.args.place stands c.in_ok-frame.frame.now c.in_ok-row.row.now found read)
+    let read : slice_get c.args.self.now.rows.items c.link.result ≡ Some c.in_ok-row.row.now = rw (← c.deref-2.ensures.value) (got c.deref-2.result.now c.link.result c.in_ok-row.row.now m.3.0 m.1) in
+    sym (receiver_row c.args.self.now sendings mesh c.args.place stands c.in_ok-frame.frame.now c.in_ok-row.row.now found (ap (slice_get c.args.self.now.rows.items) (sym c.link.ensures) ∙ read))
