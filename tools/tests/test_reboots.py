@@ -36,6 +36,19 @@ class Alone(unittest.TestCase):
         self.assertEqual(ended, finished(["tl A version=0 clients=0", *committed(1000)]))
 
     @needs_program
+    def test_a_byte_is_counted_from_the_first_commit_since_the_reboot(self):
+        """The checksums of clients 1, 2, 5 and 6 are together 0, as those of commit 257, which has
+        no client. That is a first commit, under byte 0, and 263 is under byte 1."""
+        ended = self.shown(
+            frame("A", 9), "run 1000", frame("A", 3), "run 1000", *["reboot A"] * 260,
+            *[frame("A", number) for number in (1, 2, 5, 6)], "run 1000", "show A tl",
+        )
+        self.assertEqual(ended, finished([
+            "tl A version=1 clients=4", "vlan - sum=00000000",
+            *[f"c {client(number)} - -- age=1000" for number in (1, 2, 5, 6)],
+        ]))
+
+    @needs_program
     def test_its_ticks_go_on(self):
         """It commits at 1000 and 2000, though it reboots at 1500."""
         ended = self.shown(
