@@ -4,7 +4,7 @@ import json
 import unittest
 
 from common import needs_program
-from scenarios import A, ALL, B, DUO, client, finished, frame, node_mac, received, run_lines
+from scenarios import A, ALL, B, DUO, client, finished, frame, node_mac, run_lines
 
 ALONE = f"node A {A}"
 
@@ -16,7 +16,7 @@ HUB = ["algo v", ALONE, "alfred A mode primary", "set A vis on"]
 
 
 def picture(node, neighbours=(), clients=()):
-    """What a node tells of itself: its neighbours with their metrics, its clients with their VLANs."""
+    """What a node tells of itself: neighbours with their metrics, and clients with their VLANs."""
     return {
         "clients": [f"{number}/{vid}" for number, vid in clients],
         "neighbors": [{"metric": metric, "router": router} for router, metric in neighbours],

@@ -289,8 +289,8 @@ class Facts(unittest.TestCase):
 
     @needs_program
     def test_all_types_of_two_nodes_come_whole(self):
-        """A pushes 192 facts of 1,000 bytes, a part each, and B has as many of its own. B's answer has
-        one of either."""
+        """A pushes 192 facts of 1,000 bytes, a part each, and B has as many of its own. B's answer
+        has one of either."""
         types = range(64, 256)
         put = [f"alfred {node} put {kind} 9 {kind:01000d}" for kind in types for node in "AB"]
         rows = [f"a {mac} {kind} 9 {mark} age={age} {kind:01000d}"

@@ -112,7 +112,6 @@ class Loops(unittest.TestCase):
             with self.subTest(words):
                 self.assertEqual(run_lines([], *words), (2, "", "batmesh: usage\n"))
 
-
     @needs_program
     def test_a_fault_leaves_the_moment_under_way_untold(self):
         given = text_of(self.LOOPED).encode()

@@ -58,8 +58,8 @@ class Tshark(Folder):
                 self.assertEqual(lines, as_told_by_both(texts), head)
             else:
                 unread += 1
-        print(f"of {sent} frames, {len(frames)} different, tshark read all but {unread} as decode does",
-              flush=True)
+        different = f"{sent} frames, {len(frames)} different"
+        print(f"of {different}, tshark read all but {unread} as decode does", flush=True)
 
 
 def sent_packets(text):
