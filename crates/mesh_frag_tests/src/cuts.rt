@@ -30,26 +30,3 @@ fn a_packet_of_324_bytes_has_two_fragments(rt: HostRuntime) -> Result<(), Fail> 
     assert_eq!(rt; cuts.at(2).is_none(), true);
     Ok(())
 }
-
-#[test]
-fn a_packet_one_byte_too_long_has_two(rt: HostRuntime) -> Result<(), Fail> {
-    let packet = packet_of(&rt, 301)?;
-    let cuts = cut(rt.alloc(), &packet, 300, A, 1)?;
-    assert_eq!(rt; cuts.len(), 2);
-    assert_eq!(rt; is_at(&cuts, 0, 301, 280), true);
-    assert_eq!(rt; is_at(&cuts, 1, 301, 21), true);
-    Ok(())
-}
-
-#[test]
-fn a_longer_packet_has_up_to_sixteen(rt: HostRuntime) -> Result<(), Fail> {
-    let packet = packet_of(&rt, 4_074)?;
-    let cuts = cut(rt.alloc(), &packet, 300, A, 1)?;
-    assert_eq!(rt; cuts.len(), 15);
-    assert_eq!(rt; is_at(&cuts, 14, 4_074, 154), true);
-    let packet = packet_of(&rt, 4_480)?;
-    let cuts = cut(rt.alloc(), &packet, 300, A, 1)?;
-    assert_eq!(rt; cuts.len(), 16);
-    assert_eq!(rt; is_at(&cuts, 15, 4_480, 280), true);
-    Ok(())
-}
