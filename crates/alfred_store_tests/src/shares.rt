@@ -33,6 +33,5 @@ fn a_node_tells_what_it_has_at_first_hand(rt: HostRuntime) -> Result<(), Fail> {
     assert_eq!(rt; store.shared(0, Share::Own)?.len(), 1);
     assert_eq!(rt; store.shared(0, Share::FirstHand)?.len(), 2);
     assert_eq!(rt; store.of_type(0, 64)?.len(), 3);
-    assert_eq!(rt; store.of_type(600_000, 64)?.len(), 0);
     Ok(())
 }

@@ -1,52 +1,7 @@
-use super::ended::{ROOM, SHOWN_TWICE, TABLE, TABLE_TWICE, UNKNOWN_AT_7, run_over};
+use super::ended::{ROOM, SHOWN_TWICE, TABLE_TWICE, UNKNOWN_AT_7, run_over};
 use mesh_base::{MemIntake, MemSink};
 use mesh_run::{LIMITED, READ_FAULT, REFUSED, USAGE, WRITE_FAULT, batmesh};
 use std::test::Fail;
-
-#[test]
-fn each_failing_read_prints_the_lines_that_had_come(rt: HostRuntime) -> Result<(), Fail> {
-    // Call 1 opens, and each later one gives 12 bytes: lines 3 and 6 end at bytes 84 and 99. Only
-    // one call fails, so a second try of it would go on.
-    for call in 1..=12 {
-        let (status, printed, told) = match call {
-            1..=8 => (
-                READ_FAULT,
-                b"".as_slice(),
-                b"batmesh: read fault\n".as_slice(),
-            ),
-            9 | 10 => (READ_FAULT, TABLE, b"batmesh: read fault\n".as_slice()),
-            11 => (READ_FAULT, TABLE_TWICE, b"batmesh: read fault\n".as_slice()),
-            _ => (REFUSED, TABLE_TWICE, UNKNOWN_AT_7),
-        };
-        let intake = MemIntake::new(rt.alloc(), SHOWN_TWICE, 12, &[call])?;
-        let out = MemSink::new(rt.alloc(), ROOM, ROOM, &[])?;
-        let err = MemSink::new(rt.alloc(), ROOM, ROOM, &[])?;
-        let ended = run_over(rt.alloc(), intake, out, err);
-        assert_eq!(rt; ended.status, status, "at call {call}");
-        assert_eq!(rt; ended.out.taken(), printed, "at call {call}");
-        assert_eq!(rt; ended.err.taken(), told, "at call {call}");
-    }
-    Ok(())
-}
-
-#[test]
-fn each_failing_write_leaves_a_front(rt: HostRuntime) -> Result<(), Fail> {
-    // The text of 112 bytes takes at least 16 writes of 7. Only one fails, so a second try of it
-    // would go on.
-    for write in 1..=16 {
-        let intake = MemIntake::new(rt.alloc(), SHOWN_TWICE, 40, &[])?;
-        let out = MemSink::new(rt.alloc(), ROOM, 7, &[write])?;
-        let err = MemSink::new(rt.alloc(), ROOM, ROOM, &[])?;
-        let ended = run_over(rt.alloc(), intake, out, err);
-        assert_eq!(rt; ended.status, WRITE_FAULT, "at write {write}");
-        assert!(rt;
-            TABLE_TWICE.starts_with(ended.out.taken()),
-            "at write {write}"
-        );
-        assert_eq!(rt; ended.err.taken(), b"batmesh: write fault\n".as_slice());
-    }
-    Ok(())
-}
 
 #[test]
 fn an_output_that_is_full_holds_the_front_that_fits(rt: HostRuntime) -> Result<(), Fail> {
