@@ -1,6 +1,6 @@
 -- What is written into the tables for an OGM that is the first of its number from its neighbour. No
 -- public clause cites this module.
-use Rattle.std.specs.Prelude.{◌≡◌, ℕ, max, Bool, List, Option, Some, None, is_none, if◌then◌else◌}
+use Rattle.std.specs.Prelude.{◌≡◌, ℕ, ◌&&◌, nat_lt, max, Bool, false, List, Option, Some, None, IsSome, is_none, if◌then◌else◌}
 use Rattle.std.specs.List.Sorted.{IsStrictlySortedBy}
 use Rattle.std.specs.Map.{keys_of, lookup}
 use Rattle.mesh_base.specs.declared.address.Mac.{Mac}
@@ -29,6 +29,25 @@ path_put came row rows pair =
 abbrev pub best_after : OgmCame → Option Life → List (Pair × Path) → Option Best
 best_after came life rows =
     walk (path_score (max (newest_by life) came.seq)) came.orig None rows
+
+-- whether a neighbour was the best, with a greater score than this
+abbrev pub has_fallen : Option Best → Mac → ℕ → Bool
+has_fallen None k score = false
+has_fallen (Some best) k score = same_mac best.from k && nat_lt score best.score
+
+-- this was the best neighbour in the originator's life, where there was one
+pub record IsKept (came : OgmCame) (life : Option Life) (kept : Option Best)
+    (rows : List (Pair × Path)) : Type 0 where
+  pub best_is : IsSome life → kept ≡ walk (path_score (newest_by life)) came.orig None rows
+
+-- the row of an OGM was put among rows that ascend, of which this was the best neighbour
+pub record IsPut (came : OgmCame) (life : Option Life) (kept : Option Best) (row : Path)
+    (old new : List (Pair × Path)) : Type 0 where
+  pub kept_is : IsKept came life kept old
+  pub rows_are : (pair : Pair) → lookup (same_pair pair) new
+      ≡ path_put came row (rows_kept (is_none life) came.orig old) pair
+  pub rise : IsStrictlySortedBy pair_order (keys_of old)
+  pub rise_then : IsStrictlySortedBy pair_order (keys_of new)
 
 -- whether that is the one from which the OGM came
 abbrev pub is_over_after : OgmCame → Option Life → List (Pair × Path) → Bool

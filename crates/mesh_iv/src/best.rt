@@ -4,6 +4,7 @@ ghost use Rattle.indexmap.specs.IndexMap.{keys};
 ghost use Rattle.mesh_algo.specs.Pairs.{pair_order};
 ghost use Rattle.mesh_algo.specs.Walk.{walk, walk_front};
 ghost use Rattle.mesh_iv.specs.Rows.{path_score};
+ghost use Rattle.mesh_iv.specs.Writing.{has_fallen};
 
 use crate::path::Path;
 use indexmap::IndexMap;
@@ -45,4 +46,14 @@ pub(crate) fn best_from(
         best = better(best, pair.from, path.average(newest));
     }
     best
+}
+
+/// Whether a neighbour was the best, with a greater score than this.
+pub(crate) fn has_fallen(best: &Option<Best>, from: Mac, score: u32) -> bool
+    ensures { result ≡ has_fallen best.now from score }
+{
+    match best {
+        None => false,
+        Some(best) => best.from == from && score < best.score,
+    }
 }

@@ -19,7 +19,7 @@ use crate::path::Path;
 use crate::quality::transmit_quality;
 use crate::writing::write;
 use mesh_algo::life::{going_on, is_accepted, meeting, newest_of, restarted_then};
-use mesh_algo::table::put_near;
+use mesh_algo::table::{put_near, row_near};
 use mesh_algo::{Hearing, Life, Pair};
 use mesh_base::{Millis, NoMemory};
 
@@ -139,6 +139,7 @@ impl Iv {
         let newest = newest_of(life).max(ogm.seq);
         let value = self.value(ogm, path, newest);
         let row = path.with(ogm.seq, value);
+        let kept = row_near(&self.bests, near.life, ogm.orig).flatten();
         self.bests.reserve(1)?;
         let written = write(
             &mut self.lives,
@@ -147,6 +148,7 @@ impl Iv {
             near,
             restarted,
             life,
+            kept,
             row,
             value,
         )?;

@@ -1,18 +1,20 @@
-ghost use Rattle.std.specs.Prelude.{◌≡◌, IfOk, OnOk, OnErr};
+ghost use Rattle.std.specs.Prelude.{◌≡◌, List, IfOk, OnOk, OnErr};
 ghost use Rattle.std.specs.List.Sorted.{IsStrictlySortedBy};
 ghost use Rattle.indexmap.specs.IndexMap.{keys};
 ghost use Rattle.mesh_algo.specs.LifeRows.{forwarded_by};
 ghost use Rattle.mesh_algo.specs.Pairs.{pair_order};
+ghost use Rattle.mesh_algo.specs.declared.pair.Pair.{Pair};
 ghost use Rattle.mesh_iv.specs.Hears.{sent_on_as};
-ghost use Rattle.mesh_iv.specs.Writing.{IsWritten, best_after, is_over_after};
+ghost use Rattle.mesh_iv.specs.Writing.{IsKept, IsPut, IsWritten, best_after, is_over_after};
+ghost use Rattle.mesh_iv.specs.declared.path.Path.{Path};
 
-use crate::best::best_near;
+use crate::best::{best_near, has_fallen};
 use crate::forward::{goes_on, head_on};
 use crate::ogm::{OgmCame, Places};
 use crate::path::Path;
 use indexmap::IndexMap;
-use mesh_algo::best::is_best;
-use mesh_algo::life::{life_after, newest_of};
+use mesh_algo::best::{better, is_best};
+use mesh_algo::life::{is_accepted, life_after, newest_of};
 use mesh_algo::table::{put_near, put_path};
 use mesh_algo::{Best, Head, Life, Pair};
 use mesh_base::{Mac, Millis, NoMemory};
@@ -25,7 +27,7 @@ pub(crate) struct Written {
 }
 
 /// Writes the rows of an OGM that is the first of its number from its neighbour. Both tables stay as
-/// they were where memory runs out.
+/// they were where memory runs out. The best neighbour of the life before is that which was kept.
 pub(crate) fn write(
     lives: &mut IndexMap<Mac, Life>,
     paths: &mut IndexMap<Pair, Path>,
@@ -33,15 +35,19 @@ pub(crate) fn write(
     near: Places,
     restarted: Option<Millis>,
     life: &Option<Life>,
+    kept: Option<Best>,
     row: Path,
     value: u8,
 ) -> Result<Written, NoMemory>
-    ensures written { OnOk result (IsWritten ogm.now restarted life.now row value
+    ensures written { IsKept ogm.now life.now kept paths.old.entries →
+        OnOk result (IsWritten ogm.now restarted life.now row value
         (lives.old.entries, paths.old.entries) (lives.new.entries, paths.new.entries)) }
-    ensures forward { IfOk result (λ written. IsStrictlySortedBy pair_order (keys paths.old) →
+    ensures forward { IsKept ogm.now life.now kept paths.old.entries →
+        IfOk result (λ written. IsStrictlySortedBy pair_order (keys paths.old) →
         written.forward ≡ sent_on_as ogm.now value (forwarded_by life.now)
         (is_over_after ogm.now life.now paths.new.entries)) }
-    ensures best { IfOk result (λ written. IsStrictlySortedBy pair_order (keys paths.old) →
+    ensures best { IsKept ogm.now life.now kept paths.old.entries →
+        IfOk result (λ written. IsStrictlySortedBy pair_order (keys paths.old) →
         written.best ≡ best_after ogm.now life.now paths.new.entries) }
     ensures err { OnErr result ((lives.new.entries ≡ lives.old.entries)
         × (paths.new.entries ≡ paths.old.entries)) }
@@ -49,8 +55,7 @@ pub(crate) fn write(
     lives.reserve(1)?;
     paths.reserve(1)?;
     put_path(paths, near.path, ogm.pair(), life.is_none(), row)?;
-    let newest = newest_of(life).max(ogm.seq);
-    let best = best_near(paths, near.first, ogm.orig, newest);
+    let best = best_then(paths, near.first, ogm, life, kept, &row);
     let over = is_best(ogm.from, &best);
     let sent = goes_on(ogm, value, life, over);
     let after = life_after(ogm.moment, ogm.seq, restarted, life, sent);
@@ -59,4 +64,27 @@ pub(crate) fn write(
         forward: sent.then_some(head_on(ogm, value, over)),
         best,
     })
+}
+
+// The best neighbour once the row of an OGM was put. There is a walk only where all scores may be
+// others, or where the best has a smaller one. Else it is the better of two: the one that was kept,
+// and the neighbour of the OGM.
+fn best_then(
+    paths: &IndexMap<Pair, Path>,
+    near: usize,
+    ogm: &OgmCame,
+    life: &Option<Life>,
+    kept: Option<Best>,
+    row: &Path,
+) -> Option<Best>
+    ensures { (old : List (Pair × Path)) →
+        IsPut ogm.now life.now kept row.now old paths.now.entries →
+        result ≡ best_after ogm.now life.now paths.now.entries }
+{
+    let newest = newest_of(life).max(ogm.seq);
+    let score = row.average(newest);
+    if is_accepted(ogm.seq, life) || has_fallen(&kept, ogm.from, score) {
+        return best_near(paths, near, ogm.orig, newest);
+    }
+    better(kept, ogm.from, score)
 }

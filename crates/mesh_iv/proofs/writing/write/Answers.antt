@@ -1,33 +1,37 @@
-use Rattle.std.proofs.Common.{◌≡◌, ◌∙◌, ap, ap₂, sym, subst, cond, max, None, Some}
+use Rattle.std.proofs.Common.{◌≡◌, ◌∙◌, ap, ap₂, sym, subst, cond, is_none, Some}
 use Rattle.std.specs.List.Sorted.{IsStrictlySortedBy}
 use Rattle.std.specs.Map.{keys_of, lookup}
 use Rattle.mesh_model.specs.Routes.Addresses.{mac_order, same_mac}
-use Rattle.mesh_algo.specs.LifeRows.{forwarded_by, life_with, newest_by}
+use Rattle.mesh_algo.specs.declared.pair.Pair.{Pair}
+use Rattle.mesh_algo.specs.LifeRows.{forwarded_by, life_with}
 use Rattle.mesh_algo.specs.Pairs.{pair_order, rows_kept, same_pair}
-use Rattle.mesh_algo.specs.Walk.{is_best, walk}
+use Rattle.mesh_algo.specs.Walk.{is_best}
 use Rattle.mesh_iv.specs.Hears.{goes_on}
-use Rattle.mesh_iv.specs.Rows.{path_score}
-use Rattle.mesh_iv.specs.Writing.{is_over_after, life_then, path_put}
+use Rattle.mesh_iv.specs.Writing.{best_after, is_over_after, life_then, path_put}
 use Rattle.mesh_algo.proofs.PutLemmas.{none_test}
 use Rattle.mesh_iv.proofs.writing.write.Goals as goal
 
 pub returns-clause-written : goal.returns-clause-written
-returns-clause-written c =
+returns-clause-written c = λ kept.
     let came = c.args.ogm.now in
     let life = c.args.life.now in
+    let new = c.put_path.new.paths.entries in
     let same_paths : c.reserve-2.new.self.entries ≡ c.args.paths.now.entries = c.reserve-2.ensures.entries in
     let same_lives : c.reserve.new.self.entries ≡ c.args.lives.now.entries = c.reserve.ensures.entries in
-    let rises : IsStrictlySortedBy pair_order (keys_of c.args.paths.now.entries) → IsStrictlySortedBy pair_order (keys_of c.put_path.new.paths.entries)
+    let rises : IsStrictlySortedBy pair_order (keys_of c.args.paths.now.entries) → IsStrictlySortedBy pair_order (keys_of new)
     = λ sorted. c.in_ok-put_path.ensures.rises (subst (λ rows. IsStrictlySortedBy pair_order (keys_of rows)) (sym same_paths) sorted) in
-    let top : c.max-newest.result ≡ max (newest_by life) came.seq = c.max-newest.ensures ∙ ap (λ n. max n came.seq) c.newest_of.ensures in
-    let over : IsStrictlySortedBy pair_order (keys_of c.args.paths.now.entries) → c.is_best-over.result ≡ is_over_after came life c.put_path.new.paths.entries
-    = λ sorted. c.is_best-over.ensures ∙ ap (is_best came.from) (c.best_near-best.ensures (rises sorted) ∙ ap (λ n. walk (path_score n) came.orig None c.put_path.new.paths.entries) top) in
-    let row : IsStrictlySortedBy pair_order (keys_of c.args.paths.now.entries) → c.life_after-after.result ≡ life_then came c.args.restarted life c.args.value c.put_path.new.paths.entries
+    let rows : (pair : Pair) → lookup (same_pair pair) new ≡ path_put came c.args.row (rows_kept (is_none life) came.orig c.args.paths.now.entries) pair
+    = λ pair. c.in_ok-put_path.ensures.updated pair
+    ∙ ap (λ p. cond (same_pair p pair) (Some c.args.row) (lookup (same_pair pair) (rows_kept c.is_none.result p.orig c.reserve-2.new.self.entries))) c.pair.ensures
+    ∙ ap₂ (λ b rows. path_put came c.args.row (rows_kept b came.orig rows) pair) (none_test life c.is_none.result c.is_none.ensures) same_paths in
+    let best : IsStrictlySortedBy pair_order (keys_of c.args.paths.now.entries) → c.best_then-best.result ≡ best_after came life new
+    = λ sorted. c.best_then-best.ensures c.args.paths.now.entries (record { kept_is = kept; rows_are = rows; rise = sorted; rise_then = rises sorted }) in
+    let over : IsStrictlySortedBy pair_order (keys_of c.args.paths.now.entries) → c.is_best-over.result ≡ is_over_after came life new
+    = λ sorted. c.is_best-over.ensures ∙ ap (is_best came.from) (best sorted) in
+    let row : IsStrictlySortedBy pair_order (keys_of c.args.paths.now.entries) → c.life_after-after.result ≡ life_then came c.args.restarted life c.args.value new
     = λ sorted. c.life_after-after.ensures ∙ ap (λ b. life_with came.moment came.seq c.args.restarted life b) (c.goes_on-sent.ensures ∙ ap (λ b. goes_on came c.args.value (forwarded_by life) b) (over sorted)) in
     record {
-      paths_are = λ pair. c.in_ok-put_path.ensures.updated pair
-          ∙ ap (λ p. cond (same_pair p pair) (Some c.args.row) (lookup (same_pair pair) (rows_kept c.is_none.result p.orig c.reserve-2.new.self.entries))) c.pair.ensures
-          ∙ ap₂ (λ b rows. path_put came c.args.row (rows_kept b came.orig rows) pair) (none_test life c.is_none.result c.is_none.ensures) same_paths;
+      paths_are = rows;
       paths_rise = rises;
       lives_are = λ o sorted. c.in_ok-put_near.ensures.updated o ∙ ap₂ (λ r rows. cond (same_mac came.orig o) (Some r) (lookup (same_mac o) rows)) (row sorted) same_lives;
       lives_rise = λ sorted. c.in_ok-put_near.ensures.rises (subst (λ rows. IsStrictlySortedBy mac_order (keys_of rows)) (sym same_lives) sorted);
