@@ -80,7 +80,7 @@ const ROWS: [(&str, Option<LineErr>); 62] = [
     ("run 1e3", Some(BadNumber)),
     ("deliver 1000000000000000000000000000000000000000000", None),
     ("show A", Some(MissingWord)),
-    ("show A vis", Some(OutOfRange)),
+    ("show A viz", Some(OutOfRange)),
     ("decode", Some(MissingWord)),
 ];
 
