@@ -3,6 +3,7 @@ pub mod QualityLemmas
 pub mod AverageLemmas
 pub mod BestWalk
 pub mod BestKept
+pub mod RowLemmas
 pub mod StandLemmas
 pub mod HeardRows
 pub mod StepLemmas

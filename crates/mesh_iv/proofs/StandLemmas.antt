@@ -6,7 +6,6 @@ use Rattle.std.proofs.lemmas.Bool.{cases_Bool, and_parts, leb-true, not-true}
 use Rattle.mesh_base.specs.declared.address.Mac.{Mac}
 use Rattle.mesh_model.specs.Routes.Addresses.{mac_order, same_mac}
 use Rattle.mesh_model.specs.Routes.AlgorithmIv.{iv_life}
-use Rattle.mesh_model.specs.Routes.BestRoute.{best_route}
 use Rattle.mesh_model.specs.Routes.Hearings.{hearing, heard, heard_with}
 use Rattle.mesh_model.specs.Routes.Life.{HeardOgm, of, life, newest, numbers_from}
 use Rattle.mesh_model.specs.Routes.Numbers.{greatest, seen_among, window, window_length}
@@ -26,9 +25,8 @@ use Rattle.mesh_algo.specs.declared.life.Life.{Life}
 use Rattle.mesh_algo.specs.declared.pair.Pair.{Pair}
 use Rattle.mesh_iv.specs.Answers.{count_of}
 use Rattle.mesh_iv.specs.Rows.{path_score, row_of, path_row, echo_row}
-use Rattle.mesh_iv.specs.Tables.{StandsFor, Tables, best_row, path_at}
+use Rattle.mesh_iv.specs.Tables.{StandsFor, Tables, path_at}
 use Rattle.mesh_algo.specs.declared.best.Best.{Best}
-use Rattle.std.specs.Option.{option_flatten}
 use Rattle.mesh_iv.proofs.BestWalk.{walk_finds}
 
 -- ---- own numbers
@@ -107,10 +105,6 @@ pub echo_some : (me : Mac) (log : RouteLog) (k : Mac) → count_of (own_ogms log
 echo_some me log k = count_row (own_ogms log) (echoes_from me k log) _ (echoes-le me k log)
 
 -- ---- routes
-pub best_none : (score : List HeardOgm → Mac → ℕ) (alive : List HeardOgm) → life_row alive ≡ None → None ≡ best_in (score alive) alive
-unfolding best_route
-best_none score alive e = sym (ap (λ l. best_in (score l) l) (no_life alive e))
-
 pub best_some : (me : Mac) (tables : Tables) (log : RouteLog) (moment : ℕ) (o : Mac) (row : Life) → StandsFor me tables log → life_row (iv_life me log moment o) ≡ Some row
     → walk (path_score row.newest) o None tables.paths ≡ best_in (average_quality (iv_life me log moment o)) (iv_life me log moment o)
 best_some me tables log moment o row stands e =
@@ -139,15 +133,3 @@ new_stands me lives paths bests none empty no_bests = record {
   };
   bests_stand = λ o. ap (λ rows. lookup (same_mac o) rows) no_bests;
 }
-
--- ---- the best neighbour
--- that of a life, by the one that is kept
-pub kept_best : (me : Mac) (tables : Tables) (log : RouteLog) (moment : ℕ) (o : Mac) (row : Life) → StandsFor me tables log → life_row (iv_life me log moment o) ≡ Some row
-    → option_flatten (lookup (same_mac o) tables.bests) ≡ best_in (average_quality (iv_life me log moment o)) (iv_life me log moment o)
-kept_best me tables log moment o row stands e =
-    let last = life_is_latest moment (of o (heard me log)) row e in
-    ap option_flatten (stands.bests_stand o ∙ ap best_row (sym last)) ∙ go (iv_life me log moment o) e
-  where
-    go : (alive : List HeardOgm) → life_row alive ≡ Some row → option_flatten (best_row alive) ≡ best_in (average_quality alive) alive
-    go [] none = let bad : ◌≡◌ {A = Option Life} None (Some row) = none in cc
-    go (h ∷ older) some = refl

@@ -1,9 +1,8 @@
 -- The tables after an OGM is heard: what each part has to have, and an OGM that only keeps a life up.
-use Rattle.std.proofs.Common.{◌≡◌, ⊎_elim, ℕ, nat_lt, nat_le, Bool, true, false, cond, not, ◌&&◌, ◌||◌, List, [], ◌∷◌, Option, Some, None, refl, sym, ap, ap₂, ◌∙◌, subst}
+use Rattle.std.proofs.Common.{◌≡◌, ⊎_elim, ℕ, nat_lt, nat_le, Bool, true, false, cond, not, ◌&&◌, ◌||◌, List, ◌∷◌, Option, Some, None, refl, sym, ap, ap₂, ◌∙◌, subst}
 use Rattle.std.specs.List.Sorted.{IsStrictlySortedBy}
 use Rattle.std.specs.Map.{keys_of, lookup}
-use Rattle.std.specs.Option.{option_flatten}
-use Rattle.std.proofs.lemmas.Bool.{cases_Bool, false≢true, and_parts, not-true}
+use Rattle.std.proofs.lemmas.Bool.{cases_Bool, and_parts, not-true}
 use Rattle.mesh_base.specs.declared.address.Mac.{Mac}
 use Rattle.mesh_model.specs.Routes.Addresses.{mac_order, same_mac}
 use Rattle.mesh_model.specs.Routes.AlgorithmIv.{answer_to, forward_head}
@@ -23,7 +22,7 @@ use Rattle.mesh_algo.specs.declared.best.Best.{Best}
 use Rattle.mesh_algo.specs.LifeRows.{latest, life_row, newest_by}
 use Rattle.mesh_algo.specs.Pairs.{pair_order, same_pair}
 use Rattle.mesh_algo.proofs.HearingLemmas.{lives_on, not_accepted, touched, touched_life}
-use Rattle.mesh_algo.proofs.LifeRows.{before_is_latest, newest_of_row, stays}
+use Rattle.mesh_algo.proofs.LifeRows.{before_is_latest, stays}
 use Rattle.mesh_iv.specs.declared.ogm.OgmCame.{OgmCame}
 use Rattle.mesh_iv.specs.declared.path.Path.{Path}
 use Rattle.mesh_algo.specs.declared.life.Life.{Life}
@@ -32,7 +31,6 @@ use Rattle.mesh_iv.specs.Came.{ogm_in}
 use Rattle.mesh_iv.specs.Hears.{IsHeard, input_of, life_before, hearing_of}
 use Rattle.mesh_iv.specs.Rows.{path_row, path_score, echo_row}
 use Rattle.mesh_iv.specs.Tables.{BestsStand, Tables, StandsFor, LivesStand, PathsStand, best_row, path_at}
-use Rattle.mesh_iv.specs.Writing.{IsKept}
 use Rattle.mesh_iv.proofs.BestWalk.{walk_finds}
 use Rattle.mesh_iv.proofs.HeardRows.{touched_row}
 
@@ -135,30 +133,6 @@ module _ (me : Mac) (log : RouteLog) (came : OgmCame) where
       go : (b : Bool) → same_mac came.orig q ≡ b → cond b (Some (walk (path_score n) came.orig None paths)) (lookup (same_mac q) old) ≡ best_row (latest (cond b (h ∷ of q hearings) (of q hearings)))
       go true t = ap Some best ∙ ap (λ o. best_row (h ∷ since h (of o hearings))) (same_exact came.orig q t)
       go false t = stand q
-
-  -- that of the life that goes on is kept
-  pub kept_best : (row : Life) (old : Tables) → IsHeard me old log came (Some row)
-      → lookup (same_mac came.orig) old.bests ≡ Some (walk (path_score row.newest) came.orig None old.paths)
-  kept_best row old is =
-      is.stands.bests_stand came.orig ∙ ap best_row (sym last) ∙ go alive (sym is.row_is) ∙ ap Some (sym best)
-    where
-      last : alive ≡ latest (of came.orig hearings)
-      last = before_is_latest h (of came.orig hearings) row (sym is.row_is)
-
-      best : walk (path_score row.newest) came.orig None old.paths ≡ best_in (average_quality alive) alive
-      best =
-          ap (λ n. walk (path_score n) came.orig None old.paths) (newest_of_row alive row (sym is.row_is) ∙ ap newest last)
-          ∙ walk_finds me hearings echoes old.paths came.orig is.stands.paths_stand (other_orig is.passing)
-          ∙ ap (λ l. best_in (average_quality l) l) (sym last)
-
-      go : (l : List HeardOgm) → life_row l ≡ Some row → best_row l ≡ Some (best_in (average_quality l) l)
-      go [] none = let bad : ◌≡◌ {A = Option Life} None (Some row) = none in cc
-      go (g ∷ older) some = refl
-
-  pub kept_is : (life : Option Life) (old : Tables) (kept : Option Best) → IsHeard me old log came life → kept ≡ option_flatten (lookup (same_mac came.orig) old.bests)
-      → IsKept came life kept old.paths
-  kept_is None old kept is e = record { best_is = λ some. absurd (false≢true some) }
-  kept_is (Some row) old kept is e = record { best_is = λ some. e ∙ ap option_flatten (kept_best row old is) }
 
   -- ---- an OGM that is late or repeated
   pub not_sent : is_first h alive ≡ false → h.sent_on ≡ false

@@ -1,7 +1,7 @@
 -- What is computed for an OGM that is heard: the row before it, whether it is the first of its number,
 -- and its value.
-use Rattle.std.proofs.Common.{◌≡◌, ℕ, ◌-◌, ◌≤◌, max, nat_lt, Bool, true, false, cond, not, List, [], ◌∷◌, length, unwrap_or, is_some, Option, Some, None, arith, refl, sym, ap, ap₂, ◌∙◌}
-use Rattle.std.proofs.lemmas.Bool.{lt-ltb, true≢false}
+use Rattle.std.proofs.Common.{◌≡◌, ℕ, ◌-◌, ◌≤◌, max, nat_lt, Bool, true, false, cond, not, List, [], ◌∷◌, length, unwrap_or, is_some, IsSome, Option, Some, None, arith, refl, sym, ap, ap₂, ◌∙◌, subst}
+use Rattle.std.proofs.lemmas.Bool.{false≢true, lt-ltb, true≢false}
 use Rattle.mesh_base.specs.declared.address.Mac.{Mac}
 use Rattle.mesh_model.specs.Routes.Addresses.{same_mac}
 use Rattle.mesh_model.specs.Routes.AlgorithmIv.{answer_to}
@@ -16,15 +16,21 @@ use Rattle.mesh_algo.proofs.LifeLemmas.{numbers-le, next_newest, own_numbers, of
 use Rattle.mesh_algo.proofs.HearingLemmas.{IsMet, touches_life}
 use Rattle.mesh_algo.proofs.LifeRows.{before_is_latest, no_life}
 use Rattle.mesh_laws.proofs.MacLemmas.{same_exact, same_equiv}
-use Rattle.mesh_algo.specs.LifeRows.{latest, life_row}
+use Rattle.mesh_algo.specs.declared.best.Best.{Best}
+use Rattle.mesh_algo.specs.LifeRows.{latest, life_row, newest_by}
+use Rattle.mesh_algo.specs.Walk.{walk}
 use Rattle.mesh_iv.specs.declared.ogm.OgmCame.{OgmCame}
 use Rattle.mesh_algo.specs.declared.life.Life.{Life}
 use Rattle.mesh_iv.specs.Came.{ogm_in}
-use Rattle.mesh_iv.specs.Hears.{IsHeard, life_before, hearing_of, kept_row}
-use Rattle.mesh_iv.specs.Rows.{blank, path_row, echo_row}
-use Rattle.mesh_iv.specs.Tables.{Tables, path_at}
-use Rattle.mesh_iv.specs.Writing.{pair_of}
+use Rattle.mesh_iv.specs.declared.row.Orig.{Orig}
+use Rattle.mesh_iv.specs.Hears.{IsHeard, life_before, lived_at, hearing_of, kept_row}
+use Rattle.mesh_iv.specs.Origs.{best_kept, life_in, row_of_life}
+use Rattle.mesh_iv.specs.Rows.{blank, path_row, path_score, echo_row}
+use Rattle.mesh_iv.specs.Tables.{StandsFor, Tables, path_at}
+use Rattle.mesh_iv.specs.Writing.{IsKept, pair_of}
 use Rattle.mesh_iv.proofs.HeardRows.{kept_by_row}
+use Rattle.mesh_iv.proofs.RowLemmas.{row_best, row_life}
+use Rattle.mesh_iv.proofs.StandLemmas.{best_some}
 use Rattle.mesh_iv.proofs.StepLemmas.{other_orig, touch_answer}
 
 module _ (me : Mac) (log : RouteLog) (came : OgmCame) where
@@ -50,6 +56,17 @@ module _ (me : Mac) (log : RouteLog) (came : OgmCame) where
   -- how its number meets the life at its moment
   pub is_met : IsMet own (of came.orig (heard me log))
   is_met = record { late = refl; restart = refl }
+
+  -- the best neighbour of the row is that of the life
+  pub kept_is : (tables : Tables) (row : Option Orig) (life : Option Life) (restart : Bool) (kept : Option Best) → StandsFor me tables log → row ≡ row_of_life (lived_at me log came)
+      → life ≡ cond restart None (life_in row) → kept ≡ best_kept row → IsKept came life kept tables.paths
+  kept_is tables row life restart kept stands row_is life_is is =
+      subst (λ l. IsKept came l kept tables.paths) (sym life_is) (record { best_is = λ some. is ∙ go restart row (sym row_is) some })
+    where
+      go : (b : Bool) (o : Option Orig) → row_of_life (lived_at me log came) ≡ o → IsSome (cond b None (life_in o)) → best_kept o ≡ walk (path_score (newest_by (cond b None (life_in o)))) came.orig None tables.paths
+      go true o e some = absurd (false≢true some)
+      go false None e some = absurd (false≢true some)
+      go false (Some r) e some = row_best (lived_at me log came) r e ∙ sym (best_some me tables log came.moment came.orig r.life stands (row_life (lived_at me log came) r e))
 
   -- nothing is made of it
   pub touched_answer : (row : Option Life) → row ≡ life_row lived → is_first own lived ≡ false → answer_to own lived ≡ unheard

@@ -1,6 +1,7 @@
 -- What the contracts cite.
 pub mod Rows
 pub mod Tables
+pub mod Origs
 pub mod Answers
 pub mod Came
 pub mod Hears

@@ -49,6 +49,14 @@ pub record IsPut (came : OgmCame) (life : Option Life) (kept : Option Best) (row
   pub rise : IsStrictlySortedBy pair_order (keys_of old)
   pub rise_then : IsStrictlySortedBy pair_order (keys_of new)
 
+-- the best neighbour is put among those to the originators
+abbrev pub IsBestPut : OgmCame → Option Life → List (Pair × Path) → List (Mac × Option Best)
+    → List (Mac × Option Best) → Type 0
+IsBestPut came life rows old new =
+    (orig : Mac) → lookup (same_mac orig) new
+    ≡ (if same_mac came.orig orig then Some (best_after came life rows)
+    else lookup (same_mac orig) old)
+
 -- whether that is the one from which the OGM came
 abbrev pub is_over_after : OgmCame → Option Life → List (Pair × Path) → Bool
 is_over_after came life rows = is_best came.from (best_after came life rows)

@@ -18,7 +18,6 @@ use crate::hearing::UNHEARD;
 use crate::iv::Iv;
 use crate::ogm::OgmCame;
 use crate::quality::FULL_QUALITY;
-use mesh_algo::table::row_near;
 use mesh_algo::{Algo, Beats, Best, Head, Hearing, Life, LinkRow, OrigRow};
 use mesh_base::{Mac, Millis, NoMemory};
 use std::alloc::Global;
@@ -91,9 +90,8 @@ impl Algo for Iv {
 
     fn restart(&mut self) {
         self.sent = 0;
-        self.lives.clear();
+        self.origs.clear();
         self.paths.clear();
-        self.bests.clear();
     }
 
     fn metric(&self, now: Millis, orig: Mac) -> u32 {
@@ -109,7 +107,7 @@ impl Algo for Iv {
     }
 
     fn orig_at(&self, now: Millis, i: usize) -> Option<OrigRow> {
-        self.lives
+        self.origs
             .keys()
             .filter_map(|orig| self.orig_row(now, *orig))
             .nth(i)
@@ -117,8 +115,8 @@ impl Algo for Iv {
 
     fn originators(&self, alloc: Global, now: Millis) -> Result<Vec<OrigRow>, NoMemory> {
         let mut rows = Vec::new(alloc);
-        rows.reserve(self.lives.len())?;
-        for place in 0..self.lives.len() {
+        rows.reserve(self.origs.len())?;
+        for place in 0..self.origs.len() {
             if let Some(row) = self.orig_row_at(place, now) {
                 rows.push(row)?;
             }
@@ -127,7 +125,7 @@ impl Algo for Iv {
     }
 
     fn link_at(&self, now: Millis, i: usize) -> Option<LinkRow> {
-        self.lives
+        self.origs
             .keys()
             .filter_map(|k| self.link_row(now, *k))
             .nth(i)
@@ -150,7 +148,7 @@ impl Iv {
             result ≡ option_and_then (row_of_orig me log now)
             (slice_get (heard_originators (heard me log)) place) }
     {
-        let (orig, _) = self.lives.get_index(place)?;
+        let (orig, _) = self.origs.get_index(place)?;
         self.orig_row_near(place, now, *orig)
     }
 
@@ -159,9 +157,8 @@ impl Iv {
         ensures { (me : Mac) (log : RouteLog) → StandsFor me self.now log →
             result ≡ row_of_orig me log now orig }
     {
-        let life = self.life_near(place, now, orig)?;
-        let best = row_near(&self.bests, place, orig).flatten();
-        Some(row_with(now, orig, &life, &best))
+        let row = self.orig_near(place, now, orig)?;
+        Some(row_with(now, orig, &row.life, &row.best))
     }
 
     // The row of a neighbour of which something is received.

@@ -9,18 +9,19 @@ ghost use Rattle.mesh_model.specs.Routes.RouteLog.{RouteLog};
 ghost use Rattle.mesh_iv.specs.Came.{ogm_in};
 ghost use Rattle.mesh_iv.specs.Hears.{IsFirstHeard, IsHeard, hearing_of, input_of, kept_row, life_before};
 ghost use Rattle.mesh_iv.specs.Tables.{StandsFor};
+ghost use Rattle.mesh_iv.specs.Writing.{IsKept};
 ghost use Rattle.mesh_algo.specs.LifeRows.{newest_by};
 ghost use Rattle.mesh_algo.specs.declared.life.Life.{Life};
 
-use crate::best::best_near;
 use crate::iv::Iv;
 use crate::ogm::{OgmCame, Places};
 use crate::path::Path;
 use crate::quality::transmit_quality;
+use crate::row::{Orig, best_kept, life_in};
 use crate::writing::write;
 use mesh_algo::life::{going_on, is_accepted, meeting, newest_of, restarted_then};
-use mesh_algo::table::{put_near, row_near};
-use mesh_algo::{Hearing, Life, Pair};
+use mesh_algo::table::put_near;
+use mesh_algo::{Best, Hearing, Life, Pair};
 use mesh_base::{Millis, NoMemory};
 
 /// What is made of a head that isn't heard.
@@ -48,16 +49,18 @@ impl Iv {
             return Ok(UNHEARD);
         }
         let near = self.places(ogm);
-        let lived = self.life_near(near.life, ogm.moment, ogm.orig);
+        let row = self.orig_near(near.life, ogm.moment, ogm.orig);
+        let kept = best_kept(&row);
+        let lived = life_in(&row);
         let met = meeting(ogm.moment, ogm.seq, &lived);
         let life = going_on(lived, met);
         let path = self.path_before(ogm, near, &life);
         if met.late || path.heard.has(ogm.seq) {
-            self.touch(ogm, near, &life)?;
+            self.touch(ogm, near, &life, kept)?;
             return Ok(UNHEARD);
         }
         let restarted = restarted_then(ogm.moment, met, &life);
-        let hearing = self.hear_first(ogm, near, restarted, &life, &path)?;
+        let hearing = self.hear_first(ogm, near, restarted, &life, kept, &path)?;
         Ok(hearing)
     }
 
@@ -94,9 +97,16 @@ impl Iv {
     }
 
     // Notes that an originator was heard, where nothing else is to be noted.
-    fn touch(&mut self, ogm: &OgmCame, near: Places, life: &Option<Life>) -> Result<(), NoMemory>
+    fn touch(
+        &mut self,
+        ogm: &OgmCame,
+        near: Places,
+        life: &Option<Life>,
+        best: Option<Best>,
+    ) -> Result<(), NoMemory>
         ensures noted { OnOk result ((me : Mac) (log : RouteLog) (tp : ℕ) →
             IsHeard me self.old log ogm.now life.now →
+            IsKept ogm.now life.now best self.old.paths →
             is_first (hearing_of me log ogm.now) (life_before me log ogm.now) ≡ false →
             StandsFor me self.new (input_of ogm.now tp ∷ log)) }
         ensures err { OnErr result (self.new ≡ self.old) }
@@ -104,17 +114,13 @@ impl Iv {
         let Some(life) = life else {
             return Ok(());
         };
-        let newest = life.newest;
         let life = Life {
             last: ogm.moment,
-            newest,
+            newest: life.newest,
             forwarded: life.forwarded,
             restarted: life.restarted,
         };
-        self.bests.reserve(1)?;
-        put_near(&mut self.lives, near.life, ogm.orig, life)?;
-        let best = best_near(&self.paths, near.first, ogm.orig, newest);
-        put_near(&mut self.bests, near.life, ogm.orig, best).unwrap();
+        put_near(&mut self.origs, near.life, ogm.orig, Orig { life, best })?;
         Ok(())
     }
 
@@ -125,24 +131,25 @@ impl Iv {
         near: Places,
         restarted: Option<Millis>,
         life: &Option<Life>,
+        kept: Option<Best>,
         path: &Path,
     ) -> Result<Hearing, NoMemory>
         ensures noted { OnOk result ((me : Mac) (log : RouteLog) (tp : ℕ) →
             IsFirstHeard me self.old log ogm.now life.now path.now →
+            IsKept ogm.now life.now kept self.old.paths →
             restarted ≡ began_wild (hearing_of me log ogm.now ∷ life_before me log ogm.now) →
             StandsFor me self.new (input_of ogm.now tp ∷ log)) }
         ensures heard { IfOk result (λ hearing. (me : Mac) (log : RouteLog) →
             IsFirstHeard me self.old log ogm.now life.now path.now →
+            IsKept ogm.now life.now kept self.old.paths →
             hearing ≡ answer_to (hearing_of me log ogm.now) (life_before me log ogm.now)) }
         ensures err { OnErr result (self.new ≡ self.old) }
     {
         let newest = newest_of(life).max(ogm.seq);
         let value = self.value(ogm, path, newest);
         let row = path.with(ogm.seq, value);
-        let kept = row_near(&self.bests, near.life, ogm.orig).flatten();
-        self.bests.reserve(1)?;
-        let written = write(
-            &mut self.lives,
+        let forward = write(
+            &mut self.origs,
             &mut self.paths,
             ogm,
             near,
@@ -152,11 +159,10 @@ impl Iv {
             row,
             value,
         )?;
-        put_near(&mut self.bests, near.life, ogm.orig, written.best).unwrap();
         Ok(Hearing {
             accepted: is_accepted(ogm.seq, life),
             began: life.is_none(),
-            forward: written.forward,
+            forward,
         })
     }
 

@@ -6,11 +6,13 @@ ghost use Rattle.mesh_model.specs.Routes.Quality.{average_quality, receive_quali
 ghost use Rattle.mesh_model.specs.Routes.RouteLog.{RouteLog};
 ghost use Rattle.mesh_algo.specs.LifeRows.{life_row};
 ghost use Rattle.mesh_algo.specs.Walk.{best_in};
-ghost use Rattle.mesh_iv.specs.Tables.{StandsFor, path_at};
 ghost use Rattle.mesh_iv.specs.Answers.{count_of};
+ghost use Rattle.mesh_iv.specs.Origs.{row_of_life};
+ghost use Rattle.mesh_iv.specs.Tables.{StandsFor, path_at};
 
 use crate::guesses::Guesses;
 use crate::path::Path;
+use crate::row::{Orig, best_kept, life_in};
 use indexmap::IndexMap;
 use mesh_algo::table::row_near;
 use mesh_algo::{Best, Life, Pair};
@@ -26,17 +28,16 @@ pub struct Iv {
     /// The number of its last OGM.
     pub(crate) sent: u32,
     /// A row for each originator, in the order of addresses.
-    pub(crate) lives: IndexMap<Mac, Life>,
+    pub(crate) origs: IndexMap<Mac, Orig>,
     /// A row for each originator and neighbour, in their order; under the own address those of
     /// echoes.
     pub(crate) paths: IndexMap<Pair, Path>,
-    /// The best neighbour to each originator in its last life, in the order of addresses.
-    pub(crate) bests: IndexMap<Mac, Option<Best>>,
     /// Where rows stood last.
     pub(crate) guesses: Guesses,
 }
 
 impl Model for Iv {
+    ghost use Rattle.mesh_iv.specs.Origs.{bests_of, lives_of};
     ghost use Rattle.mesh_iv.specs.Tables.{Tables};
 
     ghost Value = { Tables };
@@ -44,9 +45,9 @@ impl Model for Iv {
     ghost view = { λ iv. record {
       me = iv.me;
       sent = iv.sent;
-      lives = iv.lives.entries;
+      lives = lives_of iv.origs.entries;
       paths = iv.paths.entries;
-      bests = iv.bests.entries;
+      bests = bests_of iv.origs.entries;
     } };
 }
 
@@ -58,9 +59,8 @@ impl Iv {
         Iv {
             me,
             sent: 0,
-            lives: IndexMap::new(alloc),
+            origs: IndexMap::new(alloc),
             paths: IndexMap::new(alloc),
-            bests: IndexMap::new(alloc),
             guesses: Guesses::new(),
         }
     }
@@ -70,15 +70,23 @@ impl Iv {
         ensures { (me : Mac) (log : RouteLog) → StandsFor me self.now log →
             result ≡ life_row (iv_life me log now orig) }
     {
-        self.life_near(self.guesses.of(orig).life as usize, now, orig)
+        life_in(&self.orig(now, orig))
     }
 
-    // The life of an originator, whose row may stand at a place.
-    pub(crate) fn life_near(&self, near: usize, now: Millis, orig: Mac) -> Option<Life>
+    // The row of an originator, if it is live.
+    fn orig(&self, now: Millis, orig: Mac) -> Option<Orig>
         ensures { (me : Mac) (log : RouteLog) → StandsFor me self.now log →
-            result ≡ life_row (iv_life me log now orig) }
+            result ≡ row_of_life (iv_life me log now orig) }
     {
-        row_near(&self.lives, near, orig)?.at(now)
+        self.orig_near(self.guesses.of(orig).life as usize, now, orig)
+    }
+
+    // The row of an originator, if it is live, which may stand at a place.
+    pub(crate) fn orig_near(&self, near: usize, now: Millis, orig: Mac) -> Option<Orig>
+        ensures { (me : Mac) (log : RouteLog) → StandsFor me self.now log →
+            result ≡ row_of_life (iv_life me log now orig) }
+    {
+        row_near(&self.origs, near, orig)?.at(now)
     }
 
     // The row of an originator and a neighbour, which may stand at a place.
@@ -124,9 +132,7 @@ impl Iv {
             let alive = iv_life me log now orig in
             result ≡ best_in (average_quality alive) alive }
     {
-        let near = self.guesses.of(orig).life as usize;
-        let _life = self.life_near(near, now, orig)?;
-        row_near(&self.bests, near, orig).flatten()
+        best_kept(&self.orig(now, orig))
     }
 }
 

@@ -14,6 +14,7 @@ mod ogm;
 mod path;
 mod places;
 mod quality;
+mod row;
 mod writing;
 
 pub use iv::Iv;

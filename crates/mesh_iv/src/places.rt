@@ -6,9 +6,10 @@ use crate::guesses::Guess;
 use crate::iv::Iv;
 use crate::ogm::{OgmCame, Places};
 use crate::path::Path;
+use crate::row::Orig;
 use indexmap::IndexMap;
+use mesh_algo::Pair;
 use mesh_algo::table::{first_path_near, place_of};
-use mesh_algo::{Life, Pair};
 use mesh_base::Mac;
 
 impl Iv {
@@ -17,7 +18,7 @@ impl Iv {
         ensures { self.new ≡ self.old }
     {
         let mut guess = self.guesses.of(ogm.orig);
-        let life = life_place(&self.lives, guess.life as usize, ogm.orig);
+        let life = orig_place(&self.origs, guess.life as usize, ogm.orig);
         let near = path_from(&self.paths, guess.first as usize, ogm);
         let path = path_place(&self.paths, near, ogm.pair());
         if path != near || life != guess.life as usize {
@@ -40,11 +41,11 @@ impl Iv {
     }
 }
 
-// The place of the row of an originator's life, which is looked for first at one place.
-fn life_place(lives: &IndexMap<Mac, Life>, near: usize, orig: Mac) -> usize {
-    match lives.get_index(near) {
+// The place of the row of an originator, which is looked for first at one place.
+fn orig_place(origs: &IndexMap<Mac, Orig>, near: usize, orig: Mac) -> usize {
+    match origs.get_index(near) {
         Some((other, _)) if *other == orig => near,
-        Some(_) | None => place_of(lives, orig),
+        Some(_) | None => place_of(origs, orig),
     }
 }
 

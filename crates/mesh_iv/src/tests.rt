@@ -1,8 +1,9 @@
 use super::Iv;
 use crate::guesses::{Guess, Guesses};
 use crate::path::Path;
+use crate::row::Orig;
 use indexmap::IndexMap;
-use mesh_algo::{Best, Life, Pair, SeqWindow};
+use mesh_algo::{Life, Pair, SeqWindow};
 use mesh_base::Mac;
 
 const A: Mac = Mac([2, 0, 0, 0, 0, 10]);
@@ -13,13 +14,11 @@ fn tables_numbers_best_neighbours_and_guessed_places_are_all(rt: HostRuntime) {
     let Iv {
         me,
         sent,
-        lives,
+        origs,
         paths,
-        bests,
         guesses,
     } = Iv::new(rt.alloc(), A);
-    let _tables: (IndexMap<Mac, Life>, IndexMap<Pair, Path>) = (lives, paths);
-    let _bests: IndexMap<Mac, Option<Best>> = bests;
+    let _tables: (IndexMap<Mac, Orig>, IndexMap<Pair, Path>) = (origs, paths);
     assert_eq!(rt; (me, sent), (A, 0));
     let Guesses { guesses } = guesses;
     let Guess {
@@ -29,21 +28,25 @@ fn tables_numbers_best_neighbours_and_guessed_places_are_all(rt: HostRuntime) {
         echo,
     } = guesses[0];
     assert_eq!(rt; (guesses.len(), life, first, own, echo), (64, 0, 0, 0, 0));
+    let Orig { life, best } = Orig {
+        life: Life {
+            last: 1,
+            newest: 2,
+            forwarded: SeqWindow::new(),
+            restarted: Some(3),
+        },
+        best: None,
+    };
     let Life {
         last,
         newest,
         forwarded,
         restarted,
-    } = Life {
-        last: 1,
-        newest: 2,
-        forwarded: SeqWindow::new(),
-        restarted: Some(3),
-    };
+    } = life;
     let Path { heard, values } = Path::new();
     assert_eq!(rt;
         (last, newest, forwarded.count(), heard.count(), values),
         (1, 2, 0, 0, [0; 5])
     );
-    assert_eq!(rt; restarted, Some(3));
+    assert_eq!(rt; (restarted, best.is_some()), (Some(3), false));
 }

@@ -5,13 +5,15 @@ ghost use Rattle.mesh_algo.specs.LifeRows.{forwarded_by};
 ghost use Rattle.mesh_algo.specs.Pairs.{pair_order};
 ghost use Rattle.mesh_algo.specs.declared.pair.Pair.{Pair};
 ghost use Rattle.mesh_iv.specs.Hears.{sent_on_as};
-ghost use Rattle.mesh_iv.specs.Writing.{IsKept, IsPut, IsWritten, best_after, is_over_after};
+ghost use Rattle.mesh_iv.specs.Origs.{bests_of, lives_of};
+ghost use Rattle.mesh_iv.specs.Writing.{IsBestPut, IsKept, IsPut, IsWritten, best_after, is_over_after};
 ghost use Rattle.mesh_iv.specs.declared.path.Path.{Path};
 
 use crate::best::{best_near, has_fallen};
 use crate::forward::{goes_on, head_on};
 use crate::ogm::{OgmCame, Places};
 use crate::path::Path;
+use crate::row::Orig;
 use indexmap::IndexMap;
 use mesh_algo::best::{better, is_best};
 use mesh_algo::life::{is_accepted, life_after, newest_of};
@@ -19,17 +21,11 @@ use mesh_algo::table::{put_near, put_path};
 use mesh_algo::{Best, Head, Life, Pair};
 use mesh_base::{Mac, Millis, NoMemory};
 
-/// How an OGM that was written is sent on, and the best neighbour to its originator then.
-#[derive(Clone, Copy)]
-pub(crate) struct Written {
-    pub(crate) forward: Option<Head>,
-    pub(crate) best: Option<Best>,
-}
-
-/// Writes the rows of an OGM that is the first of its number from its neighbour. Both tables stay as
-/// they were where memory runs out. The best neighbour of the life before is that which was kept.
+/// Writes the rows of an OGM that is the first of its number from its neighbour, and answers how it
+/// is sent on. Both tables stay as they were where memory runs out. The best neighbour of the life
+/// before is that which was kept.
 pub(crate) fn write(
-    lives: &mut IndexMap<Mac, Life>,
+    origs: &mut IndexMap<Mac, Orig>,
     paths: &mut IndexMap<Pair, Path>,
     ogm: &OgmCame,
     near: Places,
@@ -38,32 +34,31 @@ pub(crate) fn write(
     kept: Option<Best>,
     row: Path,
     value: u8,
-) -> Result<Written, NoMemory>
+) -> Result<Option<Head>, NoMemory>
     ensures written { IsKept ogm.now life.now kept paths.old.entries →
         OnOk result (IsWritten ogm.now restarted life.now row value
-        (lives.old.entries, paths.old.entries) (lives.new.entries, paths.new.entries)) }
-    ensures forward { IsKept ogm.now life.now kept paths.old.entries →
-        IfOk result (λ written. IsStrictlySortedBy pair_order (keys paths.old) →
-        written.forward ≡ sent_on_as ogm.now value (forwarded_by life.now)
-        (is_over_after ogm.now life.now paths.new.entries)) }
+        (lives_of origs.old.entries, paths.old.entries)
+        (lives_of origs.new.entries, paths.new.entries)) }
     ensures best { IsKept ogm.now life.now kept paths.old.entries →
-        IfOk result (λ written. IsStrictlySortedBy pair_order (keys paths.old) →
-        written.best ≡ best_after ogm.now life.now paths.new.entries) }
-    ensures err { OnErr result ((lives.new.entries ≡ lives.old.entries)
+        OnOk result (IsStrictlySortedBy pair_order (keys paths.old) →
+        IsBestPut ogm.now life.now paths.new.entries
+        (bests_of origs.old.entries) (bests_of origs.new.entries)) }
+    ensures answer { IsKept ogm.now life.now kept paths.old.entries →
+        IfOk result (λ forward. IsStrictlySortedBy pair_order (keys paths.old) →
+        forward ≡ sent_on_as ogm.now value (forwarded_by life.now)
+        (is_over_after ogm.now life.now paths.new.entries)) }
+    ensures err { OnErr result ((origs.new.entries ≡ origs.old.entries)
         × (paths.new.entries ≡ paths.old.entries)) }
 {
-    lives.reserve(1)?;
+    origs.reserve(1)?;
     paths.reserve(1)?;
     put_path(paths, near.path, ogm.pair(), life.is_none(), row)?;
     let best = best_then(paths, near.first, ogm, life, kept, &row);
     let over = is_best(ogm.from, &best);
     let sent = goes_on(ogm, value, life, over);
-    let after = life_after(ogm.moment, ogm.seq, restarted, life, sent);
-    put_near(lives, near.life, ogm.orig, after)?;
-    Ok(Written {
-        forward: sent.then_some(head_on(ogm, value, over)),
-        best,
-    })
+    let life = life_after(ogm.moment, ogm.seq, restarted, life, sent);
+    put_near(origs, near.life, ogm.orig, Orig { life, best })?;
+    Ok(sent.then_some(head_on(ogm, value, over)))
 }
 
 // The best neighbour once the row of an OGM was put. There is a walk only where all scores may be

@@ -16,9 +16,9 @@ returns-clause-at_place c =
     λ me log stands.
     sym (option_map_id c.nth.result)
     ∙ nth_from_yields_List c.nth.result _ c.args.i c.nth.ensures.ran
-    (YieldsList-from_filter_map _ (λ o. orig_row (average_quality (iv_life me log c.args.now o)) c.args.now o (iv_life me log c.args.now o)) (YieldsList-from_rest (keys_of c.self.inside.lives.entries) cc)
+    (YieldsList-from_filter_map _ (λ o. orig_row (average_quality (iv_life me log c.args.now o)) c.args.now o (iv_life me log c.args.now o)) (YieldsList-from_rest (keys_of c.self.inside.origs.entries) cc)
     c.filter_map.ensures.closure (λ x r q k. search (rules, tests)))
-    ∙ ap (λ keys. slice_get (filter_map (λ o. orig_row (average_quality (iv_life me log c.args.now o)) c.args.now o (iv_life me log c.args.now o)) keys) c.args.i) (ap (λ t. keys_of t.lives) c.self.view_is ∙ keys_are me c.args.self.now log stands)
+    ∙ ap (λ keys. slice_get (filter_map (λ o. orig_row (average_quality (iv_life me log c.args.now o)) c.args.now o (iv_life me log c.args.now o)) keys) c.args.i) (keys_are me c.args.self.now log c.self.inside.origs.entries stands (ap (λ t. t.lives) c.self.view_is))
 
 pub returns-clause-past_end : goal.returns-clause-past_end
 returns-clause-past_end c =

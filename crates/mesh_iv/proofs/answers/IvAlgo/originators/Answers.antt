@@ -1,5 +1,4 @@
 use Rattle.std.proofs.Common.{◌∙◌, ◌++◌, ◌∷◌, ◌≤◌, [], ap, append-nil, filter_map, length, sym, rules}
-use Rattle.std.specs.Map.{keys_of}
 use Rattle.std.specs.Option.{option_map_or}
 use Rattle.mesh_model.specs.Routes.Hearings.{heard}
 use Rattle.mesh_model.specs.Routes.Life.{heard_originators}
@@ -22,6 +21,6 @@ loop-place-preserved c =
 pub returns : goal.returns
 returns c =
     λ me log stands.
-    let long : length c.self.inside.lives.entries ≤ c.loop-place.place = search rules in
+    let long : length c.self.inside.origs.entries ≤ c.loop-place.place = search rules in
     c.loop-place.invariant me log stands
-    ∙ ap (filter_map (row_of_orig me log c.args.now)) (all_keys c.self.inside.lives.entries _ c.loop-place.place (ap (λ t. keys_of t.lives) c.self.view_is ∙ keys_are me c.args.self.now log stands) long)
+    ∙ ap (filter_map (row_of_orig me log c.args.now)) (all_keys c.self.inside.origs.entries _ c.loop-place.place (keys_are me c.args.self.now log c.self.inside.origs.entries stands (ap (λ t. t.lives) c.self.view_is)) long)

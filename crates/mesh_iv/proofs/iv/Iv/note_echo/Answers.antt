@@ -7,6 +7,7 @@ use Rattle.mesh_model.specs.Routes.Quality.{echoes_from, own_ogms}
 use Rattle.mesh_algo.specs.Pairs.{pair_order, same_pair}
 use Rattle.mesh_iv.specs.declared.path.Path.{Path}
 use Rattle.mesh_iv.specs.Came.{ogm_in}
+use Rattle.mesh_iv.specs.Origs.{bests_of, lives_of}
 use Rattle.mesh_iv.specs.Rows.{blank, echo_row}
 use Rattle.mesh_iv.specs.Tables.{Tables, path_at}
 use Rattle.mesh_iv.proofs.EchoLemmas.{echo_stands, echo_with}
@@ -18,7 +19,7 @@ returns-clause-noted c =
     λ me log tp stands passing.
     let came = c.args.ogm.now in
     let old : Tables = c.args.self.now in
-    let new : Tables = record { me = c.self.inside.me; sent = c.self.inside.sent; lives = c.self.inside.lives.entries; paths = c.put_near.new.table.entries; bests = c.self.inside.bests.entries } in
+    let new : Tables = record { me = c.self.inside.me; sent = c.self.inside.sent; lives = lives_of c.self.inside.origs.entries; paths = c.put_near.new.table.entries; bests = bests_of c.self.inside.origs.entries } in
     let paths : c.self.inside.paths.entries ≡ old.paths = ap (λ t. t.paths) c.self.view_is in
     let my : c.self.inside.me ≡ me = ap (λ t. t.me) c.self.view_is ∙ stands.me_is in
     let echo : is_echo me (own_ogms log) (ogm_in came) ≡ true
