@@ -17,6 +17,9 @@ pub(crate) struct Guess {
     pub(crate) own: u16,
     /// What came back from it.
     pub(crate) echo: u16,
+    /// How far behind the first row of an originator that of this neighbour stands: mostly as far,
+    /// whatever the originator, since rows stand in the order of neighbours.
+    pub(crate) behind: u16,
 }
 
 /// A guess for each address, which those share that end in the same six bits. It takes no memory.
@@ -33,6 +36,7 @@ impl Guesses {
             first: 0,
             own: 0,
             echo: 0,
+            behind: 0,
         };
         Guesses {
             guesses: [guess; GUESSES],
@@ -44,9 +48,29 @@ impl Guesses {
         self.guesses[slot_of(mac)]
     }
 
-    /// Takes a guess for an address.
-    pub(crate) fn take(&mut self, mac: Mac, guess: Guess) {
-        self.guesses[slot_of(mac)] = guess;
+    /// Takes the place of the row of an originator.
+    pub(crate) fn take_life(&mut self, orig: Mac, life: usize) {
+        let guess = &mut self.guesses[slot_of(orig)];
+        guess.life = short(life);
+    }
+
+    /// Takes the place of the first of the rows of an originator.
+    pub(crate) fn take_first(&mut self, orig: Mac, first: usize) {
+        let guess = &mut self.guesses[slot_of(orig)];
+        guess.first = short(first);
+    }
+
+    /// Takes how far behind the first row of an originator that of a neighbour stands.
+    pub(crate) fn take_behind(&mut self, from: Mac, behind: usize) {
+        let guess = &mut self.guesses[slot_of(from)];
+        guess.behind = short(behind);
+    }
+
+    /// Takes the places of what was heard of a neighbour from itself, and of what came back from it.
+    pub(crate) fn take_neighbour(&mut self, from: Mac, own: usize, echo: usize) {
+        let guess = &mut self.guesses[slot_of(from)];
+        guess.own = short(own);
+        guess.echo = short(echo);
     }
 }
 
@@ -55,4 +79,9 @@ fn slot_of(mac: Mac) -> usize
     ensures { result < 64 }
 {
     mac.0[5] as usize % GUESSES
+}
+
+// A place as a guess keeps it.
+fn short(place: usize) -> u16 {
+    u16::try_from(place).unwrap_or(0)
 }

@@ -2,7 +2,6 @@
 
 ghost use Rattle.std.specs.Prelude.{◌≡◌};
 
-use crate::guesses::Guess;
 use crate::iv::Iv;
 use crate::ogm::{OgmCame, Places};
 use crate::path::Path;
@@ -17,27 +16,39 @@ impl Iv {
     pub(crate) fn places(&mut self, ogm: &OgmCame) -> Places
         ensures { self.new ≡ self.old }
     {
-        let mut guess = self.guesses.of(ogm.orig);
+        let guess = self.guesses.of(ogm.orig);
         let life = orig_place(&self.origs, guess.life as usize, ogm.orig);
-        let near = path_from(&self.paths, guess.first as usize, ogm);
-        let path = path_place(&self.paths, near, ogm.pair());
-        if path != near || life != guess.life as usize {
-            let first = first_path_near(&self.paths, guess.first as usize, ogm.orig);
-            guess.life = short(life);
-            guess.first = short(first);
-            self.guesses.take(ogm.orig, guess);
+        if life != guess.life as usize {
+            self.guesses.take_life(ogm.orig, life);
         }
+        let (first, path) = self.path_places(ogm, guess.first as usize);
         if ogm.from == ogm.orig {
             let pair = Pair {
                 orig: self.me,
                 from: ogm.from,
             };
-            guess.own = short(path);
-            guess.echo = short(path_place(&self.paths, guess.echo as usize, pair));
-            self.guesses.take(ogm.orig, guess);
+            let echo = path_place(&self.paths, guess.echo as usize, pair);
+            self.guesses.take_neighbour(ogm.from, path, echo);
         }
-        let first = guess.first as usize;
         Places { life, path, first }
+    }
+
+    // The places of the first row of the originator, which is looked for first at one place, and of
+    // that of the neighbour, which is looked for first as far behind as for the originator before.
+    fn path_places(&mut self, ogm: &OgmCame, first: usize) -> (usize, usize)
+        ensures { self.new ≡ self.old }
+    {
+        let pair = ogm.pair();
+        let near = first.saturating_add(self.guesses.of(ogm.from).behind as usize);
+        if is_path_at(&self.paths, near, pair) {
+            return (first, near);
+        }
+        let first = first_path_near(&self.paths, first, ogm.orig);
+        let path = path_from(&self.paths, first, pair);
+        self.guesses.take_first(ogm.orig, first);
+        self.guesses
+            .take_behind(ogm.from, path.saturating_sub(first));
+        (first, path)
     }
 }
 
@@ -51,28 +62,33 @@ fn orig_place(origs: &IndexMap<Mac, Orig>, near: usize, orig: Mac) -> usize {
 
 // The place of the row of a pair, which is looked for first at one place.
 fn path_place(paths: &IndexMap<Pair, Path>, near: usize, pair: Pair) -> usize {
-    match paths.get_index(near) {
-        Some((other, _)) if *other == pair => near,
-        Some(_) | None => place_of(paths, pair),
+    if is_path_at(paths, near, pair) {
+        near
+    } else {
+        place_of(paths, pair)
     }
 }
 
-// The first place from one on that isn't that of a row of the originator and another neighbour.
-fn path_from(paths: &IndexMap<Pair, Path>, first: usize, ogm: &OgmCame) -> usize {
+// Whether the row of a pair stands at a place.
+fn is_path_at(paths: &IndexMap<Pair, Path>, place: usize, pair: Pair) -> bool {
+    match paths.get_index(place) {
+        None => false,
+        Some((other, _)) => *other == pair,
+    }
+}
+
+// The first place from one on that isn't that of a row before the pair's: there its row stands, or
+// would stand.
+fn path_from(paths: &IndexMap<Pair, Path>, first: usize, pair: Pair) -> usize {
     let Some(rows) = paths.get_range(first..) else {
         return first;
     };
     let mut place = first;
-    for (pair, _) in rows.iter() {
-        if pair.orig != ogm.orig || pair.from == ogm.from {
+    for (other, _) in rows.iter() {
+        if *other >= pair {
             break;
         }
         place = place.saturating_add(1);
     }
     place
-}
-
-// A place as a guess keeps it.
-fn short(place: usize) -> u16 {
-    u16::try_from(place).unwrap_or(0)
 }
