@@ -1,5 +1,5 @@
-ghost use Rattle.std.specs.Prelude.{◌≡◌, ◌≤◌, ◌<◌, ◌/◌, ◌==◌, length, if◌then◌else◌};
-ghost use Rattle.mesh_iv.specs.Rows.{blank, mean_of, path_with, value_with, value_moved, average_of};
+ghost use Rattle.std.specs.Prelude.{◌≡◌, ◌/◌, ◌==◌, nat_lt, [], ◌∷◌, if◌then◌else◌};
+ghost use Rattle.mesh_iv.specs.Rows.{blank, five, mean_of, path_with, value_with, value_moved, average_of};
 
 use mesh_algo::SeqWindow;
 
@@ -30,16 +30,28 @@ impl Path {
     pub(crate) fn with(&self, seq: u32, value: u8) -> Path
         ensures { result ≡ path_with self.now seq value }
     {
-        let values = [
+        let mut heard = self.heard;
+        heard.see(seq);
+        let [a, b, c, d, _] = self.values;
+        let values = if seq.saturating_sub(self.heard.greatest()) == 1 {
+            [value, a, b, c, d]
+        } else {
+            self.values_with(seq, value)
+        };
+        Path { heard, values }
+    }
+
+    // The values with a number more and its value, whichever number it is.
+    fn values_with(&self, seq: u32, value: u8) -> [u8; VALUES]
+        ensures { result ≡ five (value_with self.now seq value) }
+    {
+        [
             self.value_with(seq, value, 0),
             self.value_with(seq, value, 1),
             self.value_with(seq, value, 2),
             self.value_with(seq, value, 3),
             self.value_with(seq, value, 4),
-        ];
-        let mut heard = self.heard;
-        heard.see(seq);
-        Path { heard, values }
+        ]
     }
 
     // The value at this place, counted from the greatest number, with a number more and its value.
@@ -69,25 +81,32 @@ impl Path {
     pub(crate) fn average(&self, newest: u32) -> u32
         ensures { result ≡ average_of newest self.now }
     {
-        let back = newest.saturating_sub(self.heard.greatest()) as usize;
-        mean(&self.values[..VALUES.saturating_sub(back)])
+        let [a, b, c, d, e] = self.values;
+        match newest.saturating_sub(self.heard.greatest()) {
+            0 => mean(a, b, c, d, e),
+            1 => mean(a, b, c, d, 0),
+            2 => mean(a, b, c, 0, 0),
+            3 => mean(a, b, 0, 0, 0),
+            4 => mean(a, 0, 0, 0, 0),
+            _ => 0,
+        }
     }
 }
 
-// The floored mean of the values above 0, 0 where there is none.
-fn mean(values: &[u8]) -> u32
-    requires { length values.now ≤ 5 }
-    ensures { result ≡ mean_of values.now }
+// The floored mean of those of five values that are above 0, 0 where there is none.
+fn mean(a: u8, b: u8, c: u8, d: u8, e: u8) -> u32
+    ensures { result ≡ mean_of (a ∷ b ∷ c ∷ d ∷ e ∷ []) }
 {
-    let mut good = 0;
-    let mut sum = 0;
-    for value in values {
-        if *value > 0 {
-            good += 1;
-        }
-        sum += u32::from(*value);
-    }
+    let sum = u32::from(a) + u32::from(b) + u32::from(c) + u32::from(d) + u32::from(e);
+    let good = one_if(a) + one_if(b) + one_if(c) + one_if(d) + one_if(e);
     quotient(sum, good)
+}
+
+// 1 for a value above 0.
+fn one_if(value: u8) -> u32
+    ensures { result ≡ (if nat_lt 0 value then 1 else 0) }
+{
+    u32::from(value > 0)
 }
 
 // The floored quotient, 0 where the count is 0. Up to five values are counted, and a division by a
