@@ -77,15 +77,15 @@ fn is_path_at(paths: &IndexMap<Pair, Path>, place: usize, pair: Pair) -> bool {
     }
 }
 
-// The first place from one on that isn't that of a row before the pair's: there its row stands, or
-// would stand.
+// The first place from one on that isn't that of a row of the originator and a neighbour before:
+// there the pair's row stands, or would stand.
 fn path_from(paths: &IndexMap<Pair, Path>, first: usize, pair: Pair) -> usize {
     let Some(rows) = paths.get_range(first..) else {
         return first;
     };
     let mut place = first;
     for (other, _) in rows.iter() {
-        if *other >= pair {
+        if other.orig != pair.orig || other.from >= pair.from {
             break;
         }
         place = place.saturating_add(1);
