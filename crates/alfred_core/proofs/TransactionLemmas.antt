@@ -13,14 +13,16 @@ use Rattle.indexmap.proofs.CallerLemmas.{insert_entry-new}
 use Rattle.mesh_model.specs.declared.service.Fact.{Fact}
 use Rattle.mesh_model.specs.Routes.Addresses.{same_mac}
 use Rattle.mesh_model.specs.Services.Transactions.{APart, AnEnd, Brought, Transaction, TxnCall, going, opened_at, part_at, transaction, unless_whole, whole_facts, with_brought}
+use Rattle.mesh_laws.specs.Rising.{RiseWithin}
 use Rattle.mesh_laws.proofs.MacLemmas.{same_equiv, same_exact}
+use Rattle.mesh_laws.proofs.RisingMoments.{one_opened, one_removed, one_written, to_later}
 use Rattle.alfred_core.specs.Kept.{call_of, is_kept_open, is_open, told, told_with}
-use Rattle.alfred_core.specs.Transactions.{Answers, Rows, TransactionsStand, RiseWithin, first_opening, newest_moment, opened_moments, same_transaction}
+use Rattle.alfred_core.specs.Transactions.{Answers, Rows, TransactionsStand, first_opening, newest_moment, opened_moments, same_transaction}
 use Rattle.alfred_core.specs.declared.transaction.Brought.{Brought as Bringing}
 use Rattle.alfred_core.specs.declared.transactions.TransactionKey.{TransactionKey}
 use Rattle.alfred_core.specs.declared.txn.Txn.{Txn}
 use Rattle.alfred_core.specs.declared.txn.Txn.TheVariants.{Open, Whole}
-use Rattle.alfred_core.proofs.MomentLemmas.{going_open, one_opened, one_removed, one_written, open_rise, open_rows, to_later}
+use Rattle.alfred_core.proofs.MomentLemmas.{going_open, open_rise, open_rows, opened}
 
 -- ---- senders and ids
 key_equiv : IsEquivalence same_transaction
@@ -118,7 +120,7 @@ module _ (rows : Rows) (calls : List TxnCall) (stands : TransactionsStand rows c
     goes_on_answered told_then told_is = answers told_then (told_is ∙ ap told gone_on)
 
     same_opening : after.opened ≡ txn.opened
-    same_opening = ap (λ (t : Transaction). t.opened) is ∙ keeps_opening call.brought txn
+    same_opening = ap opened is ∙ keeps_opening call.brought txn
 
     -- the rows with what it is then, and of these what is open still
     abbrev written : Rows
@@ -133,7 +135,7 @@ module _ (rows : Rows) (calls : List TxnCall) (stands : TransactionsStand rows c
     written_rise : RiseWithin (first_opening (newest_moment calls)) (opened_moments written) now
     written_rise =
         subst (λ moments. RiseWithin (first_opening (newest_moment calls)) moments now)
-        (sym (one_written (same_transaction key) rows txn after found same_opening))
+        (sym (one_written opened (same_transaction key) rows txn after found same_opening))
         (to_later (first_opening (newest_moment calls)) (newest_moment calls) now (opened_moments rows) in_time stands.ordered)
 
     -- once those that aren't open any more are dropped, these are left
@@ -181,7 +183,7 @@ module _ (rows : Rows) (calls : List TxnCall) (stands : TransactionsStand rows c
           | false ↦ refl
         ])
         (subst (λ (others : Rows). RiseWithin (first_opening now) (opened_moments others) now) (sym is_removed)
-        (one_removed (first_opening now) now (same_transaction key) went_on (open_rise now (first_opening (newest_moment calls)) written written_rise)))
+        (one_removed opened (first_opening now) now (same_transaction key) went_on (open_rise now (first_opening (newest_moment calls)) written written_rise)))
         once
 
   -- ---- where none is open still
@@ -238,7 +240,7 @@ module _ (rows : Rows) (calls : List TxnCall) (stands : TransactionsStand rows c
         updates q
         ∙ ap₂ (cond (same_transaction key q)) (sym (stays_open after have want (sym told_is ∙ is_open_still)) ∙ ap unless_whole begun) (ap (lookup (same_transaction q)) left_is ∙ still_open_at q))
         (subst (λ (others : Rows). RiseWithin (first_opening now) (opened_moments others) now) (sym behind)
-        (one_opened (first_opening now) now still_open (key, after) (ap (λ (t : Transaction). t.opened) is ∙ keeps_opening call.brought (opened_at now)) still_rise))
+        (one_opened opened (first_opening now) now still_open (key, after) (ap opened is ∙ keeps_opening call.brought (opened_at now)) still_rise))
         once
 
     -- and then isn't kept

@@ -1,11 +1,12 @@
 -- What is kept of an open transaction, as the definitions see it. No clause of a public call cites
 -- this file.
-use Rattle.std.specs.Prelude.{◌≡◌, ◌<◌, ◌^◌, ◌-◌, Bool, false, ℕ, nat_eq, nat_lt, length, List, Option, None, Some, map, IfSome, IsSome}
+use Rattle.std.specs.Prelude.{◌≡◌, ◌<◌, ◌^◌, ◌-◌, Bool, false, ◌≤◌, ℕ, nat_eq, nat_lt, length, List, ◌∷◌, Option, None, Some, Result, map, IfOk, IfSome, IsSome, OnOk}
 use Rattle.std.specs.Map.{lookup}
 use Rattle.mesh_model.specs.declared.service.Fact.{Fact}
 use Rattle.mesh_model.specs.Services.Transactions.{Brought, APart, AnEnd, Part, Transaction, TxnCall, transaction_age, whole_facts}
 use Rattle.alfred_core.specs.declared.transaction.Brought.{Brought as Bringing}
 use Rattle.alfred_core.specs.declared.transaction.Brought.TheVariants.{Part as PartBrought, End as EndBrought}
+use Rattle.alfred_core.specs.Transactions.{Answers, Rows, TransactionsStand, newest_moment}
 use Rattle.alfred_core.specs.declared.transactions.TransactionKey.{TransactionKey}
 use Rattle.alfred_core.specs.declared.txn.Txn.{Txn}
 use Rattle.alfred_core.specs.declared.txn.Txn.TheVariants.{Open, Whole}
@@ -50,3 +51,13 @@ told_with txn (Some facts) = Whole facts
 -- what is told of a transaction
 abbrev pub told : Transaction → Txn
 told txn = told_with txn (whole_facts txn)
+
+-- what is kept once a message was taken
+abbrev pub Notes : {E : Type 0} → TxnCall → Rows → Rows → Result Txn E → Type 0
+Notes call old new result = (calls : List TxnCall) → TransactionsStand old calls →
+    newest_moment calls ≤ call.moment → OnOk result (TransactionsStand new (call ∷ calls))
+
+-- and what it is answered
+abbrev pub IsAnswered : {E : Type 0} → TxnCall → Rows → Result Txn E → Type 0
+IsAnswered call old result = (calls : List TxnCall) → TransactionsStand old calls →
+    newest_moment calls ≤ call.moment → IfOk result (Answers call calls)

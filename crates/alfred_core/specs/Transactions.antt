@@ -6,6 +6,7 @@ use Rattle.std.specs.List.{IsDistinct}
 use Rattle.std.specs.Map.{keys_of, lookup}
 use Rattle.mesh_model.specs.Routes.Addresses.{same_mac}
 use Rattle.mesh_model.specs.Services.Transactions.{TxnCall, Transaction, going, made_whole, transaction, transaction_age}
+use Rattle.mesh_laws.specs.Rising.{RiseWithin}
 use Rattle.alfred_core.specs.declared.transactions.TransactionKey.{TransactionKey}
 use Rattle.alfred_core.specs.declared.txn.Txn.{Txn}
 use Rattle.alfred_core.specs.declared.txn.Txn.TheVariants.{Open, Whole}
@@ -21,11 +22,6 @@ same_transaction a b = same_mac a.sender b.sender && (a.id == b.id)
 -- the moments at which transactions were opened
 abbrev pub opened_moments : Rows → List ℕ
 opened_moments rows = map (λ (row : TransactionKey × Transaction). row.1.opened) rows
-
--- moments that never fall, from one to another
-abbrev pub RiseWithin : ℕ → List ℕ → ℕ → Type 0
-RiseWithin first [] last = first ≤ last
-RiseWithin first (moment ∷ moments) last = (first ≤ moment) × RiseWithin moment moments last
 
 -- the first moment at which a transaction that is open still may have been opened
 abbrev pub first_opening : ℕ → ℕ

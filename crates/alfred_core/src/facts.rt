@@ -5,7 +5,7 @@ ghost use Rattle.mesh_base.specs.declared.address.Mac.{Mac};
 ghost use Rattle.mesh_model.specs.Services.Facts.{CameFrom, FactCall, WasPut, facts_at, is_live_fact, kept_fact, key_of_fact, mark_from, outweighs, stays_kept};
 ghost use Rattle.alfred_core.specs.Facts.{FactsStand, IsKeptBy};
 
-use crate::fact_list::copy_of;
+use crate::copies::copy_of;
 use indexmap::IndexMap;
 use mesh_base::{Bytes, Mac, Millis, NoMemory};
 use mesh_model::{Fact, FactKey, KeptFact, Mark};

@@ -3,7 +3,7 @@
 
 #![tactic(auto)]
 
-mod fact_list;
+mod copies;
 mod facts;
 mod parts;
 mod primaries;
@@ -11,9 +11,8 @@ mod transaction;
 mod transactions;
 mod txn;
 
-pub use fact_list::FactList;
 pub use facts::Facts;
-pub use mesh_model::{Fact, FactKey, KeptFact, Mark, PrimaryRow};
+pub use mesh_model::{Fact, FactKey, FactList, KeptFact, Mark, PrimaryRow};
 pub use primaries::primary_of;
 pub use transactions::Transactions;
 pub use txn::Txn;

@@ -2,9 +2,10 @@ ghost use Rattle.std.specs.Prelude.{◌≡◌, ◌-◌, ◌++◌, ◌∷◌, [],
 ghost use Rattle.std.specs.Map.{lookup};
 ghost use Rattle.mesh_model.specs.Services.Transactions.{facts_below, part_at};
 
-use crate::fact_list::FactList;
+use crate::copies::{add_copies, copies_of};
 use indexmap::IndexMap;
 use mesh_base::NoMemory;
+use mesh_model::FactList;
 use std::alloc::Global;
 use std::marker::Model;
 
@@ -62,8 +63,8 @@ impl Parts {
             ≡ self.old ++ record { number = number; facts = facts.now } ∷ []) }
         ensures err { OnErr result (self.new ≡ self.old) }
     {
-        let copy = facts.copy()?;
-        self.kept.insert(number, copy)?;
+        let copies = copies_of(*self.kept.allocator(), facts)?;
+        self.kept.insert(number, copies)?;
         if self.missing == Some(number) {
             self.missing = first_missing(&self.kept, number);
         }
@@ -84,10 +85,11 @@ impl Parts {
         if self.missing.is_some_and(|number| number < count) {
             return Ok(None);
         }
-        let mut facts = FactList::new(*self.kept.allocator());
+        let alloc = *self.kept.allocator();
+        let mut facts = FactList::new(alloc);
         for number in 0..count {
             match self.kept.get(&number) {
-                Some(part) => facts.add(part)?,
+                Some(part) => add_copies(alloc, &mut facts, part)?,
                 None => return Ok(None),
             }
         }

@@ -2,10 +2,10 @@ ghost use Rattle.std.specs.Prelude.{◌≡◌, IfOk, OnErr, OnOk};
 ghost use Rattle.mesh_model.specs.Services.Transactions.{APart, AnEnd, opened_at, with_brought};
 ghost use Rattle.alfred_core.specs.Kept.{brought_in, is_open, told};
 
-use crate::fact_list::FactList;
 use crate::parts::Parts;
 use crate::txn::Txn;
 use mesh_base::{Millis, NoMemory};
+use mesh_model::FactList;
 use std::alloc::Global;
 use std::marker::Model;
 

@@ -4,14 +4,15 @@ ghost use Rattle.std.specs.Prelude.{◌≡◌, ◌≤◌, ℕ, List, [], ◌∷�
 ghost use Rattle.std.specs.Map.{lookup};
 ghost use Rattle.indexmap.specs.IndexMap.{spare};
 ghost use Rattle.mesh_model.specs.Services.Transactions.{APart, AnEnd, TxnCall};
-ghost use Rattle.alfred_core.specs.Kept.{call_of, is_kept_open, is_open};
-ghost use Rattle.alfred_core.specs.Transactions.{Answers, RiseWithin, TransactionsStand, newest_moment, opened_moments, same_transaction};
+ghost use Rattle.mesh_laws.specs.Rising.{RiseWithin};
+ghost use Rattle.alfred_core.specs.Kept.{IsAnswered, Notes, call_of, is_kept_open, is_open};
+ghost use Rattle.alfred_core.specs.Transactions.{Answers, TransactionsStand, newest_moment, opened_moments, same_transaction};
 
-use crate::fact_list::FactList;
 use crate::transaction::{Brought, OpenTransaction};
 use crate::txn::Txn;
 use indexmap::IndexMap;
 use mesh_base::{Mac, Millis, NoMemory};
+use mesh_model::FactList;
 use std::alloc::Global;
 use std::marker::Model;
 
@@ -90,12 +91,8 @@ impl Transactions {
 
     // Takes what a message brings.
     fn bring(&mut self, now: Millis, key: TransactionKey, brought: Brought) -> Result<Txn, NoMemory>
-        ensures ok { (calls : List TxnCall) → TransactionsStand self.old calls →
-            newest_moment calls ≤ now →
-            OnOk result (TransactionsStand self.new (call_of now key brought.entry ∷ calls)) }
-        ensures answered { (calls : List TxnCall) → TransactionsStand self.old calls →
-            newest_moment calls ≤ now →
-            IfOk result (Answers (call_of now key brought.entry) calls) }
+        ensures ok { Notes (call_of now key brought.entry) self.old self.new result }
+        ensures answered { IsAnswered (call_of now key brought.entry) self.old result }
         ensures err { OnErr result (self.new ≡ self.old) }
     {
         if self.is_open(now, key) {
@@ -116,12 +113,8 @@ impl Transactions {
     // only once no memory is wanted any more, so that a refusal leaves all.
     fn go_on(&mut self, now: Millis, key: TransactionKey, brought: Brought) -> Result<Txn, NoMemory>
         requires { is_kept_open now (lookup (same_transaction key) self.old) ≡ true }
-        ensures ok { (calls : List TxnCall) → TransactionsStand self.old calls →
-            newest_moment calls ≤ now →
-            OnOk result (TransactionsStand self.new (call_of now key brought.entry ∷ calls)) }
-        ensures answered { (calls : List TxnCall) → TransactionsStand self.old calls →
-            newest_moment calls ≤ now →
-            IfOk result (Answers (call_of now key brought.entry) calls) }
+        ensures ok { Notes (call_of now key brought.entry) self.old self.new result }
+        ensures answered { IsAnswered (call_of now key brought.entry) self.old result }
         ensures err { OnErr result (self.new ≡ self.old) }
     {
         let txn = self.rows.get_mut(&key).unwrap();
@@ -136,12 +129,8 @@ impl Transactions {
     // Takes what a message brings into a transaction that it opens, behind the others.
     fn begin(&mut self, now: Millis, key: TransactionKey, brought: Brought) -> Result<Txn, NoMemory>
         requires { is_kept_open now (lookup (same_transaction key) self.old) ≡ false }
-        ensures ok { (calls : List TxnCall) → TransactionsStand self.old calls →
-            newest_moment calls ≤ now →
-            OnOk result (TransactionsStand self.new (call_of now key brought.entry ∷ calls)) }
-        ensures answered { (calls : List TxnCall) → TransactionsStand self.old calls →
-            newest_moment calls ≤ now →
-            IfOk result (Answers (call_of now key brought.entry) calls) }
+        ensures ok { Notes (call_of now key brought.entry) self.old self.new result }
+        ensures answered { IsAnswered (call_of now key brought.entry) self.old result }
         ensures err { OnErr result (self.new ≡ self.old) }
     {
         let mut txn = OpenTransaction::new(*self.rows.allocator(), now);

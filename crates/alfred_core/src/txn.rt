@@ -1,4 +1,4 @@
-use crate::fact_list::FactList;
+use mesh_model::FactList;
 
 /// What there is of a transaction behind a message.
 #[derive(Debug, Drop)]

@@ -1,6 +1,7 @@
 use crate::address::Mac;
 use crate::byte_list::Bytes;
 use crate::client::{Millis, Vid};
+use crate::items::Items;
 
 /// Why a frame for a client goes to the node that it goes to.
 #[derive(Clone, Copy, Debug, PartialEq, Eq)]
@@ -89,6 +90,9 @@ pub enum FactResult {
         text: Bytes,
     },
 }
+
+/// Events, in the order in which they happened.
+pub type Events = Items<Event>;
 
 /// What happens in a run and has a line of its own. Nodes are named by their addresses, LANs by
 /// their numbers, from 1.

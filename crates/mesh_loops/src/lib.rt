@@ -5,13 +5,11 @@
 
 mod failure;
 pub mod laws;
-mod loop_list;
 mod report;
 mod watch;
 mod when;
 
 pub use failure::WatchErr;
-pub use loop_list::LoopList;
-pub use mesh_model::{Loop, NodeList};
+pub use mesh_model::{Loop, LoopList, NodeList};
 pub use report::LoopReport;
 pub use watch::Watch;

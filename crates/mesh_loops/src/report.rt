@@ -1,4 +1,4 @@
-use crate::loop_list::LoopList;
+use mesh_model::LoopList;
 
 /// What became of loops since they were looked at last, each list by originator, then by the least
 /// node.

@@ -14,12 +14,11 @@ ghost use Rattle.mesh_loops.specs.Walks.{AreAmong, AreNoted, HasMet, IsNoted};
 ghost use Rattle.mesh_loops.specs.Watch.{AreKept, PassesPairs, WasSet, WasSettled, WatchCall, WatchStands, lines_at, lines_set, next_at, other, report_of};
 
 use crate::failure::WatchErr;
-use crate::loop_list::LoopList;
 use crate::report::LoopReport;
 use crate::when::When;
 use indexmap::{IndexMap, IndexSet};
 use mesh_base::{Mac, NoMemory};
-use mesh_model::{Loop, NodeList, RoutePair};
+use mesh_model::{Loop, LoopList, NodeList, RoutePair};
 use std::alloc::Global;
 use std::marker::Model;
 

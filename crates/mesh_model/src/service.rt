@@ -1,4 +1,7 @@
-use mesh_base::{Bytes, Mac, Millis, Vid};
+use mesh_base::{Bytes, Items, Mac, Millis, Vid};
+
+/// A list of facts.
+pub type FactList = Items<Fact>;
 
 /// A gateway as a node knows it: its throughputs in units of 100 kbit/s, and the metric of the
 /// route to it.

@@ -1,4 +1,7 @@
-use mesh_base::Entry;
+use mesh_base::{Entry, Items};
+
+/// A list of changes.
+pub type Changes = Items<Change>;
 
 /// A change of a table: an entry that comes, or one that goes.
 #[derive(Clone, Copy, Debug, PartialEq, Eq)]

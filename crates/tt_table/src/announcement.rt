@@ -1,5 +1,5 @@
-use crate::changes::Changes;
 use crate::sums::Sums;
+use mesh_model::Changes;
 
 /// What a node announces of its table.
 #[derive(Debug, Drop)]

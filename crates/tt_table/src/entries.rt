@@ -5,9 +5,8 @@ ghost use Rattle.mesh_model.specs.Tables.Strict.{with_entry, without_entry};
 ghost use Rattle.tt_table.specs.Entries.{entry_key, HasRoom, Tells};
 ghost use Rattle.tt_table.specs.Places.{IsGap, IsThere};
 
-use crate::changes::Changes;
 use mesh_base::{Entry, Key, NoMemory};
-use mesh_model::Change;
+use mesh_model::{Change, Changes};
 use std::alloc::Global;
 use std::marker::Model;
 

@@ -4,7 +4,6 @@
 #![tactic(auto)]
 
 pub mod announcement;
-pub mod changes;
 pub mod checksum;
 mod difference;
 pub mod entries;
@@ -16,10 +15,9 @@ mod totals;
 mod vlan_total;
 
 pub use announcement::Announcement;
-pub use changes::Changes;
 pub use checksum::{crc32c, entry_sum};
 pub use entries::Entries;
 pub use failure::ApplyErr;
-pub use mesh_model::{Change, Difference};
+pub use mesh_model::{Change, Changes, Difference};
 pub use sums::Sums;
 pub use table::Table;

@@ -7,12 +7,11 @@ ghost use Rattle.tt_table.specs.Sums.{AreTotalsOf, HasRows, named_sums};
 ghost use Rattle.tt_table.specs.Table.{Becomes, HasCause};
 ghost use Rattle.tt_table.specs.declared.failure.ApplyErr.TheVariants.{Memory};
 
-use crate::changes::Changes;
 use crate::entries::Entries;
 use crate::failure::ApplyErr;
 use crate::sums::Sums;
 use mesh_base::{Entry, Key, NoMemory, Steps};
-use mesh_model::Change;
+use mesh_model::{Change, Changes};
 use std::alloc::Global;
 use std::marker::Model;
 use std::sync::ledger::Ledger;

@@ -20,4 +20,4 @@ pub loop-number-preserved : goal.loop-number-preserved
 loop-number-preserved c =
     let found : lookup (nat_eq c.loop-number.number-counter) c.self.inside.kept.entries ≡ Some c.in-Some.part.now = search rules in
     one_more c.self.inside.kept.entries c.loop-number.number-counter c.loop-number.facts c.in-Some.part.now c.loop-number.invariant found
-    ∙ ap (λ facts. Some facts) (sym c.in_ok-add-in-Some.ensures)
+    ∙ ap (λ facts. Some facts) (sym c.in_ok-add_copies-in-Some.ensures)
