@@ -1,16 +1,43 @@
 -- What a table's announced sums say of each VLAN.
-use Rattle.std.proofs.Common.{◌≡◌, ℕ, Bool, true, false, cond, ◌||◌, ◌==◌, List, [], ◌∷◌, map, Ordering, Less, Equal, Greater, refl, sym, ap, ◌∙◌, nat_cmp}
+use Rattle.std.proofs.Common.{◌≡◌, ℕ, Bool, true, false, cond, ◌||◌, ◌==◌, arith, List, [], ◌∷◌, map, Ordering, Less, Equal, Greater, refl, sym, ap, subst, ◌∙◌, nat_cmp}
 use Rattle.std.specs.List.{list_any}
-use Rattle.std.specs.Ordering.{match_ordering}
+use Rattle.std.specs.Cmp.{IsTotalOrder}
+use Rattle.std.specs.Ordering.{eq_by_cmp, match_ordering}
 use Rattle.std.proofs.Math.Path.{fun_ext}
 use Rattle.std.proofs.lemmas.Bool.{eqb-true, true≢false}
-use Rattle.std.proofs.lemmas.Map.Lookups.{exact_unsigned}
+use Rattle.std.proofs.lemmas.Bool.Decides.{nat_tests}
+use Rattle.std.proofs.lemmas.Cmp.{nat_cmp_total, on_total}
+use Rattle.std.proofs.lemmas.Map.Lookups.{CmpEqualImpliesEq, exact_unsigned}
+use Rattle.mesh_base.specs.Ordered.{in_order, placed}
 use Rattle.mesh_base.specs.declared.client.Entry.{Entry}
 use Rattle.mesh_base.specs.declared.client.Vid.{Vid}
 use Rattle.mesh_model.specs.Packets.Bodies.{VlanSum}
 use Rattle.mesh_model.specs.Tables.Sums.{checksums, entry_sum, entries_in, is_in_vlan, xor_of, insert_vlan, vlans_of, sums_of, sum_at}
+use Rattle.mesh_laws.proofs.ListedInOrder.{has_in_order}
 use Rattle.mesh_laws.specs.TableLaws.{AnnouncesChecksums, AnnouncesNoneOfEmpty}
 
+-- ---- the order of VLANs
+abbrev vlan_order : Vid → Vid → Ordering
+vlan_order v w = nat_cmp v.0 w.0
+
+vlan_total : IsTotalOrder vlan_order
+vlan_total = on_total (λ (v : Vid). v.0) nat_cmp_total
+
+vlan_exact : CmpEqualImpliesEq vlan_order
+vlan_exact v w e = λ i. record { 0 = exact_unsigned v.0 w.0 e i }
+
+same_vlan : (v : Vid) → eq_by_cmp vlan_order v ≡ (λ w. v.0 == w.0)
+same_vlan v = fun_ext (λ w. grind (arith, nat_tests))
+
+vlan_placed : (v : Vid) (vs : List Vid) → insert_vlan v vs ≡ placed vlan_order v vs
+vlan_placed v [] = refl
+vlan_placed v (w ∷ vs) = ap (λ later. match_ordering (vlan_order v w) (v ∷ w ∷ vs) (w ∷ vs) (w ∷ later)) (vlan_placed v vs)
+
+vlans_in_order : (t : List Entry) → vlans_of t ≡ in_order vlan_order (map (λ e. e.key.vid) t)
+vlans_in_order [] = refl
+vlans_in_order (e ∷ t) = vlan_placed e.key.vid (vlans_of t) ∙ ap (placed vlan_order e.key.vid) (vlans_in_order t)
+
+-- ---- the sums
 -- whether a VLAN is among some
 is_named : Vid → List Vid → Bool
 is_named v vs = list_any (λ w. v.0 == w.0) vs
@@ -26,29 +53,17 @@ sum_named f v (w ∷ vs) = go (v.0 == w.0) refl (sum_named f v vs)
         ap f same
     go false p ih = ih
 
-twice : (a b : Bool) → (a || b) ≡ (a || (a || b))
-twice true b = refl
-twice false b = refl
-
-swapped : (a b c : Bool) → (a || (b || c)) ≡ (b || (a || c))
-swapped true true c = refl
-swapped true false c = refl
-swapped false b c = refl
-
-named_inserted : (v u : Vid) (vs : List Vid) → is_named v (insert_vlan u vs) ≡ ((v.0 == u.0) || is_named v vs)
+named_entries : (v : Vid) (t : List Entry) → is_named v (map (λ e. e.key.vid) t) ≡ list_any (is_in_vlan v) t
 unfolding is_named
-named_inserted v u [] = refl
-named_inserted v u (w ∷ vs) = go (nat_cmp u.0 w.0) refl (named_inserted v u vs)
-  where
-    go : (r : Ordering) → nat_cmp u.0 w.0 ≡ r → is_named v (insert_vlan u vs) ≡ ((v.0 == u.0) || is_named v vs) → is_named v (match_ordering r (u ∷ w ∷ vs) (w ∷ vs) (w ∷ insert_vlan u vs)) ≡ ((v.0 == u.0) || is_named v (w ∷ vs))
-    go Less p ih = refl
-    go Equal p ih = twice (v.0 == w.0) (is_named v vs) ∙ ap (λ n. (v.0 == n) || is_named v (w ∷ vs)) (sym (exact_unsigned u.0 w.0 p))
-    go Greater p ih = ap (λ b. (v.0 == w.0) || b) ih ∙ swapped (v.0 == w.0) (v.0 == u.0) (is_named v vs)
+named_entries v [] = refl
+named_entries v (e ∷ t) = ap (λ b. is_in_vlan v e || b) (named_entries v t)
 
 named_vlans : (v : Vid) (t : List Entry) → is_named v (vlans_of t) ≡ list_any (is_in_vlan v) t
 unfolding is_named
-named_vlans v [] = refl
-named_vlans v (e ∷ t) = named_inserted v e.key.vid (vlans_of t) ∙ ap (λ b. is_in_vlan v e || b) (named_vlans v t)
+named_vlans v t =
+    ap (is_named v) (vlans_in_order t)
+    ∙ subst (λ test. list_any test (in_order vlan_order (map (λ e. e.key.vid) t)) ≡ list_any test (map (λ e. e.key.vid) t)) (same_vlan v) (has_in_order vlan_total vlan_exact v (map (λ e. e.key.vid) t))
+    ∙ named_entries v t
 
 none_in_vlan : (v : Vid) (t : List Entry) → list_any (is_in_vlan v) t ≡ false → checksums t v ≡ 0
 none_in_vlan v [] h = refl

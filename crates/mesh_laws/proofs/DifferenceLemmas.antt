@@ -1,5 +1,5 @@
 -- Where two lists of sums differ: the least VLAN that passes a test, and what agreement says.
-use Rattle.std.proofs.Common.{◌≡◌, ◌≢◌, ◌<◌, ◌≤◌, ℕ, Bool, true, false, cond, not, nat_eq, nat_lt, ◌||◌, List, [], ◌∷◌, ◌++◌, Option, Some, None, option_map, is_none, is_some, refl, sym, ap, ap₂, ◌∙◌, subst, arith}
+use Rattle.std.proofs.Common.{◌≡◌, ◌≢◌, ◌<◌, ◌≤◌, ℕ, Bool, true, false, cond, not, nat_eq, nat_lt, ◌&&◌, ◌||◌, List, [], ◌∷◌, ◌++◌, Option, Some, None, option_map, is_none, is_some, refl, sym, ap, ap₂, ◌∙◌, subst, arith}
 use Rattle.std.proofs.Math.Path.{fun_ext}
 use Rattle.std.specs.List.{list_any}
 use Rattle.std.proofs.lemmas.Bool.{true≢false, false≢true, eq-eqb, and_from, and_parts}
@@ -9,6 +9,7 @@ use Rattle.mesh_model.specs.Packets.Bodies.{VlanSum}
 use Rattle.mesh_model.specs.declared.table_outcome.Difference.{Difference}
 use Rattle.mesh_model.specs.Tables.Differences.{differ_at, difference_at, first_difference, least_passing, lesser, named_vlans}
 use Rattle.mesh_model.specs.Tables.Sums.{sum_at, sums_of}
+use Rattle.mesh_model.specs.Tables.Versions.{Stamp}
 use Rattle.mesh_laws.specs.KnownLaws.{AgreesByChecksums, FindsEachDifference, FindsLeastDifference, IsLeastDifference}
 use Rattle.mesh_laws.proofs.AnnouncedSums.{announces_checksums}
 
@@ -146,3 +147,12 @@ agrees_by_checksums told held = (
       (same_number held.byte told.byte parts.0, sym (announces_checksums held.table) ∙ (finds_each_difference (sums_of held.table) told.sums).0 (none_from _ parts.1)),
   λ is. and_from _ _ (eq-eqb held.byte told.byte is.0) (ap is_none ((finds_each_difference (sums_of held.table) told.sums).1 (announces_checksums held.table ∙ is.1))),
 )
+
+-- what matches what was told, by its byte and its checksums
+pub by_match : {X : Type 0} (told stamp : Stamp) → (nat_eq told.byte stamp.byte && is_none (first_difference told.sums stamp.sums)) ≡ true → (told.byte ≡ stamp.byte → sum_at told.sums ≡ sum_at stamp.sums → X) → X
+by_match {X} told stamp matches then = go (nat_eq told.byte stamp.byte) refl (first_difference told.sums stamp.sums) refl matches
+  where
+    go : (same : Bool) → nat_eq told.byte stamp.byte ≡ same → (d : Option _) → first_difference told.sums stamp.sums ≡ d → (same && is_none d) ≡ true → X
+    go true is None none m = then (same_number told.byte stamp.byte is) ((finds_each_difference told.sums stamp.sums).0 none)
+    go true is (Some d) some m = absurd (false≢true m)
+    go false is d e m = absurd (false≢true m)

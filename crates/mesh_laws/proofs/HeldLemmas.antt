@@ -1,5 +1,5 @@
 -- What is known of an originator stays of its commits, whatever comes that tells of them.
-use Rattle.std.proofs.Common.{◌≡◌, ◌⊎◌, inl, inr, ℕ, ◌<◌, ◌&&◌, nat_eq, arith, Bool, true, false, cond, List, [], ◌∷◌, map, flat_map, Option, Some, None, is_none, is_some, unwrap_or, IsTrue, refl, sym, ap, ap₂, ◌∙◌, subst}
+use Rattle.std.proofs.Common.{◌≡◌, ◌⊎◌, inl, inr, ℕ, ◌<◌, ◌&&◌, nat_eq, arith, Bool, true, false, cond, List, [], ◌∷◌, map, flat_map, Option, Some, None, is_none, is_some, unwrap_or, IsTrue, refl, sym, ap, ◌∙◌, subst}
 use Rattle.std.specs.List.{AllByRecursion}
 use Rattle.std.specs.Option.{option_or}
 use Rattle.std.proofs.lemmas.Bool.{false≢true, eqb-true}
@@ -18,18 +18,18 @@ use Rattle.mesh_model.specs.Tables.Changes.{addition}
 use Rattle.mesh_model.specs.Tables.Differences.{first_difference}
 use Rattle.mesh_model.specs.Tables.Gathered.{Gathered, gathered_records, is_bad_part, missing_part, none_gathered, of_count, records_at, with_table_part}
 use Rattle.mesh_model.specs.Tables.Judging.{Carried, InFull, InPart, InChanges, announcement_row, answer_row}
-use Rattle.mesh_model.specs.Tables.Known.{Announced, Answered, Dropped, Known, TableCalls, agrees, announced, answered, gathered_after, gathered_from, held_after, kept_under, known_by, matches_told, nothing, stamp_of, while_missing}
+use Rattle.mesh_model.specs.Tables.Known.{Announced, Answered, Dropped, Known, TableCalls, agrees, announced, answered, gathered_after, gathered_from, held_after, kept_under, known_by, nothing, stamp_of, while_missing}
 use Rattle.mesh_model.specs.Tables.Pieces.{piece, piece_count, places}
 use Rattle.mesh_model.specs.Tables.Strict.{apply_strictly}
 use Rattle.mesh_model.specs.Tables.Sums.{checksums, sum_at, sums_of}
 use Rattle.mesh_model.specs.Tables.Versions.{Stamp, Version}
 use Rattle.mesh_laws.specs.HeldLaws.{AreCommits, AreOfCommits, ArePiecesOfCommits, CarriesCommit, CommitsAreToldWhole, GatheredAreOfCommits, HoldsTold, IsOfCommits, KnownAreOfCommits, TellsCommit, stamp_of_commit}
-use Rattle.mesh_laws.specs.KnownLaws.{ComeTogether, IsTold, LeadsOn, heard_another, took_another}
+use Rattle.mesh_laws.specs.KnownLaws.{LeadsOn, heard_another, took_another}
 use Rattle.mesh_laws.specs.Machine.Agreement.{LeadTo}
 use Rattle.mesh_laws.specs.Machine.World.{IsCommit}
 use Rattle.mesh_laws.proofs.AnnouncedSums.{announces_checksums, announces_none_of_empty}
 use Rattle.mesh_laws.proofs.CommitLemmas.{led_to_commit, made_of_commit}
-use Rattle.mesh_laws.proofs.DifferenceLemmas.{agrees_by_checksums, finds_each_difference}
+use Rattle.mesh_laws.proofs.DifferenceLemmas.{agrees_by_checksums, by_match}
 use Rattle.mesh_laws.proofs.GatheredLemmas.{counted_with, each_there, found_beside, of_same_or_new}
 use Rattle.mesh_laws.proofs.KnownLemmas.{applied_onward, changes_as_heard, changes_as_taken, emptied_by_none, taken_in_parts, taken_onward, taken_whole}
 use Rattle.mesh_laws.proofs.MacLemmas.{same_exact}
@@ -150,15 +150,6 @@ module _ (made : List Version) (are : AreCommits made) where
       one_commit other one is_other is
       (ap (λ (s : Stamp). s.byte) (sym t_is) ∙ bytes ∙ ap (λ (s : Stamp). s.byte) stamp_is)
       (sym (ap (λ (s : Stamp). sum_at s.sums) t_is ∙ announces_checksums one.table) ∙ sums ∙ ap (λ (s : Stamp). sum_at s.sums) stamp_is ∙ announces_checksums other.table)
-
-  -- what matches what was told, by its byte and its checksums
-  by_match : {X : Type 0} (t stamp : Stamp) → (nat_eq t.byte stamp.byte && is_none (first_difference t.sums stamp.sums)) ≡ true → (t.byte ≡ stamp.byte → sum_at t.sums ≡ sum_at stamp.sums → X) → X
-  by_match {X} t stamp matches then = go (nat_eq t.byte stamp.byte) refl (first_difference t.sums stamp.sums) refl matches
-    where
-      go : (same : Bool) → nat_eq t.byte stamp.byte ≡ same → (d : Option _) → first_difference t.sums stamp.sums ≡ d → (same && is_none d) ≡ true → X
-      go true is None none m = then (eqb-true t.byte stamp.byte is) ((finds_each_difference t.sums stamp.sums).0 none)
-      go true is (Some d) some m = absurd (false≢true m)
-      go false is d e m = absurd (false≢true m)
 
   abbrev ArePieces : Option Stamp → Gathered → Type 0
   ArePieces told gathered = ArePiecesOfCommits made told gathered

@@ -16,11 +16,11 @@ use Rattle.mesh_model.specs.declared.table_outcome.Difference.{Difference}
 use Rattle.mesh_model.specs.declared.table_outcome.Heard.{Heard}
 use Rattle.mesh_model.specs.declared.table_outcome.Heard.TheVariants.{Emptied, Unheld, Same, SumDiffers, Gap, Bare, Clash, Applied}
 use Rattle.mesh_model.specs.declared.table_outcome.Taken.{Taken}
-use Rattle.mesh_model.specs.declared.table_outcome.Taken.TheVariants.{BadPart, NotTold, Part, Gap as NotNext, Taken as IsTaken}
+use Rattle.mesh_model.specs.declared.table_outcome.Taken.TheVariants.{BadPart, NotTold, Gap as NotNext, Taken as IsTaken}
 use Rattle.mesh_model.specs.Tables.Changes.{addition, changed_entries}
 use Rattle.mesh_model.specs.Tables.Differences.{first_difference}
 use Rattle.mesh_model.specs.Tables.Gathered.{Gathered, gathered_records, is_bad_part, missing_part, with_table_part}
-use Rattle.mesh_model.specs.Tables.Judging.{Carried, Fails, Differs, InChanges, InFull, InPart, Leads, Row, Trial, answer_row, becomes, carried_row, changes_row, good_row, heard_trial, named_row, next_byte_row, part_row, row_by_vlans, same_byte_row, stays, taken_trial, trial, trial_of, unless_bad_part, unless_carried_differs, unless_differs, unless_missing}
+use Rattle.mesh_model.specs.Tables.Judging.{Carried, Fails, Differs, InChanges, InFull, InPart, Leads, Row, Trial, answer_row, becomes, carried_row, changes_row, good_row, heard_trial, named_row, next_byte_row, row_by_vlans, same_byte_row, stays, taken_trial, trial, trial_of, unless_bad_part, unless_carried_differs, unless_differs, unless_missing}
 use Rattle.mesh_model.specs.Tables.Known.{agrees, held_after, stamp_of}
 use Rattle.mesh_model.specs.Tables.Strict.{and_then, apply_strictly, change_each, with_entry}
 use Rattle.mesh_model.specs.Tables.Sums.{checksums, sum_at, sums_of}

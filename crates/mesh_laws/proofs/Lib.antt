@@ -29,6 +29,7 @@ pub mod DifferenceLemmas
 pub mod GatheredLemmas
 pub mod KnownLemmas
 pub mod PartLemmas
+pub mod RisingMoments
 pub mod StoreLemmas
 pub mod KeptLemmas
 pub mod FactLemmas

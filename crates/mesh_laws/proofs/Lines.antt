@@ -8,6 +8,7 @@ pub mod Printing
 pub mod Choosing
 pub mod Keeping
 pub mod Quiet
+pub mod FieldsRead
 pub mod ReadRange
 pub mod Slices
 pub mod KeptLinks

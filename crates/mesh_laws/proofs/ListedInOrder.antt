@@ -40,7 +40,7 @@ module _ {A : Type 0} {R : A → A → Ordering} (o : IsTotalOrder R) (exact : C
   above_first value first [] below above = tt
   above_first value first (y ∷ rest) below above = (o.trans value first y below above.0, above_first value first rest below above.1)
 
-  sorted_placed : (value : A) (values : List A) → IsStrictlySortedBy R values → IsStrictlySortedBy R (placed R value values)
+  pub sorted_placed : (value : A) (values : List A) → IsStrictlySortedBy R values → IsStrictlySortedBy R (placed R value values)
   unfolding IsStrictlySortedBy
   sorted_placed value [] sorted = (tt, tt)
   sorted_placed value (first ∷ rest) sorted =
@@ -57,7 +57,7 @@ module _ {A : Type 0} {R : A → A → Ordering} (o : IsTotalOrder R) (exact : C
   sorted_in_order (value ∷ rest) = sorted_placed value (in_order R rest) (sorted_in_order rest)
 
   -- ---- which they are
-  has_placed : (q value : A) (values : List A) → list_any (eq_by_cmp R q) (placed R value values) ≡ (eq_by_cmp R q value || list_any (eq_by_cmp R q) values)
+  pub has_placed : (q value : A) (values : List A) → list_any (eq_by_cmp R q) (placed R value values) ≡ (eq_by_cmp R q value || list_any (eq_by_cmp R q) values)
   has_placed q value [] = refl
   has_placed q value (first ∷ rest) =
       elim (R value first) as (λ r. R value first ≡ r → list_any (eq_by_cmp R q) (match_ordering r (value ∷ first ∷ rest) (first ∷ rest) (first ∷ placed R value rest)) ≡ (eq_by_cmp R q value || list_any (eq_by_cmp R q) (first ∷ rest))) [

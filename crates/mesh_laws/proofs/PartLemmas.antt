@@ -1,5 +1,5 @@
 -- The parts of a table that come in any order and however often.
-use Rattle.std.proofs.Common.{◌≡◌, ◌<◌, ◌≤◌, ◌⊎◌, inl, inr, ℕ, ◌&&◌, ◌||◌, nat_eq, Bool, true, false, cond, List, [], ◌∷◌, ◌++◌, flat_map, Option, None, Some, is_none, is_some, unwrap_or, refl, sym, ap, ap₂, ◌∙◌, subst, arith}
+use Rattle.std.proofs.Common.{◌≡◌, ◌<◌, ◌⊎◌, inl, inr, ℕ, ◌&&◌, ◌||◌, nat_eq, Bool, true, false, cond, List, [], ◌∷◌, ◌++◌, flat_map, Option, None, Some, is_none, is_some, unwrap_or, refl, sym, ap, ap₂, ◌∙◌, subst, arith}
 use Rattle.std.specs.List.{AllByRecursion}
 use Rattle.std.specs.Option.{option_or}
 use Rattle.std.proofs.lemmas.Bool.{false≢true, eq-eqb, eqb-true}
@@ -8,8 +8,8 @@ use Rattle.mesh_model.specs.declared.table_change.Change.{Change}
 use Rattle.mesh_model.specs.declared.table_outcome.Taken.TheVariants.{BadPart, Taken as IsTaken}
 use Rattle.mesh_model.specs.Routes.Addresses.{same_mac}
 use Rattle.mesh_model.specs.Tables.Differences.{first_difference}
-use Rattle.mesh_model.specs.Tables.Gathered.{Gathered, gathered_records, is_bad_part, missing_part, none_gathered, records_at, with_table_part}
-use Rattle.mesh_model.specs.Tables.Judging.{Carried, InChanges, InFull, InPart, answer_row, becomes, good_row, stays, taken_trial, trial, unless_missing}
+use Rattle.mesh_model.specs.Tables.Gathered.{Gathered, gathered_records, missing_part, none_gathered, records_at, with_table_part}
+use Rattle.mesh_model.specs.Tables.Judging.{Carried, InChanges, InFull, InPart, answer_row, becomes, good_row, stays, taken_trial, unless_missing}
 use Rattle.mesh_model.specs.Tables.Known.{TableCall, TableCalls, Announced, Answered, Dropped, Known, agrees, announced, answered, gathered_after, gathered_from, held_after, is_agreed, known_by, matches_told, nothing, stamp_of, while_missing}
 use Rattle.mesh_model.specs.Tables.Pieces.{places}
 use Rattle.mesh_model.specs.Tables.Versions.{Stamp}

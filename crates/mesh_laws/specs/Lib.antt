@@ -22,3 +22,4 @@ pub mod ServiceLaws
 pub mod AddressLaws
 pub mod FactLaws
 pub mod CutLaws
+pub mod Rising

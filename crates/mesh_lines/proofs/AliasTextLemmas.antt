@@ -43,10 +43,9 @@ use Rattle.mesh_lines.specs.TextLaws.{IsFrontOf}
 use Rattle.mesh_lines.proofs.Found.{has_at}
 use Rattle.mesh_lines.proofs.ItemLemmas.{lines_of_text, printed_are_lines}
 use Rattle.mesh_lines.proofs.NamesGoOn.{IsNamed}
-use Rattle.mesh_lines.proofs.NameLemmas.{runs_are_named}
 use Rattle.mesh_lines.proofs.NodeNames.{alias_among}
 use Rattle.mesh_lines.proofs.SourceLemmas.{aliases_have_one_source}
-use Rattle.mesh_lines.proofs.TableTextLemmas.{alias_line_is, choice_stays, front_printed, line_among, printed_plain, texts_plain}
+use Rattle.mesh_lines.proofs.TableTextLemmas.{IsPlainFront, alias_line_is, choice_stays, line_among, line_printed, plain_front}
 
 -- ---- names
 -- a node is called by its own name
@@ -84,14 +83,8 @@ alias_lines_are_right choice lines text plain f = record { told = told; each = e
     printed : List Printed
     printed = run.state.printed
 
-    n : IsNamed run.state
-    n = runs_are_named choice lines plain
-
-    all : ArePlain printed
-    all = printed_plain choice lines n (texts_plain choice lines n)
-
-    first : (later : List (List ℕ)) × (lines_printed choice printed ≡ complete_lines text ++ later)
-    first = front_printed choice lines text all f
+    front : IsPlainFront choice lines text
+    front = plain_front choice lines text plain f
 
     reachable : IsReachable (queries_of run.state.algorithm) mesh
     reachable = (lines_hold (start choice) lines (first_holds choice)).reachable
@@ -103,15 +96,15 @@ alias_lines_are_right choice lines text plain f = record { told = told; each = e
     line_is : (names : NamesGiven) (mac : Mac) (number earlier : ℕ) (place : ℕ) (node : NodeLog) → Has printed (Happened names (Alias mac number earlier)) → slice_get mesh.nodes place ≡ Some node → node.mac ≡ mac
         → event_line names (Alias mac number earlier) ≡ alias_line node.name number earlier
     line_is names mac number earlier place node has found same =
-        let h = n.printed (Happened names (Alias mac number earlier)) has in
+        let h = front.named.printed (Happened names (Alias mac number earlier)) has in
         alias_line_is names (names_behind choice lines) mac number earlier h.0 h.1
         ∙ alias_line_of (names_behind choice lines) mac node.name number earlier (subst (λ m. node_name (node_names mesh.nodes) m ≡ Some node.name) same (own_name mesh.nodes place node distinct found))
 
     told : (before : List (List ℕ)) (line : List ℕ) (after : List (List ℕ)) → complete_lines text ≡ before ++ line ∷ after → kind_of line ≡ of_alias → TellsOfAlias choice lines before line after
     told before line after is kind = go source.event source.printed_is source.line_is (source.kind_is ∙ kind)
       where
-        source : IsOfEvent choice printed before line (after ++ first.0)
-        source = aliases_have_one_source choice printed all before line (after ++ first.0) (first.1 ∙ ap (λ ls. ls ++ first.0) is ∙ append_assoc before (line ∷ after) first.0) kind
+        source : IsOfEvent choice printed before line (after ++ front.later)
+        source = aliases_have_one_source choice printed front.plain before line (after ++ front.later) (line_printed choice lines text front before line after is) kind
 
         go : (event : Event) → printed ≡ source.earlier ++ Happened source.names event ∷ source.later → line ≡ event_line source.names event → event_kind event ≡ of_alias → TellsOfAlias choice lines before line after
         go (FrameSent k m a b reason sent) at same kind = cc
@@ -142,7 +135,7 @@ alias_lines_are_right choice lines text plain f = record { told = told; each = e
               printed_before = source.earlier;
               before_is = source.before_is;
               printed_behind = source.later;
-              later = first.0;
+              later = front.later;
               after_is = sym source.after_is;
               in_step = subst (λ m. StandsInStep (queries_of run.state.algorithm) a.node.log (events_in source.earlier) m number earlier (events_in source.later)) (sym a.mac_is)
                   (subst (λ log. StandsInStep (queries_of run.state.algorithm) log (events_in source.earlier) mac number earlier (events_in source.later)) log_is stands_in);
@@ -155,10 +148,10 @@ alias_lines_are_right choice lines text plain f = record { told = told; each = e
 
     -- the lines of the output are those of what was printed, and all of them are complete
     whole : lines_of (output run) ≡ lines_printed choice printed
-    whole = ap lines_of (ap (λ c. flat_map (printed_text c) printed) (choice_stays choice lines)) ∙ lines_of_text choice printed all
+    whole = ap lines_of (ap (λ c. flat_map (printed_text c) printed) (choice_stays choice lines)) ∙ lines_of_text choice printed front.plain
 
     each : (node : NodeLog) (number earlier : ℕ) → IsAliasIn run.state node number earlier → StandsOrFollows run text (alias_line node.name number earlier)
-    each node number earlier is = go (has_either (complete_lines text) first.0 (alias_line node.name number earlier) among)
+    each node number earlier is = go (has_either (complete_lines text) front.later (alias_line node.name number earlier) among)
       where
         had : HasAlias (commits_of node.mac mesh) number earlier
         had = subst (λ log. HasAlias (commits node.mac log) number earlier) (sym (log_found node.mac mesh.nodes is.place node distinct is.found refl)) is.has
@@ -169,14 +162,14 @@ alias_lines_are_right choice lines text plain f = record { told = told; each = e
         item : (names : NamesGiven) × Has printed (Happened names (Alias node.mac number earlier))
         item = printed_has printed (Alias node.mac number earlier) (subst (λ es. Has es (Alias node.mac number earlier)) (sym (events_are_printed choice lines)) told_of)
 
-        among : Has (complete_lines text ++ first.0) (alias_line node.name number earlier)
-        among = subst (λ ls. Has ls (alias_line node.name number earlier)) first.1
+        among : Has (complete_lines text ++ front.later) (alias_line node.name number earlier)
+        among = subst (λ ls. Has ls (alias_line node.name number earlier)) front.printed_is
             (line_among choice printed (Happened item.0 (Alias node.mac number earlier)) (alias_line node.name number earlier) item.1 (inl (sym (line_is item.0 node.mac number earlier is.place node item.1 is.found refl))))
 
-        none_later : text ≡ output run → first.0 ≡ []
-        none_later same = append_cancel_left (complete_lines text) first.0 []
-            (sym first.1 ∙ sym (filter_all (lines_printed choice printed) (printed_are_lines choice printed all)) ∙ ap (filter is_complete) (sym whole ∙ ap lines_of (sym same)) ∙ sym (append-nil (complete_lines text)))
+        none_later : text ≡ output run → front.later ≡ []
+        none_later same = append_cancel_left (complete_lines text) front.later []
+            (sym front.printed_is ∙ sym (filter_all (lines_printed choice printed) (printed_are_lines choice printed front.plain)) ∙ ap (filter is_complete) (sym whole ∙ ap lines_of (sym same)) ∙ sym (append-nil (complete_lines text)))
 
-        go : Has (complete_lines text) (alias_line node.name number earlier) ⊎ Has first.0 (alias_line node.name number earlier) → StandsOrFollows run text (alias_line node.name number earlier)
+        go : Has (complete_lines text) (alias_line node.name number earlier) ⊎ Has front.later (alias_line node.name number earlier) → StandsOrFollows run text (alias_line node.name number earlier)
         go (inl here) = stands here
-        go (inr there) = follows (λ same. subst (λ ls. Has ls (alias_line node.name number earlier)) (none_later same) there) first.0 (whole ∙ first.1) there
+        go (inr there) = follows (λ same. subst (λ ls. Has ls (alias_line node.name number earlier)) (none_later same) there) front.later (whole ∙ front.printed_is) there

@@ -28,10 +28,9 @@ use Rattle.mesh_lines.proofs.Found.{has_at}
 use Rattle.mesh_lines.proofs.FrameFields.{frame_fields}
 use Rattle.mesh_lines.proofs.LogFits.{noted_fits}
 use Rattle.mesh_lines.proofs.NamesGoOn.{IsNamed, front_named}
-use Rattle.mesh_lines.proofs.NameLemmas.{runs_are_named}
 use Rattle.mesh_lines.proofs.NodeNames.{name_stays}
 use Rattle.mesh_lines.proofs.SourceLemmas.{frames_have_one_source}
-use Rattle.mesh_lines.proofs.TableTextLemmas.{front_printed, none_printed, printed_plain, texts_plain}
+use Rattle.mesh_lines.proofs.TableTextLemmas.{IsPlainFront, line_printed, none_printed, plain_front}
 use Rattle.mesh_lines.proofs.Words.{hex_from}
 
 -- a frame that was printed as sent by table, by names
@@ -57,39 +56,33 @@ pub table_frames_are_right : (choice : FrameChoice) (lines : List (List ℕ)) (t
 table_frames_are_right choice lines text plain f before after number moment from to bytes is low from_word to_word are_bytes orig none =
     go source.event source.printed_is source.line_is source.kind_is
   where
-    n : IsNamed (after_lines (start choice) lines).state
-    n = runs_are_named choice lines plain
+    front : IsPlainFront choice lines text
+    front = plain_front choice lines text plain f
 
     printed : List Printed
     printed = (after_lines (start choice) lines).state.printed
 
-    all : ArePlain printed
-    all = printed_plain choice lines n (texts_plain choice lines n)
-
-    first : (later : List (List ℕ)) × (lines_printed choice printed ≡ complete_lines text ++ later)
-    first = front_printed choice lines text all f
-
     line : List ℕ
     line = table_frame_line number moment from to bytes
 
-    source : IsOfEvent choice printed before line (after ++ first.0)
-    source = frames_have_one_source choice printed all before line (after ++ first.0) (first.1 ∙ ap (λ ls. ls ++ first.0) is ∙ append_assoc before (line ∷ after) first.0) refl
+    source : IsOfEvent choice printed before line (after ++ front.later)
+    source = frames_have_one_source choice printed front.plain before line (after ++ front.later) (line_printed choice lines text front before line after is) refl
 
     none_before : PrintedNone orig source.earlier
     none_before = none_printed choice (names_behind choice lines) (after_lines (start choice) lines).state.mesh.events orig source.earlier
-        (λ item has. n.printed item (subst (λ ps. Has ps item) (sym source.printed_is) (has_left source.earlier (Happened source.names source.event ∷ source.later) item has)))
+        (λ item has. front.named.printed item (subst (λ ps. Has ps item) (sym source.printed_is) (has_left source.earlier (Happened source.names source.event ∷ source.later) item has)))
         (λ number earlier has. none number earlier (subst (λ ls. Has ls (event_line (names_behind choice lines) (Alias orig number earlier))) (sym source.before_is) has))
 
     named : (event : Event) → printed ≡ source.earlier ++ Happened source.names event ∷ source.later → AreNamed source.names
     named event is =
-        let h = n.printed (Happened source.names event) (subst (λ ps. Has ps (Happened source.names event)) (sym is) (has_at source.earlier (Happened source.names event) source.later)) in
-        front_named source.names (names_behind choice lines) h.0 n.named
+        let h = front.named.printed (Happened source.names event) (subst (λ ps. Has ps (Happened source.names event)) (sym is) (has_at source.earlier (Happened source.names event) source.later)) in
+        front_named source.names (names_behind choice lines) h.0 front.named.named
 
     go : (event : Event) → printed ≡ source.earlier ++ Happened source.names event ∷ source.later → line ≡ event_line source.names event → event_kind event ≡ of_frame → SentByName choice lines orig moment from bytes
     go (FrameSent k m a b reason sent) at line_is kind =
         let fields = frame_fields source.names (named (FrameSent k m a b reason sent) at) k m a b reason sent number moment from to bytes from_word to_word line_is in
         let same : sent ≡ bytes = sym (hex_from bytes sent are_bytes fields.by_table_is.bytes_are) in
-        frame_printed choice lines orig source.earlier source.names k m a b bytes source.later moment from n
+        frame_printed choice lines orig source.earlier source.names k m a b bytes source.later moment from front.named
         (subst (λ bs. printed ≡ source.earlier ++ Happened source.names (FrameSent k m a b (Some Table) bs) ∷ source.later) same
         (subst (λ r. printed ≡ source.earlier ++ Happened source.names (FrameSent k m a b r sent) ∷ source.later) fields.by_table_is.reason_is at))
         none_before low fields.moment_is fields.from_is

@@ -151,34 +151,47 @@ row_told part orig held told entries bytes is =
       count = f.entries;
     }
 
+-- a text that a run of plain lines begins with: what is printed is plain, and begins with its lines
+pub record IsPlainFront (choice : FrameChoice) (lines : List (List ℕ)) (text : List ℕ) : Type 0 where
+  pub named : IsNamed (after_lines (start choice) lines).state
+  pub plain : ArePlain (after_lines (start choice) lines).state.printed
+  pub later : List (List ℕ)
+  pub printed_is : lines_printed choice (after_lines (start choice) lines).state.printed ≡ complete_lines text ++ later
+
+pub plain_front : (choice : FrameChoice) (lines : List (List ℕ)) (text : List ℕ) → PlainContents lines → IsFrontOf (after_lines (start choice) lines) text → IsPlainFront choice lines text
+plain_front choice lines text plain f =
+    let named = runs_are_named choice lines plain in
+    let all = printed_plain choice lines named (texts_plain choice lines named) in
+    let first = front_printed choice lines text all f in
+    record { named = named; plain = all; later = first.0; printed_is = first.1 }
+
+-- a line of the text is one that was printed
+pub line_printed : (choice : FrameChoice) (lines : List (List ℕ)) (text : List ℕ) (front : IsPlainFront choice lines text) (before : List (List ℕ)) (line : List ℕ) (after : List (List ℕ)) → complete_lines text ≡ before ++ line ∷ after
+    → lines_printed choice (after_lines (start choice) lines).state.printed ≡ before ++ line ∷ (after ++ front.later)
+line_printed choice lines text front before line after is = front.printed_is ∙ ap (λ ls. ls ++ front.later) is ∙ append_assoc before (line ∷ after) front.later
+
 pub ok_lines_are_committed : (choice : FrameChoice) (lines : List (List ℕ)) (text : List ℕ) → PlainContents lines → IsFrontOf (after_lines (start choice) lines) text → OkLinesAreCommitted choice lines text
 ok_lines_are_committed choice lines text plain f before after orig held told entries is bytes held_low told_low few none = shows
   where
-    n : IsNamed (after_lines (start choice) lines).state
-    n = runs_are_named choice lines plain
+    front : IsPlainFront choice lines text
+    front = plain_front choice lines text plain f
 
     printed : List Printed
     printed = (after_lines (start choice) lines).state.printed
 
-    all : ArePlain printed
-    all = printed_plain choice lines n (texts_plain choice lines n)
-
-    first : (later : List (List ℕ)) × (lines_printed choice printed ≡ complete_lines text ++ later)
-    first = front_printed choice lines text all f
-
     row : GlobalRow
     row = record { orig = orig; held = Some held; told = told; ok = true }
 
-    source : IsOfPart choice printed before (ok_line orig held told entries) (after ++ first.0)
-    source = originators_have_one_source choice printed all before (ok_line orig held told entries) (after ++ first.0)
-        (first.1 ∙ ap (λ ls. ls ++ first.0) is ∙ append_assoc before (ok_line orig held told entries ∷ after) first.0) (global_told row entries).kind_is
+    source : IsOfPart choice printed before (ok_line orig held told entries) (after ++ front.later)
+    source = originators_have_one_source choice printed front.plain before (ok_line orig held told entries) (after ++ front.later)
+        (line_printed choice lines text front before (ok_line orig held told entries) after is) (global_told row entries).kind_is
 
     row_is : RowTold source.part orig held told entries
     row_is = row_told source.part orig held told entries bytes source.line_is
 
     none_before : PrintedNone orig source.earlier
     none_before = none_printed choice (names_behind choice lines) (after_lines (start choice) lines).state.mesh.events orig source.earlier
-        (λ item has. n.printed item (subst (λ ps. Has ps item) (sym source.printed_is) (has_left source.earlier (GlobalsShown source.table ∷ source.later) item has)))
+        (λ item has. front.named.printed item (subst (λ ps. Has ps item) (sym source.printed_is) (has_left source.earlier (GlobalsShown source.table ∷ source.later) item has)))
         (λ number earlier has. none number earlier (subst (λ ls. Has ls (event_line (names_behind choice lines) (Alias orig number earlier))) (sym source.before_is)
         (has_left (lines_printed choice source.earlier) (global_first source.table ∷ flat_map part_lines source.front) (event_line (names_behind choice lines) (Alias orig number earlier)) has)))
 
@@ -222,5 +235,5 @@ ok_lines_are_committed choice lines text plain f before after orig held told ent
       held_is = of.held ∙ ap Some held_same;
       told_is = told_same;
       count = count_same;
-      entries_follow = go_on after first.0 (map entry_line source.part.entries) source.behind source.after_is;
+      entries_follow = go_on after front.later (map entry_line source.part.entries) source.behind source.after_is;
     }

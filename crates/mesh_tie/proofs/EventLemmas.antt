@@ -82,117 +82,24 @@ same_place a b = go (nat_eq a b) refl
     go true is = inl (eqb-true a b is)
     go false is = inr (λ same. true≢false (sym (eq-eqb a b same) ∙ is))
 
--- ---- one input
--- what was sent rightly stays so
-rightly_later : (queries : Mac → Queries) (orig : Mac) (mesh after : Mesh) (place now root : ℕ) (node : NodeLog) (given : Given) (moment : ℕ) (me : Mac) (bytes : List ℕ) → slice_get mesh.nodes place ≡ Some node → Follows node.log given
-    → LogAfter orig node (entry_of (scenario_setup queries) node now given) (log_of orig mesh.nodes) (log_of orig (noted_at place (entry_of (scenario_setup queries) node now given) mesh.nodes))
-    → given_to (scenario_setup queries) place now root given mesh ≡ Ok after → SentRightly queries orig mesh moment me bytes → SentRightly queries orig after moment me bytes
-rightly_later queries orig mesh after place now root node given moment me bytes found next l is s = go (same_place place s.place)
-  where
-    entry : LogEntry
-    entry = entry_of (scenario_setup queries) node now given
+-- what was sent rightly is so in a mesh where its node stands, which names by table what it sent
+rightly_still : (queries : Mac → Queries) (orig : Mac) (mesh after : Mesh) (moment : ℕ) (me : Mac) (bytes : List ℕ) (s : SentRightly queries orig mesh moment me bytes) → slice_get after.nodes s.place ≡ Some s.node
+    → IsSentInStep queries orig after me s.entry s.older s.to bytes → SentRightly queries orig after moment me bytes
+rightly_still queries orig mesh after moment me bytes s found by_table = record {
+  place = s.place;
+  node = s.node;
+  found = found;
+  mac_is = s.mac_is;
+  newer = s.newer;
+  older = s.older;
+  entry = s.entry;
+  log_is = s.log_is;
+  moment_is = s.moment_is;
+  to = s.to;
+  sent = s.sent;
+  by_table = by_table;
+}
 
-    later : Log
-    later = log_of orig (noted_at place (entry_of (scenario_setup queries) node now given) mesh.nodes)
-
-    has : HasGiven (scenario_setup queries) place now root node given mesh after
-    has = given_is (scenario_setup queries) place now root node given mesh after found is
-
-    grows : Grows orig (log_of orig mesh.nodes) later
-    grows = grows_after orig node entry (log_of orig mesh.nodes) later l next
-
-    Looks : TableCalls → Type 0
-    Looks = HadCome (queries me) me s.older s.entry.moment s.entry.given (Link s.to (Some Table) bytes)
-
-    by_table : IsSentInStep queries orig after me s.entry s.older s.to bytes
-    by_table = subst (λ log. IsSentByTable Looks orig log after.frames bytes) (ap (log_of orig) (sym has.nodes))
-        (subst (λ fs. IsSentByTable (HadCome (queries me) me s.older s.entry.moment s.entry.given (Link s.to (Some Table) bytes)) orig later fs bytes) (sym has.frames)
-        (sent_grows (HadCome (queries me) me s.older s.entry.moment s.entry.given (Link s.to (Some Table) bytes)) orig (log_of orig mesh.nodes) later mesh.frames has.more bytes grows s.by_table))
-
-    go : (place ≡ s.place) ⊎ (place ≢ s.place) → SentRightly queries orig after moment me bytes
-    go (inr other) = record {
-      place = s.place;
-      node = s.node;
-      found = ap (λ ns. slice_get ns s.place) has.nodes ∙ got_other place entry mesh.nodes s.place other ∙ s.found;
-      mac_is = s.mac_is;
-      newer = s.newer;
-      older = s.older;
-      entry = s.entry;
-      log_is = s.log_is;
-      moment_is = s.moment_is;
-      to = s.to;
-      sent = s.sent;
-      by_table = by_table;
-    }
-    go (inl same) =
-        let one : node ≡ s.node = one_some node s.node (sym found ∙ ap (slice_get mesh.nodes) same ∙ s.found) in
-        record {
-          place = place;
-          node = noting entry node;
-          found = ap (λ ns. slice_get ns place) has.nodes ∙ got_noted mesh.nodes place node entry found;
-          mac_is = ap (λ (n : NodeLog). n.mac) one ∙ s.mac_is;
-          newer = entry ∷ s.newer;
-          older = s.older;
-          entry = s.entry;
-          log_is = ap (λ log. entry ∷ log) (ap (λ (n : NodeLog). n.log) one ∙ s.log_is);
-          moment_is = s.moment_is;
-          to = s.to;
-          sent = s.sent;
-          by_table = by_table;
-        }
-
--- what the acts of an input send by table
-rightly_now : (queries : Mac → Queries) (orig : Mac) (mesh after : Mesh) (place now root : ℕ) (node : NodeLog) (given : Given) (number moment : ℕ) (me next : Mac) (bytes : List ℕ) → slice_get mesh.nodes place ≡ Some node
-    → (is : given_to (scenario_setup queries) place now root given mesh ≡ Ok after)
-    → EntryNames queries orig node.mac (log_of orig (noted_at place (entry_of (scenario_setup queries) node now given) mesh.nodes)) mesh.frames node.log (entry_of (scenario_setup queries) node now given)
-    → (found : slice_get mesh.nodes place ≡ Some node) → Has (given_is (scenario_setup queries) place now root node given mesh after found is).more_events (FrameSent number moment me next (Some Table) bytes) → SentRightly queries orig after moment me bytes
-rightly_now queries orig mesh after place now root node given number moment me next bytes there is names found sent = go (has.came (FrameSent number moment me next (Some Table) bytes) sent)
-  where
-    entry : LogEntry
-    entry = entry_of (scenario_setup queries) node now given
-
-    later : Log
-    later = log_of orig (noted_at place (entry_of (scenario_setup queries) node now given) mesh.nodes)
-
-    has : HasGiven (scenario_setup queries) place now root node given mesh after
-    has = given_is (scenario_setup queries) place now root node given mesh after found is
-
-    Looks : Act → TableCalls → Type 0
-    Looks = HadCome (queries node.mac) node.mac node.log now given
-
-    no_print : (acts : List Act) → AllName Looks orig later mesh.frames acts → Has acts (Print (FrameSent number moment me next (Some Table) bytes)) → ⊥
-    no_print [] each has = has
-    no_print (act ∷ rest) each (inl same) = subst (ActNames Looks orig later mesh.frames) (sym same) each.0 number moment me next (Some Table) bytes refl
-    no_print (act ∷ rest) each (inr has) = no_print rest each.1 has
-
-    go : IsOfActs entry.acts node.mac now (FrameSent number moment me next (Some Table) bytes) → SentRightly queries orig after moment me bytes
-    go (inl printed) = absurd (no_print entry.acts names printed)
-    go (inr (inr put)) = absurd (let e = put.is in cc)
-    go (inr (inl s)) =
-        let mac : me ≡ node.mac = let e = s.is in cc in
-        let when : moment ≡ now = let e = s.is in cc in
-        let why : Some Table ≡ s.reason = let e = s.is in cc in
-        let what : bytes ≡ s.bytes = let e = s.is in cc in
-        let act : Has entry.acts (Link s.to (Some Table) bytes) = subst (λ b. Has entry.acts (Link s.to (Some Table) b)) (sym what) (subst (λ r. Has entry.acts (Link s.to r s.bytes)) (sym why) s.act) in
-        record {
-          place = place;
-          node = noting entry node;
-          found = ap (λ ns. slice_get ns place) has.nodes ∙ got_noted mesh.nodes place node entry found;
-          mac_is = sym mac;
-          newer = [];
-          older = node.log;
-          entry = entry;
-          log_is = refl;
-          moment_is = sym when;
-          to = s.to;
-          sent = act;
-          by_table = subst (λ m. IsSentInStep queries orig after m entry node.log s.to bytes) (sym mac)
-              (subst (λ log. IsSentByTable (Looks (Link s.to (Some Table) bytes)) orig log after.frames bytes) (ap (log_of orig) (sym has.nodes))
-              (subst (λ fs. IsSentByTable (Looks (Link s.to (Some Table) bytes)) orig later fs bytes) (sym has.frames)
-              (sent_grows (Looks (Link s.to (Some Table) bytes)) orig later later mesh.frames has.more bytes (grows_same orig later later refl) (act_of Looks orig later mesh.frames s.to bytes entry.acts names act))));
-        }
-
--- ---- all steps
 -- each event of a frame that was sent by table, before which none told of an alias
 abbrev AllRight : (Mac → Queries) → Mac → Mesh → Type 0
 AllRight queries orig mesh = (before after : List Event) (number moment : ℕ) (me next : Mac) (bytes : List ℕ) → mesh.events ≡ before ++ FrameSent number moment me next (Some Table) bytes ∷ after → ToldNoneOf orig before → SentRightly queries orig mesh moment me bytes
@@ -202,21 +109,102 @@ abbrev NamesNow : (Mac → Queries) → Mac → Mesh → ℕ → ℕ → NodeLog
 NamesNow queries orig mesh place now node given = ToldNoneOf orig mesh.events
     → EntryNames queries orig node.mac (log_of orig (noted_at place (entry_of (scenario_setup queries) node now given) mesh.nodes)) mesh.frames node.log (entry_of (scenario_setup queries) node now given)
 
-given_right : (queries : Mac → Queries) (orig : Mac) (mesh after : Mesh) (place now root : ℕ) (node : NodeLog) (given : Given) → slice_get mesh.nodes place ≡ Some node → Follows node.log given
-    → LogAfter orig node (entry_of (scenario_setup queries) node now given) (log_of orig mesh.nodes) (log_of orig (noted_at place (entry_of (scenario_setup queries) node now given) mesh.nodes))
-    → given_to (scenario_setup queries) place now root given mesh ≡ Ok after → NamesNow queries orig mesh place now node given → AllRight queries orig mesh → AllRight queries orig after
-given_right queries orig mesh after place now root node given found next l is names right before back number moment me to bytes events none =
-    go (split mesh.events has.more_events before (FrameSent number moment me to (Some Table) bytes) back (sym has.events ∙ events))
-  where
-    has : HasGiven (scenario_setup queries) place now root node given mesh after
-    has = given_is (scenario_setup queries) place now root node given mesh after found is
+-- ---- one input
+module _ (queries : Mac → Queries) (orig : Mac) (mesh after : Mesh) (place now root : ℕ) (node : NodeLog) (given : Given) (found : slice_get mesh.nodes place ≡ Some node) (is : given_to (scenario_setup queries) place now root given mesh ≡ Ok after) where
+  abbrev now_entry : LogEntry
+  now_entry = entry_of (scenario_setup queries) node now given
 
-    go : Split mesh.events has.more_events before (FrameSent number moment me to (Some Table) bytes) → SentRightly queries orig after moment me bytes
-    go (in_first rest p) = rightly_later queries orig mesh after place now root node given moment me bytes found next l is (right before rest number moment me to bytes p none)
-    go (in_second more rest p q) = rightly_now queries orig mesh after place now root node given number moment me to bytes found is
-        (names (λ n e told. none n e (subst (λ es. Has es (Alias orig n e)) (sym p) (has_left mesh.events more (Alias orig n e) told)))) found
-        (split_has has.more_events more (FrameSent number moment me to (Some Table) bytes) rest q)
+  abbrev now_log : Log
+  now_log = log_of orig (noted_at place now_entry mesh.nodes)
 
+  abbrev gave : HasGiven (scenario_setup queries) place now root node given mesh after
+  gave = given_is (scenario_setup queries) place now root node given mesh after found is
+
+  -- what was sent rightly stays so
+  rightly_later : (moment : ℕ) (me : Mac) (bytes : List ℕ) → Follows node.log given → LogAfter orig node now_entry (log_of orig mesh.nodes) now_log → SentRightly queries orig mesh moment me bytes → SentRightly queries orig after moment me bytes
+  rightly_later moment me bytes next l s = go (same_place place s.place)
+    where
+      grows : Grows orig (log_of orig mesh.nodes) now_log
+      grows = grows_after orig node now_entry (log_of orig mesh.nodes) now_log l next
+
+      Looks : TableCalls → Type 0
+      Looks = HadCome (queries me) me s.older s.entry.moment s.entry.given (Link s.to (Some Table) bytes)
+
+      by_table : IsSentInStep queries orig after me s.entry s.older s.to bytes
+      by_table = subst (λ log. IsSentByTable Looks orig log after.frames bytes) (ap (log_of orig) (sym gave.nodes))
+          (subst (λ fs. IsSentByTable (HadCome (queries me) me s.older s.entry.moment s.entry.given (Link s.to (Some Table) bytes)) orig now_log fs bytes) (sym gave.frames)
+          (sent_grows (HadCome (queries me) me s.older s.entry.moment s.entry.given (Link s.to (Some Table) bytes)) orig (log_of orig mesh.nodes) now_log mesh.frames gave.more bytes grows s.by_table))
+
+      go : (place ≡ s.place) ⊎ (place ≢ s.place) → SentRightly queries orig after moment me bytes
+      go (inr other) = rightly_still queries orig mesh after moment me bytes s (ap (λ ns. slice_get ns s.place) gave.nodes ∙ got_other place now_entry mesh.nodes s.place other ∙ s.found) by_table
+      go (inl same) =
+          let one : node ≡ s.node = one_some node s.node (sym found ∙ ap (slice_get mesh.nodes) same ∙ s.found) in
+          record {
+            place = place;
+            node = noting now_entry node;
+            found = ap (λ ns. slice_get ns place) gave.nodes ∙ got_noted mesh.nodes place node now_entry found;
+            mac_is = ap (λ (n : NodeLog). n.mac) one ∙ s.mac_is;
+            newer = now_entry ∷ s.newer;
+            older = s.older;
+            entry = s.entry;
+            log_is = ap (λ log. now_entry ∷ log) (ap (λ (n : NodeLog). n.log) one ∙ s.log_is);
+            moment_is = s.moment_is;
+            to = s.to;
+            sent = s.sent;
+            by_table = by_table;
+          }
+
+  -- what the acts of an input send by table
+  rightly_now : (number moment : ℕ) (me next : Mac) (bytes : List ℕ) → EntryNames queries orig node.mac now_log mesh.frames node.log now_entry → Has gave.more_events (FrameSent number moment me next (Some Table) bytes) → SentRightly queries orig after moment me bytes
+  rightly_now number moment me next bytes names sent = go (gave.came (FrameSent number moment me next (Some Table) bytes) sent)
+    where
+      Looks : Act → TableCalls → Type 0
+      Looks = HadCome (queries node.mac) node.mac node.log now given
+
+      no_print : (acts : List Act) → AllName Looks orig now_log mesh.frames acts → Has acts (Print (FrameSent number moment me next (Some Table) bytes)) → ⊥
+      no_print [] each has = has
+      no_print (act ∷ rest) each (inl same) = subst (ActNames Looks orig now_log mesh.frames) (sym same) each.0 number moment me next (Some Table) bytes refl
+      no_print (act ∷ rest) each (inr has) = no_print rest each.1 has
+
+      go : IsOfActs now_entry.acts node.mac now (FrameSent number moment me next (Some Table) bytes) → SentRightly queries orig after moment me bytes
+      go (inl printed) = absurd (no_print now_entry.acts names printed)
+      go (inr (inr put)) = absurd (let e = put.is in cc)
+      go (inr (inl s)) =
+          let mac : me ≡ node.mac = let e = s.is in cc in
+          let when : moment ≡ now = let e = s.is in cc in
+          let why : Some Table ≡ s.reason = let e = s.is in cc in
+          let what : bytes ≡ s.bytes = let e = s.is in cc in
+          let act : Has now_entry.acts (Link s.to (Some Table) bytes) = subst (λ b. Has now_entry.acts (Link s.to (Some Table) b)) (sym what) (subst (λ r. Has now_entry.acts (Link s.to r s.bytes)) (sym why) s.act) in
+          record {
+            place = place;
+            node = noting now_entry node;
+            found = ap (λ ns. slice_get ns place) gave.nodes ∙ got_noted mesh.nodes place node now_entry found;
+            mac_is = sym mac;
+            newer = [];
+            older = node.log;
+            entry = now_entry;
+            log_is = refl;
+            moment_is = sym when;
+            to = s.to;
+            sent = act;
+            by_table = subst (λ m. IsSentInStep queries orig after m now_entry node.log s.to bytes) (sym mac)
+                (subst (λ log. IsSentByTable (Looks (Link s.to (Some Table) bytes)) orig log after.frames bytes) (ap (log_of orig) (sym gave.nodes))
+                (subst (λ fs. IsSentByTable (Looks (Link s.to (Some Table) bytes)) orig now_log fs bytes) (sym gave.frames)
+                (sent_grows (Looks (Link s.to (Some Table) bytes)) orig now_log now_log mesh.frames gave.more bytes (grows_same orig now_log now_log refl) (act_of Looks orig now_log mesh.frames s.to bytes now_entry.acts names act))));
+          }
+
+  -- each event stays right where it stands, and those that the input adds are so
+  given_right : Follows node.log given → LogAfter orig node now_entry (log_of orig mesh.nodes) now_log → NamesNow queries orig mesh place now node given → AllRight queries orig mesh → AllRight queries orig after
+  given_right next l names right before back number moment me to bytes events none =
+      go (split mesh.events gave.more_events before (FrameSent number moment me to (Some Table) bytes) back (sym gave.events ∙ events))
+    where
+      go : Split mesh.events gave.more_events before (FrameSent number moment me to (Some Table) bytes) → SentRightly queries orig after moment me bytes
+      go (in_first rest p) = rightly_later moment me bytes next l (right before rest number moment me to bytes p none)
+      go (in_second more rest p q) = rightly_now number moment me to bytes
+          (names (λ n e told. none n e (subst (λ es. Has es (Alias orig n e)) (sym p) (has_left mesh.events more (Alias orig n e) told))))
+          (split_has gave.more_events more (FrameSent number moment me to (Some Table) bytes) rest q)
+
+-- ---- all steps
 -- an input that is no tick and no reboot leaves the commits without an alias
 calm_clear : (queries : Mac → Queries) (orig : Mac) (mesh : Mesh) (place now : ℕ) (node : NodeLog) (given : Given) → IsReachable queries mesh
     → LogAfter orig node (entry_of (scenario_setup queries) node now given) (log_of orig mesh.nodes) (log_of orig (noted_at place (entry_of (scenario_setup queries) node now given) mesh.nodes))
@@ -238,39 +226,15 @@ calm_clear queries orig mesh place now node given r l calm none = go (one_or_two
 joined_right : (queries : Mac → Queries) (orig : Mac) (mesh : Mesh) (new : NodeLog) → new.log ≡ [] → AllRight queries orig mesh → AllRight queries orig (record mesh { nodes = mesh.nodes ++ new ∷ [] })
 joined_right queries orig mesh new empty right before back number moment me to bytes events none =
     let s = right before back number moment me to bytes events none in
-    record {
-      place = s.place;
-      node = s.node;
-      found = get_front mesh.nodes (new ∷ []) s.place s.node s.found;
-      mac_is = s.mac_is;
-      newer = s.newer;
-      older = s.older;
-      entry = s.entry;
-      log_is = s.log_is;
-      moment_is = s.moment_is;
-      to = s.to;
-      sent = s.sent;
-      by_table = subst (λ log. IsSentByTable (HadCome (queries me) me s.older s.entry.moment s.entry.given (Link s.to (Some Table) bytes)) orig log mesh.frames bytes) (sym (log_joined orig mesh.nodes new empty)) s.by_table;
-    }
+    rightly_still queries orig mesh (record mesh { nodes = mesh.nodes ++ new ∷ [] }) moment me bytes s (get_front mesh.nodes (new ∷ []) s.place s.node s.found)
+    (subst (λ log. IsSentByTable (HadCome (queries me) me s.older s.entry.moment s.entry.given (Link s.to (Some Table) bytes)) orig log mesh.frames bytes) (sym (log_joined orig mesh.nodes new empty)) s.by_table)
 
 -- links and the last happening are no matter
 unlinked_right : (queries : Mac → Queries) (orig : Mac) (mesh : Mesh) (links : List NetLink) (last : Happening) → AllRight queries orig mesh → AllRight queries orig (record mesh { links = links; last = last })
 unlinked_right queries orig mesh links last right before back number moment me to bytes events none =
     let s = right before back number moment me to bytes events none in
-    record {
-      place = s.place;
-      node = s.node;
-      found = s.found;
-      mac_is = s.mac_is;
-      newer = s.newer;
-      older = s.older;
-      entry = s.entry;
-      log_is = s.log_is;
-      moment_is = s.moment_is;
-      to = s.to;
-      sent = s.sent;
-      by_table = s.by_table;
-    }
+    rightly_still queries orig mesh (record mesh { links = links; last = last }) moment me bytes s s.found
+    s.by_table
 
 -- nor is what a LAN brings
 beside_right : (queries : Mac → Queries) (orig : Mac) (mesh after : Mesh) (more : List Event) → after.nodes ≡ mesh.nodes → after.frames ≡ mesh.frames → after.events ≡ mesh.events ++ more
@@ -282,28 +246,16 @@ beside_right queries orig mesh after more nodes frames events none_sent right be
     go (in_second front rest p q) = absurd (none_sent number moment me to bytes (split_has more front (FrameSent number moment me to (Some Table) bytes) rest q))
     go (in_first rest p) =
         let s = right before rest number moment me to bytes p none in
-        record {
-          place = s.place;
-          node = s.node;
-          found = ap (λ ns. slice_get ns s.place) nodes ∙ s.found;
-          mac_is = s.mac_is;
-          newer = s.newer;
-          older = s.older;
-          entry = s.entry;
-          log_is = s.log_is;
-          moment_is = s.moment_is;
-          to = s.to;
-          sent = s.sent;
-          by_table = subst (λ ns. IsSentByTable (HadCome (queries me) me s.older s.entry.moment s.entry.given (Link s.to (Some Table) bytes)) orig (log_of orig ns) after.frames bytes) (sym nodes)
-              (subst (λ fs. IsSentByTable (HadCome (queries me) me s.older s.entry.moment s.entry.given (Link s.to (Some Table) bytes)) orig (log_of orig mesh.nodes) fs bytes) (sym frames) s.by_table);
-        }
+        rightly_still queries orig mesh after moment me bytes s (ap (λ ns. slice_get ns s.place) nodes ∙ s.found)
+        (subst (λ ns. IsSentByTable (HadCome (queries me) me s.older s.entry.moment s.entry.given (Link s.to (Some Table) bytes)) orig (log_of orig ns) after.frames bytes) (sym nodes)
+        (subst (λ fs. IsSentByTable (HadCome (queries me) me s.older s.entry.moment s.entry.given (Link s.to (Some Table) bytes)) orig (log_of orig mesh.nodes) fs bytes) (sym frames) s.by_table))
 
 step_right : (queries : Mac → Queries) (mesh after : Mesh) → AllKeep queries → IsReachable queries mesh → Reached queries mesh → CommitsFit after → Steps queries mesh after → (orig : Mac) → AllRight queries orig mesh → AllRight queries orig after
 step_right queries mesh _ keep r h fit (node_joins _ node empty whole fresh) orig right = joined_right queries orig mesh node empty right
 step_right queries mesh _ keep r h fit (link_joins _ link) orig right = unlinked_right queries orig mesh (mesh.links ++ link ∷ []) mesh.last right
 step_right queries mesh after keep r h fit (line_gives _ _ place now node line found may of is) orig right =
     let l = log_after queries orig mesh place node (entry_of (scenario_setup queries) node now (Line line)) h.holds.orderly found in
-    given_right queries orig mesh after place now 0 node (Line line) found tt l is
+    given_right queries orig mesh after place now 0 node (Line line) found is tt l
     (λ none. by (line_reboots line) refl (λ calm. line_acts_name queries mesh place now node line orig of h found (calm_clear queries orig mesh place now node (Line line) r l calm none))) right
   where
     log : Log
@@ -319,11 +271,11 @@ step_right queries mesh after keep r h fit (node_ticks _ _ place now node found 
     let index = suc (ticks_in node.log) in
     let entry = entry_of (scenario_setup queries) node now (Tick index) in
     let l = log_after queries orig mesh place node entry h.holds.orderly found in
-    given_right queries orig mesh after place now index node (Tick index) found refl l is (λ none. tick_names queries mesh place now node orig (log_of orig (noted_at place entry mesh.nodes))) right
+    given_right queries orig mesh after place now index node (Tick index) found is refl l (λ none. tick_names queries mesh place now node orig (log_of orig (noted_at place entry mesh.nodes))) right
 step_right queries mesh after keep r h fit (frame_comes _ _ place now number throughput from node frame found may sent whole is) orig right =
     let given = LinkFrame (suc number) from throughput frame.bytes in
     let l = log_after queries orig mesh place node (entry_of (scenario_setup queries) node now given) h.holds.orderly found in
-    given_right queries orig mesh after place now frame.root node given found tt l is
+    given_right queries orig mesh after place now frame.root node given found is tt l
     (λ none. frame_acts_name queries mesh after place now number throughput from node frame orig keep h fit found sent whole is (calm_clear queries orig mesh place now node given r l tt none)) right
 step_right queries mesh _ keep r h fit (lan_joins _ lan) orig right = beside_right queries orig mesh (with_lan lan mesh) [] refl refl (sym (append-nil mesh.events)) (λ number moment me to bytes has. absurd has) right
 step_right queries mesh _ keep r h fit (put_comes _ put frame by is tells) orig right =
@@ -341,7 +293,7 @@ step_right queries mesh _ keep r h fit (put_reaches _ at now put frame found car
 step_right queries mesh after keep r h fit (lan_comes _ _ place now number node put found may among is) orig right =
     let given = LanFrame put.bytes in
     let l = log_after queries orig mesh place node (entry_of (scenario_setup queries) node now given) h.holds.orderly found in
-    given_right queries orig mesh after place now 0 node given found tt l is
+    given_right queries orig mesh after place now 0 node given found is tt l
     (λ none. lan_acts_name queries mesh place now node put.bytes orig h found (calm_clear queries orig mesh place now node given r l tt none)) right
 step_right queries mesh _ keep r h fit (time_passes _ happening) orig right = unlinked_right queries orig mesh mesh.links happening right
 step_right queries mesh _ keep r h fit (routes_told _ lines watch) orig right =

@@ -2,7 +2,7 @@
 -- of a full answer.
 use Rattle.std.proofs.Common.{◌≡◌, ◌⊎◌, inl, inr, ℕ, ◌<◌, ◌&&◌, nat_eq, Bool, true, false, cond, List, [], Option, Some, None, is_none, is_some, unwrap_or, refl, sym, ap, subst, ◌∙◌, arith}
 use Rattle.std.specs.Option.{option_or}
-use Rattle.std.proofs.lemmas.Bool.{false≢true, eqb-true}
+use Rattle.std.proofs.lemmas.Bool.{eqb-true}
 use Rattle.std.proofs.lemmas.Bool.Decides.{nat_tests}
 use Rattle.std.proofs.lemmas.Option.{none-some, same_Some}
 use Rattle.mesh_model.specs.declared.table_change.Change.{Change}
@@ -14,7 +14,7 @@ use Rattle.mesh_model.specs.Tables.Sums.{sum_at}
 use Rattle.mesh_model.specs.Tables.Versions.{Stamp}
 use Rattle.mesh_laws.specs.Machine.Moves.{PieceWasSaid}
 use Rattle.mesh_laws.specs.Machine.World.{Piece, Saying, WasSaid}
-use Rattle.mesh_laws.proofs.DifferenceLemmas.{finds_each_difference}
+use Rattle.mesh_laws.proofs.DifferenceLemmas.{by_match}
 use Rattle.mesh_laws.proofs.GatheredLemmas.{counted_with, each_there, found_beside, of_same_or_new}
 use Rattle.mesh_tie.specs.Sayings.{saying_of}
 use Rattle.mesh_tie.specs.Tie.{GatheredWereSaid}
@@ -28,15 +28,6 @@ gathered_more s t told gathered more were number records there =
 -- no part is there
 pub none_said : (said : List Saying) (told : Option Stamp) → GatheredWereSaid said told none_gathered
 none_said said told number records there = absurd (none-some records there)
-
--- what matches what was told, by its byte and its checksums
-by_match : {X : Type 0} (t stamp : Stamp) → (nat_eq t.byte stamp.byte && is_none (first_difference t.sums stamp.sums)) ≡ true → (t.byte ≡ stamp.byte → sum_at t.sums ≡ sum_at stamp.sums → X) → X
-by_match {X} t stamp matches then = go (nat_eq t.byte stamp.byte) refl (first_difference t.sums stamp.sums) refl matches
-  where
-    go : (same : Bool) → nat_eq t.byte stamp.byte ≡ same → (d : Option _) → first_difference t.sums stamp.sums ≡ d → (same && is_none d) ≡ true → X
-    go true is None none m = then (eqb-true t.byte stamp.byte is) ((finds_each_difference t.sums stamp.sums).0 none)
-    go true is (Some d) some m = absurd (false≢true m)
-    go false is d e m = absurd (false≢true m)
 
 -- what is said under the byte and the checksums of a stamp is said under those of one that matches
 piece_under : (said : List Saying) (t stamp : Stamp) (number count : ℕ) (records : List Change) → t.byte ≡ stamp.byte → sum_at t.sums ≡ sum_at stamp.sums

@@ -139,27 +139,24 @@ commits_after orig node entry log after w l is = go (one_or_two node.mac orig)
         subst (λ a. Committing w (commits orig a)) (sym parts.1) (commits_next w (mentions orig node.log) (history orig node.log) entry.moment entry.given (is ∙ ap (commits orig) parts.0))
     go (inr other) = commits_stay w (commits orig after) (is ∙ ap (commits orig) (sym (l.other other)))
 
+-- a world where the commits were made that a node makes is midway of a mesh that is tied
+midway_by : (queries : Mac → Queries) (orig : Mac) (mesh : Mesh) (log : Log) (w : World) (c : Committing w (commits orig log)) → Grows orig (log_of orig mesh.nodes) log → Reaches start w → IsTied queries orig mesh w → IsMidway queries orig mesh log (commits orig log) c.world
+midway_by queries orig mesh log w c grows base tied = record {
+  base = then_path start w c.world base c.path;
+  commits = c.commits;
+  frames = λ at frame got. subst (λ s. FrameSays orig log s frame.root frame.bytes) (sym c.said) (frame_grows orig (log_of orig mesh.nodes) log w.said frame.root frame.bytes grows (tied.frames at frame got));
+  nodes = λ at n got. subst (λ (ns : ℕ → Node). NodeIsTied orig log mesh.frames c.world.said (known_by (known_at_node queries n).tables orig) (ns at)) (sym c.nodes)
+      (subst (λ s. NodeIsTied orig log mesh.frames s (known_by (known_at_node queries n).tables orig) (w.nodes at)) (sym c.said)
+      (node_grows orig (log_of orig mesh.nodes) log mesh.frames w.said (known_by (known_at_node queries n).tables orig) (w.nodes at) grows (tied.nodes at n got)));
+  absent = λ at none. ap (λ (ns : ℕ → Node). ns at) c.nodes ∙ tied.absent at none;
+}
+
 -- the world midway of a mesh that is tied
 pub midway_of : (queries : Mac → Queries) (orig : Mac) (mesh : Mesh) (node : NodeLog) (entry : LogEntry) (log : Log) (w : World) → LogAfter orig node entry (log_of orig mesh.nodes) log → Follows node.log entry.given → Reaches start w → IsTied queries orig mesh w
     → (v : World) × IsMidway queries orig mesh log (commits orig log) v
-midway_of queries orig mesh node entry log w l next base tied = (
-  c.world,
-  record {
-    base = then_path start w c.world base c.path;
-    commits = c.commits;
-    frames = λ at frame got. subst (λ s. FrameSays orig log s frame.root frame.bytes) (sym c.said) (frame_grows orig (log_of orig mesh.nodes) log w.said frame.root frame.bytes grows (tied.frames at frame got));
-    nodes = λ at n got. subst (λ (ns : ℕ → Node). NodeIsTied orig log mesh.frames c.world.said (known_by (known_at_node queries n).tables orig) (ns at)) (sym c.nodes)
-        (subst (λ s. NodeIsTied orig log mesh.frames s (known_by (known_at_node queries n).tables orig) (w.nodes at)) (sym c.said)
-        (node_grows orig (log_of orig mesh.nodes) log mesh.frames w.said (known_by (known_at_node queries n).tables orig) (w.nodes at) grows (tied.nodes at n got)));
-    absent = λ at none. ap (λ (ns : ℕ → Node). ns at) c.nodes ∙ tied.absent at none;
-  },
-)
-  where
-    grows : Grows orig (log_of orig mesh.nodes) log
-    grows = grows_after orig node entry (log_of orig mesh.nodes) log l next
-
-    c : Committing w (commits orig log)
-    c = commits_after orig node entry (log_of orig mesh.nodes) log w l tied.commits
+midway_of queries orig mesh node entry log w l next base tied =
+    let c = commits_after orig node entry (log_of orig mesh.nodes) log w l tied.commits in
+    (c.world, midway_by queries orig mesh log w c (grows_after orig node entry (log_of orig mesh.nodes) log l next) base tied)
 
 -- fragments say nothing
 cut_goes : (orig : Mac) (log : Log) (frames : List SentFrame) (root : ℕ) (w : World) (m : ℕ) (cutter : Cutter) (acts : List Act) (calls : TableCalls) → Goes orig log frames root w m acts calls → Goes orig log frames root w m (cut_acts cutter acts) calls
@@ -234,15 +231,7 @@ given_step queries orig mesh after place now root node given w o found next is d
     c = commits_after orig node entry (log_of orig mesh.nodes) log w l tied.commits
 
     midway : IsMidway queries orig mesh log (commits orig log) c.world
-    midway = record {
-      base = then_path start w c.world base c.path;
-      commits = c.commits;
-      frames = λ at frame got. subst (λ s. FrameSays orig log s frame.root frame.bytes) (sym c.said) (frame_grows orig (log_of orig mesh.nodes) log w.said frame.root frame.bytes grows (tied.frames at frame got));
-      nodes = λ at n got. subst (λ (ns : ℕ → Node). NodeIsTied orig log mesh.frames c.world.said (known_by (known_at_node queries n).tables orig) (ns at)) (sym c.nodes)
-          (subst (λ s. NodeIsTied orig log mesh.frames s (known_by (known_at_node queries n).tables orig) (w.nodes at)) (sym c.said)
-          (node_grows orig (log_of orig mesh.nodes) log mesh.frames w.said (known_by (known_at_node queries n).tables orig) (w.nodes at) grows (tied.nodes at n got)));
-      absent = λ at none. ap (λ (ns : ℕ → Node). ns at) c.nodes ∙ tied.absent at none;
-    }
+    midway = midway_by queries orig mesh log w c grows base tied
 
     g : Goes orig log mesh.frames root c.world place entry.acts (next_knowledge (queries node.mac) node.mac node.log (known_at_node queries node) entry.moment entry.given).tables
     g = cut_goes orig log mesh.frames root c.world place (cutter_by (queries node.mac) node.mac node.log) (whole_acts (queries node.mac) node.mac node.log now given)

@@ -67,17 +67,21 @@ can_name looks orig log frames w m known looked whole clear tied = record {
   found = λ key agreed named. found_told orig log frames w m known.tables key clear tied agreed named;
 }
 
--- what had come for one act had come for it among more acts
-sent_looks : (P Q : TableCalls → Type 0) (orig : Mac) (log : Log) (frames : List SentFrame) (bytes : List ℕ) → ((came : TableCalls) → P came → Q came) → IsSentByTable P orig log frames bytes → IsSentByTable Q orig log frames bytes
-sent_looks P Q orig log frames bytes more s = record {
+-- bytes that were sent by table were so, where what they name is named otherwise
+sent_with : (P Q : TableCalls → Type 0) (orig : Mac) (log after : Log) (frames later : List SentFrame) (bytes : List ℕ) → ((payload : List ℕ) → NamedThen P orig log frames payload → NamedThen Q orig after later payload) → IsSentByTable P orig log frames bytes → IsSentByTable Q orig after later bytes
+sent_with P Q orig log after frames later bytes name s = record {
   ttl = s.ttl;
   ttvn = s.ttvn;
   dst = s.dst;
   payload = s.payload;
   whole = s.whole;
   bytes_are = s.bytes_are;
-  named = λ same. let n = s.named same in record { came = n.came; then = more n.came n.then; names_client = n.names_client };
+  named = λ same. name s.payload (s.named same);
 }
+
+-- what had come for one act had come for it among more acts
+sent_looks : (P Q : TableCalls → Type 0) (orig : Mac) (log : Log) (frames : List SentFrame) (bytes : List ℕ) → ((came : TableCalls) → P came → Q came) → IsSentByTable P orig log frames bytes → IsSentByTable Q orig log frames bytes
+sent_looks P Q orig log frames bytes more s = sent_with P Q orig log log frames frames bytes (λ payload n. record { came = n.came; then = more n.came n.then; names_client = n.names_client }) s
 
 act_looks : (P Q : Act → TableCalls → Type 0) (orig : Mac) (log : Log) (frames : List SentFrame) (act : Act) → ((came : TableCalls) → P act came → Q act came) → ActNames P orig log frames act → ActNames Q orig log frames act
 act_looks P Q orig log frames (Link to reason bytes) more a = λ is. sent_looks (P (Link to reason bytes)) (Q (Link to reason bytes)) orig log frames bytes more (a is)
@@ -210,15 +214,7 @@ name_grows looks orig log after frames more payload g h =
     }
 
 pub sent_grows : (looks : TableCalls → Type 0) (orig : Mac) (log after : Log) (frames more : List SentFrame) (bytes : List ℕ) → Grows orig log after → IsSentByTable looks orig log frames bytes → IsSentByTable looks orig after (frames ++ more) bytes
-sent_grows looks orig log after frames more bytes g s = record {
-  ttl = s.ttl;
-  ttvn = s.ttvn;
-  dst = s.dst;
-  payload = s.payload;
-  whole = s.whole;
-  bytes_are = s.bytes_are;
-  named = λ same. name_grows looks orig log after frames more s.payload g (s.named same);
-}
+sent_grows looks orig log after frames more bytes g s = sent_with looks looks orig log after frames (frames ++ more) bytes (λ payload n. name_grows looks orig log after frames more payload g n) s
 
 act_grows : (looks : Act → TableCalls → Type 0) (orig : Mac) (log after : Log) (frames more : List SentFrame) (act : Act) → Grows orig log after → ActNames looks orig log frames act → ActNames looks orig after (frames ++ more) act
 act_grows looks orig log after frames more (Link to reason bytes) g a = λ is. sent_grows (looks (Link to reason bytes)) orig log after frames more bytes g (a is)

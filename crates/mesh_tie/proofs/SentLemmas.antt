@@ -91,28 +91,36 @@ sending mac reason mesh place (frame ∷ rest) event (inr has) =
     let s = sending mac reason mesh (suc place) rest event has in
     record { number = s.number; next = s.next; frame = s.frame; among = inr s.among; is = s.is }
 
+-- events are all that acts leave
+told_only : (acts : List Act) (mac : Mac) (now root : ℕ) (mesh after : Mesh) (more : List Event) → record mesh { events = mesh.events ++ more } ≡ after
+    → ((event : Event) → Has acts (Print event) → Has more event) → ((event : Event) → Has more event → IsOfActs acts mac now event) → HasSent acts mac now root mesh after
+told_only acts mac now root mesh after more same printed came = record {
+  nodes = ap (λ (m : Mesh). m.nodes) (sym same);
+  more_puts = [];
+  puts = ap (λ (m : Mesh). m.puts) (sym same) ∙ sym (append-nil mesh.puts);
+  put = λ put has. absurd has;
+  more = [];
+  frames = ap (λ (m : Mesh). m.frames) (sym same) ∙ sym (append-nil mesh.frames);
+  made = λ frame has. absurd has;
+  kept = λ event has. subst (λ (m : Mesh). Has m.events event) same (has_left mesh.events more event has);
+  printed = λ event has. subst (λ (m : Mesh). Has m.events event) same (has_right mesh.events more event (printed event has));
+  more_events = more;
+  events = ap (λ (m : Mesh). m.events) (sym same);
+  came = came;
+}
+
+-- acts that leave the mesh as it was
+none_sent : (acts : List Act) (mac : Mac) (now root : ℕ) (mesh after : Mesh) → mesh ≡ after → ((event : Event) → Has acts (Print event) → ⊥) → HasSent acts mac now root mesh after
+none_sent acts mac now root mesh after same quiet =
+    told_only acts mac now root mesh after [] (ap (λ (es : List Event). record mesh { events = es }) (append-nil mesh.events) ∙ same) (λ event has. absurd (quiet event has)) (λ event has. absurd has)
+
+no_print : (bytes : List ℕ) (event : Event) → Has (Lan bytes ∷ []) (Print event) → ⊥
+no_print bytes event (inl is) = cc
+no_print bytes event (inr none) = absurd none
+
 -- a frame on the LAN of a gateway; a node that is none has no LAN
 lan_sent : (setup : Setup) (actor : Actor) (bytes : List ℕ) (lan : Option ℕ) (mesh after : Mesh) → put_on setup actor bytes lan mesh ≡ Ok after → HasSent (Lan bytes ∷ []) actor.mac actor.now actor.root mesh after
-lan_sent setup actor bytes None mesh after e =
-    let same : mesh ≡ after = ok_one mesh after e in
-    record {
-      nodes = ap (λ (m : Mesh). m.nodes) (sym same);
-      more_puts = [];
-      puts = ap (λ (m : Mesh). m.puts) (sym same) ∙ sym (append-nil mesh.puts);
-      put = λ put has. absurd has;
-      more = [];
-      frames = ap (λ (m : Mesh). m.frames) (sym same) ∙ sym (append-nil mesh.frames);
-      made = λ frame has. absurd has;
-      kept = λ event has. subst (λ (m : Mesh). Has m.events event) same has;
-      printed = λ event has. absurd (no_print has);
-      more_events = [];
-      events = ap (λ (m : Mesh). m.events) (sym same) ∙ sym (append-nil mesh.events);
-      came = λ event has. absurd has;
-    }
-  where
-    no_print : {event : Event} → Has (Lan bytes ∷ []) (Print event) → ⊥
-    no_print (inl is) = cc
-    no_print (inr none) = absurd none
+lan_sent setup actor bytes None mesh after e = none_sent (Lan bytes ∷ []) actor.mac actor.now actor.root mesh after (ok_one mesh after e) (no_print bytes)
 lan_sent setup actor bytes (Some lan) mesh after e =
     let put : LanPut = record { lan = lan; moment = actor.now; bytes = bytes; by = Some actor.place } in
     let made : Mesh = record mesh { puts = mesh.puts ++ put ∷ []; events = mesh.events ++ put_event mesh put ∷ [] } in
@@ -130,16 +138,12 @@ lan_sent setup actor bytes (Some lan) mesh after e =
       frames = ap (λ (m : Mesh). m.frames) (sym same) ∙ sym (append-nil mesh.frames);
       made = λ frame has. absurd has;
       kept = λ event has. subst (λ (m : Mesh). Has m.events event) same (has_left mesh.events (put_event mesh put ∷ []) event has);
-      printed = λ event has. absurd (no_print has);
+      printed = λ event has. absurd (no_print bytes event has);
       more_events = put_event mesh put ∷ [];
       events = ap (λ (m : Mesh). m.events) (sym same);
       came = λ event has. inr (inr (the_put event has));
     }
   where
-    no_print : {event : Event} → Has (Lan bytes ∷ []) (Print event) → ⊥
-    no_print (inl is) = cc
-    no_print (inr none) = absurd none
-
     is_put : (other : LanPut) → Has (record { lan = lan; moment = actor.now; bytes = bytes; by = Some actor.place } ∷ []) other → IsPut (Lan bytes ∷ []) other
     is_put other (inl is) = record { act = inl (ap (λ (p : LanPut). Lan p.bytes) is); gateway = actor.place; by_gateway = ap (λ (p : LanPut). p.by) is }
     is_put other (inr none) = absurd none
@@ -166,7 +170,7 @@ one_sent setup actor (Link to reason bytes) mesh after e =
           let parts = over_links (ways mesh.nodes actor.place to 0 mesh.links) mesh.frames actor.now actor.root bytes frame has in
           record { to = to; reason = reason; act = inl (ap (λ b. Link to reason b) parts.0); root_is = parts.1 };
       kept = λ event has. subst (λ (m : Mesh). Has m.events event) same (has_left mesh.events (sent_events actor.mac reason mesh (length mesh.frames) new) event has);
-      printed = λ event has. absurd (no_print has);
+      printed = λ event has. absurd (no_link_print has);
       more_events = sent_events actor.mac reason mesh (length mesh.frames) new;
       events = ap (λ (m : Mesh). m.events) (sym same);
       came = λ event has.
@@ -175,27 +179,11 @@ one_sent setup actor (Link to reason bytes) mesh after e =
           inr (inl (record { number = s.number; next = s.next; to = to; reason = reason; bytes = s.frame.bytes; is = subst (λ t. event ≡ FrameSent s.number t actor.mac s.next reason s.frame.bytes) parts.2 s.is; act = inl (ap (λ b. Link to reason b) parts.0) }));
     }
   where
-    no_print : {event : Event} → Has (Link to reason bytes ∷ []) (Print event) → ⊥
-    no_print (inl is) = cc
-    no_print (inr none) = absurd none
+    no_link_print : {event : Event} → Has (Link to reason bytes ∷ []) (Print event) → ⊥
+    no_link_print (inl is) = cc
+    no_link_print (inr none) = absurd none
 one_sent setup actor (Lan bytes) mesh after e = lan_sent setup actor bytes (lan_of actor.place mesh.lans) mesh after e
-one_sent setup actor (Print event) mesh after e =
-    let made : Mesh = record mesh { events = mesh.events ++ event ∷ [] } in
-    let same : made ≡ after = ok_one made after e in
-    record {
-      nodes = ap (λ (m : Mesh). m.nodes) (sym same);
-      more_puts = [];
-      puts = ap (λ (m : Mesh). m.puts) (sym same) ∙ sym (append-nil mesh.puts);
-      put = λ put has. absurd has;
-      more = [];
-      frames = ap (λ (m : Mesh). m.frames) (sym same) ∙ sym (append-nil mesh.frames);
-      made = λ frame has. absurd has;
-      kept = λ other has. subst (λ (m : Mesh). Has m.events other) same (has_left mesh.events (event ∷ []) other has);
-      printed = λ other has. subst (λ (m : Mesh). Has m.events other) same (has_right mesh.events (event ∷ []) other (the_event other has));
-      more_events = event ∷ [];
-      events = ap (λ (m : Mesh). m.events) (sym same);
-      came = λ other has. inl (the_act other has);
-    }
+one_sent setup actor (Print event) mesh after e = told_only (Print event ∷ []) actor.mac actor.now actor.root mesh after (event ∷ []) (ok_one (record mesh { events = mesh.events ++ event ∷ [] }) after e) the_event (λ other has. inl (the_act other has))
   where
     the_event : (other : Event) → Has (Print event ∷ []) (Print other) → Has (event ∷ []) other
     the_event other (inl is) = inl (let same : other ≡ event = cc in same)
@@ -206,22 +194,7 @@ one_sent setup actor (Print event) mesh after e =
     the_act other (inr none) = absurd none
 
 pub acts_sent : (setup : Setup) (actor : Actor) (acts : List Act) (mesh after : Mesh) → after_acts setup actor acts mesh ≡ Ok after → HasSent acts actor.mac actor.now actor.root mesh after
-acts_sent setup actor [] mesh after e =
-    let same : mesh ≡ after = ok_one mesh after e in
-    record {
-      nodes = ap (λ (m : Mesh). m.nodes) (sym same);
-      more_puts = [];
-      puts = ap (λ (m : Mesh). m.puts) (sym same) ∙ sym (append-nil mesh.puts);
-      put = λ put has. absurd has;
-      more = [];
-      frames = ap (λ (m : Mesh). m.frames) (sym same) ∙ sym (append-nil mesh.frames);
-      made = λ frame has. absurd has;
-      kept = λ event has. subst (λ (m : Mesh). Has m.events event) same has;
-      printed = λ event has. absurd has;
-      more_events = [];
-      events = ap (λ (m : Mesh). m.events) (sym same) ∙ sym (append-nil mesh.events);
-      came = λ event has. absurd has;
-    }
+acts_sent setup actor [] mesh after e = none_sent [] actor.mac actor.now actor.root mesh after (ok_one mesh after e) (λ event has. absurd has)
 acts_sent setup actor (act ∷ acts) mesh after e =
     let p = on_ok_ok (after_acts setup actor acts) (after_act setup actor act mesh) after e in
     let a = one_sent setup actor act mesh p.0 p.1 in

@@ -1,9 +1,7 @@
 -- The addresses and clients of every command that is read can be told.
-use Rattle.std.proofs.Common.{◌≡◌, ◌≤◌, ◌<◌, ◌^◌, ◌+◌, ◌*◌, ◌-◌, ◌&&◌, ◌==◌, ℕ, Bool, true, false, cond, not, nat_le, List, [], ◌∷◌, ◌++◌, length, Option, Some, None, Result, Ok, Err, refl, subst, arith}
+use Rattle.std.proofs.Common.{◌≡◌, ◌≤◌, ◌<◌, ◌^◌, ◌+◌, ◌*◌, ◌-◌, ◌&&◌, ◌==◌, ℕ, Bool, true, false, cond, not, nat_le, List, [], ◌∷◌, length, Option, Some, None, Result, Ok, Err, refl, subst, arith}
 use Rattle.std.specs.Prelude.{bytes_eq, codes, ok_or, option_and_then}
 use Rattle.std.specs.List.{AllByRecursion, slice_split}
-use Rattle.std.specs.Option.{option_map_or}
-use Rattle.std.specs.Map.{lookup}
 use Rattle.std.proofs.lemmas.Bool.{eqb-true}
 use Rattle.std.proofs.lemmas.Bool.Decides.{nat_tests}
 use Rattle.hex.specs.Hex.{hex_digit_value}
@@ -11,22 +9,14 @@ use Rattle.mesh_base.specs.Address.{byte_of_pair, bytes_of_pairs, is_broadcast, 
 use Rattle.mesh_base.specs.declared.address.Mac.{Mac}
 use Rattle.mesh_base.specs.declared.client.Key.{Key}
 use Rattle.mesh_base.specs.declared.client.Vid.{Vid}
-use Rattle.mesh_model.specs.declared.ending.LimitName.TheVariants.{Line}
 use Rattle.mesh_model.specs.declared.ending.Refusal.{Refusal}
-use Rattle.mesh_model.specs.declared.ending.Refusal.TheVariants.{BadMac, BadName, BadNumber, BadUtf8, ExtraWord, OutOfRange, UnknownCommand}
-use Rattle.mesh_model.specs.declared.ending.Stop.TheVariants.{Refused, Limit}
-use Rattle.mesh_model.specs.declared.line_form.Policy.TheVariants.{Best, Stable}
+use Rattle.mesh_model.specs.declared.ending.Refusal.TheVariants.{BadMac, BadNumber, OutOfRange}
 use Rattle.mesh_model.specs.declared.line_form.Command.{Command}
-use Rattle.mesh_model.specs.declared.line_form.Command.TheVariants.{Nothing, Node, Lan, Frame, Gone, Join, Leave, Arp, Dhcp, GwOff, GwClient}
-use Rattle.mesh_model.specs.Scenario.AlfredForms.{fact_type_field, read_alfred, read_alfred_form, read_get, read_mode, read_put}
-use Rattle.mesh_model.specs.Scenario.Commands.{command_of_line, command_of_words, is_comment, node_forms, read_form}
-use Rattle.mesh_model.specs.Scenario.Fields.{group_field, mac_field, passing, target_field, unicast_field, vid_field, word_field}
-use Rattle.mesh_model.specs.Scenario.LinkOptions.{LinkOptions, after_options, link_with, options_of, the_options}
-use Rattle.mesh_model.specs.Scenario.NetForms.{net_forms, the_gateways}
-use Rattle.mesh_model.specs.Scenario.Readings.{Reading, a_field, a_key, a_text, a_text_up_to, after_field, listed_form, the_end}
-use Rattle.mesh_model.specs.Scenario.SettingForms.{read_dat, read_frag, read_gateway, read_late, read_mcast, read_policy, read_server, read_set, read_setting, read_vis, read_wifi}
+use Rattle.mesh_model.specs.declared.line_form.Command.TheVariants.{Nothing, Algo, Node, Link, Lan, Frame, Gone, Join, Leave, Arp, Dhcp, Wifi, GwOff, GwServer, GwClient, Mcast, Dat, Frag, Vis, Alfred, Put, Get, Ping, Trace, Reboot, Run, Deliver, Show, Decode}
+use Rattle.mesh_model.specs.Scenario.AlfredForms.{fact_type_field}
+use Rattle.mesh_model.specs.Scenario.Fields.{group_field, mac_field, passing, target_field, unicast_field, vid_field}
 use Rattle.mesh_model.specs.Scenario.Terms.{number_of, tagged, vid_of}
-use Rattle.mesh_model.specs.Scenario.Words.{Word, line_words}
+use Rattle.mesh_laws.proofs.Lines.FieldsRead.{AnyText, FieldsWereRead, KeyWasRead, WasRead, all_fields_read}
 use Rattle.mesh_tie.specs.PlainRuns.{IsTellable, ReadIsTellable}
 use Rattle.mesh_tie.specs.Sources.{IsWhole}
 use Rattle.mesh_tie.specs.Steps.{IsClient}
@@ -158,192 +148,43 @@ vid_small word vid is = go (bytes_eq word (codes "-")) (ok_is (vid_of word) BadN
 client_of : (mac : Mac) (vid : Vid) → Tells mac → SmallVid vid → IsClient (record { mac = mac; vid = vid })
 client_of mac vid tells small = record { fits = record { address = tells.whole; vid = small }; bytes = tells.bytes }
 
--- ---- readings
-abbrev ReadsTellable : Reading → Type 0
-ReadsTellable (Ok command) = IsTellable command
-ReadsTellable (Err stop) = Unit {0}
+-- ---- commands
+key_tells : (read : List ℕ → Result Mac Refusal) → Gives Tells read → (key : Key) → KeyWasRead read key → IsClient key
+key_tells read tells key was = client_of key.mac key.vid (tells was.0.word key.mac was.0.is) (vid_small was.1.word key.vid was.1.is)
 
-abbrev FormTells : (List Word → Reading) → Type 0
-FormTells form = (words : List Word) → ReadsTellable (form words)
+fact_type_was : (type_no : ℕ) → WasRead fact_type_field type_no → 64 ≤ type_no
+fact_type_was type_no was = fact_type_tells was.word type_no was.is
 
--- anything is given
-abbrev Any : {A : Type 0} → A → Type 0
-Any value = Unit {0}
-
-any : {A : Type 0} (read : List ℕ → Result A Refusal) → Gives Any read
-any read word value is = tt
-
-after : {A : Type 0} (P : A → Type 0) (next : A → List Word → Reading) (words : List Word) (read : Result A Refusal) → ((value : A) → read ≡ Ok value → P value) → ((value : A) → P value → FormTells (next value))
-    → ReadsTellable (after_field next words read)
-after P next words (Ok value) gives h = h value (gives value refl) words
-after P next words (Err refusal) gives h = tt
-
-field_with : {A : Type 0} (P : A → Type 0) (read : List ℕ → Result A Refusal) (next : A → List Word → Reading) → Gives P read → ((value : A) → P value → FormTells (next value)) → FormTells (a_field read next)
-field_with P read next gives h [] = tt
-field_with P read next gives h (first ∷ rest) = after P next rest (read first.word) (gives first.word) h
-
-field : {A : Type 0} (read : List ℕ → Result A Refusal) (next : A → List Word → Reading) → ((value : A) → FormTells (next value)) → FormTells (a_field read next)
-field read next h = field_with Any read next (any read) (λ value p. h value)
-
-end : (command : Command) → IsTellable command → FormTells (the_end command)
-end command h [] = h
-end command h (extra ∷ rest) = tt
-
-text : (command : List ℕ → Command) → ((t : List ℕ) → IsTellable (command t)) → FormTells (a_text command)
-text command h [] = tt
-text command h (first ∷ rest) = h first.text
-
-key : (read : List ℕ → Result Mac Refusal) (next : Key → List Word → Reading) → Gives Tells read → ((k : Key) → IsClient k → FormTells (next k)) → FormTells (a_key read next)
-key read next gives h = field_with Tells read (λ mac. a_field vid_field (λ vid. next (record { mac = mac; vid = vid }))) gives (λ mac tells.
-    field_with SmallVid vid_field (λ vid. next (record { mac = mac; vid = vid })) vid_small (λ vid small. h (record { mac = mac; vid = vid }) (client_of mac vid tells small)))
-
-abbrev FormsTell : List (List ℕ × (List Word → Reading)) → Type 0
-FormsTell [] = Unit {0}
-FormsTell (form ∷ rest) = FormTells form.1 × FormsTell rest
-
-abbrev ChosenTells : Option (List Word → Reading) → Type 0
-ChosenTells None = Unit {0}
-ChosenTells (Some form) = FormTells form
-
-if_chosen : (is : Bool) (form : List Word → Reading) (other : Option (List Word → Reading)) → FormTells form → ChosenTells other → ChosenTells (cond is (Some form) other)
-if_chosen true form other h rest = h
-if_chosen false form other h rest = rest
-
-chosen : (word : List ℕ) (forms : List (List ℕ × (List Word → Reading))) → FormsTell forms → ChosenTells (lookup (bytes_eq word) forms)
-chosen word [] h = tt
-chosen word (form ∷ rest) h = if_chosen (bytes_eq word form.0) form.1 (lookup (bytes_eq word) rest) h.0 (chosen word rest h.1)
-
-by_choice : (refusal : Refusal) (words : List Word) (form : Option (List Word → Reading)) → ChosenTells form → ReadsTellable (option_map_or (λ read. read words) form (Err (Refused refusal)))
-by_choice refusal words None h = tt
-by_choice refusal words (Some form) h = h words
-
-listed : (forms : List (List ℕ × (List Word → Reading))) (refusal : Refusal) (word : List ℕ) → FormsTell forms → FormTells (listed_form forms refusal word)
-listed forms refusal word h words = by_choice refusal words (lookup (bytes_eq word) forms) (chosen word forms h)
-
-with_options : (from to : List ℕ) (read : Result LinkOptions Refusal) → ReadsTellable (after_options (link_with from to) read)
-with_options from to (Ok options) = tt
-with_options from to (Err refusal) = tt
-
-link : (from to : List ℕ) → FormTells (the_options (link_with from to))
-link from to words = with_options from to (options_of words)
-
-some_gateways : (bad many : Bool) (command : Command) → IsTellable command → ReadsTellable (cond bad (Err (Refused BadName)) (cond many (Err (Refused ExtraWord)) (Ok command)))
-some_gateways true many command h = tt
-some_gateways false true command h = tt
-some_gateways false false command h = h
-
-gateways : (name : List ℕ) → FormTells (the_gateways (Lan name))
-gateways name [] = tt
-gateways name (first ∷ rest) = some_gateways _ _ _ tt
-
-policies : (node word : List ℕ) → FormTells (read_policy node word)
-policies node word = listed ((codes "best", the_end (GwClient node Best)) ∷ (codes "stable", the_end (GwClient node Stable)) ∷ (codes "late", read_late node) ∷ []) OutOfRange word
-    (end _ tt, (end _ tt, (field _ _ (λ k. end _ tt), tt)))
-
-gateway_modes : (node word : List ℕ) → FormTells (read_gateway node word)
-gateway_modes node word = listed ((codes "off", the_end (GwOff node)) ∷ (codes "server", read_server node) ∷ (codes "client", a_field word_field (read_policy node)) ∷ []) OutOfRange word
-    (end _ tt, (field _ _ (λ d. field _ _ (λ u. end _ tt)), (field word_field (read_policy node) (λ w. policies node w), tt)))
-
-setting : (node word : List ℕ) → FormTells (read_setting node word)
-setting node word = listed ((codes "wifi", read_wifi node) ∷ (codes "gw", a_field word_field (read_gateway node)) ∷ (codes "mcast", read_mcast node) ∷ (codes "dat", read_dat node)
-    ∷ (codes "frag", read_frag node) ∷ (codes "vis", read_vis node) ∷ []) OutOfRange word
-    (field _ _ (λ on. end _ tt), (field word_field (read_gateway node) (λ w. gateway_modes node w), (field _ _ (λ n. end _ tt), (field _ _ (λ on. end _ tt), (field _ _ (λ size. end _ tt), (field _ _ (λ on. end _ tt), tt))))))
-
-settings : FormTells read_set
-settings = field _ _ (λ node. field word_field (read_setting node) (λ word. setting node word))
-
-if_short : (short : Bool) (command : Command) → IsTellable command → ReadsTellable (cond short (Ok command) (Err (Refused OutOfRange)))
-if_short true command h = h
-if_short false command h = tt
-
-text_up_to : (most : ℕ) (command : List ℕ → Command) → ((t : List ℕ) → IsTellable (command t)) → FormTells (a_text_up_to most command)
-text_up_to most command h [] = tt
-text_up_to most command h (first ∷ rest) = if_short _ _ (h first.text)
-
-alfred_form : (node word : List ℕ) → FormTells (read_alfred_form node word)
-alfred_form node word = listed ((codes "mode", read_mode node) ∷ (codes "put", read_put node) ∷ (codes "get", read_get node) ∷ []) OutOfRange word
-    (field _ _ (λ mode. end _ tt), (field_with (λ t. 64 ≤ t) fact_type_field _ fact_type_tells (λ t tells. field _ _ (λ v. text_up_to _ _ (λ x. tells))), (field_with (λ t. 64 ≤ t) fact_type_field _ fact_type_tells (λ t tells. end _ tells), tt)))
-
-alfred_forms : FormTells read_alfred
-alfred_forms = field _ _ (λ node. field word_field (read_alfred_form node) (λ word. alfred_form node word))
-
-all_forms : FormsTell (net_forms ++ node_forms)
-all_forms = (
-  field _ _ (λ a. end _ tt),
-  (
-    field _ _ (λ a. field_with Tells unicast_field _ unicast_tells (λ mac tells. end (Node a mac) tells.whole)),
-    (
-      field _ _ (λ a. field _ _ (λ b. link a b)),
-      (
-        field _ _ (λ a. gateways a),
-        (
-          field _ _ (λ a. field _ _ (λ b. end _ tt)),
-          (
-            field _ _ (λ a. field _ _ (λ b. end _ tt)),
-            (
-              field _ _ (λ a. end _ tt),
-              (
-                field _ _ (λ a. end _ tt),
-                (
-                  field _ _ (λ a. end _ tt),
-                  (
-                    field _ _ (λ a. field _ _ (λ b. end _ tt)),
-                    (
-                      field _ _ (λ a. end _ tt),
-                      (
-                        field _ _ (λ a. field_with Tells unicast_field _ unicast_tells (λ src tells. field_with Tells target_field _ target_tells (λ dst told.
-                            field_with SmallVid vid_field _ vid_small (λ vid small. text (λ t. Frame a src dst vid t) (λ t. (client_of src vid tells small, told.whole)))))),
-                        (
-                          field _ _ (λ a. key unicast_field (λ k. the_end (Gone a k)) unicast_tells (λ k client. end (Gone a k) client)),
-                          (
-                            field _ _ (λ a. key group_field (λ k. the_end (Join a k)) group_tells (λ k client. end (Join a k) client)),
-                            (
-                              field _ _ (λ a. key group_field (λ k. the_end (Leave a k)) group_tells (λ k client. end (Leave a k) client)),
-                              (
-                                field _ _ (λ a. field_with Tells unicast_field _ unicast_tells (λ mac tells. field _ _ (λ own. field _ _ (λ asked. field_with SmallVid vid_field _ vid_small (λ vid small. end (Arp a mac own asked vid) (client_of mac vid tells small)))))),
-                                (
-                                  field _ _ (λ a. key unicast_field (λ k. a_text (λ t. Dhcp a k t)) unicast_tells (λ k client. text (λ t. Dhcp a k t) (λ t. client))),
-                                  (
-                                    settings,
-                                    (
-                                      alfred_forms,
-                                      tt,
-                                    ),
-                                  ),
-                                ),
-                              ),
-                            ),
-                          ),
-                        ),
-                      ),
-                    ),
-                  ),
-                ),
-              ),
-            ),
-          ),
-        ),
-      ),
-    ),
-  ),
-)
-
-if_comment : (comment : Bool) (reading : Reading) → ReadsTellable reading → ReadsTellable (cond comment (Ok Nothing) reading)
-if_comment true reading h = tt
-if_comment false reading h = h
-
-words_read : (words : List Word) → ReadsTellable (command_of_words words)
-words_read [] = tt
-words_read (first ∷ rest) = if_comment (is_comment first.word) (read_form first.word rest) (listed (net_forms ++ node_forms) UnknownCommand first.word all_forms rest)
-
-if_read : (long utf8 : Bool) (reading : Reading) → ReadsTellable reading → ReadsTellable (cond long (Err (Limit Line)) (cond utf8 reading (Err (Refused BadUtf8))))
-if_read true utf8 reading h = tt
-if_read false true reading h = h
-if_read false false reading h = tt
-
-line_read : (line : List ℕ) → ReadsTellable (command_of_line line)
-unfolding command_of_line
-line_read line = if_read _ _ (command_of_words (line_words line)) (words_read (line_words line))
+tellable : (command : Command) → FieldsWereRead AnyText command → IsTellable command
+tellable Nothing was = tt
+tellable (Algo algorithm) was = tt
+tellable (Node name mac) was = (unicast_tells was.1.word mac was.1.is).whole
+tellable (Link from to delay pattern throughput) was = tt
+tellable (Lan name gateways) was = tt
+tellable (Frame place src dst vid text) was = (key_tells unicast_field unicast_tells (record { mac = src; vid = vid }) was.0, (target_tells was.1.word dst was.1.is).whole)
+tellable (Gone place key) was = key_tells unicast_field unicast_tells key was
+tellable (Join node key) was = key_tells group_field group_tells key was
+tellable (Leave node key) was = key_tells group_field group_tells key was
+tellable (Arp node mac own asked vid) was = key_tells unicast_field unicast_tells (record { mac = mac; vid = vid }) was
+tellable (Dhcp node key text) was = key_tells unicast_field unicast_tells key was.0
+tellable (Wifi node on) was = tt
+tellable (GwOff node) was = tt
+tellable (GwServer node down up) was = tt
+tellable (GwClient node policy) was = tt
+tellable (Mcast node flags) was = tt
+tellable (Dat node on) was = tt
+tellable (Frag node longest) was = tt
+tellable (Vis node on) was = tt
+tellable (Alfred node mode) was = tt
+tellable (Put node type_no version text) was = fact_type_was type_no was.0
+tellable (Get node type_no) was = fact_type_was type_no was
+tellable (Ping node target) was = tt
+tellable (Trace node target) was = tt
+tellable (Reboot node) was = tt
+tellable (Run time) was = tt
+tellable (Deliver number) was = tt
+tellable (Show node table) was = tt
+tellable (Decode bytes) was = tt
 
 pub read_is_tellable : ReadIsTellable
-read_is_tellable line command h = subst ReadsTellable h (line_read line)
+read_is_tellable line command h = tellable command (all_fields_read line command h)

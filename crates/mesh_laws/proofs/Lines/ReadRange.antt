@@ -1,115 +1,17 @@
--- The options of a link line that is read are in their ranges, and a LAN has a gateway: what each form of lines
--- gives.
-use Rattle.std.proofs.Common.{◌≡◌, ℕ, ◌<◌, ◌≤◌, ◌&&◌, Bool, true, false, List, [], ◌∷◌, ◌++◌, length, Option, Some, None, Result, Ok, Err, refl, subst, arith}
-use Rattle.std.specs.Prelude.{⊤, bytes_eq, codes, fold, unwrap_or, option_map, option_and_then, ok_or, nat_le, if◌then◌else◌}
-use Rattle.std.specs.Option.{option_map_or}
-use Rattle.std.specs.Map.{lookup}
+-- The options of a link line that is read are in their ranges, and a LAN has a gateway.
+use Rattle.std.proofs.Common.{◌≡◌, ℕ, ◌<◌, ◌≤◌, ◌&&◌, Bool, true, false, List, [], ◌∷◌, length, Option, Some, None, Result, Ok, Err, refl, subst, arith}
+use Rattle.std.specs.Prelude.{⊤, codes, fold, unwrap_or, option_map, option_and_then, ok_or, nat_le, if◌then◌else◌}
 use Rattle.std.proofs.lemmas.Bool.Decides.{nat_tests}
-use Rattle.mesh_base.specs.declared.address.Mac.{Mac}
-use Rattle.mesh_base.specs.declared.client.Key.{Key}
-use Rattle.mesh_model.specs.declared.ending.LimitName.TheVariants.{Line}
 use Rattle.mesh_model.specs.declared.ending.Refusal.{Refusal}
-use Rattle.mesh_model.specs.declared.ending.Refusal.TheVariants.{BadName, BadNumber, BadUtf8, ExtraWord, OutOfRange, UnknownCommand}
-use Rattle.mesh_model.specs.declared.ending.Stop.TheVariants.{Refused, Limit}
-use Rattle.mesh_model.specs.declared.line_form.Policy.TheVariants.{Best, Stable}
+use Rattle.mesh_model.specs.declared.ending.Refusal.TheVariants.{BadNumber, ExtraWord}
 use Rattle.mesh_model.specs.declared.line_form.Command.{Command}
-use Rattle.mesh_model.specs.declared.line_form.Command.TheVariants.{Nothing, Algo, Node, Link, Lan, Frame, Gone, Join, Leave, Arp, Dhcp, Wifi, GwOff, GwServer, GwClient, Mcast, Dat, Frag, Vis, Alfred, Put, Get, Ping, Trace, Reboot, Run, Deliver, Show, Decode}
-use Rattle.mesh_model.specs.Scenario.AlfredForms.{read_alfred, read_alfred_form, read_get, read_mode, read_put}
-use Rattle.mesh_model.specs.Scenario.Commands.{command_of_line, command_of_words, is_comment, node_forms, read_form}
-use Rattle.mesh_model.specs.Scenario.Fields.{group_field, unicast_field, word_field}
-use Rattle.mesh_model.specs.Scenario.LinkOptions.{LinkOptions, after_one_more, after_options, are_all_given, delay_limit, least_delay, least_throughput, link_with, no_options, number_within, options_of, pattern_of, the_options, throughput_limit, unless_given, value_behind, when_named, with_delay, with_option, with_pattern, with_throughput}
-use Rattle.mesh_model.specs.Scenario.NetForms.{net_forms, the_gateways}
-use Rattle.mesh_model.specs.Scenario.Readings.{Reading, a_field, a_key, a_text, a_text_up_to, after_field, listed_form, the_end}
-use Rattle.mesh_model.specs.Scenario.SettingForms.{read_dat, read_frag, read_gateway, read_late, read_mcast, read_policy, read_server, read_set, read_setting, read_vis, read_wifi}
+use Rattle.mesh_model.specs.declared.line_form.Command.TheVariants.{Lan}
+use Rattle.mesh_model.specs.Scenario.Commands.{command_of_line}
+use Rattle.mesh_model.specs.Scenario.LinkOptions.{LinkOptions, after_one_more, are_all_given, delay_limit, least_delay, least_throughput, no_options, number_within, pattern_of, throughput_limit, unless_given, value_behind, when_named, with_delay, with_option, with_pattern, with_throughput}
 use Rattle.mesh_model.specs.Scenario.Terms.{is_pattern, number_of, once_mark}
-use Rattle.mesh_model.specs.Scenario.Words.{Word, line_words}
+use Rattle.mesh_model.specs.Scenario.Words.{Word}
 use Rattle.mesh_laws.specs.LineLaws.{HasLinkRanges, IsInRange}
-
--- ---- commands and forms
-
--- a command, where it is a link, is in range, and where it is a LAN, has a gateway
-abbrev InRange : Command → Type 0
-InRange (Link from to delay pattern throughput) = HasLinkRanges delay pattern throughput
-InRange Nothing = ⊤
-InRange (Algo algorithm) = ⊤
-InRange (Node name mac) = ⊤
-InRange (Lan name gateways) = 0 < length gateways
-InRange (Frame place src dst vid text) = ⊤
-InRange (Gone place key) = ⊤
-InRange (Join node key) = ⊤
-InRange (Leave node key) = ⊤
-InRange (Arp node mac own asked vid) = ⊤
-InRange (Dhcp node key text) = ⊤
-InRange (Wifi node on) = ⊤
-InRange (GwOff node) = ⊤
-InRange (GwServer node down up) = ⊤
-InRange (GwClient node policy) = ⊤
-InRange (Mcast node flags) = ⊤
-InRange (Dat node on) = ⊤
-InRange (Frag node longest) = ⊤
-InRange (Vis node on) = ⊤
-InRange (Alfred node mode) = ⊤
-InRange (Put node type_no version text) = ⊤
-InRange (Get node type_no) = ⊤
-InRange (Ping node target) = ⊤
-InRange (Trace node target) = ⊤
-InRange (Reboot node) = ⊤
-InRange (Run time) = ⊤
-InRange (Deliver number) = ⊤
-InRange (Show node table) = ⊤
-InRange (Decode bytes) = ⊤
-
--- a reading, where it is a link, is in range
-abbrev ReadsInRange : Reading → Type 0
-ReadsInRange (Ok command) = InRange command
-ReadsInRange (Err stop) = ⊤
-
--- and so whatever words are read by a form
-abbrev FormInRange : (List Word → Reading) → Type 0
-FormInRange form = (words : List Word) → ReadsInRange (form words)
-
-after-field : {A : Type 0} (next : A → List Word → Reading) (words : List Word) (read : Result A Refusal) → ((value : A) → FormInRange (next value))
-    → ReadsInRange (after_field next words read)
-after-field next words (Ok value) h = h value words
-after-field next words (Err refusal) h = tt
-
-field : {A : Type 0} (read : List ℕ → Result A Refusal) (next : A → List Word → Reading) → ((value : A) → FormInRange (next value)) → FormInRange (a_field read next)
-field read next h [] = tt
-field read next h (first ∷ rest) = after-field next rest (read first.word) h
-
-end : (command : Command) → InRange command → FormInRange (the_end command)
-end command h [] = h
-end command h (extra ∷ rest) = tt
-
-text : (command : List ℕ → Command) → ((t : List ℕ) → InRange (command t)) → FormInRange (a_text command)
-text command h [] = tt
-text command h (first ∷ rest) = h first.text
-
--- each form of a list is in range
-abbrev FormsInRange : List (List ℕ × (List Word → Reading)) → Type 0
-FormsInRange [] = ⊤
-FormsInRange (form ∷ rest) = FormInRange form.1 × FormsInRange rest
-
--- one of them, or a refusal
-abbrev ChosenInRange : Option (List Word → Reading) → Type 0
-ChosenInRange None = ⊤
-ChosenInRange (Some form) = FormInRange form
-
-if-chosen : (is : Bool) (form : List Word → Reading) (other : Option (List Word → Reading)) → FormInRange form → ChosenInRange other → ChosenInRange (if is then Some form else other)
-if-chosen true form other h rest = h
-if-chosen false form other h rest = rest
-
-chosen : (word : List ℕ) (forms : List (List ℕ × (List Word → Reading))) → FormsInRange forms → ChosenInRange (lookup (bytes_eq word) forms)
-chosen word [] h = tt
-chosen word (form ∷ rest) h = if-chosen (bytes_eq word form.0) form.1 (lookup (bytes_eq word) rest) h.0 (chosen word rest h.1)
-
-by-choice : (refusal : Refusal) (words : List Word) (form : Option (List Word → Reading)) → ChosenInRange form
-    → ReadsInRange (option_map_or (λ read. read words) form (Err (Refused refusal)))
-by-choice refusal words None h = tt
-by-choice refusal words (Some form) h = h words
-
-listed : (forms : List (List ℕ × (List Word → Reading))) (refusal : Refusal) (word : List ℕ) → FormsInRange forms → FormInRange (listed_form forms refusal word)
-listed forms refusal word h words = by-choice refusal words (lookup (bytes_eq word) forms) (chosen word forms h)
+use Rattle.mesh_laws.proofs.Lines.FieldsRead.{AnyText, FieldsWereRead, LinkWasRead, all_fields_read}
 
 -- ---- the options of a link
 
@@ -233,148 +135,25 @@ pattern-or : (p : Option (List ℕ)) → ((n : List ℕ) → p ≡ Some n → is
 pattern-or None h = refl
 pattern-or (Some n) h = h n refl
 
-with-options : (from to : List ℕ) (read : Result LinkOptions Refusal) → ReadOptionsInRange read → ReadsInRange (after_options (link_with from to) read)
-with-options from to (Ok options) h = record {
-  least = (delay-or options.delay h.delays).0;
-  most = (delay-or options.delay h.delays).1;
-  pattern_is = pattern-or options.pattern h.patterns;
-  least_throughput_is = (throughput-or options.throughput h.throughputs).0;
-  most_throughput = (throughput-or options.throughput h.throughputs).1;
+-- a link that was read is in range
+in-range : (delay : ℕ) (pattern : List ℕ) (throughput : ℕ) → LinkWasRead delay pattern throughput → HasLinkRanges delay pattern throughput
+in-range delay pattern throughput was = record {
+  least = subst (λ d. least_delay ≤ d) was.delay_is (delay-or was.options.delay ranges.delays).0;
+  most = subst (λ d. d ≤ delay_limit) was.delay_is (delay-or was.options.delay ranges.delays).1;
+  pattern_is = subst (λ p. is_pattern p ≡ true) was.pattern_is (pattern-or was.options.pattern ranges.patterns);
+  least_throughput_is = subst (λ t. least_throughput ≤ t) was.throughput_is (throughput-or was.options.throughput ranges.throughputs).0;
+  most_throughput = subst (λ t. t ≤ throughput_limit) was.throughput_is (throughput-or was.options.throughput ranges.throughputs).1;
 }
-with-options from to (Err refusal) h = tt
+  where
+    ranges : OptionsInRange was.options
+    ranges = subst ReadOptionsInRange was.are (all-options (Ok no_options) was.words no-options)
 
-link : (from to : List ℕ) → FormInRange (the_options (link_with from to))
-link from to words = with-options from to (options_of words) (all-options (Ok no_options) words no-options)
-
--- ---- all forms
-
-some-gateways : (bad many : Bool) (command : Command) → InRange command
-    → ReadsInRange (if bad then Err (Refused BadName) else if many then Err (Refused ExtraWord) else Ok command)
-some-gateways true many command h = tt
-some-gateways false true command h = tt
-some-gateways false false command h = h
-
-gateways : (name : List ℕ) → FormInRange (the_gateways (Lan name))
-gateways name [] = tt
-gateways name (first ∷ rest) = some-gateways _ _ _ (omega arith)
-
-key : (read : List ℕ → Result Mac Refusal) (next : Key → List Word → Reading) → ((k : Key) → FormInRange (next k)) → FormInRange (a_key read next)
-key read next h = field _ _ (λ mac. field _ _ (λ vid. h (record { mac = mac; vid = vid })))
-
-policies : (node word : List ℕ) → FormInRange (read_policy node word)
-policies node word = listed ((codes "best", the_end (GwClient node Best)) ∷ (codes "stable", the_end (GwClient node Stable)) ∷ (codes "late", read_late node) ∷ []) OutOfRange word
-    (end _ tt, (end _ tt, (field _ _ (λ k. end _ tt), tt)))
-
-gateway-modes : (node word : List ℕ) → FormInRange (read_gateway node word)
-gateway-modes node word =
-    listed ((codes "off", the_end (GwOff node)) ∷ (codes "server", read_server node) ∷ (codes "client", a_field word_field (read_policy node)) ∷ []) OutOfRange word
-    (end _ tt, (field _ _ (λ d. field _ _ (λ u. end _ tt)), (field word_field (read_policy node) (λ w. policies node w), tt)))
-
-setting : (node word : List ℕ) → FormInRange (read_setting node word)
-setting node word =
-    listed ((codes "wifi", read_wifi node) ∷ (codes "gw", a_field word_field (read_gateway node)) ∷ (codes "mcast", read_mcast node) ∷ (codes "dat", read_dat node)
-    ∷ (codes "frag", read_frag node) ∷ (codes "vis", read_vis node) ∷ []) OutOfRange word
-    (field _ _ (λ on. end _ tt), (field word_field (read_gateway node) (λ w. gateway-modes node w), (field _ _ (λ n. end _ tt), (field _ _ (λ on. end _ tt), (field _ _ (λ size. end _ tt), (field _ _ (λ on. end _ tt), tt))))))
-
-settings : FormInRange read_set
-settings = field _ _ (λ node. field word_field (read_setting node) (λ word. setting node word))
-
-if-short : (short : Bool) (command : Command) → InRange command → ReadsInRange (if short then Ok command else Err (Refused OutOfRange))
-if-short true command h = h
-if-short false command h = tt
-
-text-up-to : (most : ℕ) (command : List ℕ → Command) → ((t : List ℕ) → InRange (command t)) → FormInRange (a_text_up_to most command)
-text-up-to most command h [] = tt
-text-up-to most command h (first ∷ rest) = if-short _ _ (h first.text)
-
-alfred-form : (node word : List ℕ) → FormInRange (read_alfred_form node word)
-alfred-form node word = listed ((codes "mode", read_mode node) ∷ (codes "put", read_put node) ∷ (codes "get", read_get node) ∷ []) OutOfRange word
-    (field _ _ (λ mode. end _ tt), (field _ _ (λ t. field _ _ (λ v. text-up-to _ _ (λ x. tt))), (field _ _ (λ t. end _ tt), tt)))
-
-alfred-forms : FormInRange read_alfred
-alfred-forms = field _ _ (λ node. field word_field (read_alfred_form node) (λ word. alfred-form node word))
-
-all-forms : FormsInRange (net_forms ++ node_forms)
-all-forms = (
-  field _ _ (λ a. end _ tt),
-  (
-    field _ _ (λ a. field _ _ (λ b. end _ tt)),
-    (
-      field _ _ (λ a. field _ _ (λ b. link a b)),
-      (
-        field _ _ (λ a. gateways a),
-        (
-          field _ _ (λ a. field _ _ (λ b. end _ tt)),
-          (
-            field _ _ (λ a. field _ _ (λ b. end _ tt)),
-            (
-              field _ _ (λ a. end _ tt),
-              (
-                field _ _ (λ a. end _ tt),
-                (
-                  field _ _ (λ a. end _ tt),
-                  (
-                    field _ _ (λ a. field _ _ (λ b. end _ tt)),
-                    (
-                      field _ _ (λ a. end _ tt),
-                      (
-                        field _ _ (λ a. field _ _ (λ b. field _ _ (λ c. field _ _ (λ d. text _ (λ t. tt))))),
-                        (
-                          field _ _ (λ a. key unicast_field (λ k. the_end (Gone a k)) (λ k. end (Gone a k) tt)),
-                          (
-                            field _ _ (λ a. key group_field (λ k. the_end (Join a k)) (λ k. end (Join a k) tt)),
-                            (
-                              field _ _ (λ a. key group_field (λ k. the_end (Leave a k)) (λ k. end (Leave a k) tt)),
-                              (
-                                field _ _ (λ a. field _ _ (λ b. field _ _ (λ c. field _ _ (λ d. field _ _ (λ e. end _ tt))))),
-                                (
-                                  field _ _ (λ a. key unicast_field (λ k. a_text (λ t. Dhcp a k t)) (λ k. text (λ t. Dhcp a k t) (λ t. tt))),
-                                  (
-                                    settings,
-                                    (
-                                      alfred-forms,
-                                      tt,
-                                    ),
-                                  ),
-                                ),
-                              ),
-                            ),
-                          ),
-                        ),
-                      ),
-                    ),
-                  ),
-                ),
-              ),
-            ),
-          ),
-        ),
-      ),
-    ),
-  ),
-)
-
-if-comment : (comment : Bool) (reading : Reading) → ReadsInRange reading → ReadsInRange (if comment then Ok Nothing else reading)
-if-comment true reading h = tt
-if-comment false reading h = h
-
-words-read : (words : List Word) → ReadsInRange (command_of_words words)
-words-read [] = tt
-words-read (first ∷ rest) = if-comment (is_comment first.word) (read_form first.word rest) (listed (net_forms ++ node_forms) UnknownCommand first.word all-forms rest)
-
-if-read : (long utf8 : Bool) (reading : Reading) → ReadsInRange reading → ReadsInRange (if long then Err (Limit Line) else if utf8 then reading else Err (Refused BadUtf8))
-if-read true utf8 reading h = tt
-if-read false true reading h = h
-if-read false false reading h = tt
-
-line-read : (line : List ℕ) → ReadsInRange (command_of_line line)
-unfolding command_of_line
-line-read line = if-read _ _ (command_of_words (line_words line)) (words-read (line_words line))
+-- ---- lines
 
 -- what is read is in range
 pub read-in-range : (line : List ℕ) (command : Command) → command_of_line line ≡ Ok command → IsInRange command
-read-in-range line command h = λ from to pattern delay throughput is. subst InRange is (subst ReadsInRange h (line-read line))
+read-in-range line command h = λ from to pattern delay throughput is. in-range delay pattern throughput (subst (FieldsWereRead AnyText) is (all_fields_read line command h))
 
 -- a LAN that is read has a gateway
 pub read-has-gateways : (line : List ℕ) (command : Command) (name : List ℕ) (gateways : List (List ℕ)) → command_of_line line ≡ Ok command → command ≡ Lan name gateways → 0 < length gateways
-read-has-gateways line command name gateways h is = subst InRange is (subst ReadsInRange h (line-read line))
+read-has-gateways line command name gateways h is = (subst (FieldsWereRead AnyText) is (all_fields_read line command h)).1

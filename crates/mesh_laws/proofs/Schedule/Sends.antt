@@ -47,24 +47,27 @@ pub record Adds (setup : Setup) (now : ℕ) (mesh after : Mesh) : Type 0 where
   pub few : FitsPlaces setup → length mesh.frames ≤ places → length after.frames ≤ places
   pub few_puts : FitsPlaces setup → length mesh.puts ≤ places → length after.puts ≤ places
 
-pub adds_nothing : (setup : Setup) (now : ℕ) (mesh after : Mesh) → after.links ≡ mesh.links → after.lans ≡ mesh.lans → after.frames ≡ mesh.frames → after.puts ≡ mesh.puts → after.events ≡ mesh.events
-    → Adds setup now mesh after
-adds_nothing setup now mesh after links lans frames puts events = record {
-  links = links;
-  lans = lans;
+-- events are all that joins
+pub adds_events : (setup : Setup) (now : ℕ) (mesh : Mesh) (events more : List Event) → events ≡ mesh.events ++ more → Adds setup now mesh (record mesh { events = events })
+adds_events setup now mesh events more e = record {
+  links = refl;
+  lans = refl;
   more = [];
-  frames = frames ∙ sym (append-nil mesh.frames);
+  frames = sym (append-nil mesh.frames);
   sent = λ f h. absurd h;
   on_links = λ f h. absurd h;
   more_puts = [];
-  puts = puts ∙ sym (append-nil mesh.puts);
+  puts = sym (append-nil mesh.puts);
   put = λ p h. absurd h;
   on_lans = λ p h. absurd h;
-  more_events = [];
-  events = events ∙ sym (append-nil mesh.events);
-  few = λ fits few. subst (λ fs. length fs ≤ places) (sym frames) few;
-  few_puts = λ fits few. subst (λ ps. length ps ≤ places) (sym puts) few;
+  more_events = more;
+  events = e;
+  few = λ fits few. few;
+  few_puts = λ fits few. few;
 }
+
+pub adds_nothing : (setup : Setup) (now : ℕ) (mesh : Mesh) → Adds setup now mesh mesh
+adds_nothing setup now mesh = adds_events setup now mesh mesh.events [] (sym (append-nil mesh.events))
 
 all_both : {X : Type 0} (P : X → Type 0) (a b : List X) → ((f : X) → Has a f → P f) → ((f : X) → Has b f → P f) → (f : X) → Has (a ++ b) f → P f
 all_both {X = X} P a b p q f h = either (has_either a b f h)
@@ -97,6 +100,14 @@ pub record Sends (setup : Setup) (now : ℕ) (mesh after : Mesh) : Type 0 where
   pub last : after.last ≡ mesh.last
   pub watch : after.watch ≡ mesh.watch
   pub adds : Adds setup now mesh after
+
+-- a mesh with these frames, on links and on LANs, and these events
+abbrev with_sent : Mesh → List SentFrame → List LanPut → List Event → Mesh
+with_sent mesh frames puts events = record mesh { frames = frames; puts = puts; events = events }
+
+-- frames and events are all that sending leaves
+sends_by : (setup : Setup) (now : ℕ) (mesh after : Mesh) (frames : List SentFrame) (puts : List LanPut) (events : List Event) → Adds setup now mesh (with_sent mesh frames puts events) → as_ok (with_sent mesh frames puts events) ≡ as_ok after → Sends setup now mesh after
+sends_by setup now mesh after frames puts events adds e = subst (Sends setup now mesh) (ok_one (with_sent mesh frames puts events) after e) (record { nodes = refl; last = refl; watch = refl; adds = adds })
 
 sent_now : (links : List ℕ) (before : List SentFrame) (now root : ℕ) (bytes : List ℕ) (f : SentFrame) → Has (frames_over links before now root bytes) f → f.moment ≡ now
 sent_now [] before now root bytes f h = absurd h
@@ -131,27 +142,22 @@ sends_frames setup now me reason new mesh after at over e =
     let one = passed (nat_lt setup.frames_limit (length (mesh.frames ++ new) + length mesh.puts)) Frames (if nat_lt setup.bytes_limit (total_bytes (mesh.frames ++ new) + put_bytes mesh.puts) then Err FrameBytes else Ok made) after e in
     let two = passed (nat_lt setup.bytes_limit (total_bytes (mesh.frames ++ new) + put_bytes mesh.puts)) FrameBytes (Ok made) after one.1 in
     let most = ltb-false setup.frames_limit (length (mesh.frames ++ new) + length mesh.puts) one.0 in
-    subst (Sends setup now mesh) (ok_one made after two.1) (record {
-      nodes = refl;
-      last = refl;
-      watch = refl;
-      adds = record {
-        links = refl;
-        lans = refl;
-        more = new;
-        frames = refl;
-        sent = at;
-        on_links = over;
-        more_puts = [];
-        puts = sym (append-nil mesh.puts);
-        put = λ p h. absurd h;
-        on_lans = λ p h. absurd h;
-        more_events = sent_events me reason mesh (length mesh.frames) new;
-        events = refl;
-        few = λ fits few. omega (arith, most, fits);
-        few_puts = λ fits few. few;
-      };
-    })
+    sends_by setup now mesh after made.frames made.puts made.events (record {
+      links = refl;
+      lans = refl;
+      more = new;
+      frames = refl;
+      sent = at;
+      on_links = over;
+      more_puts = [];
+      puts = sym (append-nil mesh.puts);
+      put = λ p h. absurd h;
+      on_lans = λ p h. absurd h;
+      more_events = sent_events me reason mesh (length mesh.frames) new;
+      events = refl;
+      few = λ fits few. omega (arith, most, fits);
+      few_puts = λ fits few. few;
+    }) two.1
 
 -- one more LAN frame leaves the nodes
 pub sends_put : (setup : Setup) (put : LanPut) (mesh after : Mesh) → put.lan < length mesh.lans → with_put setup put mesh ≡ Ok after → Sends setup put.moment mesh after
@@ -161,27 +167,22 @@ sends_put setup put mesh after low e =
     (if nat_lt setup.bytes_limit (total_bytes mesh.frames + put_bytes (mesh.puts ++ put ∷ [])) then Err FrameBytes else Ok made) after e in
     let two = passed (nat_lt setup.bytes_limit (total_bytes mesh.frames + put_bytes (mesh.puts ++ put ∷ []))) FrameBytes (Ok made) after one.1 in
     let most = ltb-false setup.frames_limit (length mesh.frames + length (mesh.puts ++ put ∷ [])) one.0 in
-    subst (Sends setup put.moment mesh) (ok_one made after two.1) (record {
-      nodes = refl;
-      last = refl;
-      watch = refl;
-      adds = record {
-        links = refl;
-        lans = refl;
-        more = [];
-        frames = sym (append-nil mesh.frames);
-        sent = λ f h. absurd h;
-        on_links = λ f h. absurd h;
-        more_puts = put ∷ [];
-        puts = refl;
-        put = λ p h. put_one p h;
-        on_lans = λ p h. low_one p h;
-        more_events = put_event mesh put ∷ [];
-        events = refl;
-        few = λ fits few. few;
-        few_puts = λ fits few. omega (arith, most, fits);
-      };
-    })
+    sends_by setup put.moment mesh after made.frames made.puts made.events (record {
+      links = refl;
+      lans = refl;
+      more = [];
+      frames = sym (append-nil mesh.frames);
+      sent = λ f h. absurd h;
+      on_links = λ f h. absurd h;
+      more_puts = put ∷ [];
+      puts = refl;
+      put = λ p h. put_one p h;
+      on_lans = λ p h. low_one p h;
+      more_events = put_event mesh put ∷ [];
+      events = refl;
+      few = λ fits few. few;
+      few_puts = λ fits few. omega (arith, most, fits);
+    }) two.1
   where
     put_one : (p : LanPut) → Has (put ∷ []) p → p.moment ≡ put.moment
     put_one p (inl e) = ap (λ (x : LanPut). x.moment) e
@@ -192,7 +193,7 @@ sends_put setup put mesh after low e =
     low_one p (inr h) = absurd h
 
 sends_nothing : (setup : Setup) (now : ℕ) (mesh after : Mesh) → as_ok mesh ≡ as_ok after → Sends setup now mesh after
-sends_nothing setup now mesh after e = subst (Sends setup now mesh) (ok_one mesh after e) (record { nodes = refl; last = refl; watch = refl; adds = adds_nothing setup now mesh mesh refl refl refl refl refl })
+sends_nothing setup now mesh after e = sends_by setup now mesh after mesh.frames mesh.puts mesh.events (adds_nothing setup now mesh) e
 
 lan_here : (gateway place lan : ℕ) (first : NetLan) (rest : List NetLan) (b : Bool) → (lan_from gateway (suc place) rest ≡ Some lan → lan < suc place + length rest)
     → (if b then Some place else lan_from gateway (suc place) rest) ≡ Some lan → lan < place + suc (length rest)
@@ -215,27 +216,9 @@ act_sends setup actor (Link to reason bytes) mesh after e = sends_frames setup a
     (sent_now (ways mesh.nodes actor.place to 0 mesh.links) mesh.frames actor.now actor.root bytes)
     (λ f h. let l = ways_low mesh.nodes actor.place to 0 mesh.links f.link (sent_over (ways mesh.nodes actor.place to 0 mesh.links) mesh.frames actor.now actor.root bytes f h) in omega (arith, l)) e
 act_sends setup actor (Lan bytes) mesh after e = put_sends setup actor bytes (lan_of actor.place mesh.lans) mesh after refl e
-act_sends setup actor (Print event) mesh after e = subst (Sends setup actor.now mesh) (ok_one (record mesh { events = mesh.events ++ event ∷ [] }) after e) (record {
-  nodes = refl;
-  last = refl;
-  watch = refl;
-  adds = record {
-    links = refl;
-    lans = refl;
-    more = [];
-    frames = sym (append-nil mesh.frames);
-    sent = λ f h. absurd h;
-    on_links = λ f h. absurd h;
-    more_puts = [];
-    puts = sym (append-nil mesh.puts);
-    put = λ p h. absurd h;
-    on_lans = λ p h. absurd h;
-    more_events = event ∷ [];
-    events = refl;
-    few = λ fits few. few;
-    few_puts = λ fits few. few;
-  };
-})
+act_sends setup actor (Print event) mesh after e =
+    let told : List Event = mesh.events ++ event ∷ [] in
+    sends_by setup actor.now mesh after mesh.frames mesh.puts told (adds_events setup actor.now mesh told (event ∷ []) refl) e
 
 pub acts_send : (setup : Setup) (actor : Actor) (acts : List Act) (mesh after : Mesh) → after_acts setup actor acts mesh ≡ Ok after → Sends setup actor.now mesh after
 acts_send setup actor [] mesh after e = sends_nothing setup actor.now mesh after e

@@ -1,5 +1,5 @@
 -- What carrying a happening out leaves.
-use Rattle.std.proofs.Common.{◌≡◌, ℕ, zero, suc, ◌+◌, ◌-◌, ◌<◌, ◌⊎◌, inl, inr, true, false, cond, nat_eq, List, [], ◌∷◌, ◌++◌, length, map, filter, slice_get, Option, Some, None, Ok, Err, refl, sym, ap, ap₂, ◌∙◌, subst, arith, append-nil, append_assoc}
+use Rattle.std.proofs.Common.{◌≡◌, ℕ, zero, suc, ◌+◌, ◌-◌, ◌<◌, ◌⊎◌, inl, inr, true, false, cond, nat_eq, List, [], ◌∷◌, ◌++◌, length, map, filter, slice_get, Option, Some, None, Ok, Err, refl, sym, ap, ap₂, ◌∙◌, subst, arith, append_assoc}
 use Rattle.std.proofs.lemmas.Bool.{eq-eqb, ne_eqb}
 use Rattle.mesh_base.specs.Names.{NamesGiven}
 use Rattle.mesh_base.specs.declared.event.Event.{Event}
@@ -23,7 +23,7 @@ use Rattle.mesh_model.specs.Packets.Payload.{ClientFrame}
 use Rattle.mesh_model.specs.Run.State.{names_of, node_names}
 use Rattle.mesh_laws.specs.Soundness.{GivesItsBytes}
 use Rattle.mesh_laws.proofs.Schedule.Members.{one_some}
-use Rattle.mesh_laws.proofs.Schedule.Sends.{as_ok, ok_one, on_ok_ok, Adds, adds_nothing, adds_both, acts_send, sends_put}
+use Rattle.mesh_laws.proofs.Schedule.Sends.{as_ok, ok_one, on_ok_ok, Adds, adds_events, adds_nothing, adds_both, acts_send, sends_put}
 
 -- ---- what becomes of the nodes
 pub get_front : {X : Type 0} (xs ys : List X) (i : ℕ) (x : X) → slice_get xs i ≡ Some x → slice_get (xs ++ ys) i ≡ Some x
@@ -67,7 +67,7 @@ no_effect setup extra now mesh after none e = subst (Effect setup extra now mesh
   names = refl;
   last = refl;
   watch = refl;
-  adds = adds_nothing setup now mesh mesh refl refl refl refl refl;
+  adds = adds_nothing setup now mesh;
 })
 
 -- the node at a place after another or itself noted an entry
@@ -280,22 +280,7 @@ told_effect setup now more mesh = record {
   names = refl;
   last = refl;
   watch = refl;
-  adds = record {
-    links = refl;
-    lans = refl;
-    more = [];
-    frames = sym (append-nil mesh.frames);
-    sent = λ f h. absurd h;
-    on_links = λ f h. absurd h;
-    more_puts = [];
-    puts = sym (append-nil mesh.puts);
-    put = λ p h. absurd h;
-    on_lans = λ p h. absurd h;
-    more_events = more;
-    events = refl;
-    few = λ fits few. few;
-    few_puts = λ fits few. few;
-  };
+  adds = adds_events setup now mesh (mesh.events ++ more) more refl;
 }
 
 lan_effect : (setup : Setup) (mesh : Mesh) (now : ℕ) (put : LanPut) (frame : Option ClientFrame) (o : Option NetLan) (after : Mesh) → put_over setup now put frame o mesh ≡ Ok after
