@@ -7,7 +7,7 @@ use Rattle.mesh_model.specs.Routes.Life.{HeardOgm, began_wild, since, life, is_l
 use Rattle.mesh_model.specs.Routes.Numbers.{has, greatest, window}
 use Rattle.mesh_laws.proofs.WindowLemmas.{has-le, has-window, window-cons}
 use Rattle.mesh_algo.specs.declared.life.Life.{Life}
-use Rattle.mesh_algo.specs.LifeRows.{life_row, life_with, newest_by, forwarded_by, restarted_by}
+use Rattle.mesh_algo.specs.LifeRows.{first_hearing, life_row, life_with, newest_by, forwarded_by, restarted_by, touched}
 use Rattle.mesh_algo.proofs.LifeLemmas.{and_false, numbers-le, forwarded-le, late_newest, next_newest, late_forwarded, next_forwarded}
 use Rattle.mesh_algo.proofs.LifeRows.{forwarded_by_row, newest_by_row, no_life, restarted_by_row}
 use Rattle.mesh_algo.proofs.Meetings.{late_is_none, meets_near, meets_nothing}
@@ -114,11 +114,7 @@ module _ (h : HeardOgm) (alive : List HeardOgm) where
       ⊎_elim (λ late. late_forwarded h.from h alive late)
       (λ timely. next_forwarded h.from h alive timely ∙ ap (λ b. cond b (h.seq ∷ forwarded alive) (forwarded alive)) kept) (cases_Bool h.late)
 
-  -- the row of the life, with a new end
-  abbrev pub touched : Life → Life
-  touched row = record row { last = h.moment }
-
-  row_parts : (l : List HeardOgm) (row : Life) → life_row l ≡ Some row → Some (touched row) ≡ Some (record { last = h.moment; newest = newest l; forwarded = window (forwarded l); restarted = began_wild l })
+  row_parts : (l : List HeardOgm) (row : Life) → life_row l ≡ Some row → Some (touched h.moment row) ≡ Some (record { last = h.moment; newest = newest l; forwarded = window (forwarded l); restarted = began_wild l })
   row_parts [] row e = cc
   row_parts (g ∷ older) row e = sym (ap touch e)
     where
@@ -126,7 +122,7 @@ module _ (h : HeardOgm) (alive : List HeardOgm) where
       touch None = None
       touch (Some r) = Some (record { last = h.moment; newest = r.newest; forwarded = r.forwarded; restarted = r.restarted })
 
-  pub touched_life : (row : Life) → life_row alive ≡ Some row → is_first h alive ≡ false → h.sent_on ≡ false → h.restart ≡ false → Some (touched row) ≡ life_row (h ∷ alive)
+  pub touched_life : (row : Life) → life_row alive ≡ Some row → is_first h alive ≡ false → h.sent_on ≡ false → h.restart ≡ false → Some (touched h.moment row) ≡ life_row (h ∷ alive)
   touched_life row e first kept same =
       row_parts alive row e ∙ ap₂ (λ n f. Some (record { last = h.moment; newest = n; forwarded = window f; restarted = began_wild alive })) (sym (touched_newest first)) (sym (touched_forwarded first kept))
       ∙ ap (λ r. Some (record { last = h.moment; newest = newest (h ∷ alive); forwarded = window (forwarded (h ∷ alive)); restarted = r })) (sym (began_step h alive ∙ ap (λ b. cond b (Some h.moment) (began_wild alive)) same))
@@ -168,3 +164,7 @@ module _ (h : HeardOgm) (alive : List HeardOgm) where
   pub begun_is : (l : List HeardOgm) (r : Option Life) → r ≡ life_row l → is_none r ≡ not (is_live l)
   begun_is [] r e = ap (λ x. is_none x) e
   begun_is (g ∷ older) r e = ap (λ x. is_none x) e
+
+  -- what is answered
+  pub answered : (row : Option Life) → row ≡ life_row alive → h.late ≡ false → (forward : Option _) → first_hearing h.seq row forward ≡ record { accepted = is_accepted h alive; began = not (is_live alive); forward = forward }
+  answered row e timely forward = ap₂ (λ a b. record { accepted = a; began = b; forward = forward }) (accepted_is alive row e _ refl timely) (begun_is alive row e)

@@ -9,6 +9,7 @@ pub mod WordLemmas
 pub mod KeyOrders
 pub mod LifeRows
 pub mod HearingLemmas
+pub mod HeardPaths
 pub mod WalkLemmas
 pub mod BestWalk
 pub mod PutLemmas

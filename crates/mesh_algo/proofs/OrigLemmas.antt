@@ -1,59 +1,38 @@
 -- The originators heard stand in the order of their addresses, each once.
 use Rattle.std.proofs.Common.{◌≡◌, Bool, true, false, cond, ◌||◌, List, [], ◌∷◌, find, Some, None, is_eq, refl, sym, ap, ◌∙◌, subst, map-id, Less, Equal, Greater}
-use Rattle.std.specs.List.{AllByRecursion, list_any}
+use Rattle.std.specs.Bool.{Decides}
+use Rattle.std.specs.List.{list_any}
 use Rattle.std.specs.List.Sorted.{IsStrictlySortedBy}
-use Rattle.std.specs.Ordering.{match_ordering, ordering_reverse}
+use Rattle.std.specs.Ordering.{eq_by_cmp, match_ordering}
+use Rattle.std.proofs.Math.Path.{fun_ext}
+use Rattle.std.proofs.lemmas.Map.Made.{find_same}
 use Rattle.mesh_base.specs.declared.address.Mac.{Mac}
+use Rattle.mesh_base.specs.Ordered.{placed}
 use Rattle.mesh_model.specs.Routes.Addresses.{mac_order, same_mac, insert_mac}
 use Rattle.mesh_model.specs.Routes.Life.{HeardOgm, of, is_live, heard_originators}
 use Rattle.mesh_laws.proofs.KeyLists.{same_items}
-use Rattle.mesh_laws.proofs.MacLemmas.{mac_total, mac_exact, same_by_order, same_equiv, same_exact}
+use Rattle.mesh_laws.proofs.ListedInOrder.{has_placed, sorted_placed}
+use Rattle.mesh_laws.proofs.MacLemmas.{mac_total, mac_exact, same_by_order, same_equiv, same_exact, same_self}
 
-above_insert : (low k : Mac) (ks : List Mac) → mac_order low k ≡ Less → AllByRecursion (λ y. mac_order low y ≡ Less) ks → AllByRecursion (λ y. mac_order low y ≡ Less) (insert_mac k ks)
-above_insert low k [] below above = (below, tt)
-above_insert low k (first ∷ rest) below above =
-    elim (mac_order k first) as (λ r. AllByRecursion (λ y. mac_order low y ≡ Less) (match_ordering r (k ∷ first ∷ rest) (first ∷ rest) (first ∷ insert_mac k rest))) [
-      | Less ↦ (below, above)
-      | Equal ↦ above
-      | Greater ↦ (above.0, above_insert low k rest below above.1)
-    ]
-
-above_first : (k first : Mac) (rest : List Mac) → mac_order k first ≡ Less → AllByRecursion (λ y. mac_order first y ≡ Less) rest → AllByRecursion (λ y. mac_order k y ≡ Less) rest
-above_first k first [] below above = tt
-above_first k first (y ∷ rest) below above = (mac_total.trans k first y below above.0, above_first k first rest below above.1)
+mac_placed : (k : Mac) (ks : List Mac) → insert_mac k ks ≡ placed mac_order k ks
+mac_placed k [] = refl
+mac_placed k (first ∷ rest) = ap (λ later. match_ordering (mac_order k first) (k ∷ first ∷ rest) (first ∷ rest) (first ∷ later)) (mac_placed k rest)
 
 pub sorted_insert : (k : Mac) (ks : List Mac) → IsStrictlySortedBy mac_order ks → IsStrictlySortedBy mac_order (insert_mac k ks)
-unfolding IsStrictlySortedBy
-sorted_insert k [] sorted = (tt, tt)
-sorted_insert k (first ∷ rest) sorted =
-    elim (mac_order k first) as (λ r. mac_order k first ≡ r → IsStrictlySortedBy mac_order (match_ordering r (k ∷ first ∷ rest) (first ∷ rest) (first ∷ insert_mac k rest))) [
-      | Less ↦ λ p. ((p, above_first k first rest p sorted.0), sorted)
-      | Equal ↦ λ p. sorted
-      | Greater ↦ λ p. (above_insert first k rest (mac_total.antisymm first k ∙ ap ordering_reverse p) sorted.0, sorted_insert k rest sorted.1)
-    ] refl
+sorted_insert k ks sorted = subst (IsStrictlySortedBy mac_order) (sym (mac_placed k ks)) (sorted_placed mac_total mac_exact k ks sorted)
 
 pub sorted_heard : (hearings : List HeardOgm) → IsStrictlySortedBy mac_order (heard_originators hearings)
 unfolding IsStrictlySortedBy
 sorted_heard [] = tt
 sorted_heard (h ∷ older) = sorted_insert h.orig (heard_originators older) (sorted_heard older)
 
-twice : (a b : Bool) → (a || b) ≡ (a || (a || b))
-twice true b = refl
-twice false b = refl
-
-swapped : (a b c : Bool) → (a || (b || c)) ≡ (b || (a || c))
-swapped true true c = refl
-swapped true false c = refl
-swapped false b c = refl
+same_is_tied : (q : Mac) → eq_by_cmp mac_order q ≡ same_mac q
+same_is_tied q = fun_ext (same_by_order q)
 
 pub any_inserted : (q k : Mac) (ks : List Mac) → list_any (same_mac q) (insert_mac k ks) ≡ (same_mac q k || list_any (same_mac q) ks)
-any_inserted q k [] = refl
-any_inserted q k (first ∷ rest) =
-    elim (mac_order k first) as (λ r. mac_order k first ≡ r → list_any (same_mac q) (match_ordering r (k ∷ first ∷ rest) (first ∷ rest) (first ∷ insert_mac k rest)) ≡ (same_mac q k || list_any (same_mac q) (first ∷ rest))) [
-      | Less ↦ λ p. refl
-      | Equal ↦ λ p. twice (same_mac q first) (list_any (same_mac q) rest) ∙ ap (λ z. same_mac q z || list_any (same_mac q) (first ∷ rest)) (sym (mac_exact k first p))
-      | Greater ↦ λ p. ap (λ b. same_mac q first || b) (any_inserted q k rest) ∙ swapped (same_mac q first) (same_mac q k) (list_any (same_mac q) rest)
-    ] refl
+any_inserted q k ks =
+    ap (list_any (same_mac q)) (mac_placed k ks)
+    ∙ subst (λ test. list_any test (placed mac_order k ks) ≡ (test k || list_any test ks)) (same_is_tied q) (has_placed mac_total mac_exact q k ks)
 
 live_step : (b : Bool) (h : HeardOgm) (rest : List HeardOgm) → (b || is_live rest) ≡ is_live (cond b (h ∷ rest) rest)
 live_step true h rest = refl
@@ -66,14 +45,11 @@ any_heard q (h ∷ older) =
     any_inserted q h.orig (heard_originators older) ∙ ap (λ b. b || list_any (same_mac q) (heard_originators older)) (same_equiv.symm q h.orig)
     ∙ ap (λ b. same_mac h.orig q || b) (any_heard q older) ∙ live_step (same_mac h.orig q) h (of q older)
 
+same_decides : (a b : Mac) → Decides (same_mac a b) (a ≡ b)
+same_decides a b = (same_exact a b, λ e. subst (λ m. same_mac a m ≡ true) e (same_self a))
+
 found : (q : Mac) (ks : List Mac) → find (λ x. is_eq (mac_order q x)) ks ≡ cond (list_any (same_mac q) ks) (Some q) None
-found q [] = refl
-found q (k ∷ ks) =
-    ap (λ b. cond b (Some k) (find (λ x. is_eq (mac_order q x)) ks)) (same_by_order q k)
-    ∙ elim (same_mac q k) as (λ b. same_mac q k ≡ b → cond b (Some k) (find (λ x. is_eq (mac_order q x)) ks) ≡ cond (b || list_any (same_mac q) ks) (Some q) None) [
-      | true ↦ λ t. ap (λ x. Some x) (sym (same_exact q k t))
-      | false ↦ λ t. found q ks
-    ] refl
+found q ks = ap (λ test. find test ks) (same_is_tied q) ∙ find_same same_decides q ks
 
 -- keys in order that are the same are one list
 pub same_keys : (ks js : List Mac) → IsStrictlySortedBy mac_order ks → IsStrictlySortedBy mac_order js → ((q : Mac) → list_any (same_mac q) ks ≡ list_any (same_mac q) js) → ks ≡ js

@@ -1,15 +1,15 @@
 -- The rows of pairs without those of an originator, and with one more.
-use Rattle.std.proofs.Common.{◌≡◌, Bool, true, false, cond, not, ◌&&◌, List, [], ◌∷◌, filter, is_some, is_none, Option, Some, None, refl, sym, ap, ◌∙◌, Less}
+use Rattle.std.proofs.Common.{◌≡◌, ⊎_elim, Bool, true, false, cond, not, ◌&&◌, List, [], ◌∷◌, filter, is_some, is_none, Option, Some, None, refl, sym, ap, ◌∙◌, Less}
 use Rattle.std.specs.List.{AllByRecursion}
 use Rattle.std.specs.List.Sorted.{IsStrictlySortedBy}
 use Rattle.std.specs.Map.{keys_of, lookup}
-use Rattle.std.proofs.lemmas.Bool.{not-false, not-true}
+use Rattle.std.proofs.lemmas.Bool.{cases_Bool, not-false, not-true}
 use Rattle.mesh_base.specs.declared.address.Mac.{Mac}
 use Rattle.mesh_model.specs.Routes.Addresses.{same_mac}
 use Rattle.mesh_laws.proofs.MacLemmas.{same_exact, same_equiv}
 use Rattle.mesh_algo.specs.declared.life.Life.{Life}
 use Rattle.mesh_algo.specs.declared.pair.Pair.{Pair}
-use Rattle.mesh_algo.specs.Pairs.{pair_order, same_pair, rows_kept}
+use Rattle.mesh_algo.specs.Pairs.{pair_order, path_put, same_pair, rows_kept}
 
 abbrev is_other : {X : Type 0} → Mac → Pair × X → Bool
 is_other orig e = not (same_mac e.0.orig orig)
@@ -63,6 +63,25 @@ module _ {X : Type 0} (orig : Mac) (pair : Pair) where
   -- a row of the originator goes where a life begins
   pub kept_own : (rows : List (Pair × X)) → same_mac pair.orig orig ≡ true → lookup (same_pair pair) (rows_kept true orig rows) ≡ None
   kept_own rows own = lookup_filter rows ∙ ap (λ b. cond b None (lookup (same_pair pair) rows)) own
+
+-- ---- a row that is put among those that are kept
+module _ {X : Type 0} (put : Pair) (row : X) (begins : Bool) (old new : List (Pair × X)) (are : (pair : Pair) → lookup (same_pair pair) new ≡ path_put put row (rows_kept begins put.orig old) pair) where
+  abbrev kept : Pair → Option X
+  kept pair = lookup (same_pair pair) (rows_kept begins put.orig old)
+
+  by_from : (pair : Pair) (b : Bool) → same_mac put.orig pair.orig ≡ b → lookup (same_pair pair) new ≡ cond (b && same_mac put.from pair.from) (Some row) (kept pair)
+  by_from pair b t = are pair ∙ ap (λ x. cond (x && same_mac put.from pair.from) (Some row) (kept pair)) t
+
+  -- the originator's rows are it and those kept
+  pub put_own : (row_then : Option X) (pair : Pair) → same_mac put.orig pair.orig ≡ true → (same_mac put.from pair.from ≡ true → Some row ≡ row_then)
+      → (same_mac put.from pair.from ≡ false → kept pair ≡ row_then) → lookup (same_pair pair) new ≡ row_then
+  put_own row_then pair t own other =
+      by_from pair true t
+      ∙ ⊎_elim (λ s. ap (λ b. cond b (Some row) (kept pair)) s ∙ own s) (λ s. ap (λ b. cond b (Some row) (kept pair)) s ∙ other s) (cases_Bool (same_mac put.from pair.from))
+
+  -- the rows of another originator stay
+  pub put_other : (pair : Pair) → same_mac put.orig pair.orig ≡ false → lookup (same_pair pair) new ≡ lookup (same_pair pair) old
+  put_other pair t = by_from pair false t ∙ kept_other put.orig pair begins old (same_equiv.symm pair.orig put.orig ∙ t)
 
 -- the test that an option has nothing
 pub none_test : (life : Option Life) (r : Bool) → is_some life ≡ not r → r ≡ is_none life

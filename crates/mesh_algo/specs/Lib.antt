@@ -5,3 +5,4 @@ pub mod WordBack
 pub mod Pairs
 pub mod LifeRows
 pub mod Walk
+pub mod Writing

@@ -1,6 +1,8 @@
 -- The row that an algorithm keeps of an originator's last life, and what follows from it. The main
 -- word is `life_row`.
-use Rattle.std.specs.Prelude.{ℕ, ◌-◌, nat_lt, max, Bool, List, [], ◌∷◌, Option, Some, None, if◌then◌else◌}
+use Rattle.std.specs.Prelude.{ℕ, ◌-◌, ◌||◌, nat_lt, is_none, max, Bool, List, [], ◌∷◌, Option, Some, None, if◌then◌else◌}
+use Rattle.mesh_model.specs.declared.packet.Head.{Head}
+use Rattle.mesh_model.specs.declared.route.Hearing.{Hearing}
 use Rattle.mesh_model.specs.Routes.Life.{HeardOgm, began_wild, since, life_span, newest, forwarded}
 use Rattle.mesh_model.specs.Routes.Numbers.{window}
 use Rattle.mesh_algo.specs.declared.life.Life.{Life}
@@ -24,6 +26,10 @@ life_row (h ∷ older) = Some (record {
 abbrev pub life_at : ℕ → Life → Option Life
 life_at moment life = if nat_lt (moment - life.last) life_span then Some life else None
 
+-- the row of a life with a hearing more that counts for it alone
+abbrev pub touched : ℕ → Life → Life
+touched moment life = record life { last = moment }
+
 -- the newest number of a life by its row, 0 without one
 abbrev pub newest_by : Option Life → ℕ
 newest_by None = 0
@@ -46,4 +52,13 @@ life_with moment number restarted row sent_on = record {
   newest = max (newest_by row) number;
   forwarded = if sent_on then window (number ∷ forwarded_by row) else forwarded_by row;
   restarted = restarted;
+}
+
+-- what is made of an OGM on time, the first of its number from its neighbour, by the row of its life
+-- before it and the head with which it is sent on
+abbrev pub first_hearing : ℕ → Option Life → Option Head → Hearing
+first_hearing number row forward = record {
+  accepted = is_none row || nat_lt (newest_by row) number;
+  began = is_none row;
+  forward = forward;
 }

@@ -7,6 +7,7 @@
 pub mod algo;
 pub mod best;
 pub mod far;
+pub mod hearing;
 pub mod laws;
 pub mod life;
 pub mod pair;

@@ -1,7 +1,7 @@
 ghost use Rattle.std.specs.Prelude.{◌≡◌, ℕ, ◌∷◌, ◌||◌, nat_lt, is_none, List, None, Some, if◌then◌else◌};
 ghost use Rattle.mesh_model.specs.Routes.Life.{HeardOgm, is_wild, meeting};
 ghost use Rattle.mesh_model.specs.Routes.Numbers.{window};
-ghost use Rattle.mesh_algo.specs.LifeRows.{forwarded_by, life_at, life_row, life_with, newest_by, restarted_by};
+ghost use Rattle.mesh_algo.specs.LifeRows.{forwarded_by, life_at, life_row, life_with, newest_by, restarted_by, touched};
 
 use crate::far::{is_far, may_begin};
 use crate::seq_window::SeqWindow;
@@ -30,6 +30,18 @@ impl Life {
         ensures { result ≡ life_at now self.now }
     {
         (now.saturating_sub(self.last) < LIFE_SPAN).then_some(*self)
+    }
+
+    /// The life with a hearing more that counts for it alone.
+    pub fn touched(&self, now: Millis) -> Life
+        ensures { result ≡ touched now self.now }
+    {
+        Life {
+            last: now,
+            newest: self.newest,
+            forwarded: self.forwarded,
+            restarted: self.restarted,
+        }
     }
 }
 

@@ -13,6 +13,18 @@ use indexmap::IndexMap;
 use mesh_base::{Mac, NoMemory};
 use std::hash::Hash;
 
+/// Where the rows of an OGM may stand in a table of originators and one of paths: a look-up begins
+/// there, and finds a row wherever it stands.
+#[derive(Clone, Copy, Debug)]
+pub struct Places {
+    /// The row of the originator.
+    pub orig: usize,
+    /// The row of the originator and the neighbour.
+    pub path: usize,
+    /// The first row of the originator and a neighbour.
+    pub first: usize,
+}
+
 /// Puts a row into a table whose keys stand in order. A new row takes memory.
 pub fn put<K: Copy + Ord + Hash, V: Copy>(
     table: &mut IndexMap<K, V>,

@@ -1,25 +1,24 @@
 -- An OGM that is the first of its number from its neighbour: its value, whether it is sent on, and the
 -- tables after it.
-use Rattle.std.proofs.Common.{◌≡◌, ⊎_elim, ℕ, max, nat_lt, Bool, true, false, cond, not, ◌&&◌, ◌||◌, List, ◌∷◌, is_none, Option, Some, None, arith, refl, sym, ap, ap₂, ◌∙◌}
+use Rattle.std.proofs.Common.{◌≡◌, ℕ, max, nat_lt, Bool, true, false, cond, not, ◌&&◌, ◌||◌, List, ◌∷◌, is_none, Option, Some, None, arith, refl, sym, ap, ap₂, ◌∙◌}
 use Rattle.std.specs.Map.{lookup}
-use Rattle.std.proofs.lemmas.Bool.{cases_Bool}
 use Rattle.mesh_base.specs.declared.address.Mac.{Mac}
 use Rattle.mesh_model.specs.Routes.Addresses.{same_mac}
 use Rattle.mesh_model.specs.Routes.AlgorithmIv.{answer_to, iv_route}
 use Rattle.mesh_model.specs.Routes.BestRoute.{best_route, is_over}
-use Rattle.mesh_model.specs.Routes.Life.{HeardOgm, began_wild, of, is_live, newest, is_first, forwarded}
+use Rattle.mesh_model.specs.Routes.Life.{HeardOgm, began_wild, of, is_live, newest, is_accepted, is_first, forwarded}
 use Rattle.mesh_model.specs.Routes.Numbers.{has, among}
 use Rattle.mesh_model.specs.Routes.Quality.{average_quality}
 use Rattle.mesh_model.specs.Routes.RouteLog.{RouteLog}
 use Rattle.mesh_algo.proofs.LifeLemmas.{next_newest, of_same}
 use Rattle.mesh_laws.proofs.MacLemmas.{same_exact, same_equiv, same_self}
-use Rattle.mesh_algo.specs.LifeRows.{forwarded_by, latest, life_row, newest_by}
+use Rattle.mesh_algo.specs.LifeRows.{first_hearing, forwarded_by, latest, life_row, newest_by}
 use Rattle.mesh_algo.specs.Pairs.{rows_kept, same_pair}
 use Rattle.mesh_algo.specs.Walk.{best_in, is_best, walk}
 use Rattle.mesh_algo.proofs.BestWalk.{best_is_over}
-use Rattle.mesh_algo.proofs.HearingLemmas.{accepted_is, begun_is, has_sent, next_life, timely_from}
+use Rattle.mesh_algo.proofs.HearingLemmas.{answered, has_sent, next_life, timely_from}
 use Rattle.mesh_algo.proofs.LifeRows.{before_is_latest, forwarded_by_row, newest_by_row, no_life}
-use Rattle.mesh_algo.proofs.PutLemmas.{kept_other, kept_own}
+use Rattle.mesh_algo.proofs.PutLemmas.{kept_own, put_other, put_own}
 use Rattle.mesh_iv.specs.declared.ogm.OgmCame.{OgmCame}
 use Rattle.mesh_iv.specs.declared.path.Path.{Path}
 use Rattle.mesh_algo.specs.declared.life.Life.{Life}
@@ -27,7 +26,8 @@ use Rattle.mesh_algo.specs.declared.pair.Pair.{Pair}
 use Rattle.mesh_iv.specs.Hears.{IsHeard, input_of, life_before, hearing_of, kept_row, goes_on, head_on, sent_on_as}
 use Rattle.mesh_iv.specs.Rows.{path_row, path_score, path_with, echo_row}
 use Rattle.mesh_iv.specs.Tables.{Tables, StandsFor, PathsStand}
-use Rattle.mesh_iv.specs.Writing.{IsWritten, is_over_after, life_then}
+use Rattle.mesh_algo.specs.Writing.{IsWritten}
+use Rattle.mesh_iv.specs.Writing.{is_over_after, life_then, pair_of}
 use Rattle.mesh_iv.proofs.BestWalk.{walk_finds}
 use Rattle.mesh_iv.proofs.HeardRows.{first_row, other_row}
 use Rattle.mesh_iv.proofs.ValueLemmas.{is_met}
@@ -63,7 +63,7 @@ module _ (me : Mac) (log : RouteLog) (came : OgmCame) (first : is_first (hearing
   -- ---- the tables
   module _ (restarted : Option ℕ) (row : Option Life) (path : Path) (value : ℕ) (old new : Tables)
       (is : IsHeard me old log came row) (path_is : path ≡ kept_row came.from lived) (value_is : value ≡ own.value)
-      (written : IsWritten came restarted row (path_with path came.seq value) value (old.lives, old.paths) (new.lives, new.paths)) where
+      (written : IsWritten (pair_of came) (is_none row) (path_with path came.seq value) (life_then came restarted row value new.paths) (old.lives, old.paths) (new.lives, new.paths)) where
     put_row : (pair : Pair) → same_mac came.from pair.from ≡ true → Some (path_with path came.seq value) ≡ path_row pair.from (own ∷ lived)
     put_row pair t =
         ap₂ (λ p n. Some (path_with p came.seq n)) (path_is ∙ ap (λ k. kept_row k lived) (same_exact came.from pair.from t)) value_is
@@ -81,18 +81,11 @@ module _ (me : Mac) (log : RouteLog) (came : OgmCame) (first : is_first (hearing
 
     own_rows : (pair : Pair) → same_mac came.orig pair.orig ≡ true → lookup (same_pair pair) new.paths ≡ path_row pair.from (own ∷ lived)
     own_rows pair t =
-        written.paths_are pair
-        ∙ ap (λ b. cond (b && same_mac came.from pair.from) (Some (path_with path came.seq value)) (lookup (same_pair pair) (rows_kept (is_none row) came.orig old.paths))) t
-        ∙ ⊎_elim (λ s. ap (λ b. cond b (Some (path_with path came.seq value)) (lookup (same_pair pair) (rows_kept (is_none row) came.orig old.paths))) s ∙ put_row pair s)
-        (λ s. ap (λ b. cond b (Some (path_with path came.seq value)) (lookup (same_pair pair) (rows_kept (is_none row) came.orig old.paths))) s
-        ∙ kept_path row is.row_is pair t ∙ sym (other_row pair.from own lived s))
-        (cases_Bool (same_mac came.from pair.from))
+        put_own (pair_of came) (path_with path came.seq value) (is_none row) old.paths new.paths written.paths_are (path_row pair.from (own ∷ lived)) pair t
+        (put_row pair) (λ s. kept_path row is.row_is pair t ∙ sym (other_row pair.from own lived s))
 
     others : (pair : Pair) → same_mac came.orig pair.orig ≡ false → lookup (same_pair pair) new.paths ≡ lookup (same_pair pair) old.paths
-    others pair t =
-        written.paths_are pair
-        ∙ ap (λ b. cond (b && same_mac came.from pair.from) (Some (path_with path came.seq value)) (lookup (same_pair pair) (rows_kept (is_none row) came.orig old.paths))) t
-        ∙ kept_other came.orig pair (is_none row) old.paths (same_equiv.symm pair.orig came.orig ∙ t)
+    others = put_other (pair_of came) (path_with path came.seq value) (is_none row) old.paths new.paths written.paths_are
 
     paths_then : PathsStand me (own ∷ hearings me log came) (echoes me log came) new.paths
     paths_then =
@@ -124,15 +117,14 @@ module _ (me : Mac) (log : RouteLog) (came : OgmCame) (first : is_first (hearing
     first_stands tp began same_me same_sent bests =
         step_stands me log came tp old new is.stands is.passing same_me same_sent
         (lives_step me log came old.lives new.lives is.stands.lives_stand
-        (λ q. written.lives_are q is.stands.paths_stand.rise ∙ ap (λ r. cond (same_mac came.orig q) r (lookup (same_mac q) old.lives)) (life_is began))
-        (written.lives_rise is.stands.lives_stand.rise))
+        (λ q. written.origs_are q is.stands.paths_stand.rise ∙ ap (λ r. cond (same_mac came.orig q) r (lookup (same_mac q) old.lives)) (life_is began))
+        (written.origs_rise is.stands.lives_stand.rise))
         paths_then
         (bests_step me log came old.bests new.bests new.paths (max (newest_by row) came.seq) is.stands.bests_stand paths_then (other_orig me log came is.passing) top_is bests)
 
     -- ---- the answer
-    pub first_answer : (a b : Bool) (f : Option _) → a ≡ (is_none row || nat_lt (newest_by row) came.seq) → b ≡ is_none row
-        → f ≡ sent_on_as came value (forwarded_by row) (is_over_after came row new.paths) → record { accepted = a; began = b; forward = f } ≡ answer_to own lived
-    first_answer a b f accepted begun sent =
-        ap (λ x. record { accepted = a; began = x; forward = f }) (begun ∙ begun_is own lived lived row is.row_is)
-        ∙ ap₂ (λ x y. record { accepted = x; began = not (is_live lived); forward = y }) (accepted_is own lived lived row is.row_is a accepted on_time)
+    pub first_answer : (f : Option _) → f ≡ sent_on_as came value (forwarded_by row) (is_over_after came row new.paths) → first_hearing came.seq row f ≡ answer_to own lived
+    first_answer f sent =
+        answered own lived row is.row_is on_time f
+        ∙ ap (λ y. record { accepted = is_accepted own lived; began = not (is_live lived); forward = y })
         (sent ∙ ap₂ (λ b o. cond b (Some (head_on came value o)) None) sent_then over_then ∙ ap (λ n. cond own.sent_on (Some (head_on came n (is_over came.from (iv_route (own ∷ lived))))) None) value_is)

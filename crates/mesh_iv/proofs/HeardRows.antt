@@ -1,14 +1,14 @@
 -- How a hearing changes the row of a neighbour in a life.
-use Rattle.std.proofs.Common.{◌≡◌, ⊎_elim, ℕ, zero, suc, ◌-◌, ◌<◌, ◌≤◌, max, nat_eq, nat_lt, nat_le, ◌==◌, Bool, true, false, cond, not, ◌&&◌, List, [], ◌∷◌, slice_index, unwrap_or, Option, Some, arith, refl, sym, ap, ap₂, ◌∙◌}
-use Rattle.std.proofs.lemmas.Bool.{cases_Bool, cases_lt, cases_eq, and_parts, not-true, not-false, lt-ltb, le-ltb, le-leb, lt-leb, eq-eqb, ne_eqb, true≢false}
+use Rattle.std.proofs.Common.{◌≡◌, ⊎_elim, ℕ, zero, suc, ◌-◌, ◌<◌, ◌≤◌, max, nat_eq, nat_lt, nat_le, ◌==◌, Bool, true, false, cond, not, List, [], ◌∷◌, slice_index, unwrap_or, Option, Some, arith, refl, sym, ap, ap₂, ◌∙◌}
+use Rattle.std.proofs.lemmas.Bool.{cases_lt, cases_eq, and_parts, not-true, lt-ltb, le-ltb, le-leb, lt-leb, eq-eqb, ne_eqb, true≢false}
 use Rattle.mesh_base.specs.declared.address.Mac.{Mac}
 use Rattle.mesh_model.specs.Routes.Addresses.{same_mac}
 use Rattle.mesh_model.specs.Routes.Life.{HeardOgm, numbers_from, is_first, value_at}
 use Rattle.mesh_model.specs.Routes.Numbers.{has, greatest, window}
 use Rattle.mesh_laws.proofs.WindowLemmas.{greatest-window, window-cons}
-use Rattle.mesh_algo.proofs.LifeLemmas.{other_numbers, late_numbers, own_numbers, other_value, again_value, first_value, unheard_value}
-use Rattle.mesh_laws.proofs.MacLemmas.{same_exact}
+use Rattle.mesh_algo.proofs.LifeLemmas.{own_numbers, first_value, unheard_value}
 use Rattle.mesh_algo.proofs.LifeRows.{greatest_again, window_again, window_nil}
+use Rattle.mesh_algo.proofs.HeardPaths as paths
 use Rattle.mesh_iv.specs.declared.path.Path.{Path}
 use Rattle.mesh_iv.specs.Hears.{kept_row}
 use Rattle.mesh_iv.specs.Rows.{five, value_below, value_moved, value_with, path_with, blank, row_of, path_row}
@@ -21,29 +21,18 @@ values_by top value = five (λ back. cond (nat_le back top) (value (top - back))
 abbrev row_by : List ℕ → (ℕ → ℕ) → Option Path
 row_by numbers value = row_of numbers (values_by (greatest numbers) value)
 
-same_row : (k : Mac) (a b : List HeardOgm) → numbers_from k a ≡ numbers_from k b → ((n : ℕ) → value_at n k a ≡ value_at n k b) → path_row k a ≡ path_row k b
-same_row k a b numbers values = λ i. row_by (numbers i) (λ n. values n i)
-
 again_row : (s : ℕ) (numbers : List ℕ) (value : ℕ → ℕ) → has s numbers ≡ true → row_by (s ∷ numbers) value ≡ row_by numbers value
 again_row s [] value h = absurd (true≢false (sym h))
 again_row s (n ∷ numbers) value h =
     ap₂ (λ w g. Some (record { heard = w; values = values_by g value })) (window_again s (n ∷ numbers) h) (greatest_again s (n ∷ numbers) h)
 
-module _ (k : Mac) (h : HeardOgm) (alive : List HeardOgm) where
-  -- a hearing over another neighbour leaves the row
-  pub other_row : same_mac h.from k ≡ false → path_row k (h ∷ alive) ≡ path_row k alive
-  other_row e = same_row k (h ∷ alive) alive (other_numbers k h alive e) (λ n. other_value n k h alive e)
+-- a hearing over another neighbour leaves the row
+pub other_row : (k : Mac) (h : HeardOgm) (alive : List HeardOgm) → same_mac h.from k ≡ false → path_row k (h ∷ alive) ≡ path_row k alive
+other_row = paths.other_row row_by again_row
 
-  -- so does one that is late or repeated
-  pub touched_row : is_first h alive ≡ false → path_row k (h ∷ alive) ≡ path_row k alive
-  touched_row e =
-      ⊎_elim (λ late. same_row k (h ∷ alive) alive (late_numbers k h alive late) (λ n. again_value n k h alive e))
-      (λ timely. ⊎_elim (λ same.
-      let again : has h.seq (numbers_from k alive) ≡ true
-      = ap (λ j. has h.seq (numbers_from j alive)) (sym (same_exact h.from k same)) ∙ not-false _ (sym (ap (λ b. not b && not (has h.seq (numbers_from h.from alive))) timely) ∙ e) in
-      (λ i. row_by (own_numbers k h alive timely same i) (λ n. again_value n k h alive e i)) ∙ again_row h.seq (numbers_from k alive) (λ n. value_at n k alive) again)
-      (λ other. other_row other) (cases_Bool (same_mac h.from k)))
-      (cases_Bool h.late)
+-- so does one that is late or repeated
+pub touched_row : (k : Mac) (h : HeardOgm) (alive : List HeardOgm) → is_first h alive ≡ false → path_row k (h ∷ alive) ≡ path_row k alive
+touched_row = paths.touched_row row_by again_row
 
 -- ---- a row in a life
 -- where nothing was heard the values are 0

@@ -19,9 +19,9 @@ use Rattle.mesh_laws.proofs.MacLemmas.{same_exact, same_self}
 use Rattle.mesh_algo.specs.Walk.{best_in, walk}
 use Rattle.mesh_algo.proofs.LifeLemmas.{of_same}
 use Rattle.mesh_algo.specs.declared.best.Best.{Best}
-use Rattle.mesh_algo.specs.LifeRows.{latest, life_row, newest_by}
+use Rattle.mesh_algo.specs.LifeRows.{latest, life_row, newest_by, touched}
 use Rattle.mesh_algo.specs.Pairs.{pair_order, same_pair}
-use Rattle.mesh_algo.proofs.HearingLemmas.{lives_on, not_accepted, touched, touched_life}
+use Rattle.mesh_algo.proofs.HearingLemmas.{lives_on, not_accepted, touched_life}
 use Rattle.mesh_algo.proofs.LifeRows.{before_is_latest, stays}
 use Rattle.mesh_iv.specs.declared.ogm.OgmCame.{OgmCame}
 use Rattle.mesh_iv.specs.declared.path.Path.{Path}
@@ -139,13 +139,13 @@ module _ (me : Mac) (log : RouteLog) (came : OgmCame) where
   not_sent first = first_to_send v (before v hearings) first
 
   pub touch_stands : (tp : ℕ) (row : Life) (old new : Tables) → IsHeard me old log came (Some row) → is_first h alive ≡ false → new.me ≡ old.me → new.sent ≡ old.sent
-      → ((q : Mac) → lookup (same_mac q) new.lives ≡ cond (same_mac came.orig q) (Some (touched h alive row)) (lookup (same_mac q) old.lives))
+      → ((q : Mac) → lookup (same_mac q) new.lives ≡ cond (same_mac came.orig q) (Some (touched h.moment row)) (lookup (same_mac q) old.lives))
       → IsStrictlySortedBy mac_order (keys_of new.lives) → new.paths ≡ old.paths
       → ((q : Mac) → lookup (same_mac q) new.bests ≡ cond (same_mac came.orig q) (Some (walk (path_score row.newest) came.orig None new.paths)) (lookup (same_mac q) old.bests)) → StandsFor me new (input_of came tp ∷ log)
   touch_stands tp row old new is first same_me same_sent updated sorted same_paths bests =
       let other = other_orig is.passing in
       let last = before_is_latest h (of came.orig hearings) row (sym is.row_is) in
-      let life_is : Some (touched h alive row) ≡ life_row (h ∷ alive) = touched_life h alive row (sym is.row_is) first (not_sent first) (stays h (of came.orig hearings) row (sym is.row_is)) in
+      let life_is : Some (touched h.moment row) ≡ life_row (h ∷ alive) = touched_life h alive row (sym is.row_is) first (not_sent first) (stays h (of came.orig hearings) row (sym is.row_is)) in
       let newest_is : row.newest ≡ newest (h ∷ alive) = ap (λ (o : Option Life). newest_by o) life_is in
       let paths = paths_step old.paths new.paths is.stands.paths_stand other
       (λ pair t. let own = same_exact came.orig pair.orig t in

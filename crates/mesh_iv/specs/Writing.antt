@@ -4,12 +4,12 @@ use Rattle.std.specs.Prelude.{◌≡◌, ℕ, ◌&&◌, nat_lt, max, Bool, false
 use Rattle.std.specs.List.Sorted.{IsStrictlySortedBy}
 use Rattle.std.specs.Map.{keys_of, lookup}
 use Rattle.mesh_base.specs.declared.address.Mac.{Mac}
-use Rattle.mesh_model.specs.Routes.Addresses.{mac_order, same_mac}
+use Rattle.mesh_model.specs.Routes.Addresses.{same_mac}
 use Rattle.mesh_algo.specs.declared.best.Best.{Best}
 use Rattle.mesh_algo.specs.declared.life.Life.{Life}
 use Rattle.mesh_algo.specs.declared.pair.Pair.{Pair}
 use Rattle.mesh_algo.specs.LifeRows.{forwarded_by, life_with, newest_by}
-use Rattle.mesh_algo.specs.Pairs.{pair_order, rows_kept, same_pair}
+use Rattle.mesh_algo.specs.Pairs.{pair_order, path_put, rows_kept, same_pair}
 use Rattle.mesh_algo.specs.Walk.{is_best, walk}
 use Rattle.mesh_iv.specs.declared.ogm.OgmCame.{OgmCame}
 use Rattle.mesh_iv.specs.declared.path.Path.{Path}
@@ -19,11 +19,6 @@ use Rattle.mesh_iv.specs.Rows.{path_score}
 -- the originator and the neighbour of an OGM
 abbrev pub pair_of : OgmCame → Pair
 pair_of came = record { orig = came.orig; from = came.from }
-
--- the row of a pair after that of an OGM is put
-abbrev pub path_put : OgmCame → Path → List (Pair × Path) → Pair → Option Path
-path_put came row rows pair =
-    if same_pair (pair_of came) pair then Some row else lookup (same_pair pair) rows
 
 -- the best neighbour is then this
 abbrev pub best_after : OgmCame → Option Life → List (Pair × Path) → Option Best
@@ -45,7 +40,7 @@ pub record IsPut (came : OgmCame) (life : Option Life) (kept : Option Best) (row
     (old new : List (Pair × Path)) : Type 0 where
   pub kept_is : IsKept came life kept old
   pub rows_are : (pair : Pair) → lookup (same_pair pair) new
-      ≡ path_put came row (rows_kept (is_none life) came.orig old) pair
+      ≡ path_put (pair_of came) row (rows_kept (is_none life) came.orig old) pair
   pub rise : IsStrictlySortedBy pair_order (keys_of old)
   pub rise_then : IsStrictlySortedBy pair_order (keys_of new)
 
@@ -66,28 +61,3 @@ abbrev pub life_then : OgmCame → Option ℕ → Option Life → ℕ → List (
 life_then came restarted life value rows =
     life_with came.moment came.seq restarted life
     (goes_on came value (forwarded_by life) (is_over_after came life rows))
-
--- the rows of originators, and the rows of pairs
-abbrev pub Rows : Type 0
-Rows = List (Mac × Life) × List (Pair × Path)
-
--- the rows of pairs ascend
-abbrev pub PathsRise : Rows → Type 0
-PathsRise rows = IsStrictlySortedBy pair_order (keys_of rows.1)
-
--- the rows of originators ascend
-abbrev pub LivesRise : Rows → Type 0
-LivesRise rows = IsStrictlySortedBy mac_order (keys_of rows.0)
-
--- the two tables have the rows of an OGM more, where their keys ascend
-pub record IsWritten (came : OgmCame) (restarted : Option ℕ) (life : Option Life) (row : Path)
-    (value : ℕ) (old new : Rows) : Type 0 where
-  pub paths_are : (pair : Pair) →
-      lookup (same_pair pair) new.1
-      ≡ path_put came row (rows_kept (is_none life) came.orig old.1) pair
-  pub paths_rise : PathsRise old → PathsRise new
-  pub lives_are : (orig : Mac) → PathsRise old →
-      lookup (same_mac orig) new.0
-      ≡ (if same_mac came.orig orig then Some (life_then came restarted life value new.1)
-      else lookup (same_mac orig) old.0)
-  pub lives_rise : LivesRise old → LivesRise new

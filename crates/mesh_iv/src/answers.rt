@@ -14,16 +14,13 @@ ghost use Rattle.mesh_iv.specs.Came.{head_of, ogm_in};
 ghost use Rattle.mesh_iv.specs.Hears.{IsCame};
 ghost use Rattle.mesh_iv.specs.Tables.{StandsFor};
 
-use crate::hearing::UNHEARD;
 use crate::iv::Iv;
 use crate::ogm::OgmCame;
 use crate::quality::FULL_QUALITY;
+use mesh_algo::hearing::{FIRST_TTL, UNHEARD};
 use mesh_algo::{Algo, Beats, Best, Head, Hearing, Life, LinkRow, OrigRow};
 use mesh_base::{Mac, Millis, NoMemory};
 use std::alloc::Global;
-
-/// How many hops an own OGM may go.
-const FIRST_TTL: u8 = 50;
 
 impl Algo for Iv {
     ghost use Rattle.std.specs.Prelude.{false, is_some};

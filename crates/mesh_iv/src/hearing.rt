@@ -14,22 +14,16 @@ ghost use Rattle.mesh_algo.specs.LifeRows.{newest_by};
 ghost use Rattle.mesh_algo.specs.declared.life.Life.{Life};
 
 use crate::iv::Iv;
-use crate::ogm::{OgmCame, Places};
+use crate::ogm::OgmCame;
 use crate::path::Path;
 use crate::quality::transmit_quality;
 use crate::row::{Orig, best_kept, life_in};
 use crate::writing::write;
-use mesh_algo::life::{going_on, is_accepted, meeting, newest_of, restarted_then};
-use mesh_algo::table::put_near;
+use mesh_algo::hearing::{UNHEARD, first_hearing};
+use mesh_algo::life::{going_on, meeting, newest_of, restarted_then};
+use mesh_algo::table::{Places, put_near};
 use mesh_algo::{Best, Hearing, Life, Pair};
 use mesh_base::{Millis, NoMemory};
-
-/// What is made of a head that isn't heard.
-pub(crate) const UNHEARD: Hearing = Hearing {
-    accepted: false,
-    began: false,
-    forward: None,
-};
 
 impl Iv {
     /// Takes an OGM.
@@ -49,7 +43,7 @@ impl Iv {
             return Ok(UNHEARD);
         }
         let near = self.places(ogm);
-        let row = self.orig_near(near.life, ogm.moment, ogm.orig);
+        let row = self.orig_near(near.orig, ogm.moment, ogm.orig);
         let kept = best_kept(&row);
         let lived = life_in(&row);
         let met = meeting(ogm.moment, ogm.seq, &lived);
@@ -114,13 +108,8 @@ impl Iv {
         let Some(life) = life else {
             return Ok(());
         };
-        let life = Life {
-            last: ogm.moment,
-            newest: life.newest,
-            forwarded: life.forwarded,
-            restarted: life.restarted,
-        };
-        put_near(&mut self.origs, near.life, ogm.orig, Orig { life, best })?;
+        let life = life.touched(ogm.moment);
+        put_near(&mut self.origs, near.orig, ogm.orig, Orig { life, best })?;
         Ok(())
     }
 
@@ -159,11 +148,7 @@ impl Iv {
             row,
             value,
         )?;
-        Ok(Hearing {
-            accepted: is_accepted(ogm.seq, life),
-            began: life.is_none(),
-            forward,
-        })
+        Ok(first_hearing(ogm.seq, life, forward))
     }
 
     // The value of an OGM, whose number is the newest or below it.

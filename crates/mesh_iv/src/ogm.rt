@@ -24,16 +24,6 @@ pub(crate) struct OgmCame {
     pub(crate) tq: u8,
 }
 
-/// Where the rows of an OGM may stand in the two tables: a look-up begins there, and finds a row
-/// wherever it stands.
-#[derive(Clone, Copy, Debug)]
-pub(crate) struct Places {
-    pub(crate) life: usize,
-    pub(crate) path: usize,
-    /// The first row of the originator.
-    pub(crate) first: usize,
-}
-
 impl OgmCame {
     /// The originator and the neighbour.
     pub(crate) fn pair(&self) -> Pair

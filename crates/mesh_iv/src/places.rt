@@ -3,12 +3,12 @@
 ghost use Rattle.std.specs.Prelude.{◌≡◌};
 
 use crate::iv::Iv;
-use crate::ogm::{OgmCame, Places};
+use crate::ogm::OgmCame;
 use crate::path::Path;
 use crate::row::Orig;
 use indexmap::IndexMap;
 use mesh_algo::Pair;
-use mesh_algo::table::{first_path_near, place_of};
+use mesh_algo::table::{Places, first_path_near, place_of};
 use mesh_base::Mac;
 
 impl Iv {
@@ -17,9 +17,9 @@ impl Iv {
         ensures { self.new ≡ self.old }
     {
         let guess = self.guesses.of(ogm.orig);
-        let life = orig_place(&self.origs, guess.life as usize, ogm.orig);
-        if life != guess.life as usize {
-            self.guesses.take_life(ogm.orig, life);
+        let orig = orig_place(&self.origs, guess.life as usize, ogm.orig);
+        if orig != guess.life as usize {
+            self.guesses.take_life(ogm.orig, orig);
         }
         let (first, path) = self.path_places(ogm, guess.first as usize);
         if ogm.from == ogm.orig {
@@ -30,7 +30,7 @@ impl Iv {
             let echo = path_place(&self.paths, guess.echo as usize, pair);
             self.guesses.take_neighbour(ogm.from, path, echo);
         }
-        Places { life, path, first }
+        Places { orig, path, first }
     }
 
     // The places of the first row of the originator, which is looked for first at one place, and of

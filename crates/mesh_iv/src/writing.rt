@@ -1,23 +1,24 @@
-ghost use Rattle.std.specs.Prelude.{◌≡◌, List, IfOk, OnOk, OnErr};
+ghost use Rattle.std.specs.Prelude.{◌≡◌, List, is_none, IfOk, OnOk, OnErr};
 ghost use Rattle.std.specs.List.Sorted.{IsStrictlySortedBy};
 ghost use Rattle.indexmap.specs.IndexMap.{keys};
 ghost use Rattle.mesh_algo.specs.LifeRows.{forwarded_by};
 ghost use Rattle.mesh_algo.specs.Pairs.{pair_order};
+ghost use Rattle.mesh_algo.specs.Writing.{IsWritten};
 ghost use Rattle.mesh_algo.specs.declared.pair.Pair.{Pair};
 ghost use Rattle.mesh_iv.specs.Hears.{sent_on_as};
 ghost use Rattle.mesh_iv.specs.Origs.{bests_of, lives_of};
-ghost use Rattle.mesh_iv.specs.Writing.{IsBestPut, IsKept, IsPut, IsWritten, best_after, is_over_after};
+ghost use Rattle.mesh_iv.specs.Writing.{IsBestPut, IsKept, IsPut, best_after, is_over_after, life_then, pair_of};
 ghost use Rattle.mesh_iv.specs.declared.path.Path.{Path};
 
 use crate::best::{best_near, has_fallen};
 use crate::forward::{goes_on, head_on};
-use crate::ogm::{OgmCame, Places};
+use crate::ogm::OgmCame;
 use crate::path::Path;
 use crate::row::Orig;
 use indexmap::IndexMap;
 use mesh_algo::best::{better, is_best};
 use mesh_algo::life::{is_accepted, life_after, newest_of};
-use mesh_algo::table::{put_near, put_path};
+use mesh_algo::table::{Places, put_near, put_path};
 use mesh_algo::{Best, Head, Life, Pair};
 use mesh_base::{Mac, Millis, NoMemory};
 
@@ -36,7 +37,8 @@ pub(crate) fn write(
     value: u8,
 ) -> Result<Option<Head>, NoMemory>
     ensures written { IsKept ogm.now life.now kept paths.old.entries →
-        OnOk result (IsWritten ogm.now restarted life.now row value
+        OnOk result (IsWritten (pair_of ogm.now) (is_none life.now) row
+        (life_then ogm.now restarted life.now value paths.new.entries)
         (lives_of origs.old.entries, paths.old.entries)
         (lives_of origs.new.entries, paths.new.entries)) }
     ensures best { IsKept ogm.now life.now kept paths.old.entries →
@@ -57,7 +59,7 @@ pub(crate) fn write(
     let over = is_best(ogm.from, &best);
     let sent = goes_on(ogm, value, life, over);
     let life = life_after(ogm.moment, ogm.seq, restarted, life, sent);
-    put_near(origs, near.life, ogm.orig, Orig { life, best })?;
+    put_near(origs, near.orig, ogm.orig, Orig { life, best })?;
     Ok(sent.then_some(head_on(ogm, value, over)))
 }
 

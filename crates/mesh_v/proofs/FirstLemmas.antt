@@ -8,27 +8,28 @@ use Rattle.mesh_model.specs.Routes.Addresses.{same_mac}
 use Rattle.mesh_model.specs.Routes.AlgorithmV.{answer_to_v}
 use Rattle.mesh_model.specs.Routes.BestRoute.{best_route, is_over}
 use Rattle.mesh_model.specs.Routes.HearingsV.{path_throughput}
-use Rattle.mesh_model.specs.Routes.Life.{HeardOgm, began_wild, of, is_live, newest, is_first, forwarded}
+use Rattle.mesh_model.specs.Routes.Life.{HeardOgm, began_wild, of, is_live, newest, is_accepted, is_first, forwarded}
 use Rattle.mesh_model.specs.Routes.Numbers.{has}
 use Rattle.mesh_model.specs.Routes.RouteLog.{RouteLog}
 use Rattle.mesh_laws.proofs.MacLemmas.{same_exact, same_equiv, same_self}
 use Rattle.mesh_algo.specs.declared.life.Life.{Life}
 use Rattle.mesh_algo.specs.declared.pair.Pair.{Pair}
-use Rattle.mesh_algo.specs.LifeRows.{forwarded_by, latest, life_row, life_with, newest_by}
+use Rattle.mesh_algo.specs.LifeRows.{first_hearing, forwarded_by, latest, life_row, life_with, newest_by}
 use Rattle.mesh_algo.specs.Pairs.{rows_kept, same_pair}
 use Rattle.mesh_algo.specs.Walk.{best_in, is_best, walk}
 use Rattle.mesh_algo.proofs.BestWalk.{best_is_over}
-use Rattle.mesh_algo.proofs.HearingLemmas.{accepted_is, begun_is, has_sent, next_life, timely_from}
+use Rattle.mesh_algo.proofs.HearingLemmas.{answered, has_sent, next_life, timely_from}
 use Rattle.mesh_algo.proofs.LifeLemmas.{next_newest, of_same}
 use Rattle.mesh_algo.proofs.LifeRows.{before_is_latest, forwarded_by_row, newest_by_row, no_life}
-use Rattle.mesh_algo.proofs.PutLemmas.{kept_other, kept_own}
+use Rattle.mesh_algo.proofs.PutLemmas.{kept_own, put_other, put_own}
 use Rattle.mesh_v.specs.declared.ogm.OgmCame.{OgmCame}
 use Rattle.mesh_v.specs.declared.path.Path.{Path}
 use Rattle.mesh_v.specs.declared.row.LastElp.{LastElp}
 use Rattle.mesh_v.specs.Hears.{IsHeard, goes_on, head_on, hearing_of, input_of, kept_row, life_before, sent_on_as, up_then}
 use Rattle.mesh_v.specs.Rows.{path_row, path_score, path_with, up_in}
 use Rattle.mesh_v.specs.Tables.{PathsStand, StandsFor, Tables}
-use Rattle.mesh_v.specs.Writing.{IsWritten, is_over_after}
+use Rattle.mesh_algo.specs.Writing.{IsWritten}
+use Rattle.mesh_v.specs.Writing.{is_over_after, orig_then, pair_of}
 use Rattle.mesh_v.proofs.RowLemmas.{first_row, other_row, up_is}
 use Rattle.mesh_v.proofs.StandLemmas.{walk_finds}
 use Rattle.mesh_v.proofs.StepLemmas.{hearings, is_met, origs_step, paths_step, step_stands, v}
@@ -70,7 +71,7 @@ module _ (me : Mac) (log : RouteLog) (came : OgmCame) (first : is_first (hearing
   -- ---- the tables
   module _ (elp : Option LastElp) (restarted : Option ℕ) (row : Option Life) (path : Path) (value : ℕ) (old new : Tables)
       (is : IsHeard me old log came elp row) (path_is : path ≡ kept_row came.from lived) (value_is : value ≡ own.value)
-      (written : IsWritten came elp restarted row (path_with path came.seq value) value (old.origs, old.paths) (new.origs, new.paths)) where
+      (written : IsWritten (pair_of came) (is_none row) (path_with path came.seq value) (orig_then came elp restarted row value old.origs new.paths) (old.origs, old.paths) (new.origs, new.paths)) where
     put_row : (pair : Pair) → same_mac came.from pair.from ≡ true → Some (path_with path came.seq value) ≡ path_row pair.from (own ∷ lived)
     put_row pair t =
         ap₂ (λ p n. Some (path_with p came.seq n)) (path_is ∙ ap (λ k. kept_row k lived) (same_exact came.from pair.from t)) value_is
@@ -86,18 +87,11 @@ module _ (me : Mac) (log : RouteLog) (came : OgmCame) (first : is_first (hearing
 
     own_rows : (pair : Pair) → same_mac came.orig pair.orig ≡ true → lookup (same_pair pair) new.paths ≡ path_row pair.from (own ∷ lived)
     own_rows pair t =
-        written.paths_are pair
-        ∙ ap (λ b. cond (b && same_mac came.from pair.from) (Some (path_with path came.seq value)) (lookup (same_pair pair) (rows_kept (is_none row) came.orig old.paths))) t
-        ∙ ⊎_elim (λ s. ap (λ b. cond b (Some (path_with path came.seq value)) (lookup (same_pair pair) (rows_kept (is_none row) came.orig old.paths))) s ∙ put_row pair s)
-        (λ s. ap (λ b. cond b (Some (path_with path came.seq value)) (lookup (same_pair pair) (rows_kept (is_none row) came.orig old.paths))) s
-        ∙ kept_path row is.row_is pair t ∙ sym (other_row pair.from own lived s))
-        (cases_Bool (same_mac came.from pair.from))
+        put_own (pair_of came) (path_with path came.seq value) (is_none row) old.paths new.paths written.paths_are (path_row pair.from (own ∷ lived)) pair t
+        (put_row pair) (λ s. kept_path row is.row_is pair t ∙ sym (other_row pair.from own lived s))
 
     others : (pair : Pair) → same_mac came.orig pair.orig ≡ false → lookup (same_pair pair) new.paths ≡ lookup (same_pair pair) old.paths
-    others pair t =
-        written.paths_are pair
-        ∙ ap (λ b. cond (b && same_mac came.from pair.from) (Some (path_with path came.seq value)) (lookup (same_pair pair) (rows_kept (is_none row) came.orig old.paths))) t
-        ∙ kept_other came.orig pair (is_none row) old.paths (same_equiv.symm pair.orig came.orig ∙ t)
+    others = put_other (pair_of came) (path_with path came.seq value) (is_none row) old.paths new.paths written.paths_are
 
     paths_then : PathsStand (own ∷ hearings me log came) new.paths
     paths_then = paths_step me log came old.paths new.paths is.stands.paths_stand own_rows others (written.paths_rise is.stands.paths_stand.rise)
@@ -127,9 +121,8 @@ module _ (me : Mac) (log : RouteLog) (came : OgmCame) (first : is_first (hearing
         paths_then
 
     -- ---- the answer
-    pub first_answer : (a b : Bool) (f : Option _) → a ≡ (is_none row || nat_lt (newest_by row) came.seq) → b ≡ is_none row
-        → f ≡ sent_on_as came value (forwarded_by row) (is_over_after came row old.origs new.paths) → record { accepted = a; began = b; forward = f } ≡ answer_to_v came.flags own lived
-    first_answer a b f accepted begun sent =
-        ap (λ x. record { accepted = a; began = x; forward = f }) (begun ∙ begun_is own lived lived row is.row_is)
-        ∙ ap₂ (λ x y. record { accepted = x; began = not (is_live lived); forward = y }) (accepted_is own lived lived row is.row_is a accepted on_time)
+    pub first_answer : (f : Option _) → f ≡ sent_on_as came value (forwarded_by row) (is_over_after came row old.origs new.paths) → first_hearing came.seq row f ≡ answer_to_v came.flags own lived
+    first_answer f sent =
+        answered own lived row is.row_is on_time f
+        ∙ ap (λ y. record { accepted = is_accepted own lived; began = not (is_live lived); forward = y })
         (sent ∙ ap₂ (λ s n. cond s (Some (head_on came n)) None) sent_then value_is)

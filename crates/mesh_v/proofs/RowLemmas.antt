@@ -16,6 +16,7 @@ use Rattle.mesh_algo.specs.LifeRows.{latest, life_row}
 use Rattle.mesh_algo.proofs.HearingLemmas.{timely_from}
 use Rattle.mesh_algo.proofs.LifeLemmas.{first_value, late_numbers, other_numbers, own_numbers, other_value, again_value, unheard_value}
 use Rattle.mesh_algo.proofs.LifeRows.{greatest_again, window_again, window_nil}
+use Rattle.mesh_algo.proofs.HeardPaths as paths
 use Rattle.mesh_v.specs.declared.path.Path.{Path}
 use Rattle.mesh_v.specs.declared.row.LastElp.{LastElp}
 use Rattle.mesh_v.specs.Hears.{kept_row}
@@ -55,29 +56,18 @@ pub life_of_row : (moment : ℕ) (hearings : List HeardOgm) (elp : Option LastEl
 life_of_row moment hearings elp = ap (still_life moment) (life_kept (life_row (latest hearings)) elp) ∙ still moment hearings
 
 -- ---- a row by its numbers and their values
-same_row : (k : Mac) (a b : List HeardOgm) → numbers_from k a ≡ numbers_from k b → ((n : ℕ) → value_at n k a ≡ value_at n k b) → path_row k a ≡ path_row k b
-same_row k a b numbers values = λ i. row_of (numbers i) (λ n. values n i)
-
 again_row : (s : ℕ) (numbers : List ℕ) (value : ℕ → ℕ) → has s numbers ≡ true → row_of (s ∷ numbers) value ≡ row_of numbers value
 again_row s [] value h = absurd (true≢false (sym h))
 again_row s (n ∷ numbers) value h =
     ap₂ (λ w g. Some (record { heard = w; value = value g })) (window_again s (n ∷ numbers) h) (greatest_again s (n ∷ numbers) h)
 
-module _ (k : Mac) (h : HeardOgm) (alive : List HeardOgm) where
-  -- a hearing over another neighbour leaves the row
-  pub other_row : same_mac h.from k ≡ false → path_row k (h ∷ alive) ≡ path_row k alive
-  other_row e = same_row k (h ∷ alive) alive (other_numbers k h alive e) (λ n. other_value n k h alive e)
+-- a hearing over another neighbour leaves the row
+pub other_row : (k : Mac) (h : HeardOgm) (alive : List HeardOgm) → same_mac h.from k ≡ false → path_row k (h ∷ alive) ≡ path_row k alive
+other_row = paths.other_row row_of again_row
 
-  -- so does one that is late or repeated
-  pub touched_row : is_first h alive ≡ false → path_row k (h ∷ alive) ≡ path_row k alive
-  touched_row e =
-      ⊎_elim (λ late. same_row k (h ∷ alive) alive (late_numbers k h alive late) (λ n. again_value n k h alive e))
-      (λ timely. ⊎_elim (λ same.
-      let again : has h.seq (numbers_from k alive) ≡ true
-      = ap (λ j. has h.seq (numbers_from j alive)) (sym (same_exact h.from k same)) ∙ not-false _ (sym (ap (λ b. not b && not (has h.seq (numbers_from h.from alive))) timely) ∙ e) in
-      (λ i. row_of (own_numbers k h alive timely same i) (λ n. again_value n k h alive e i)) ∙ again_row h.seq (numbers_from k alive) (λ n. value_at n k alive) again)
-      (λ other. other_row other) (cases_Bool (same_mac h.from k)))
-      (cases_Bool h.late)
+-- so does one that is late or repeated
+pub touched_row : (k : Mac) (h : HeardOgm) (alive : List HeardOgm) → is_first h alive ≡ false → path_row k (h ∷ alive) ≡ path_row k alive
+touched_row = paths.touched_row row_of again_row
 
 -- ---- a row in a life
 unwrapped : (numbers : List ℕ) (value : ℕ → ℕ) → (numbers ≡ [] → value 0 ≡ 0) → unwrap_or (row_of numbers value) blank ≡ record { heard = window numbers; value = value (greatest numbers) }

@@ -19,9 +19,9 @@ use Rattle.mesh_model.specs.Routes.RouteLog.{RouteLog, HeadCame}
 use Rattle.mesh_laws.proofs.MacLemmas.{same_exact}
 use Rattle.mesh_algo.specs.declared.life.Life.{Life}
 use Rattle.mesh_algo.specs.declared.pair.Pair.{Pair}
-use Rattle.mesh_algo.specs.LifeRows.{latest, life_row}
+use Rattle.mesh_algo.specs.LifeRows.{latest, life_row, touched}
 use Rattle.mesh_algo.specs.Pairs.{pair_order, same_pair}
-use Rattle.mesh_algo.proofs.HearingLemmas.{IsMet, goes_on_with, lives_on, met, not_accepted, touched, touched_life, touches_life}
+use Rattle.mesh_algo.proofs.HearingLemmas.{IsMet, goes_on_with, lives_on, met, not_accepted, touched_life, touches_life}
 use Rattle.mesh_algo.proofs.LifeRows.{before_is_latest, no_life, stays}
 use Rattle.mesh_v.specs.declared.ogm.OgmCame.{OgmCame}
 use Rattle.mesh_v.specs.declared.path.Path.{Path}
@@ -198,12 +198,12 @@ module _ (me : Mac) (log : RouteLog) (came : OgmCame) where
   not_sent first = first_to_send (up_then log came) v (before v hearings) first
 
   pub touch_stands : (elp : Option LastElp) (row : Life) (old new : Tables) → IsHeard me old log came elp (Some row) → is_first h alive ≡ false → new.me ≡ old.me → new.ogms ≡ old.ogms → new.elps ≡ old.elps
-      → ((q : Mac) → lookup (same_mac q) new.origs ≡ cond (same_mac came.orig q) (Some (record { life = Some (touched h alive row); elp = elp })) (lookup (same_mac q) old.origs))
+      → ((q : Mac) → lookup (same_mac q) new.origs ≡ cond (same_mac came.orig q) (Some (record { life = Some (touched h.moment row); elp = elp })) (lookup (same_mac q) old.origs))
       → IsStrictlySortedBy mac_order (keys_of new.origs) → new.paths ≡ old.paths → StandsFor me new (input_of came ∷ log)
   touch_stands elp row old new is first same_me same_ogms same_elps updated sorted same_paths =
       let last = before_is_latest h (of came.orig hearings) row (sym is.row_is) in
       step_stands old new is.stands is.passing same_me same_ogms same_elps
-      (origs_step old.origs new.origs elp (touched h alive row) is.stands.origs_stand is.elp_is (touched_life h alive row (sym is.row_is) first (not_sent first) (stays h (of came.orig hearings) row (sym is.row_is))) updated sorted)
+      (origs_step old.origs new.origs elp (touched h.moment row) is.stands.origs_stand is.elp_is (touched_life h alive row (sym is.row_is) first (not_sent first) (stays h (of came.orig hearings) row (sym is.row_is))) updated sorted)
       (paths_step old.paths new.paths is.stands.paths_stand
       (λ pair t. ap (λ rows. lookup (same_pair pair) rows) same_paths ∙ is.stands.paths_stand.are pair
       ∙ ap (λ o. path_row pair.from (latest (of o hearings))) (sym (same_exact came.orig pair.orig t)) ∙ ap (λ l. path_row pair.from l) (sym last) ∙ sym (touched_row pair.from h alive first))

@@ -8,16 +8,13 @@ ghost use Rattle.mesh_model.specs.Routes.Queries.{unheard};
 ghost use Rattle.mesh_model.specs.Routes.RouteLog.{RouteLog, OwnTick, HeadCame, MayTick};
 ghost use Rattle.mesh_v.specs.Tables.{StandsFor};
 
-use crate::hearing::UNHEARD;
 use crate::ogm::OgmCame;
 use crate::row::elp_in;
 use crate::v::V;
+use mesh_algo::hearing::{FIRST_TTL, UNHEARD};
 use mesh_algo::{Algo, Beats, Head, Hearing, LinkRow, OrigRow};
 use mesh_base::{Mac, Millis, NoMemory};
 use std::alloc::Global;
-
-/// How many hops an own OGM may go.
-const FIRST_TTL: u8 = 50;
 
 /// The time between two ELPs as each tells it, in milliseconds.
 const ELP_INTERVAL: u32 = 500;

@@ -13,22 +13,16 @@ ghost use Rattle.mesh_v.specs.Tables.{StandsFor, orig_at};
 ghost use Rattle.mesh_v.specs.declared.row.LastElp.{LastElp};
 
 use crate::best::is_up_at;
-use crate::ogm::{OgmCame, Places};
+use crate::ogm::OgmCame;
 use crate::path::Path;
 use crate::row::{LastElp, Orig, elp_in, is_up, life_in};
 use crate::v::V;
 use crate::writing::write;
-use mesh_algo::life::{going_on, is_accepted, meeting, restarted_then};
-use mesh_algo::table::{place_of, put, put_near};
+use mesh_algo::hearing::{UNHEARD, first_hearing};
+use mesh_algo::life::{going_on, meeting, restarted_then};
+use mesh_algo::table::{Places, place_of, put, put_near};
 use mesh_algo::{Hearing, Life};
 use mesh_base::{Mac, Millis, NoMemory};
-
-/// What is made of a head that isn't heard.
-pub(crate) const UNHEARD: Hearing = Hearing {
-    accepted: false,
-    began: false,
-    forward: None,
-};
 
 impl V {
     /// Takes an ELP of an originator over a link of a throughput. It counts where the originator
@@ -70,9 +64,11 @@ impl V {
             ogm.now.link (Some (ogm_in ogm.now)) (heard_v me log)) }
         ensures err { OnErr result (self.new ≡ self.old) }
     {
+        let path = place_of(&self.paths, ogm.pair());
         let near = Places {
             orig: place_of(&self.origs, ogm.orig),
-            path: place_of(&self.paths, ogm.pair()),
+            path,
+            first: path,
         };
         let orig = self.orig_near(near.orig, ogm.orig);
         if !self.passes(ogm, &orig) {
@@ -144,12 +140,7 @@ impl V {
         let Some(life) = life else {
             return Ok(());
         };
-        let life = Life {
-            last: ogm.moment,
-            newest: life.newest,
-            forwarded: life.forwarded,
-            restarted: life.restarted,
-        };
+        let life = life.touched(ogm.moment);
         let row = Orig {
             life: Some(life),
             elp,
@@ -191,11 +182,7 @@ impl V {
             row,
             value,
         )?;
-        Ok(Hearing {
-            accepted: is_accepted(ogm.seq, life),
-            began: life.is_none(),
-            forward,
-        })
+        Ok(first_hearing(ogm.seq, life, forward))
     }
 }
 

@@ -17,14 +17,6 @@ pub(crate) struct OgmCame {
     pub(crate) throughput: u32,
 }
 
-/// Where the rows of an OGM may stand in the two tables: a look-up begins there, and finds a row
-/// wherever it stands.
-#[derive(Clone, Copy, Debug)]
-pub(crate) struct Places {
-    pub(crate) orig: usize,
-    pub(crate) path: usize,
-}
-
 impl OgmCame {
     /// The originator and the neighbour.
     pub(crate) fn pair(&self) -> Pair

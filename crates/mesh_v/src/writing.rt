@@ -1,20 +1,21 @@
-ghost use Rattle.std.specs.Prelude.{◌≡◌, IfOk, OnOk, OnErr};
+ghost use Rattle.std.specs.Prelude.{◌≡◌, is_none, IfOk, OnOk, OnErr};
 ghost use Rattle.std.specs.List.Sorted.{IsStrictlySortedBy};
 ghost use Rattle.indexmap.specs.IndexMap.{keys};
 ghost use Rattle.mesh_algo.specs.LifeRows.{forwarded_by};
 ghost use Rattle.mesh_algo.specs.Pairs.{pair_order};
+ghost use Rattle.mesh_algo.specs.Writing.{IsWritten};
 ghost use Rattle.mesh_v.specs.Hears.{goes_on, sent_on_as};
-ghost use Rattle.mesh_v.specs.Writing.{IsWritten, is_over_after};
+ghost use Rattle.mesh_v.specs.Writing.{is_over_after, orig_then, pair_of};
 
 use crate::best::best_from;
 use crate::forward::head_on;
-use crate::ogm::{OgmCame, Places};
+use crate::ogm::OgmCame;
 use crate::path::Path;
 use crate::row::{LastElp, Orig};
 use indexmap::IndexMap;
 use mesh_algo::best::is_best;
 use mesh_algo::life::{forwarded_of, life_after, newest_of};
-use mesh_algo::table::{first_path_near, put_near, put_path};
+use mesh_algo::table::{Places, first_path_near, put_near, put_path};
 use mesh_algo::{Head, Life, Pair};
 use mesh_base::{Mac, Millis, NoMemory};
 
@@ -31,7 +32,8 @@ pub(crate) fn write(
     row: Path,
     value: u32,
 ) -> Result<Option<Head>, NoMemory>
-    ensures written { OnOk result (IsWritten ogm.now elp restarted life.now row value
+    ensures written { OnOk result (IsWritten (pair_of ogm.now) (is_none life.now) row
+        (orig_then ogm.now elp restarted life.now value origs.old.entries paths.new.entries)
         (origs.old.entries, paths.old.entries) (origs.new.entries, paths.new.entries)) }
     ensures answer { IfOk result (λ forward. IsStrictlySortedBy pair_order (keys paths.old) →
         forward ≡ sent_on_as ogm.now value (forwarded_by life.now)
@@ -70,7 +72,7 @@ fn is_sent_on(
         return false;
     }
     let newest = newest_of(life).max(ogm.seq);
-    let first = first_path_near(paths, near.path, ogm.orig);
+    let first = first_path_near(paths, near.first, ogm.orig);
     let best = best_from(origs, paths, first, ogm.moment, ogm.orig, newest);
     is_best(ogm.from, &best)
 }

@@ -4,12 +4,12 @@ use Rattle.std.specs.Map.{keys_of, lookup}
 use Rattle.mesh_model.specs.Routes.Addresses.{mac_order, same_mac}
 use Rattle.mesh_algo.specs.declared.pair.Pair.{Pair}
 use Rattle.mesh_algo.specs.LifeRows.{forwarded_by, life_with}
-use Rattle.mesh_algo.specs.Pairs.{pair_order, rows_kept, same_pair}
+use Rattle.mesh_algo.specs.Pairs.{pair_order, path_put, rows_kept, same_pair}
 use Rattle.mesh_algo.specs.Walk.{is_best}
 use Rattle.mesh_iv.specs.declared.row.Orig.{Orig}
 use Rattle.mesh_iv.specs.Hears.{goes_on}
 use Rattle.mesh_iv.specs.Origs.{bests_of, lives_of}
-use Rattle.mesh_iv.specs.Writing.{best_after, is_over_after, life_then, path_put}
+use Rattle.mesh_iv.specs.Writing.{best_after, is_over_after, life_then, pair_of}
 use Rattle.mesh_algo.proofs.PutLemmas.{none_test}
 use Rattle.mesh_iv.proofs.RowLemmas.{lives_rise, part_put}
 use Rattle.mesh_iv.proofs.writing.write.Goals as goal
@@ -23,10 +23,10 @@ returns-clause-written c = λ kept.
     let same_origs : c.reserve.new.self.entries ≡ c.args.origs.now.entries = c.reserve.ensures.entries in
     let rises : IsStrictlySortedBy pair_order (keys_of c.args.paths.now.entries) → IsStrictlySortedBy pair_order (keys_of new)
     = λ sorted. c.in_ok-put_path.ensures.rises (subst (λ rows. IsStrictlySortedBy pair_order (keys_of rows)) (sym same_paths) sorted) in
-    let rows : (pair : Pair) → lookup (same_pair pair) new ≡ path_put came c.args.row (rows_kept (is_none life) came.orig c.args.paths.now.entries) pair
+    let rows : (pair : Pair) → lookup (same_pair pair) new ≡ path_put (pair_of came) c.args.row (rows_kept (is_none life) came.orig c.args.paths.now.entries) pair
     = λ pair. c.in_ok-put_path.ensures.updated pair
     ∙ ap (λ p. cond (same_pair p pair) (Some c.args.row) (lookup (same_pair pair) (rows_kept c.is_none.result p.orig c.reserve-2.new.self.entries))) c.pair.ensures
-    ∙ ap₂ (λ b rows. path_put came c.args.row (rows_kept b came.orig rows) pair) (none_test life c.is_none.result c.is_none.ensures) same_paths in
+    ∙ ap₂ (λ b rows. path_put (pair_of came) c.args.row (rows_kept b came.orig rows) pair) (none_test life c.is_none.result c.is_none.ensures) same_paths in
     let best : IsStrictlySortedBy pair_order (keys_of c.args.paths.now.entries) → c.best_then-best.result ≡ best_after came life new
     = λ sorted. c.best_then-best.ensures c.args.paths.now.entries (record { kept_is = kept; rows_are = rows; rise = sorted; rise_then = rises sorted }) in
     let over : IsStrictlySortedBy pair_order (keys_of c.args.paths.now.entries) → c.is_best-over.result ≡ is_over_after came life new
@@ -36,9 +36,9 @@ returns-clause-written c = λ kept.
     record {
       paths_are = rows;
       paths_rise = rises;
-      lives_are = λ o sorted. part_put (λ (r : Orig). r.life) came.orig _ c.reserve.new.self.entries c.put_near.new.table.entries c.in_ok-put_near.ensures.updated o
+      origs_are = λ o sorted. part_put (λ (r : Orig). r.life) came.orig _ c.reserve.new.self.entries c.put_near.new.table.entries c.in_ok-put_near.ensures.updated o
           ∙ ap₂ (λ r rows. cond (same_mac came.orig o) (Some r) (lookup (same_mac o) (lives_of rows))) (row sorted) same_origs;
-      lives_rise = λ sorted. lives_rise c.reserve.new.self.entries c.put_near.new.table.entries c.in_ok-put_near.ensures.rises (subst (λ rows. IsStrictlySortedBy mac_order (keys_of (lives_of rows))) (sym same_origs) sorted);
+      origs_rise = λ sorted. lives_rise c.reserve.new.self.entries c.put_near.new.table.entries c.in_ok-put_near.ensures.rises (subst (λ rows. IsStrictlySortedBy mac_order (keys_of (lives_of rows))) (sym same_origs) sorted);
     }
 
 pub returns-clause-best : goal.returns-clause-best

@@ -5,11 +5,11 @@ use Rattle.mesh_model.specs.Routes.Addresses.{mac_order, same_mac}
 use Rattle.mesh_model.specs.Routes.Hearings.{heard}
 use Rattle.mesh_model.specs.Routes.Life.{of}
 use Rattle.mesh_iv.specs.declared.row.Orig.{Orig}
-use Rattle.mesh_iv.specs.Hears.{IsHeard, hearing_of, life_before}
+use Rattle.mesh_iv.specs.Hears.{IsHeard, hearing_of}
 use Rattle.mesh_iv.specs.Origs.{bests_of, lives_of}
 use Rattle.mesh_iv.specs.Tables.{Tables}
 use Rattle.mesh_iv.specs.Writing.{IsKept}
-use Rattle.mesh_algo.proofs.HearingLemmas.{touched, touches_life}
+use Rattle.mesh_algo.proofs.HearingLemmas.{touches_life}
 use Rattle.mesh_iv.proofs.RowLemmas.{lives_rise, part_put}
 use Rattle.mesh_iv.proofs.StepLemmas.{touch_stands}
 use Rattle.mesh_iv.proofs.ValueLemmas.{is_met}
@@ -34,7 +34,7 @@ returns-clause-noted c =
     let best : IsKept came (Some c.in-Some.life) c.args.best new.paths = subst (λ row. IsKept came row c.args.best new.paths) c.in-Some.is (subst (λ t. IsKept came c.args.life.now c.args.best t.paths) (sym c.self.view_is) kept) in
     touch_stands me log came tp c.in-Some.life old new heard first (ap (λ t. t.me) c.self.view_is) (ap (λ t. t.sent) c.self.view_is)
     (λ q. part_put (λ (row : Orig). row.life) came.orig _ rows rows_then c.in_ok-put_near.ensures.updated q
-    ∙ ap (λ ls. cond (same_mac came.orig q) (Some (touched (hearing_of me log came) (life_before me log came) c.in-Some.life)) (lookup (same_mac q) ls)) lives)
+    ∙ ap₂ (λ l ls. cond (same_mac came.orig q) (Some l) (lookup (same_mac q) ls)) c.touched-life.ensures lives)
     (lives_rise rows rows_then c.in_ok-put_near.ensures.rises (subst (λ ls. IsStrictlySortedBy mac_order (keys_of ls)) (sym lives) is.stands.lives_stand.rise))
     (ap (λ t. t.paths) c.self.view_is)
     (λ q. part_put (λ (row : Orig). row.best) came.orig _ rows rows_then c.in_ok-put_near.ensures.updated q

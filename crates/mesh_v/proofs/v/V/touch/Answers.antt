@@ -1,10 +1,10 @@
-use Rattle.std.proofs.Common.{◌≡◌, ◌∙◌, ap, sym, subst, cond, Some, None, rules}
+use Rattle.std.proofs.Common.{◌≡◌, ◌∙◌, ap, ap₂, sym, subst, cond, Some, None, rules}
 use Rattle.std.specs.List.Sorted.{IsStrictlySortedBy}
 use Rattle.std.specs.Map.{keys_of, lookup}
 use Rattle.mesh_model.specs.Routes.Addresses.{mac_order, same_mac}
 use Rattle.mesh_model.specs.Routes.HearingsV.{heard_v}
 use Rattle.mesh_model.specs.Routes.Life.{of}
-use Rattle.mesh_algo.proofs.HearingLemmas.{touched, touches_life}
+use Rattle.mesh_algo.proofs.HearingLemmas.{touches_life}
 use Rattle.mesh_v.specs.Hears.{IsHeard, hearing_of, life_before}
 use Rattle.mesh_v.specs.Tables.{Tables}
 use Rattle.mesh_v.proofs.StepLemmas.{is_met, touch_stands}
@@ -26,6 +26,6 @@ returns-clause-noted c =
     let heard : IsHeard me old log came c.args.elp (Some c.in-Some.life) = subst (λ row. IsHeard me old log came c.args.elp row) c.in-Some.is is in
     touch_stands me log came c.args.elp c.in-Some.life old new heard first (ap (λ t. t.me) c.self.view_is) (ap (λ t. t.ogms) c.self.view_is) (ap (λ t. t.elps) c.self.view_is)
     (λ q. c.in_ok-put_near.ensures.updated q
-    ∙ ap (λ rows. cond (same_mac came.orig q) (Some (record { life = Some (touched (hearing_of me log came) (life_before me log came) c.in-Some.life); elp = c.args.elp })) (lookup (same_mac q) rows)) origs)
+    ∙ ap₂ (λ l rows. cond (same_mac came.orig q) (Some (record { life = Some l; elp = c.args.elp })) (lookup (same_mac q) rows)) c.touched-life.ensures origs)
     (c.in_ok-put_near.ensures.rises (subst (λ rows. IsStrictlySortedBy mac_order (keys_of rows)) (sym origs) is.stands.origs_stand.rise))
     (ap (λ t. t.paths) c.self.view_is)
