@@ -15,8 +15,8 @@ pub struct Answer {
     pub facts: FactList,
 }
 
-// The answer to an open request that a message of a sender under an id makes whole, by what there is
-// of the transaction then. The request is closed.
+// The answer to an open request that a message of a sender under an id makes whole, by what there
+// is of the transaction then. The request is closed.
 pub(crate) fn answer_of(requests: &mut Requests, sender: Mac, id: u16, txn: Txn) -> Option<Answer>
     ensures told { (asked : List FactRequest) → RequestsStand requests.old asked →
         option_map answered result ≡ answer_with (open_request asked sender id) (facts_in txn) }

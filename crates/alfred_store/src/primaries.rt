@@ -10,8 +10,8 @@ use mesh_base::{Mac, Millis, NoMemory};
 use std::alloc::Global;
 use std::marker::Model;
 
-/// The primaries that announced themselves, in the order of their addresses, each with the moment at
-/// which it did so last.
+/// The primaries that announced themselves, in the order of their addresses, each with the moment
+/// at which it did so last.
 #[derive(Debug, Drop)]
 pub struct Primaries {
     kept: IndexMap<Mac, Millis>,

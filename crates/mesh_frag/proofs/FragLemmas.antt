@@ -11,15 +11,17 @@ use Rattle.std.proofs.lemmas.Map.Entries.{lookup-filter-values, option_filter}
 use Rattle.std.proofs.lemmas.Map.Made.{IsDistinct-keys_filter}
 use Rattle.indexmap.specs.IndexMap.{IndexMap, get, insert_entry}
 use Rattle.indexmap.proofs.CallerLemmas.{insert_entry-new}
-use Rattle.mesh_model.specs.Fragments.Assembly.{Assembly, PartCall, goes_to, if_not_whole, is_part_of, new_assembly, standing, whole_of, with_part}
+use Rattle.mesh_model.specs.Fragments.Assembly.{Assembly, PartCall, goes_to, if_not_whole, is_part_of, new_assembly, part_of, standing, whole_of, with_part}
 use Rattle.mesh_model.specs.Routes.Addresses.{same_mac}
+use Rattle.mesh_laws.specs.Rising.{RiseWithin}
 use Rattle.mesh_laws.proofs.MacLemmas.{same_equiv, same_exact}
-use Rattle.mesh_frag.specs.Frags.{Answers, FragsStand, RiseWithin, Rows, assembly_of, newest_moment, opened_moments, same_assembly}
-use Rattle.mesh_frag.specs.Kept.{call_of, is_kept_young, is_young, told, told_with}
+use Rattle.mesh_laws.proofs.RisingMoments.{one_opened, one_removed, one_written, to_later}
+use Rattle.mesh_frag.specs.Frags.{Answers, FragsStand, Rows, assembly_of, newest_moment, opened_moments, same_assembly}
+use Rattle.mesh_frag.specs.Kept.{is_kept_young, is_young, told, told_with}
 use Rattle.mesh_frag.specs.declared.frag.Frag.{Frag}
 use Rattle.mesh_frag.specs.declared.frag.Frag.TheVariants.{Open, Whole}
 use Rattle.mesh_frag.specs.declared.frags.AssemblyKey.{AssemblyKey}
-use Rattle.mesh_frag.proofs.MomentLemmas.{filtered, goes_anew, goes_on_with, goes_to_young, one_opened, one_removed, one_written, standing_later, to_later, young_rise, young_rows}
+use Rattle.mesh_frag.proofs.MomentLemmas.{filtered, goes_anew, goes_on_with, goes_to_young, opened, standing_later, young_rise, young_rows}
 
 -- ---- what an assembly is known by
 key_equiv : IsEquivalence same_assembly
@@ -77,7 +79,7 @@ still_young now place tail assembly young = ap (λ moment. nat_lt (now - moment)
 
 module _ (rows : Rows) (calls : List PartCall) (stands : FragsStand rows calls) (now : ℕ) (in_time : newest_moment calls ≤ now) (key : AssemblyKey) (place : ℕ) (tail : List ℕ) where
   abbrev call : PartCall
-  call = call_of now key place tail
+  call = part_of now key.orig key.seq key.total place tail
 
   -- the assembly of the part, with it
   abbrev gone : Assembly
@@ -157,7 +159,7 @@ module _ (rows : Rows) (calls : List PartCall) (stands : FragsStand rows calls) 
     written_rise : RiseWithin 0 (opened_moments written) now
     written_rise =
         subst (λ moments. RiseWithin 0 moments now)
-        (sym (one_written (same_assembly key) rows before after found (ap (λ (a : Assembly). a.opened) is ∙ keeps_opening place tail before))) all_rise
+        (sym (one_written opened (same_assembly key) rows before after found (ap opened is ∙ keeps_opening place tail before))) all_rise
 
     -- once those that aren't open any more are dropped, these are left
     pub left_then : (mid left : Rows) → mid ≡ written → ((first last : ℕ) → RiseWithin first (opened_moments mid) last → left ≡ young_rows now mid) → left ≡ went_on
@@ -206,7 +208,7 @@ module _ (rows : Rows) (calls : List PartCall) (stands : FragsStand rows calls) 
           | true ↦ sym (ends_whole key.total after bytes (sym told_is ∙ is_whole)) ∙ ap (if_not_whole key.total) gone_on
           | false ↦ refl
         ])
-        (subst (λ (others : Rows). RiseWithin 0 (opened_moments others) now) (sym is_removed) (one_removed 0 now (same_assembly key) went_on went_on_rise))
+        (subst (λ (others : Rows). RiseWithin 0 (opened_moments others) now) (sym is_removed) (one_removed opened 0 now (same_assembly key) went_on went_on_rise))
         once
 
   -- ---- where none is open still
@@ -256,7 +258,7 @@ module _ (rows : Rows) (calls : List PartCall) (stands : FragsStand rows calls) 
         updates q
         ∙ ap₂ (cond (same_assembly key q)) (sym (stays_open key.total after have (sym told_is ∙ is_open_still)) ∙ ap (if_not_whole key.total) begun) (ap (lookup (same_assembly q)) left_is ∙ still_open_at q))
         (subst (λ (others : Rows). RiseWithin 0 (opened_moments others) now) (sym behind)
-        (one_opened 0 now still_open (key, after) (ap (λ (a : Assembly). a.opened) is ∙ keeps_opening place tail (new_assembly now)) still_rise))
+        (one_opened opened 0 now still_open (key, after) (ap opened is ∙ keeps_opening place tail (new_assembly now)) still_rise))
         once
 
     -- and then isn't kept

@@ -9,6 +9,7 @@ use Rattle.mesh_model.specs.declared.packet.Head.TheVariants.{IvOgm, Bcast, Elp,
 use Rattle.mesh_model.specs.Packets.Layout.{FitsFragmentByte}
 use Rattle.mesh_model.specs.Fragments.Assembly.{Assembly, PartCall, assembly, made_whole, part_of, standing}
 use Rattle.mesh_model.specs.Routes.Addresses.{same_mac}
+use Rattle.mesh_laws.specs.Rising.{RiseWithin}
 use Rattle.mesh_frag.specs.declared.frag.Frag.{Frag as FragTold}
 use Rattle.mesh_frag.specs.declared.frag.Frag.TheVariants.{Open, Whole}
 use Rattle.mesh_frag.specs.declared.frags.AssemblyKey.{AssemblyKey}
@@ -53,11 +54,6 @@ assembly_of calls key = assembly calls key.orig key.seq key.total
 -- the moments at which assemblies were opened
 abbrev pub opened_moments : Rows → List ℕ
 opened_moments rows = map (λ (row : AssemblyKey × Assembly). row.1.opened) rows
-
--- moments that never fall, from one to another
-abbrev pub RiseWithin : ℕ → List ℕ → ℕ → Type 0
-RiseWithin first [] last = first ≤ last
-RiseWithin first (moment ∷ moments) last = (first ≤ moment) × RiseWithin moment moments last
 
 -- the moment of the newest part
 abbrev pub newest_moment : List PartCall → ℕ

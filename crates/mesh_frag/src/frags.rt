@@ -4,8 +4,9 @@ ghost use Rattle.std.specs.Prelude.{◌≡◌, ◌≤◌, ℕ, List, [], ◌∷�
 ghost use Rattle.std.specs.Map.{lookup};
 ghost use Rattle.indexmap.specs.IndexMap.{spare};
 ghost use Rattle.mesh_model.specs.Fragments.Assembly.{PartCall};
-ghost use Rattle.mesh_frag.specs.Frags.{Answers, FragsStand, RiseWithin, newest_moment, opened_moments, part_of_head, same_assembly};
-ghost use Rattle.mesh_frag.specs.Kept.{call_of, is_kept_young, is_young};
+ghost use Rattle.mesh_laws.specs.Rising.{RiseWithin};
+ghost use Rattle.mesh_frag.specs.Frags.{Answers, FragsStand, newest_moment, opened_moments, part_of_head, same_assembly};
+ghost use Rattle.mesh_frag.specs.Kept.{IsAnswered, Notes, call_of, is_kept_young, is_young};
 
 use crate::assembly::OpenAssembly;
 use crate::frag::Frag;
@@ -21,6 +22,13 @@ struct AssemblyKey {
     orig: Mac,
     seq: u16,
     total: u16,
+}
+
+/// A part of an assembly: its place, and its bytes.
+#[derive(Clone, Copy)]
+struct Piece<'a> {
+    place: u8,
+    tail: &'a [u8],
 }
 
 /// The packets of which fragments came, and that a fragment can still make whole.
@@ -73,10 +81,14 @@ impl Frags {
             unreachable!()
         };
         let key = AssemblyKey { orig, seq, total };
+        let piece = Piece {
+            place: number,
+            tail,
+        };
         if self.is_open(now, key) {
-            self.go_on(now, key, number, tail)
+            self.go_on(now, key, piece)
         } else {
-            self.begin(now, key, number, tail)
+            self.begin(now, key, piece)
         }
     }
 
@@ -91,24 +103,14 @@ impl Frags {
 
     // Takes a part of an assembly that is open still. Others are dropped only once no memory is
     // wanted any more, so that a refusal leaves all.
-    fn go_on(
-        &mut self,
-        now: Millis,
-        key: AssemblyKey,
-        place: u8,
-        tail: &[u8],
-    ) -> Result<Frag, NoMemory>
+    fn go_on(&mut self, now: Millis, key: AssemblyKey, piece: Piece) -> Result<Frag, NoMemory>
         requires { is_kept_young now (lookup (same_assembly key) self.old) ≡ true }
-        ensures ok { (calls : List PartCall) → FragsStand self.old calls →
-            newest_moment calls ≤ now →
-            OnOk result (FragsStand self.new (call_of now key place tail.now ∷ calls)) }
-        ensures answered { (calls : List PartCall) → FragsStand self.old calls →
-            newest_moment calls ≤ now →
-            IfOk result (Answers (call_of now key place tail.now) calls) }
+        ensures ok { Notes (call_of now key piece.entry) self.old self.new result }
+        ensures answered { IsAnswered (call_of now key piece.entry) self.old result }
         ensures err { OnErr result (self.new ≡ self.old) }
     {
         let assembly = self.rows.get_mut(&key).unwrap();
-        let told = assembly.take(key.total, place, tail)?;
+        let told = assembly.take(key.total, piece.place, piece.tail)?;
         drop_aged(&mut self.rows, now);
         if let Frag::Whole(_) = told {
             self.rows.shift_remove(&key);
@@ -117,24 +119,14 @@ impl Frags {
     }
 
     // Takes a part of an assembly that it opens, behind the others.
-    fn begin(
-        &mut self,
-        now: Millis,
-        key: AssemblyKey,
-        place: u8,
-        tail: &[u8],
-    ) -> Result<Frag, NoMemory>
+    fn begin(&mut self, now: Millis, key: AssemblyKey, piece: Piece) -> Result<Frag, NoMemory>
         requires { is_kept_young now (lookup (same_assembly key) self.old) ≡ false }
-        ensures ok { (calls : List PartCall) → FragsStand self.old calls →
-            newest_moment calls ≤ now →
-            OnOk result (FragsStand self.new (call_of now key place tail.now ∷ calls)) }
-        ensures answered { (calls : List PartCall) → FragsStand self.old calls →
-            newest_moment calls ≤ now →
-            IfOk result (Answers (call_of now key place tail.now) calls) }
+        ensures ok { Notes (call_of now key piece.entry) self.old self.new result }
+        ensures answered { IsAnswered (call_of now key piece.entry) self.old result }
         ensures err { OnErr result (self.new ≡ self.old) }
     {
         let mut assembly = OpenAssembly::new(*self.rows.allocator(), now);
-        let told = assembly.take(key.total, place, tail)?;
+        let told = assembly.take(key.total, piece.place, piece.tail)?;
         self.rows.reserve(1)?;
         drop_aged(&mut self.rows, now);
         if let Frag::Open { .. } = told {

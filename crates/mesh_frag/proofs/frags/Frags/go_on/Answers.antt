@@ -23,32 +23,28 @@ returns-clause-answered c =
     let found : lookup (same_assembly c.args.key) old ≡ Some before = search rules in
     let young : is_young c.args.now before ≡ true = subst (λ kept. is_kept_young c.args.now kept ≡ true) found c.requires in
     λ calls stands in_time.
-    goes_on_answered old calls stands c.args.now in_time c.args.key c.args.place c.args.tail.now before c.take.new.self found young c.in_ok-told.ensures.ok c.in_ok-told.told c.in_ok-told.ensures.answered
+    goes_on_answered old calls stands c.args.now in_time c.args.key c.args.piece.place c.args.piece.tail.now before c.take.new.self found young c.in_ok-told.ensures.ok c.in_ok-told.told c.in_ok-told.ensures.answered
 
 pub returns-clause-ok : goal.returns-clause-ok
 returns-clause-ok c =
-    let now = c.args.now in
-    let key = c.args.key in
-    let place = c.args.place in
-    let tail = c.args.tail.now in
-    let old = c.args.self.now in
+    let a = c.args in
+    let old = a.self.now in
     let before = c.unwrap-assembly.result.now in
-    let found : lookup (same_assembly key) old ≡ Some before = search rules in
-    let young : is_young now before ≡ true = subst (λ kept. is_kept_young now kept ≡ true) found c.requires in
-    let written : (c.get_mut.follows.lender c.take.new.self).entries ≡ set_value (same_assembly key) old c.take.new.self = search rules in
+    let found : lookup (same_assembly a.key) old ≡ Some before = search rules in
+    let young : is_young a.now before ≡ true = subst (λ kept. is_kept_young a.now kept ≡ true) found c.requires in
+    let written : (c.get_mut.follows.lender c.take.new.self).entries ≡ set_value (same_assembly a.key) old c.take.new.self = search rules in
     λ calls stands in_time.
     let after = c.take.new.self in
-    let left = left_then old calls stands now in_time key place tail before after found young c.in_ok-told.ensures.ok (c.get_mut.follows.lender after).entries c.drop_aged.new.rows.entries written c.drop_aged.ensures.kept in
+    let left = left_then old calls stands a.now in_time a.key a.piece.place a.piece.tail.now before after found young c.in_ok-told.ensures.ok (c.get_mut.follows.lender after).entries c.drop_aged.new.rows.entries written c.drop_aged.ensures.kept in
+    let ends = goes_on_whole old calls stands a.now in_time a.key a.piece.place a.piece.tail.now before after found young c.in_ok-told.ensures.ok c.in_ok-told.told in
     elim c.match-told.branch [
       | in-Whole+in-Some-1 w ↦
-          subst (λ rows. FragsStand rows (call_of now key place tail ∷ calls)) (sym w.self-is)
-          (goes_on_whole old calls stands now in_time key place tail before after found young c.in_ok-told.ensures.ok c.in_ok-told.told w.in-Whole.field-0 c.in_ok-told.ensures.answered w.in-Whole.is
-          c.drop_aged.new.rows.entries w.shift_remove.new.self.entries left w.shift_remove.ensures.entries w.shift_remove.ensures.unique)
+          subst (λ rows. FragsStand rows (call_of a.now a.key a.piece ∷ calls)) (sym w.self-is)
+          (ends w.in-Whole.field-0 c.in_ok-told.ensures.answered w.in-Whole.is c.drop_aged.new.rows.entries w.shift_remove.new.self.entries left w.shift_remove.ensures.entries w.shift_remove.ensures.unique)
       | in-Whole+in-None-1 w ↦
-          subst (λ rows. FragsStand rows (call_of now key place tail ∷ calls)) (sym w.self-is)
-          (goes_on_whole old calls stands now in_time key place tail before after found young c.in_ok-told.ensures.ok c.in_ok-told.told w.in-Whole.field-0 c.in_ok-told.ensures.answered w.in-Whole.is
-          c.drop_aged.new.rows.entries w.shift_remove.new.self.entries left w.shift_remove.ensures.entries w.shift_remove.ensures.unique)
+          subst (λ rows. FragsStand rows (call_of a.now a.key a.piece ∷ calls)) (sym w.self-is)
+          (ends w.in-Whole.field-0 c.in_ok-told.ensures.answered w.in-Whole.is c.drop_aged.new.rows.entries w.shift_remove.new.self.entries left w.shift_remove.ensures.entries w.shift_remove.ensures.unique)
       | in_default w ↦
-          goes_on_open old calls stands now in_time key place tail before after found young c.in_ok-told.ensures.ok c.in_ok-told.told w.in_default.field-0 c.in_ok-told.ensures.answered w.in_default.is
+          goes_on_open old calls stands a.now in_time a.key a.piece.place a.piece.tail.now before after found young c.in_ok-told.ensures.ok c.in_ok-told.told w.in_default.field-0 c.in_ok-told.ensures.answered w.in_default.is
           c.match-told.self (w.self-is ∙ left)
     ]
