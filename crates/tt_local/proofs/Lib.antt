@@ -6,6 +6,7 @@ pub mod RosterLemmas
 pub mod VlansLemmas
 pub mod ChangesLemmas
 pub mod CommitLemmas
+pub mod CommittingLemmas
 pub mod NumberedLemmas
 pub mod RunLemmas
 pub mod JournalLemmas

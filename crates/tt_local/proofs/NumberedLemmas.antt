@@ -1,8 +1,8 @@
 -- What a journal keeps of the commit of a number.
-use Rattle.std.proofs.Common.{◌≡◌, ◌⊎◌, inl, inr, ⊎_elim, ℕ, zero, suc, ◌+◌, ◌*◌, ◌/◌, ◌%◌, ◌≤◌, ◌<◌, ◌==◌, ◌++◌, Bool, true, false, cond, List, [], ◌∷◌, drop, length, slice_get, Option, Some, None, Ok, option_map, refl, sym, ap, ◌∙◌, subst, arith}
+use Rattle.std.proofs.Common.{◌≡◌, ◌⊎◌, inl, inr, ⊎_elim, ℕ, zero, suc, ◌+◌, ◌*◌, ◌/◌, ◌%◌, ◌≤◌, ◌<◌, ◌==◌, ◌++◌, Bool, true, false, cond, List, [], ◌∷◌, drop, length, map, slice_get, Option, Some, None, Ok, option_map, refl, sym, ap, ◌∙◌, subst, arith}
 use Rattle.std.proofs.lemmas.Bool.{eqb-true, eq-eqb, ne_eqb, true≢false}
 use Rattle.std.proofs.lemmas.Bool.Decides.{nat_tests}
-use Rattle.std.proofs.lemmas.List.{length-append}
+use Rattle.std.proofs.lemmas.List.{length-append, length-map, map-append}
 use Rattle.std.proofs.lemmas.Option.{slice_get_within}
 use Rattle.mesh_base.specs.declared.client.Entry.{Entry}
 use Rattle.mesh_model.specs.Commits.History.{History}
@@ -14,6 +14,8 @@ use Rattle.mesh_model.specs.Tables.Versions.{Version}
 use Rattle.mesh_laws.proofs.MachineInvariant.{number_below}
 use Rattle.mesh_laws.proofs.TableChanges.{changeset_leads}
 use Rattle.tt_local.specs.Journal.{AreInKeyOrder, AreSnapshots, HasSums, HasTable, JournalStands, JournalView, PastCommit, past_of, snapshots_of, with_snapshot}
+use Rattle.tt_local.specs.declared.journal.Past.{Past}
+use Rattle.tt_table.specs.Sums.{named_sums}
 
 -- ---- lists with one more at the end
 -- an element is the last one, or was there without it
@@ -211,11 +213,35 @@ number_made view history stands n made = there history.commits n (subst (λ m. n
         go true e rest = (c, refl)
         go false e rest = rest (grind (arith, nat_tests, below, e))
 
--- tables with one that may be there
-abbrev pub with_option : Option (List Entry) → List (List Entry) → List (List Entry)
-with_option None tables = tables
-with_option (Some table) tables = tables ++ table ∷ []
+-- a list with one more that may be there
+abbrev pub with_option : {X : Type 0} → Option X → List X → List X
+with_option None xs = xs
+with_option (Some x) xs = xs ++ x ∷ []
 
-pub option_kept : (b : Bool) (table : List Entry) (o : Option (List Entry)) (tables : List (List Entry)) → o ≡ cond b (Some table) None → with_option o tables ≡ cond b (tables ++ table ∷ []) tables
-option_kept true table o tables e = ap (λ x. with_option x tables) e
-option_kept false table o tables e = ap (λ x. with_option x tables) e
+seen_with : {X Y : Type 0} (view : X → Y) (o : Option X) (xs : List X) → map view (with_option o xs) ≡ with_option (option_map view o) (map view xs)
+seen_with view None xs = refl
+seen_with view (Some x) xs = map-append view xs (x ∷ [])
+
+chosen : {X : Type 0} (b : Bool) (x : X) (xs : List X) → with_option (cond b (Some x) None) xs ≡ cond b (xs ++ x ∷ []) xs
+chosen true x xs = refl
+chosen false x xs = refl
+
+-- what is kept whole once the table of one more commit was pushed, where that is kept
+pub snapshots_pushed : {X : Type 0} (view : X → List Entry) (o : Option X) (before after : List X) (number : ℕ) (table : List Entry) → after ≡ with_option o before → option_map view o ≡ cond (number % 32 == 0) (Some table) None
+    → map view after ≡ with_snapshot number table (map view before)
+snapshots_pushed view o before after number table is kept =
+    ap (map view) is ∙ seen_with view o before ∙ ap (λ p. with_option p (map view before)) kept ∙ chosen (number % 32 == 0) table (map view before)
+
+-- and then those are kept that are to be
+pub snapshots_stay : {X : Type 0} (view : X → List Entry) (o : Option X) (before after : List X) (number n m : ℕ) (table : List Entry) → AreSnapshots (map view before) n → n ≡ number → m ≡ n + 1 → IsInKeyOrder table
+    → after ≡ with_option o before → option_map view o ≡ cond (number % 32 == 0) (Some table) None → AreSnapshots (map view after) m
+snapshots_stay view o before after number n m table stood counted more ordered is kept =
+    snapshots_kept (map view before) (map view after) table number m (subst (AreSnapshots (map view before)) counted stood) ordered (snapshots_pushed view o before after number table is kept) (more ∙ ap (λ k. k + 1) counted)
+
+-- ---- commits that others followed
+-- what is seen of one
+abbrev pub past_view : Past → PastCommit
+past_view past = record { changes = past.changes; sums = named_sums past.sums }
+
+pub past_counted : (past : List Past) (view : JournalView) → map past_view past ≡ view.past → length past ≡ length view.past
+past_counted past view is = sym (length-map past past_view) ∙ ap length is

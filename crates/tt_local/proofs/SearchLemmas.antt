@@ -1,8 +1,8 @@
 -- The search for the alias of a commit, log by log, among the commits of its byte.
-use Rattle.std.proofs.Common.{◌≡◌, ◌⊎◌, inl, inr, ⊎_elim, ℕ, ◌+◌, ◌-◌, ◌*◌, ◌/◌, ◌%◌, ◌<◌, ◌≤◌, Bool, true, false, List, [], ◌∷◌, length, slice_get, Option, Some, None, min, nat_lt, nat_eq, refl, sym, ap, ◌∙◌, subst, arith}
+use Rattle.std.proofs.Common.{◌≡◌, ◌⊎◌, inl, inr, ⊎_elim, ℕ, ◌+◌, ◌-◌, ◌*◌, ◌/◌, ◌%◌, ◌<◌, ◌≤◌, Bool, true, false, List, [], ◌∷◌, length, get_or, slice_get, Option, Some, None, min, nat_lt, nat_eq, refl, sym, ap, ◌∙◌, subst, arith}
 use Rattle.std.proofs.lemmas.Bool.{eqb-true}
 use Rattle.std.proofs.lemmas.Bool.Decides.{nat_tests}
-use Rattle.std.proofs.lemmas.Option.{slice_get_within}
+use Rattle.std.proofs.lemmas.Option.{slice_get-get_or, slice_get_within}
 use Rattle.mesh_model.specs.Commits.Aliases.{alias_of, are_aliases, last_alias}
 use Rattle.mesh_model.specs.Commits.Versions.{commit_numbered, first_commit}
 use Rattle.mesh_model.specs.Tables.Versions.{Version}
@@ -17,6 +17,16 @@ use Rattle.tt_local.proofs.RunLemmas.{among_end, found_among, in_bounds, in_from
 use Rattle.tt_local.proofs.AliasLemmas.{none_before, found_before, until, other_byte}
 
 -- ---- the search log by log
+-- the log at a place before that which goes on is one of all
+pub record IsWalked (view : JournalView) (place : ℕ) (run : Run) : Type 0 where
+  pub at : slice_get view.runs place ≡ Some run
+  pub there : IsAmong run (all_runs view)
+
+pub run_walked : (view : JournalView) (runs : List Run) (place : ℕ) (other : Run) → runs ≡ view.runs → place < length runs → IsWalked view place (get_or runs place other)
+run_walked view runs place other are within =
+    let at = ap (λ rs. slice_get rs place) (sym are) ∙ slice_get-get_or runs place other within in
+    record { at = at; there = (place, place_still view.runs (present_run view) (get_or runs place other) place at) }
+
 -- no commit below a number is an alias of that of another
 abbrev pub HasNoneBelow : ℕ → ℕ → List Version → Type 0
 HasNoneBelow bound number commits = (earlier : ℕ) → earlier < bound → AreAliasesAt false number earlier commits

@@ -4,7 +4,7 @@ ghost use Rattle.mesh_model.specs.Clients.Mentions.{Departed, Joined, Left, Ment
 ghost use Rattle.mesh_model.specs.Clients.Present.{present_clients, present_row};
 ghost use Rattle.mesh_model.specs.Commits.History.{committed, first_history, History, present_table};
 ghost use Rattle.tt_local.specs.Limits.{HasLimit, limit_at};
-ghost use Rattle.tt_local.specs.Locals.{LocalsStand};
+ghost use Rattle.tt_local.specs.Locals.{LocalsStand, Notes, TellsNew};
 
 use crate::failure::LocalErr;
 use crate::journal::Journal;
@@ -88,13 +88,9 @@ impl Locals {
     // Notes a sighting of a client, whatever the limits, and answers whether the client is newly
     // present.
     fn note(&mut self, now: Millis, key: Key, flags: u8) -> Result<bool, NoMemory>
-        ensures noted { (mentions : List Mention) (history : History) (since : ℕ) →
-            LocalsStand self.old mentions history since →
-            let mention : Mention = record { moment = now; key = key; news = Sighted flags } in
-            OnOk result (LocalsStand self.new (mention ∷ mentions) history since) }
-        ensures newly { IfOk result (λ newly. (mentions : List Mention) (history : History)
-            (since : ℕ) → LocalsStand self.old mentions history since → since ≤ now →
-            IsTrue newly ↔ IsNone (present_row mentions now key)) }
+        ensures noted { Notes (record { moment = now; key = key; news = Sighted flags })
+            self.old self.new result }
+        ensures newly { TellsNew now key self.old result }
         ensures err { OnErr result (self.new ≡ self.old) }
     {
         let newly = self.row(now, key).is_none();
