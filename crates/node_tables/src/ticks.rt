@@ -10,15 +10,14 @@ ghost use Rattle.mesh_model.specs.Commits.Announcements.{announcement};
 ghost use Rattle.mesh_model.specs.Commits.History.{History, after_tick, with_message, committed, is_commit_tick, present_table};
 ghost use Rattle.mesh_model.specs.Commits.Versions.{last_commit};
 ghost use Rattle.mesh_model.specs.Knowledge.Known.{Knowledge};
-ghost use Rattle.mesh_model.specs.Knowledge.Steps as steps;
 ghost use Rattle.mesh_model.specs.Packets.Containers.{containers_spelling};
 ghost use Rattle.mesh_model.specs.Routes.Queries.{is_ogm};
-ghost use Rattle.mesh_model.specs.Routes.RouteLog.{MayTick, OwnTick};
+ghost use Rattle.mesh_model.specs.Routes.RouteLog.{OwnTick};
 ghost use Rattle.node_ground.specs.KnowledgeStands.{KnowledgeStands};
-ghost use Rattle.node_ground.specs.OwnStands.{AreFew};
 ghost use Rattle.node_ground.specs.Puts.{Puts};
 ghost use Rattle.node_ground.specs.SettingsSeen.{settings_seen};
 ghost use Rattle.node_lans.specs.BridgeStands.{BridgeStands};
+ghost use Rattle.node_tables.specs.Ticks.{HasFew, HasTicked, IsTicked, MayTickNext};
 ghost use Rattle.tt_local.specs.Journal.{new_number};
 ghost use Rattle.tt_local.specs.Locals.{LocalsStand};
 
@@ -136,9 +135,7 @@ fn own_message<P: Port>(
     head: Option<Head>,
 ) -> Result<(), NodeErr>
     requires ogm { IfSome head (λ head. IsTrue (is_ogm head)) }
-    requires few { (mentions : List Mention) × (history : History) × (since : ℕ)
-        × LocalsStand locals.old mentions history since × (since ≤ at.now)
-        × AreFew mentions history at.now }
+    requires few { HasFew locals.old at.now }
     ensures puts { (mentions : List Mention) (history : History) (since : ℕ) →
         LocalsStand locals.old mentions history since → since ≤ at.now →
         let after : History = committed (present_table mentions at.now) history in
@@ -166,11 +163,8 @@ fn beat<A: Algo, P: Port>(
     at: Place,
     index: u64,
 ) -> Result<(), NodeErr>
-    requires known { (known : Knowledge) × KnowledgeStands A.stands kept.old at.me known
-        × MayTick known.routes index }
-    requires few { (mentions : List Mention) × (history : History) × (since : ℕ)
-        × LocalsStand locals.old mentions history since × (since ≤ at.now)
-        × AreFew mentions history at.now }
+    requires known { MayTickNext A.stands kept.old at.me index }
+    requires few { HasFew locals.old at.now }
     ensures puts { (known : Knowledge) (mentions : List Mention) (history : History) (since : ℕ) →
         KnowledgeStands A.stands kept.old at.me known →
         LocalsStand locals.old mentions history since → since ≤ at.now →
@@ -179,13 +173,8 @@ fn beat<A: Algo, P: Port>(
         (elp_acts (A.queries at.me) known.routes index ++ (if is_commit_tick index
         then commit_acts (A.queries at.me) at.me known.services.settings known.routes index
         history after else [])) result port.new }
-    ensures ticked { (known : Knowledge) → KnowledgeStands A.stands kept.old at.me known →
-        OnOk result (KnowledgeStands A.stands kept.new at.me
-        (steps.before_round (A.queries at.me) at.now index known)) }
-    ensures committed { (mentions : List Mention) (history : History) (since : ℕ) →
-        LocalsStand locals.old mentions history since → since ≤ at.now →
-        OnOk result (LocalsStand locals.new mentions
-        (after_tick index (present_table mentions at.now) history) at.now) }
+    ensures ticked { IsTicked A.stands (A.queries at.me) at index kept.old kept.new result }
+    ensures committed { HasTicked at.now index locals.old locals.new result }
 {
     let beats = kept.algo.tick(at.now, index);
     send_elp(kept.alloc, port, beats.elp)?;
@@ -213,11 +202,8 @@ pub fn tick<A: Algo, P: Port>(
     at: Place,
     index: u64,
 ) -> Result<(), NodeErr>
-    requires known { (known : Knowledge) × KnowledgeStands A.stands kept.old at.me known
-        × MayTick known.routes index }
-    requires few { (mentions : List Mention) × (history : History) × (since : ℕ)
-        × LocalsStand locals.old mentions history since × (since ≤ at.now)
-        × AreFew mentions history at.now }
+    requires known { MayTickNext A.stands kept.old at.me index }
+    requires few { HasFew locals.old at.now }
     ensures puts { (known : Knowledge) (mentions : List Mention) (history : History) (since : ℕ)
         (gateway : lans.Bridge) → KnowledgeStands A.stands kept.old at.me known →
         LocalsStand locals.old mentions history since → since ≤ at.now →
@@ -225,13 +211,8 @@ pub fn tick<A: Algo, P: Port>(
         Puts P.takes P.same P.over port.old
         (tick_acts (A.queries at.me) at.me known.services.settings known.routes mentions history
         gateway at.now index) result port.new }
-    ensures ticked { (known : Knowledge) → KnowledgeStands A.stands kept.old at.me known →
-        OnOk result (KnowledgeStands A.stands kept.new at.me
-        (steps.before_round (A.queries at.me) at.now index known)) }
-    ensures committed { (mentions : List Mention) (history : History) (since : ℕ) →
-        LocalsStand locals.old mentions history since → since ≤ at.now →
-        OnOk result (LocalsStand locals.new mentions
-        (after_tick index (present_table mentions at.now) history) at.now) }
+    ensures ticked { IsTicked A.stands (A.queries at.me) at index kept.old kept.new result }
+    ensures committed { HasTicked at.now index locals.old locals.new result }
 {
     beat(kept, port, locals, at, index)?;
     round(kept.alloc, port, bridge, at, index)?;
