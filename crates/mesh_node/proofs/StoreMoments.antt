@@ -3,21 +3,22 @@ use Rattle.std.proofs.Common.{◌≡◌, ◌≤◌, ℕ, Bool, true, false, cond
 use Rattle.std.proofs.lemmas.Option.{same_Some}
 use Rattle.alfred_core.specs.Transactions.{newest_moment as newest_message}
 use Rattle.alfred_store.specs.StoreStands.{IsBefore, KnownStore, store_in}
-use Rattle.alfred_store.proofs.StoreLemmas.{answering, pushed}
 use Rattle.mesh_base.specs.declared.address.Mac.{Mac}
 use Rattle.mesh_base.specs.declared.client.Vid.{Vid}
 use Rattle.mesh_model.specs.declared.line_form.AlfredMode.{AlfredMode}
 use Rattle.mesh_model.specs.declared.line_form.AlfredMode.TheVariants.{Off, Primary as IsPrimary, Secondary}
 use Rattle.mesh_model.specs.declared.packet.Head.{Head}
 use Rattle.mesh_model.specs.declared.packet.Head.TheVariants.{IvOgm, Bcast, Elp, Ogm2, Unicast, Frag, Unicast4, Icmp, Utvlv}
+use Rattle.mesh_model.specs.declared.service.Fact.{Fact}
 use Rattle.mesh_model.specs.Clients.Log.{Given, Tick, LinkFrame, LanFrame, Line, LineGiven, Attach, Frame, Gone, Join, Leave, Arp, Dhcp, Sets, Put, Get, Ping, Trace, Reboot, Log}
 use Rattle.mesh_model.specs.Clients.Mentions.{key_of, mentions, next_mentions, passed_from_lan}
 use Rattle.mesh_model.specs.Clients.Settings.{Setting, Wifi, Gateway, Multicast, ArpTable, FactStore, Pictures, LongestWhole}
-use Rattle.mesh_model.specs.Knowledge.FactStore.{after_answering, after_brought, after_fact_message, after_get, after_push, after_store_message, txn_call}
+use Rattle.mesh_model.specs.Knowledge.FactStore.{after_answering, after_brought, after_closing, after_fact_message, after_get, after_push, after_store_message, after_whole_push, closed_by, txn_call, with_fact, with_facts}
 use Rattle.mesh_model.specs.Fragments.Assembly.{PartCall, part_of}
 use Rattle.mesh_model.specs.Knowledge.Known.{Knowledge}
 use Rattle.mesh_model.specs.Knowledge.Pairs.{after_arp, after_came, after_question, is_asked, with_ask, with_learned}
 use Rattle.mesh_model.specs.Knowledge.PutTogether.{fact_carried, put_together, with_part}
+use Rattle.mesh_model.specs.Knowledge.Served.{FactRequest}
 use Rattle.mesh_model.specs.Knowledge.Steps.{Coming, after_call, after_frame, after_packet, after_packets, after_passed, after_sighting, knowledge, line_knowledge, next_knowledge, table_behind, with_set}
 use Rattle.mesh_model.specs.Knowledge.Told.{message_of}
 use Rattle.mesh_model.specs.Packets.ArpMessages.{ArpCame, Asks, Puts, Tells}
@@ -27,6 +28,7 @@ use Rattle.mesh_model.specs.Packets.LanFrames.{client_frame_in, lan_message_of}
 use Rattle.mesh_model.specs.Packets.LinkFrame.{link_frame}
 use Rattle.mesh_model.specs.Routes.Queries.{Queries}
 use Rattle.mesh_model.specs.Services.ArpTable.{AskedFor}
+use Rattle.mesh_model.specs.Services.Facts.{CameFrom}
 use Rattle.mesh_model.specs.Services.Transactions.{APart, AnEnd, TxnCall, made_whole}
 use Rattle.mesh_laws.proofs.KeptLemmas.{HasCome, Kept, brings, call_kept, frame_kept, get_kept, head_comes, head_part, joins, kept_of, leaves, passed_kept, stores, tick_kept}
 use Rattle.mesh_node.specs.NodeStands.{IsRising}
@@ -51,11 +53,29 @@ stays known after now same before = record {
 at_once : (now : ℕ) → now ≤ now
 at_once now = omega arith
 
+-- facts that are taken are no messages
+facts_before : (now then : ℕ) (sender : Mac) (facts : List Fact) (known : Knowledge) → IsBefore (store_in known) then → IsBefore (store_in (with_facts now sender facts known)) then
+facts_before now then sender [] known before = before
+facts_before now then sender (fact ∷ facts) known before =
+    facts_before now then sender facts (with_fact (CameFrom now sender fact) known) (record { pushes = before.pushes; answers = before.answers })
+
+whole_before : (now then : ℕ) (sender : Mac) (facts : Option (List Fact)) (known : Knowledge) → IsBefore (store_in known) then → IsBefore (store_in (after_whole_push now sender facts known)) then
+whole_before now then sender None known before = before
+whole_before now then sender (Some facts) known before = facts_before now then sender facts known before
+
 push_before : (call : TxnCall) (known : Knowledge) → IsBefore (store_in known) call.moment → IsBefore (store_in (after_push call known)) call.moment
-push_before call known before = subst (λ store. IsBefore store call.moment) (pushed call known (made_whole call known.services.pushes) refl) (record { pushes = at_once call.moment; answers = before.answers })
+push_before call known before =
+    whole_before call.moment call.moment call.sender (made_whole call known.services.pushes) (record known { services = record known.services { pushes = call ∷ known.services.pushes } })
+    (record { pushes = at_once call.moment; answers = before.answers })
+
+closing_before : (request : Option FactRequest) (known : Knowledge) (now : ℕ) → IsBefore (store_in known) now → IsBefore (store_in (after_closing request known)) now
+closing_before None known now before = before
+closing_before (Some request) known now before = record { pushes = before.pushes; answers = before.answers }
 
 answering_before : (call : TxnCall) (known : Knowledge) → IsBefore (store_in known) call.moment → IsBefore (store_in (after_answering call known)) call.moment
-answering_before call known before = subst (λ store. IsBefore store call.moment) (answering call known (made_whole call known.services.answers) refl) (record { pushes = before.pushes; answers = at_once call.moment })
+answering_before call known before =
+    closing_before (closed_by call known.services) (record known { services = record known.services { answers = call ∷ known.services.answers } }) call.moment
+    (record { pushes = before.pushes; answers = at_once call.moment })
 
 brought_before : (mode : AlfredMode) (push : Bool) (call : TxnCall) (known : Knowledge) → IsBefore (store_in known) call.moment → IsBefore (store_in (after_brought mode push call known)) call.moment
 brought_before Off push call known before = before

@@ -10,7 +10,7 @@ use Rattle.mesh_model.specs.Acts.ArpRows.{arp_told, asked_acts, known_or_asked, 
 use Rattle.mesh_model.specs.Acts.BridgeRows.{Place}
 use Rattle.mesh_model.specs.Knowledge.Known.{Knowledge}
 use Rattle.mesh_model.specs.Knowledge.Pairs.{known_address, pair_keepers, with_learned}
-use Rattle.mesh_model.specs.Packets.ArpMessages.{arp_request}
+use Rattle.mesh_model.specs.Packets.ArpMessages.{ArpMessage, arp_request}
 use Rattle.mesh_model.specs.Packets.Numbers.{dht_get_subtype}
 use Rattle.mesh_model.specs.Routes.Queries.{Queries}
 use Rattle.node_ground.specs.declared.failure.NodeErr.{NodeErr}
@@ -25,13 +25,16 @@ module _ {P : Type 0} (takes : P → Act → P → Type 0) (same : P → P → T
   some_asked [] old new result some puts = absurd (some refl)
   some_asked (node ∷ rest) old new result some puts = puts
 
-  -- a pair that isn't known is asked of the nodes that keep it
-  pub asked_puts : (nodes : List Mac) (old new : P) (result : Result Unit NodeErr) → known_address known at.now asked_ip vid ≡ None → nodes ≡ pair_keepers q at.me known at.now asked_ip vid
-      → (length nodes ≡ 0 → ⊥) → Puts takes same over old (table_packets q known at dht_get_subtype (message_of_client arp_request mac own_ip asked_ip vid) nodes) result new
+  -- a pair that isn't known is asked, by this message, of the nodes that keep it
+  pub asked_puts : (nodes sent : List Mac) (message : ArpMessage) (old new : P) (result : Result Unit NodeErr) → known_address known at.now asked_ip vid ≡ None
+      → nodes ≡ pair_keepers q at.me known at.now asked_ip vid → (length nodes ≡ 0 → ⊥) → sent ≡ nodes → message ≡ message_of_client arp_request mac own_ip asked_ip vid
+      → Puts takes same over old (table_packets q known at dht_get_subtype message sent) result new
       → Puts takes same over old (known_or_asked q known at mac own_ip asked_ip vid (known_address known at.now asked_ip vid)) result new
-  asked_puts nodes old new result unknown are some puts =
+  asked_puts nodes sent message old new result unknown are some to_nodes of_client puts =
+      let Sends : ArpMessage → List Mac → Type 0 = λ m ns. Puts takes same over old (table_packets q known at dht_get_subtype m ns) result new in
       subst (λ found. Puts takes same over old (known_or_asked q known at mac own_ip asked_ip vid found) result new) (sym unknown)
-      (subst (λ ns. Puts takes same over old (asked_acts q known at mac own_ip asked_ip vid ns) result new) are (some_asked nodes old new result some puts))
+      (subst (λ ns. Puts takes same over old (asked_acts q known at mac own_ip asked_ip vid ns) result new) are
+      (some_asked nodes old new result some (subst (λ m. Sends m nodes) of_client (subst (Sends message) to_nodes puts))))
 
   -- what is known with the pair that is learned from the question
   abbrev learned : Knowledge

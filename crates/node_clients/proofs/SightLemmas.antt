@@ -1,5 +1,5 @@
 -- A sighting that is refused, and one that is noted.
-use Rattle.std.proofs.Common.{◌≡◌, ℕ, List, [], ◌++◌, refl, ap, subst, sym, ◌∙◌, arith, ◌≤◌, Option, Some, None, Result, Err}
+use Rattle.std.proofs.Common.{◌≡◌, ℕ, List, [], ◌++◌, refl, ap, subst, sym, ◌∙◌, arith, ◌≤◌, Option, Some, None, Result, Ok, Err}
 use Rattle.std.specs.Option.{option_or}
 use Rattle.mesh_base.specs.declared.client.Key.{Key}
 use Rattle.mesh_model.specs.declared.act.Act.{Act}
@@ -12,20 +12,21 @@ use Rattle.node_ground.specs.declared.failure.NodeErr.{NodeErr}
 use Rattle.node_ground.specs.Errors.{HasOwnCause, client_error_of}
 use Rattle.node_ground.specs.Puts.{Leaves, Puts, behind}
 use Rattle.node_ground.proofs.PutsLemmas.{stops_among}
-use Rattle.node_ground.proofs.LeavesLemmas.{client_cause, free_cause}
+use Rattle.node_ground.proofs.LeavesLemmas.{client_cause, free_cause, leaves_first, leaves_then}
 use Rattle.mesh_base.specs.declared.address.Mac.{Mac}
-use Rattle.mesh_base.specs.declared.client.Vid.{Vid}
-use Rattle.mesh_model.specs.Clients.Log.{Log, LanFrame, Line, Frame, Dhcp}
+use Rattle.mesh_model.specs.Clients.Log.{Log, LanFrame}
 use Rattle.mesh_model.specs.Commits.History.{History, history}
 use Rattle.mesh_model.specs.Routes.Queries.{Queries}
+use Rattle.mesh_model.specs.Routes.RouteLog.{RouteLog}
+use Rattle.node_ground.specs.declared.knowledge.NodeKnowledge.{NodeKnowledge}
 use Rattle.node_ground.specs.OwnStands.{AreFew, HasClients, OwnStands, newest_moment, with_input}
 use Rattle.node_ground.proofs.OwnLemmas.{few_later, few_news}
 use Rattle.tt_local.specs.Locals.{LocalsView}
-use Rattle.mesh_model.specs.Acts.Choosing.{call_frame}
+use Rattle.mesh_model.specs.Acts.Choosing.{call_frame, sighting_acts}
 use Rattle.mesh_model.specs.Acts.Rows.{own_by}
 use Rattle.mesh_model.specs.Packets.LanFrames.{lan_message_of}
 use Rattle.mesh_model.specs.Packets.Payload.{ClientFrame}
-use Rattle.node_clients.specs.FrameRows.{HasMentioned, sighting_of}
+use Rattle.node_clients.specs.FrameRows.{Before, HasMentioned, given_call, given_frame, key_from, sighting_of}
 use Rattle.node_clients.specs.LanRows.{passed_of}
 
 within_one : (o : Option LimitName) → option_or o None ≡ None → o ≡ None
@@ -44,48 +45,47 @@ few_passed older history since now news (Some frame) few late within =
     few_news older history since (record { moment = now; key = key_of frame.src frame.vid; news = news }) few late
     (within_one (limit_of_mention older (record { moment = now; key = key_of frame.src frame.vid; news = news })) within)
 
--- the clients after a client frame
-pub has_sighted : (q : Queries) (old new : LocalsView) (me src dst : Mac) (vid : Vid) (text : List ℕ) (log : Log) (now : ℕ) → HasClients old me log → newest_moment log ≤ now
-    → HasMentioned new me log (sighting_of log now (key_of src vid)) → HasClients new me (with_input q me log now (Line (Frame src dst vid text)))
-has_sighted q old new me src dst vid text log now has late mentioned = record {
-  since = mentioned.since;
-  stand = mentioned.stand;
-  settled = (let settled = mentioned.settled in omega (arith, settled, late));
-  few = few_passed (mentions me log) (history me log) (newest_moment log) now (sighted_after log) (Some (record { dst = dst; src = src; vid = vid; text = text })) has.few late mentioned.within;
-}
+module _ {A : Type 0} {stands : A → Mac → RouteLog → Type 0} {queries : Mac → Queries} {kept : NodeKnowledge A} {old new : LocalsView} {me : Mac} {log : Log} {now : ℕ}
+    (before : Before stands queries kept old me log now) where
+  -- the clients after a client frame
+  pub has_sighted : (frame : ClientFrame) → HasMentioned new me log (sighting_of log now (key_from frame)) → HasClients new me (with_input (queries me) me log now (given_frame frame))
+  has_sighted frame mentioned = record {
+    since = mentioned.since;
+    stand = mentioned.stand;
+    settled = (let settled = mentioned.settled in let late = before.later in omega (arith, settled, late));
+    few = few_passed (mentions me log) (history me log) (newest_moment log) now (sighted_after log) (Some frame) before.clients.few before.later mentioned.within;
+  }
 
--- and after a call for a gateway
-pub has_called : (q : Queries) (old new : LocalsView) (me : Mac) (key : Key) (text : List ℕ) (log : Log) (now : ℕ) → HasClients old me log → newest_moment log ≤ now
-    → HasMentioned new me log (sighting_of log now key) → HasClients new me (with_input q me log now (Line (Dhcp key text)))
-has_called q old new me key text log now has late mentioned = record {
-  since = mentioned.since;
-  stand = mentioned.stand;
-  settled = (let settled = mentioned.settled in omega (arith, settled, late));
-  few = few_passed (mentions me log) (history me log) (newest_moment log) now (sighted_after log) (Some (call_frame key text)) has.few late mentioned.within;
-}
+  -- and after a call for a gateway
+  pub has_called : (key : Key) (text : List ℕ) → HasMentioned new me log (sighting_of log now key) → HasClients new me (with_input (queries me) me log now (given_call key text))
+  has_called key text mentioned = record {
+    since = mentioned.since;
+    stand = mentioned.stand;
+    settled = (let settled = mentioned.settled in let late = before.later in omega (arith, settled, late));
+    few = few_passed (mentions me log) (history me log) (newest_moment log) now (sighted_after log) (Some (call_frame key text)) before.clients.few before.later mentioned.within;
+  }
 
--- and after a frame of a LAN
-pub has_passed : (q : Queries) (old new : LocalsView) (me : Mac) (log : Log) (now : ℕ) (bytes : List ℕ) → HasClients old me log → newest_moment log ≤ now
-    → HasMentioned new me log (passed_mentions (sighted_after log) now (passed_of me log now (lan_message_of bytes))) → HasClients new me (with_input q me log now (LanFrame bytes))
-has_passed q old new me log now bytes has late mentioned = record {
-  since = mentioned.since;
-  stand = mentioned.stand;
-  settled = (let settled = mentioned.settled in omega (arith, settled, late));
-  few = few_passed (mentions me log) (history me log) (newest_moment log) now (sighted_after log) (passed_of me log now (lan_message_of bytes)) has.few late mentioned.within;
-}
+  -- and after a frame of a LAN
+  pub has_passed : (bytes : List ℕ) → HasMentioned new me log (passed_mentions (sighted_after log) now (passed_of me log now (lan_message_of bytes)))
+      → HasClients new me (with_input (queries me) me log now (LanFrame bytes))
+  has_passed bytes mentioned = record {
+    since = mentioned.since;
+    stand = mentioned.stand;
+    settled = (let settled = mentioned.settled in let late = before.later in omega (arith, settled, late));
+    few = few_passed (mentions me log) (history me log) (newest_moment log) now (sighted_after log) (passed_of me log now (lan_message_of bytes)) before.clients.few before.later mentioned.within;
+  }
 
--- the own clients at a moment, with these mentions
-pub owned_news : (old new : LocalsView) (me : Mac) (log : Log) (now : ℕ) (news : List Mention) → HasClients old me log → newest_moment log ≤ now
-    → HasMentioned new me log news → OwnStands new (record (own_by me log) { mentions = news ++ mentions me log }) now
-owned_news old new me log now news has late mentioned = record {
-  history = history me log;
-  since = mentioned.since;
-  stand = mentioned.stand;
-  settled = (let settled = mentioned.settled in omega (arith, settled, late));
-  last = refl;
-  told = refl;
-  few = has.few.committed;
-}
+  -- the own clients at a moment, with these mentions
+  pub owned_news : {news : List Mention} → HasMentioned new me log news → OwnStands new (record (own_by me log) { mentions = news ++ mentions me log }) now
+  owned_news mentioned = record {
+    history = history me log;
+    since = mentioned.since;
+    stand = mentioned.stand;
+    settled = (let settled = mentioned.settled in let late = before.later in omega (arith, settled, late));
+    last = refl;
+    told = refl;
+    few = before.clients.few.committed;
+  }
 
 -- nothing is mentioned
 pub none_mentioned : (locals : LocalsView) (me : Mac) (log : Log) → HasClients locals me log → HasMentioned locals me log []
@@ -114,3 +114,25 @@ module _ {P : Type 0} (takes : P → Act → P → Type 0) (same : P → P → T
       → Puts takes same over old acts result new → Leaves takes same over (behind [] (option_or (limit_by mentions now key news) None)) old acts result new
   frame_taken within old new acts result puts =
       subst (λ limit. Leaves takes same over (behind [] (option_or limit None)) old acts result new) (sym (sym (ap (limit_by mentions now key) is) ∙ within)) puts
+
+-- what a node puts for an input that sights a client of it, by this key: its advertisement, and then
+-- the rest
+module _ {P : Type 0} (takes : P → Act → P → Type 0) (same : P → P → Type 0) (over : P → Act → Option LimitName)
+    (q : Queries) (me : Mac) (log : Log) (now : ℕ) (source : Key) (rest : List Act) {key : Key} (is : key ≡ source) where
+  abbrev sighting_limit : Key → Option LimitName
+  sighting_limit k = limit_of_mentions (mentions me log) (sighting_of log now k)
+
+  abbrev SightingLeaves : Key → P → Result Unit NodeErr → P → Type 0
+  SightingLeaves k old result new = Leaves takes same over (behind [] (sighting_limit k)) old (sighting_acts q me log now k) result new
+
+  -- where the sighting stops, nothing comes behind it
+  pub stops_at_sighting : (error : NodeErr) (old new : P) → SightingLeaves key old (Err error) new
+      → Leaves takes same over (behind [] (sighting_limit source)) old (sighting_acts q me log now source ++ rest) (Err error) new
+  stops_at_sighting error old new left =
+      leaves_first takes same over (sighting_limit source) error old new (sighting_acts q me log now source) rest (subst (λ k. SightingLeaves k old (Err error) new) is left)
+
+  -- the rest is put behind the sighting
+  pub behind_sighting : (old mid new : P) (result : Result Unit NodeErr) → SightingLeaves key old (Ok tt) mid → Puts takes same over mid rest result new
+      → Leaves takes same over (behind [] (sighting_limit source)) old (sighting_acts q me log now source ++ rest) result new
+  behind_sighting old mid new result left =
+      leaves_then takes same over (sighting_limit source) old mid new (sighting_acts q me log now source) rest result (subst (λ k. SightingLeaves k old (Ok tt) mid) is left)

@@ -14,7 +14,7 @@ ghost use Rattle.node_ground.specs.OwnStands.{HasClients, with_input};
 ghost use Rattle.node_ground.specs.Puts.{Leaves, Puts};
 ghost use Rattle.node_clients.specs.FrameRows.{Before, given_call};
 
-use crate::client_frames::sighted;
+use crate::seeing::sight_client;
 use crate::sending::{flood, send_on};
 use mesh_algo::Algo;
 use mesh_base::{Key, Mac};
@@ -75,13 +75,13 @@ pub fn call<A: Algo, P: Port>(
         OnOk result (HasClients locals.new at.me
         (with_input (A.queries at.me) at.me log at.now given)) }
 {
+    sight_client(kept, port, locals, at, flags, key)?;
     let frame = ClientFrame {
         dst: Mac::BROADCAST,
         src: key.mac,
         vid: key.vid,
         text,
     };
-    sighted(kept, port, locals, at, flags, &frame)?;
     call_gateway(kept, port, at, &frame)?;
     Ok(())
 }

@@ -14,8 +14,9 @@ ghost use Rattle.node_ground.specs.Puts.{Puts};
 ghost use Rattle.node_lans.specs.BridgeStands.{BridgeStands};
 ghost use Rattle.node_clients.specs.FrameRows.{key_to};
 
+use crate::keys::key_to;
 use mesh_algo::Algo;
-use mesh_base::{Key, LossReason, Mac, Reason};
+use mesh_base::{LossReason, Mac, Reason};
 use mesh_codec::{ClientFrame, Head, read_client_frame};
 use node_ground::deliveries::{address, is_present, lose, lose_carried, send_broadcast_on};
 use node_ground::messages::send;
@@ -73,11 +74,7 @@ fn readdress<A: Algo, P: Port>(
         (readdressed (A.queries at.me) known (place at) ttl frame tail.now
         (addressee (A.queries at.me) known at.now (key_to frame))) result port.new }
 {
-    let key = Key {
-        mac: frame.dst,
-        vid: frame.vid,
-    };
-    let Some(way) = kept.addressee(at.now, key) else {
+    let Some(way) = kept.addressee(at.now, key_to(frame)) else {
         lose(port, at, LossReason::Unknown, frame)?;
         return Ok(());
     };
@@ -110,11 +107,7 @@ pub fn here<A: Algo, P: Port>(
     let Some(frame) = read_client_frame(tail) else {
         return Ok(());
     };
-    let key = Key {
-        mac: frame.dst,
-        vid: frame.vid,
-    };
-    if frame.dst.is_group() || is_present(locals, at.now, key) {
+    if frame.dst.is_group() || is_present(locals, at.now, key_to(&frame)) {
         let spread = spread_of_packet(&frame);
         out(kept.alloc, port, bridge, at, spread, &frame)?;
         return Ok(());

@@ -1,32 +1,31 @@
 //! The row of client frames that lines give a node, behind their sighting.
 
-ghost use Rattle.std.specs.Prelude.{◌≡◌, [], OnOk};
+ghost use Rattle.std.specs.Prelude.{◌≡◌, OnOk};
 ghost use Rattle.mesh_codec.specs.Payloads.{seen_frame};
 ghost use Rattle.mesh_model.specs.Acts.FrameRows.{frame_acts, on_way};
 ghost use Rattle.mesh_model.specs.Acts.Rows.{Own};
-ghost use Rattle.mesh_model.specs.Acts.Choosing.{whole_acts, sighting_acts};
+ghost use Rattle.mesh_model.specs.Acts.Choosing.{whole_acts};
 ghost use Rattle.mesh_model.specs.Acts.NodeLimits.{client_limit};
 ghost use Rattle.mesh_model.specs.Clients.Log.{Log};
-ghost use Rattle.mesh_model.specs.Clients.Limits.{limit_of_mentions};
-ghost use Rattle.mesh_model.specs.Clients.Mentions.{Sighted, mentions, sighted_after};
+ghost use Rattle.mesh_model.specs.Clients.Mentions.{Sighted, sighted_after};
 ghost use Rattle.mesh_model.specs.Knowledge.Addressee.{addressee};
 ghost use Rattle.mesh_model.specs.Knowledge.Known.{Knowledge};
-ghost use Rattle.mesh_model.specs.Knowledge.Steps.{after_frame, after_sighting, knowledge, next_knowledge};
+ghost use Rattle.mesh_model.specs.Knowledge.Steps.{after_frame, knowledge, next_knowledge};
 ghost use Rattle.node_ground.specs.KnowledgeStands.{KnowledgeStands, place};
-ghost use Rattle.node_ground.specs.OwnStands.{with_input};
-ghost use Rattle.node_ground.specs.OwnStands.{HasClients, OwnStands};
-ghost use Rattle.node_clients.specs.FrameRows.{Before, HasMentioned, given_frame, key_from, sighting_of};
-ghost use Rattle.node_ground.specs.Puts.{Leaves, Puts, behind};
-ghost use Rattle.node_clients.specs.FrameRows.{key_to};
+ghost use Rattle.node_ground.specs.OwnStands.{HasClients, OwnStands, with_input};
+ghost use Rattle.node_clients.specs.FrameRows.{Before, given_frame, key_to};
+ghost use Rattle.node_ground.specs.Puts.{Leaves, Puts};
 
 use crate::groups::group_frame;
+use crate::keys::key_to;
 use crate::seeing::sight_client;
 use crate::sending::{flood, send_on};
 use mesh_algo::Algo;
-use mesh_base::{Key, LossReason};
+use mesh_base::LossReason;
 use mesh_codec::ClientFrame;
 use node_ground::deliveries::{hand_out, is_present, lose};
 use node_ground::{NodeErr, NodeKnowledge, Place, Port};
+use node_lans::bridging::key_from;
 use tt_local::Locals;
 
 // A client frame goes on its way, or is lost where there is none.
@@ -42,11 +41,7 @@ fn send_frame<A: Algo, P: Port>(
         (on_way (A.queries at.me) known (place at) frame
         (addressee (A.queries at.me) known at.now (key_to frame))) result port.new }
 {
-    let key = Key {
-        mac: frame.dst,
-        vid: frame.vid,
-    };
-    let Some(way) = kept.addressee(at.now, key) else {
+    let Some(way) = kept.addressee(at.now, key_to(frame)) else {
         lose(port, at, LossReason::Unknown, frame)?;
         return Ok(());
     };
@@ -78,11 +73,7 @@ pub(crate) fn client_frame<A: Algo, P: Port>(
         flood(kept, port, at, frame)?;
         return Ok(());
     }
-    let key = Key {
-        mac: frame.dst,
-        vid: frame.vid,
-    };
-    let present = is_present(locals, at.now, key);
+    let present = is_present(locals, at.now, key_to(frame));
     if frame.dst.is_group() {
         group_frame(kept, port, at, frame, present)?;
         return Ok(());
@@ -92,42 +83,6 @@ pub(crate) fn client_frame<A: Algo, P: Port>(
         return Ok(());
     }
     send_frame(kept, port, at, frame)?;
-    Ok(())
-}
-
-/// A client is sighted by a client frame of it, with these flags: what is then noted of it, and its
-/// advertisement.
-pub(crate) fn sighted<A: Algo, P: Port>(
-    kept: &mut NodeKnowledge<A>,
-    port: &mut P,
-    locals: &mut Locals,
-    at: Place,
-    flags: u8,
-    frame: &ClientFrame<'_>,
-) -> Result<(), NodeErr>
-    ensures puts { (log : Log) →
-        Before A.stands A.queries kept.old locals.old at.me log at.now →
-        Sighted flags ≡ sighted_after log →
-        let key = key_from (seen_frame frame.now) in
-        let limit = limit_of_mentions (mentions at.me log) (sighting_of log at.now key) in
-        Leaves P.takes P.same P.over (behind [] limit) port.old
-        (sighting_acts (A.queries at.me) at.me log at.now key) result port.new }
-    ensures noted { (log : Log) →
-        Before A.stands A.queries kept.old locals.old at.me log at.now →
-        let key = key_from (seen_frame frame.now) in
-        OnOk result (KnowledgeStands A.stands kept.new at.me (after_sighting (A.queries at.me)
-        at.me log at.now key (knowledge (A.queries at.me) at.me log))) }
-    ensures sighted { (log : Log) →
-        Before A.stands A.queries kept.old locals.old at.me log at.now →
-        Sighted flags ≡ sighted_after log →
-        let key = key_from (seen_frame frame.now) in
-        OnOk result (HasMentioned locals.new at.me log (sighting_of log at.now key)) }
-{
-    let key = Key {
-        mac: frame.src,
-        vid: frame.vid,
-    };
-    sight_client(kept, port, locals, at, flags, key)?;
     Ok(())
 }
 
@@ -161,7 +116,7 @@ pub fn frame<A: Algo, P: Port>(
         OnOk result (HasClients locals.new at.me
         (with_input (A.queries at.me) at.me log at.now given)) }
 {
-    sighted(kept, port, locals, at, flags, frame)?;
+    sight_client(kept, port, locals, at, flags, key_from(frame))?;
     client_frame(kept, port, locals, at, frame)?;
     Ok(())
 }

@@ -11,9 +11,10 @@ ghost use Rattle.node_ground.specs.Puts.{Puts};
 ghost use Rattle.node_clients.specs.FrameRows.{key_to};
 ghost use Rattle.node_clients.specs.GroupRows.{after_fan, each_addressed, one_addressed};
 
+use crate::keys::key_to;
 use crate::sending::flood;
 use mesh_algo::Algo;
-use mesh_base::{Key, Mac, Reason};
+use mesh_base::{Mac, Reason};
 use mesh_codec::ClientFrame;
 use mesh_serv::{Fan, plan};
 use node_ground::deliveries::{address, hand_out, payload};
@@ -124,11 +125,7 @@ pub(crate) fn group_frame<A: Algo, P: Port>(
         OnOk result (KnowledgeStands A.stands kept.new at.me
         (after_fan (length (receivers (A.queries at.me) known at.now key)) known)) }
 {
-    let key = Key {
-        mac: frame.dst,
-        vid: frame.vid,
-    };
-    let receivers = kept.receivers(at.now, key)?;
+    let receivers = kept.receivers(at.now, key_to(frame))?;
     hand_out_if(kept.alloc, port, at, frame, joined)?;
     send_to_receivers(kept, port, at, frame, receivers.as_slice())?;
     Ok(())

@@ -1,27 +1,28 @@
 //! The row of frames on the LAN of a gateway.
 
-ghost use Rattle.std.specs.Prelude.{◌≡◌, ◌++◌, [], OnOk};
+ghost use Rattle.std.specs.Prelude.{◌≡◌, List, OnOk};
 ghost use Rattle.mesh_base.specs.declared.address.Mac.{Mac};
 ghost use Rattle.mesh_codec.specs.Payloads.{seen_frame};
-ghost use Rattle.mesh_model.specs.Acts.Choosing.{whole_acts, on_from_lan, sighting_acts};
+ghost use Rattle.mesh_model.specs.Acts.Choosing.{on_from_lan, whole_acts};
 ghost use Rattle.mesh_model.specs.Acts.NodeLimits.{client_limit};
-ghost use Rattle.mesh_model.specs.Acts.Rows.{Own};
+ghost use Rattle.mesh_model.specs.Acts.Rows.{Own, own_by};
 ghost use Rattle.mesh_model.specs.Clients.Lans as lans;
-ghost use Rattle.mesh_model.specs.Clients.Limits.{limit_of_mentions};
 ghost use Rattle.mesh_model.specs.Clients.Log.{LanFrame, Log};
-ghost use Rattle.mesh_model.specs.Clients.Mentions.{Sighted, mentions, passed_mentions, sighted_after};
+ghost use Rattle.mesh_model.specs.Clients.Mentions.{Mention, Sighted, passed_mentions, sighted_after};
 ghost use Rattle.mesh_model.specs.Knowledge.Addressee.{addressee};
 ghost use Rattle.mesh_model.specs.Knowledge.Known.{Knowledge};
-ghost use Rattle.mesh_model.specs.Knowledge.Steps.{after_passed, after_sighting, knowledge, leads_to_gateway, next_knowledge, stays_on_lan};
+ghost use Rattle.mesh_model.specs.Knowledge.Steps.{after_bridged, knowledge, leads_to_gateway, next_knowledge, stays_on_lan};
 ghost use Rattle.mesh_model.specs.Packets.LanFrames.{Carries};
 ghost use Rattle.node_ground.specs.KnowledgeStands.{KnowledgeStands};
 ghost use Rattle.node_ground.specs.OwnStands.{HasClients, OwnStands, with_input};
-ghost use Rattle.node_ground.specs.Puts.{Leaves, behind};
+ghost use Rattle.node_ground.specs.Puts.{Leaves, Puts};
 ghost use Rattle.node_lans.specs.BridgeStands.{BridgeStands};
-ghost use Rattle.node_clients.specs.FrameRows.{Before, HasMentioned, key_from, key_to, sighting_of};
+ghost use Rattle.node_clients.specs.FrameRows.{Before, HasMentioned, key_to};
 ghost use Rattle.node_clients.specs.LanRows.{message_acts, message_knowledge, message_limit, passed_of};
 
-use crate::client_frames::{client_frame, sighted};
+use crate::client_frames::client_frame;
+use crate::keys::key_to;
+use crate::seeing::sight_client;
 use mesh_algo::Algo;
 use mesh_base::{Key, Millis};
 use mesh_codec::{ClientFrame, LanMessage, read_lan};
@@ -64,57 +65,43 @@ fn stays_on_lan<A: Algo>(
     is_present(locals, now, key) || leads_to_gateway(kept, bridge, now, key)
 }
 
-// A client frame that a gateway passes of its LAN: its sighting, and then the frame, unless it stays
+// A client frame that a gateway passes of its LAN, behind its sighting: it goes on, unless it stays
 // there.
-fn passed<A: Algo, P: Port>(
+fn pass_on<A: Algo, P: Port>(
     kept: &mut NodeKnowledge<A>,
     port: &mut P,
-    locals: &mut Locals,
+    locals: &Locals,
     bridge: &Bridge,
     at: Place,
-    flags: u8,
     frame: &ClientFrame<'_>,
 ) -> Result<(), NodeErr>
-    requires { (log : Log) × Before A.stands A.queries kept.old locals.old at.me log at.now }
-    ensures puts { (log : Log) →
-        Before A.stands A.queries kept.old locals.old at.me log at.now →
-        BridgeStands bridge.now at.me (lans.bridge log) → Sighted flags ≡ sighted_after log →
-        let frame = seen_frame frame.now in
-        let seen = sighting_of log at.now (key_from frame) in
-        let q = A.queries at.me in
-        let known = after_sighting q at.me log at.now (key_from frame) (knowledge q at.me log) in
-        Leaves P.takes P.same P.over (behind [] (limit_of_mentions (mentions at.me log) seen))
-        port.old (sighting_acts q at.me log at.now (key_from frame)
-        ++ on_from_lan q at.me log at.now known (seen ++ mentions at.me log) frame)
+    requires { (known : Knowledge) × KnowledgeStands A.stands kept.old at.me known }
+    ensures puts { (log : Log) (known : Knowledge) (after : List Mention) →
+        KnowledgeStands A.stands kept.old at.me known →
+        OwnStands locals.now (record (own_by at.me log) { mentions = after }) at.now →
+        BridgeStands bridge.now at.me (lans.bridge log) →
+        Puts P.takes P.same P.over port.old
+        (on_from_lan (A.queries at.me) at.me log at.now known after (seen_frame frame.now))
         result port.new }
-    ensures noted { (log : Log) →
-        Before A.stands A.queries kept.old locals.old at.me log at.now →
-        BridgeStands bridge.now at.me (lans.bridge log) → Sighted flags ≡ sighted_after log →
-        let frame = seen_frame frame.now in
-        let seen = sighting_of log at.now (key_from frame) in
+    ensures noted { (log : Log) (known : Knowledge) (after : List Mention) →
+        KnowledgeStands A.stands kept.old at.me known →
+        OwnStands locals.now (record (own_by at.me log) { mentions = after }) at.now →
+        BridgeStands bridge.now at.me (lans.bridge log) →
         let q = A.queries at.me in
-        OnOk result (KnowledgeStands A.stands kept.new at.me (after_passed q at.me log
-        (knowledge q at.me log) at.now (seen ++ mentions at.me log) (Some frame))) }
-    ensures sighted { (log : Log) →
-        Before A.stands A.queries kept.old locals.old at.me log at.now →
-        Sighted flags ≡ sighted_after log →
-        let key = key_from (seen_frame frame.now) in
-        OnOk result (HasMentioned locals.new at.me log (sighting_of log at.now key)) }
+        let key = key_to (seen_frame frame.now) in
+        let stays = stays_on_lan q after (lans.bridge log).lan at.now key known in
+        OnOk result (KnowledgeStands A.stands kept.new at.me
+        (after_bridged q at.now stays key known)) }
 {
-    sighted(kept, port, locals, at, flags, frame)?;
-    let key = Key {
-        mac: frame.dst,
-        vid: frame.vid,
-    };
-    if stays_on_lan(kept, locals, bridge, at.now, key) {
+    if stays_on_lan(kept, locals, bridge, at.now, key_to(frame)) {
         return Ok(());
     }
     client_frame(kept, port, locals, at, frame)?;
     Ok(())
 }
 
-// A client frame on the LAN of a gateway: a claim by the verdict, and then the frame, where it is
-// passed.
+// A client frame on the LAN of a gateway: a claim by the verdict, and then its sighting and the
+// frame, where it is passed.
 fn carried<A: Algo, P: Port>(
     kept: &mut NodeKnowledge<A>,
     port: &mut P,
@@ -144,12 +131,14 @@ fn carried<A: Algo, P: Port>(
         OnOk result (HasMentioned locals.new at.me log
         (passed_mentions (sighted_after log) at.now (passed_of at.me log at.now message))) }
 {
-    let verdict = bridge.claims.from_lan(at.now, key_from(frame));
+    let key = key_from(frame);
+    let verdict = bridge.claims.from_lan(at.now, key);
     claim_source(kept.alloc, port, bridge, at, frame, verdict)?;
     if !verdict.pass {
         return Ok(());
     }
-    passed(kept, port, locals, bridge, at, flags, frame)?;
+    sight_client(kept, port, locals, at, flags, key)?;
+    pass_on(kept, port, locals, bridge, at, frame)?;
     Ok(())
 }
 

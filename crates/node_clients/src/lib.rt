@@ -7,6 +7,7 @@ pub mod calls;
 pub mod carried;
 pub mod client_frames;
 mod groups;
+mod keys;
 pub mod lan_frames;
 pub mod roaming;
 pub mod seeing;

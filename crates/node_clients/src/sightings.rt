@@ -55,27 +55,6 @@ fn advise<A: Algo>(
     }
 }
 
-// Ends the mark of a client that is sighted, and answers where it is advertised, if anywhere.
-fn sight<A: Algo>(
-    kept: &mut NodeKnowledge<A>,
-    now: Millis,
-    key: Key,
-    newly: bool,
-) -> Result<Option<Way>, NoMemory>
-    ensures way { (me : Mac) (known : Knowledge) → KnowledgeStands A.stands kept.old me known →
-        IfOk result (λ to. option_map way to
-        ≡ advert_way (A.queries me) known now key newly) }
-    ensures noted { (me : Mac) (known : Knowledge) →
-        KnowledgeStands A.stands kept.old me known →
-        let to = advert_way (A.queries me) known now key newly in
-        OnOk result (KnowledgeStands A.stands kept.new me
-        (record known { marks = sighting_calls now key to known.marks })) }
-{
-    let to = advise(kept, now, key, newly)?;
-    kept.sync.unmark(key);
-    Ok(to)
-}
-
 // The containers of an advertisement.
 fn advert(alloc: Global, key: Key) -> Result<Vec<u8>, NoMemory>
     ensures bytes { IfOk result (λ bytes.
@@ -112,7 +91,8 @@ fn send_advert<P: Port>(
     Ok(())
 }
 
-/// A client is sighted, which is newly present by that or not.
+/// A client is sighted, which is newly present by that or not: its mark ends, and it is advertised
+/// where it was.
 pub(crate) fn sighting<A: Algo, P: Port>(
     kept: &mut NodeKnowledge<A>,
     port: &mut P,
@@ -130,7 +110,8 @@ pub(crate) fn sighting<A: Algo, P: Port>(
         OnOk result (KnowledgeStands A.stands kept.new at.me
         (after_sighting (A.queries at.me) at.me log at.now key known)) }
 {
-    let to = sight(kept, at.now, key, newly)?;
+    let to = advise(kept, at.now, key, newly)?;
+    kept.sync.unmark(key);
     send_advert(kept.alloc, port, at.me, key, &to)?;
     Ok(())
 }
