@@ -2,7 +2,7 @@
 -- the step.
 use Rattle.std.proofs.Common.{◌≡◌, ◌↔◌, ℕ, suc, ◌+◌, ◌*◌, ◌<◌, ◌≤◌, ◌⊎◌, inl, inr, true, false, List, [], ◌∷◌, ◌++◌, filter, length, take, drop, slice_get, Option, Some, None, Result, Ok, Err, is_ok, refl, sym, ap, ◌∙◌, subst, arith, append-nil}
 use Rattle.std.proofs.Math.Seq.{drop-append_seam}
-use Rattle.std.specs.Result.{OnOk, OnErr, IfOk, IfErr}
+use Rattle.std.specs.Result.{OnOk, OnErr, IfErr}
 use Rattle.mesh_base.specs.declared.address.Mac.{Mac}
 use Rattle.mesh_base.specs.declared.event.Event.{Event}
 use Rattle.mesh_model.specs.declared.frame_choice.FrameChoice.{FrameChoice}
@@ -30,12 +30,11 @@ use Rattle.mesh_laws.proofs.Schedule.Steps.{lan_joins as joined_effect}
 use Rattle.node_ground.specs.declared.failure.NodeErr.{NodeErr}
 use Rattle.node_ground.specs.declared.failure.NodeErr.TheVariants as node_errors
 use Rattle.mesh_net.specs.declared.failure.NetErr.{NetErr}
-use Rattle.mesh_net.specs.declared.failure.NetErr.TheVariants as net_errors
 use Rattle.mesh_net.specs.declared.net.Net.{Net}
 use Rattle.mesh_post.specs.declared.post.Post.{Post}
 use Rattle.mesh_post.specs.declared.row.Sending.{Sending}
 use Rattle.mesh_net.specs.Given.{GiveTells}
-use Rattle.mesh_post.specs.Kept.{FramesAre, PutsAre}
+use Rattle.mesh_post.specs.Kept.{PostStands}
 use Rattle.mesh_net.specs.declared.seat.Seat.{Seat}
 use Rattle.std.specs.Global.{Vec}
 use Rattle.mesh_model.specs.Text.Events.{is_shown}
@@ -47,6 +46,7 @@ use Rattle.mesh_net.specs.Steps.{AreOnLans, AreOnLinks, HasStage, ArePast, Begun
 use Rattle.mesh_net.specs.Tells.{Carried, Gains, StandsAfter, StepTells}
 use Rattle.mesh_net.specs.Watching.{WatchStands}
 use Rattle.mesh_post.specs.Waiting.{IsPopped, all_deliveries}
+use Rattle.mesh_post.proofs.Besides.{stands_beside, step_waits}
 use Rattle.mesh_post.proofs.LookUps.{some_one}
 use Rattle.mesh_told.specs.declared.told_routes.ToldRoutes.{ToldRoutes}
 use Rattle.mesh_net.proofs.MomentLemmas.{are_past, past_later}
@@ -112,25 +112,6 @@ step_ticks post older last a b mesh same step = record {
 abbrev pub ended_with : List RouteLine → Happening → Mesh → Mesh
 ended_with lines h mesh = record (with_lines lines mesh) { last = h }
 
-pub step_ended : (post : Post) (older : List Sending) (last h : Happening) (ticks : List Happening) (lines : List RouteLine) (mesh : Mesh) → InStep post older last ticks mesh → InStep post older last ticks (ended_with lines h mesh)
-step_ended post older last h ticks lines mesh step = record {
-  amid = record {
-    stands = record {
-      rows = step.amid.stands.rows;
-      turns = step.amid.stands.turns;
-      ways = step.amid.stands.ways;
-      lans = step.amid.stands.lans;
-      frames = step.amid.stands.frames;
-      puts = step.amid.stands.puts;
-      bytes = step.amid.stands.bytes;
-      few = step.amid.stands.few;
-      small = step.amid.stands.small;
-    };
-    waits = step.amid.waits;
-  };
-  older_is = step.older_is;
-}
-
 -- ---- settled
 abbrev pub settled_post : Post → Post → Post
 settled_post old new = record old { fresh = new.fresh; older = new.older }
@@ -138,20 +119,7 @@ settled_post old new = record old { fresh = new.fresh; older = new.older }
 module _ {A : Type 0} where
   pub settled_step : (a b : Net A) (last : Happening) (ticks : List Happening) (mesh : Mesh) → Settled a b → InStep a.post a.sent last ticks mesh → InStep b.post b.sent last ticks mesh
   settled_step a b last ticks mesh s step = subst (λ p. InStep p b.sent last ticks mesh) (sym s.post) (record {
-    amid = record {
-      stands = record {
-        rows = step.amid.stands.rows;
-        turns = step.amid.stands.turns;
-        ways = step.amid.stands.ways;
-        lans = step.amid.stands.lans;
-        frames = subst (λ ss. FramesAre ss mesh.frames a.post.frames.items) sendings step.amid.stands.frames;
-        puts = subst (λ ss. PutsAre ss mesh.puts a.post.puts.items) sendings step.amid.stands.puts;
-        bytes = step.amid.stands.bytes;
-        few = step.amid.stands.few;
-        small = step.amid.stands.small;
-      };
-      waits = step.amid.waits;
-    };
+    amid = record { stands = stands_beside (subst (λ ss. PostStands a.post ss mesh) sendings step.amid.stands); waits = step.amid.waits };
     older_is = s.older;
   })
     where
@@ -370,23 +338,7 @@ module _ {A : Type 0} (queries : Mac → Queries) (stands : A → Mac → RouteL
       settled = s.settled;
       stage = record {
         seats_stand = s.seats;
-        step = record {
-          amid = record {
-            stands = record {
-              rows = s.kept.amid.stands.rows;
-              turns = s.kept.amid.stands.turns;
-              ways = s.kept.amid.stands.ways;
-              lans = s.kept.amid.stands.lans;
-              frames = s.kept.amid.stands.frames;
-              puts = s.kept.amid.stands.puts;
-              bytes = s.kept.amid.stands.bytes;
-              few = s.kept.amid.stands.few;
-              small = s.kept.amid.stands.small;
-            };
-            waits = popped_waits net.post.queue rest t h mesh sound s.kept.amid.waits popped;
-          };
-          older_is = s.kept.older_is;
-        };
+        step = step_waits s.kept (popped_waits net.post.queue rest t h mesh sound s.kept.amid.waits popped);
         past = nodes_past;
         late = omega arith;
         soon = h_low;
@@ -405,23 +357,26 @@ module _ {A : Type 0} (queries : Mac → Queries) (stands : A → Mac → RouteL
         record { nodes = mesh.nodes; seats_stand = s.seats; past = nodes_past; row = k.node; found = k.found; may = may_tick queries clock mesh h.place k.node s.reached k.found few; few = few }
 
     ticks_match : (after : Mesh) (class : Class) → h.class ≡ class → after_happening (scenario_setup queries) h mesh ≡ Ok after → (x : Happening) → Has (ticks_amid h.class h.place h.moment waiting_ticks) x ↔ Has (first_ticks 0 after.nodes) x
-    ticks_match after LinkDelivery e is x =
+    ticks_match after class e is x =
         let step = step_is (scenario_setup queries) mesh h after is in
-        let same = tickless_same mesh after (λ place n f. subst (λ c. Was mesh.nodes after.frames (ticks_of c h.place place) place n) e (step.nodes place n f)) step.count in
-        let both = all_others net.post.queue rest t h mesh sound s.kept.amid.waits popped (λ n. not_link (sym n ∙ e)) x in
         subst (λ c. Has (ticks_amid c h.place h.moment waiting_ticks) x ↔ Has (first_ticks 0 after.nodes) x) (sym e)
-        (λ p. subst (λ hs. Has hs x) (sym same) (both.0 p), λ p. both.1 (subst (λ hs. Has hs x) same p))
-    ticks_match after LanDelivery e is x =
-        let step = step_is (scenario_setup queries) mesh h after is in
-        let same = tickless_same mesh after (λ place n f. subst (λ c. Was mesh.nodes after.frames (ticks_of c h.place place) place n) e (step.nodes place n f)) step.count in
-        let both = all_others net.post.queue rest t h mesh sound s.kept.amid.waits popped (λ n. not_lan (sym n ∙ e)) x in
-        subst (λ c. Has (ticks_amid c h.place h.moment waiting_ticks) x ↔ Has (first_ticks 0 after.nodes) x) (sym e)
-        (λ p. subst (λ hs. Has hs x) (sym same) (both.0 p), λ p. both.1 (subst (λ hs. Has hs x) same p))
-    ticks_match after NodeTick e is x =
-        let step = step_is (scenario_setup queries) mesh h after is in
-        let k = ticker_is net.post.queue rest t h mesh sound s.kept.amid.waits popped e in
-        subst (λ c. Has (ticks_amid c h.place h.moment waiting_ticks) x ↔ Has (first_ticks 0 after.nodes) x) (sym e)
-        (ticks_next mesh after h k.node k.found k.is (λ place n f. subst (λ c. Was mesh.nodes after.frames (ticks_of c h.place place) place n) e (step.nodes place n f)) step.count (tick_or_later net.post.queue rest t h mesh sound s.kept.amid.waits popped) x)
+        (by_class class e (λ place n f. subst (λ c. Was mesh.nodes after.frames (ticks_of c h.place place) place n) e (step.nodes place n f)))
+      where
+        count : length after.nodes ≡ length mesh.nodes
+        count = (step_is (scenario_setup queries) mesh h after is).count
+
+        delivers : (h.class ≡ NodeTick → ⊥) → Were mesh after no_ticks → Has waiting_ticks x ↔ Has (first_ticks 0 after.nodes) x
+        delivers other were =
+            let same = tickless_same mesh after were count in
+            let both = all_others net.post.queue rest t h mesh sound s.kept.amid.waits popped other x in
+            (λ p. subst (λ hs. Has hs x) (sym same) (both.0 p), λ p. both.1 (subst (λ hs. Has hs x) same p))
+
+        by_class : (c : Class) → h.class ≡ c → Were mesh after (ticks_of c h.place) → Has (ticks_amid c h.place h.moment waiting_ticks) x ↔ Has (first_ticks 0 after.nodes) x
+        by_class LinkDelivery of were = delivers (λ n. not_link (sym n ∙ of)) were
+        by_class LanDelivery of were = delivers (λ n. not_lan (sym n ∙ of)) were
+        by_class NodeTick of were =
+            let k = ticker_is net.post.queue rest t h mesh sound s.kept.amid.waits popped of in
+            ticks_next mesh after h k.node k.found k.is were count (tick_or_later net.post.queue rest t h mesh sound s.kept.amid.waits popped) x
 
     pub stepped : (amid done end : Net A) (old new new' : List Event) → KeepsSent (popped_net net rest) amid → Settled amid done → SameBut done end → end.clock ≡ h.moment → end.last ≡ h → new' ≡ new
         → HasHappened queries stands amid choice h (ticks_amid h.class h.place h.moment waiting_ticks) mesh old new h
@@ -449,26 +404,6 @@ module _ {A : Type 0} (queries : Mac → Queries) (stands : A → Mac → RouteL
     }
 
 -- ---- results
-pub on_ok_map : {X : Type 0} {P Q : Type 0} (r : Result X NetErr) → (P → Q) → OnOk r P → OnOk r Q
-on_ok_map (Ok done) f p = f p
-on_ok_map (Err error) f p = tt
-
-pub on_err_map : {X : Type 0} {P Q : Type 0} (r : Result X NetErr) → (P → Q) → OnErr r P → OnErr r Q
-on_err_map (Ok done) f p = tt
-on_err_map (Err error) f p = f p
-
-pub if_err_map : {X : Type 0} {P Q : NetErr → Type 0} (r : Result X NetErr) → ((e : NetErr) → P e → Q e) → IfErr r P → IfErr r Q
-if_err_map (Ok done) f p = tt
-if_err_map (Err error) f p = f error p
-
-pub if_ok_map : {X : Type 0} {P Q : X → Type 0} (r : Result X NetErr) → ((x : X) → P x → Q x) → IfOk r P → IfOk r Q
-if_ok_map (Ok done) f p = f done p
-if_ok_map (Err error) f p = tt
-
-pub if_ok_done : {X : Type 0} {P : X → Type 0} {Q : Type 0} (r : Result X NetErr) → ((x : X) → P x → Q) → IfOk r P → OnOk r Q
-if_ok_done (Ok done) f p = f done p
-if_ok_done (Err error) f p = tt
-
 -- a net as a call leaves it
 pub net_by : {X : Type 0} {P Q : Type 0} (r : Result X NetErr) → OnErr r P → OnOk r Q → P ⊎ Q
 net_by (Ok done) p q = inr q

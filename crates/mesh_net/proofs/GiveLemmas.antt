@@ -34,6 +34,7 @@ use Rattle.mesh_net.specs.Given.{HasGiven, GiveTells}
 use Rattle.mesh_post.specs.Refused.{PortSame}
 use Rattle.mesh_post.specs.Sent.{InStep, MaySend, Logged, Grew, PortTook, passed_by, actor_of}
 use Rattle.mesh_post.proofs.ActLemmas.{over_act}
+use Rattle.mesh_post.proofs.Besides.{step_over}
 use Rattle.mesh_post.proofs.Midway.{logged_none, logged_both, grew_none, grew_both}
 
 -- what a port would pass
@@ -188,28 +189,12 @@ abbrev pub noting_mesh : ℕ → LogEntry → Mesh → Mesh
 noting_mesh place entry mesh = record mesh { nodes = noted_at place entry mesh.nodes }
 
 noted_step : (post : Post) (older : List Sending) (last : Happening) (ticks : List Happening) (place : ℕ) (entry : LogEntry) (mesh : Mesh) → InStep post older last ticks mesh → InStep post older last ticks (noting_mesh place entry mesh)
-noted_step post older last ticks place entry mesh step = record {
-  amid = record {
-    stands = record {
-      rows = record {
-        count = step.amid.stands.rows.count;
-        each = λ p link found.
-            let h = step.amid.stands.rows.each p link found in
-            record { row = h.row; found = h.found; is = noted_row place entry mesh.nodes link h.row h.is };
-      };
-      turns = step.amid.stands.turns;
-      ways = record { count = step.amid.stands.ways.count ∙ sym (noted_length place entry mesh.nodes); each = step.amid.stands.ways.each };
-      lans = step.amid.stands.lans;
-      frames = step.amid.stands.frames;
-      puts = step.amid.stands.puts;
-      bytes = step.amid.stands.bytes;
-      few = step.amid.stands.few;
-      small = step.amid.stands.small;
-    };
-    waits = step.amid.waits;
-  };
-  older_is = step.older_is;
-}
+noted_step post older last ticks place entry mesh step =
+    let s = step.amid.stands in
+    step_over step (record {
+      count = s.rows.count;
+      each = λ p link found. let h = s.rows.each p link found in record { row = h.row; found = h.found; is = noted_row place entry mesh.nodes link h.row h.is };
+    }) s.turns (record { count = s.ways.count ∙ sym (noted_length place entry mesh.nodes); each = s.ways.each }) step.amid.waits
 
 -- ---- a node is given something
 -- what the acts of a node and its entry leave of a mesh

@@ -1,12 +1,12 @@
 -- What a node may be given amid a step: what a line gives it, a frame that is kept, its next tick.
-use Rattle.std.proofs.Common.{◌≡◌, ℕ, zero, suc, ◌<◌, List, [], ◌∷◌, ◌++◌, length, slice_get, Option, Some, None, Ok, refl, sym, ap, ◌∙◌, subst, arith, append-nil}
+use Rattle.std.proofs.Common.{◌≡◌, ℕ, zero, suc, ◌+◌, ◌<◌, List, [], ◌∷◌, ◌++◌, length, slice_get, Option, Some, None, Ok, refl, sym, ap, ◌∙◌, subst, arith, append-nil}
 use Rattle.mesh_base.specs.declared.address.Mac.{Mac}
 use Rattle.mesh_model.specs.declared.frame_choice.FrameChoice.{FrameChoice}
 use Rattle.mesh_model.specs.declared.happening.Happening.{Happening}
 use Rattle.mesh_model.specs.Clients.Log as log
 use Rattle.mesh_model.specs.Knowledge.Known.{Knowledge}
 use Rattle.mesh_model.specs.Knowledge.Steps.{knowledge}
-use Rattle.mesh_model.specs.Net.Due.{ticks_in}
+use Rattle.mesh_model.specs.Net.Due.{tick_time, ticks_in}
 use Rattle.mesh_model.specs.Net.Inputs.{given_to}
 use Rattle.mesh_model.specs.Net.Mesh.{NodeLog, NetLink, SentFrame, Mesh, Setup, address_at}
 use Rattle.mesh_model.specs.Net.Runs.{delivered, frame_given, frame_over, tick_given, ticked, throughput_between}
@@ -20,69 +20,45 @@ use Rattle.mesh_post.specs.declared.row.Sending.{Sending}
 use Rattle.mesh_net.specs.declared.net.Net.{Net}
 use Rattle.mesh_net.specs.declared.seat.Seat.{Seat}
 use Rattle.mesh_post.specs.Lanes.{ArrivalIs}
+use Rattle.mesh_post.specs.Waiting.{Joins}
 use Rattle.mesh_net.specs.NetStands.{SeatsStand}
 use Rattle.mesh_net.specs.Reached.{IsOfLine}
-use Rattle.mesh_net.specs.Steps.{AreOnLinks, Begun, Counts, HasNodes, IsTickless, MayTickAt}
+use Rattle.mesh_net.specs.Steps.{AreOnLinks, Begun, Counts, CountsOn, HasNodes, IsTickless, MayTickAt, Stage, tick_now}
 use Rattle.mesh_post.proofs.LookUps.{some_one, got_there}
 use Rattle.mesh_net.proofs.MomentLemmas.{past_at}
 use Rattle.mesh_net.proofs.SeatLemmas.{seat_at, seats_length}
+use Rattle.mesh_net.proofs.StepLemmas.{stage_waits}
 
 -- ---- what a line gives
-pub line_counts : (ticks number : ℕ) (input : Input) → IsOfLine (given_by number input) → Counts ticks input
-line_counts ticks number (Tick index) line = absurd line
-line_counts ticks number (Link from tp bytes) line = absurd line
-line_counts ticks number (Lan bytes) line = absurd line
-line_counts ticks number (Attach lan gateways) line = absurd line
-line_counts ticks number (Frame src dst vid text) line = tt
-line_counts ticks number (Gone key) line = tt
-line_counts ticks number (Join key) line = tt
-line_counts ticks number (Leave key) line = tt
-line_counts ticks number (Arp mac own_ip asked_ip vid) line = tt
-line_counts ticks number (Dhcp key text) line = tt
-line_counts ticks number (Wifi on) line = tt
-line_counts ticks number GwOff line = tt
-line_counts ticks number (GwServer down up) line = tt
-line_counts ticks number (GwClient policy) line = tt
-line_counts ticks number (Mcast flags) line = tt
-line_counts ticks number (Dat on) line = tt
-line_counts ticks number (Frag size) line = tt
-line_counts ticks number (Vis on) line = tt
-line_counts ticks number (Alfred mode) line = tt
-line_counts ticks number (Put type_no version text) line = tt
-line_counts ticks number (Get type_no) line = tt
-line_counts ticks number (Ping target) line = tt
-line_counts ticks number (Trace target) line = tt
-line_counts ticks number Reboot line = tt
-
-line_follows : (before : Knowledge) (number : ℕ) (input : Input) → IsOfLine (given_by number input) → MayFollow before input
-line_follows before number (Tick index) line = absurd line
-line_follows before number (Link from tp bytes) line = absurd line
-line_follows before number (Lan bytes) line = absurd line
-line_follows before number (Attach lan gateways) line = absurd line
-line_follows before number (Frame src dst vid text) line = tt
-line_follows before number (Gone key) line = tt
-line_follows before number (Join key) line = tt
-line_follows before number (Leave key) line = tt
-line_follows before number (Arp mac own_ip asked_ip vid) line = tt
-line_follows before number (Dhcp key text) line = tt
-line_follows before number (Wifi on) line = tt
-line_follows before number GwOff line = tt
-line_follows before number (GwServer down up) line = tt
-line_follows before number (GwClient policy) line = tt
-line_follows before number (Mcast flags) line = tt
-line_follows before number (Dat on) line = tt
-line_follows before number (Frag size) line = tt
-line_follows before number (Vis on) line = tt
-line_follows before number (Alfred mode) line = tt
-line_follows before number (Put type_no version text) line = tt
-line_follows before number (Get type_no) line = tt
-line_follows before number (Ping target) line = tt
-line_follows before number (Trace target) line = tt
-line_follows before number Reboot line = tt
-
--- so it may come to any node at any time
+-- it may come to any node at any time
 pub line_tickless : (number : ℕ) (input : Input) → IsOfLine (given_by number input) → IsTickless input
-line_tickless number input line = record { follows = λ known. line_follows known number input line; counts = λ ticks. line_counts ticks number input line }
+line_tickless number (Tick index) line = absurd line
+line_tickless number (Link from tp bytes) line = absurd line
+line_tickless number (Lan bytes) line = absurd line
+line_tickless number (Attach lan gateways) line = absurd line
+line_tickless number (Frame src dst vid text) line = record { follows = λ known. tt; counts = λ ticks. tt }
+line_tickless number (Gone key) line = record { follows = λ known. tt; counts = λ ticks. tt }
+line_tickless number (Join key) line = record { follows = λ known. tt; counts = λ ticks. tt }
+line_tickless number (Leave key) line = record { follows = λ known. tt; counts = λ ticks. tt }
+line_tickless number (Arp mac own_ip asked_ip vid) line = record { follows = λ known. tt; counts = λ ticks. tt }
+line_tickless number (Dhcp key text) line = record { follows = λ known. tt; counts = λ ticks. tt }
+line_tickless number (Wifi on) line = record { follows = λ known. tt; counts = λ ticks. tt }
+line_tickless number GwOff line = record { follows = λ known. tt; counts = λ ticks. tt }
+line_tickless number (GwServer down up) line = record { follows = λ known. tt; counts = λ ticks. tt }
+line_tickless number (GwClient policy) line = record { follows = λ known. tt; counts = λ ticks. tt }
+line_tickless number (Mcast flags) line = record { follows = λ known. tt; counts = λ ticks. tt }
+line_tickless number (Dat on) line = record { follows = λ known. tt; counts = λ ticks. tt }
+line_tickless number (Frag size) line = record { follows = λ known. tt; counts = λ ticks. tt }
+line_tickless number (Vis on) line = record { follows = λ known. tt; counts = λ ticks. tt }
+line_tickless number (Alfred mode) line = record { follows = λ known. tt; counts = λ ticks. tt }
+line_tickless number (Put type_no version text) line = record { follows = λ known. tt; counts = λ ticks. tt }
+line_tickless number (Get type_no) line = record { follows = λ known. tt; counts = λ ticks. tt }
+line_tickless number (Ping target) line = record { follows = λ known. tt; counts = λ ticks. tt }
+line_tickless number (Trace target) line = record { follows = λ known. tt; counts = λ ticks. tt }
+line_tickless number Reboot line = record { follows = λ known. tt; counts = λ ticks. tt }
+
+pub line_counts : (ticks number : ℕ) (input : Input) → IsOfLine (given_by number input) → Counts ticks input
+line_counts ticks number input line = (line_tickless number input line).counts ticks
 
 module _ {A : Type 0} (queries : Mac → Queries) (stands : A → Mac → RouteLog → Type 0) where
   -- what a node knows
@@ -96,7 +72,7 @@ module _ {A : Type 0} (queries : Mac → Queries) (stands : A → Mac → RouteL
       record { me = row.0.mac; log = row.0.log; stand = row.2.node; later = past_at now place has.nodes row.0 has.past row.1; follows = follows (known_of row.0) }
 
   pub line_taken : (net : Net A) (place now number : ℕ) (input : Input) → HasNodes queries stands net now → IsOfLine (given_by number input) → (seat : Seat A) → slice_get net.seats.items place ≡ Some seat → MayTake stands queries seat.node now input
-  line_taken net place now number input has line = may_take net place now input has (λ known. line_follows known number input line)
+  line_taken net place now number input has line = may_take net place now input has (line_tickless number input line).follows
 
   -- ---- a tick
   -- the node that ticks
@@ -136,21 +112,38 @@ module _ {A : Type 0} (queries : Mac → Queries) (stands : A → Mac → RouteL
   tick_taken seats place now index t e seat found = subst (λ (s : Seat A). MayTake stands queries s.node now (Tick index)) (some_one t.seat seat (sym t.found ∙ found)) (t.may e)
 
   -- the index counts on
-  pub tick_counts : (seats : List (Seat A)) (nodes : List NodeLog) (place now index : ℕ) (t : Ticker seats place now index) → index ≡ suc t.seat.ticks → SeatsStand queries stands seats nodes → (row : NodeLog) → slice_get nodes place ≡ Some row → index ≡ suc (ticks_in row.log)
+  tick_counts : (seats : List (Seat A)) (nodes : List NodeLog) (place now index : ℕ) (t : Ticker seats place now index) → index ≡ suc t.seat.ticks → SeatsStand queries stands seats nodes → (row : NodeLog) → slice_get nodes place ≡ Some row → index ≡ suc (ticks_in row.log)
   tick_counts seats nodes place now index t e stand row found =
       let r = seat_at queries stands seats nodes place t.seat stand t.found in
       e ∙ ap suc (r.2.ticks ∙ ap (λ (x : NodeLog). ticks_in x.log) (some_one r.0 row (sym r.1 ∙ found)))
 
   -- a tick gives its node the index
-  pub ticked_is : (setup : Setup) (seats : List (Seat A)) (mesh : Mesh) (place now index : ℕ) (t : Ticker seats place now index) → index ≡ suc t.seat.ticks → SeatsStand queries stands seats mesh.nodes
+  ticked_is : (setup : Setup) (seats : List (Seat A)) (mesh : Mesh) (place now index : ℕ) (t : Ticker seats place now index) → index ≡ suc t.seat.ticks → SeatsStand queries stands seats mesh.nodes
       → ticked setup place now mesh ≡ given_to setup place now index (log.Tick index) mesh
   ticked_is setup seats mesh place now index t e stand =
       let r = seat_at queries stands seats mesh.nodes place t.seat stand t.found in
       let i : suc (ticks_in r.0.log) ≡ index = sym (e ∙ ap suc r.2.ticks) in
       ap (λ o. tick_given setup place now o mesh) r.1 ∙ ap (λ n. given_to setup place now n (log.Tick n) mesh) i
 
+  -- amid a step that had begun, its node ticks, and the next tick of it waits
+  pub record TicksNow (setup : Setup) (net : Net A) (queue : List Happening) (last : Happening) (others : List Happening) (place now index : ℕ) (mesh : Mesh) : Type 0 where
+    pub stage : Stage queries stands net.seats.items (record net.post { queue = queue }) net.sent last (tick_now place (now + tick_time) ∷ others) now mesh
+    pub counts : CountsOn place (Tick index) mesh
+    pub is : given_to setup place now index (log.Tick index) mesh ≡ ticked setup place now mesh
+
+  pub ticks_now : (setup : Setup) (net : Net A) (queue : List Happening) (choice : FrameChoice) (last : Happening) (others : List Happening) (place now index moment : ℕ) (next : Happening) (mesh : Mesh) → Begun queries stands net choice last others now mesh → MayTickAt queries stands net place now
+      → ((seat : Seat A) → slice_get net.seats.items place ≡ Some seat → seat.ticks < 4294967296 → index ≡ suc seat.ticks) → Joins next net.post.queue queue → next ≡ tick_now place moment → moment ≡ now + tick_time → TicksNow setup net queue last others place now index mesh
+  ticks_now setup net queue choice last others place now index moment next mesh begun may counted joined is soon =
+      let t = ticker net place now index may in
+      let e = counted t.seat t.found t.low in
+      record {
+        stage = stage_waits queries stands net.seats.items net.post net.sent last others now mesh queue next (tick_now place (now + tick_time)) begun.stage (is ∙ ap (tick_now place) soon) joined;
+        counts = tick_counts net.seats.items mesh.nodes place now index t e begun.stage.seats_stand;
+        is = sym (ticked_is setup net.seats.items mesh place now index t e begun.stage.seats_stand);
+      }
+
   -- ---- a frame
-  pub record Comes (setup : Setup) (net : Net A) (mesh : Mesh) (place now : ℕ) (arrival : Arrival) : Type 0 where
+  record Comes (setup : Setup) (net : Net A) (mesh : Mesh) (place now : ℕ) (arrival : Arrival) : Type 0 where
     pub sending : Sending
     pub found : slice_get net.sent arrival.sending ≡ Some sending
     pub is : delivered setup place now mesh ≡ given_to setup arrival.to now sending.root (log.LinkFrame (suc place) arrival.from arrival.tp sending.bytes) mesh
@@ -180,7 +173,7 @@ module _ {A : Type 0} (queries : Mac → Queries) (stands : A → Mac → RouteL
   none_some x o a b = cc
 
   -- what comes is kept
-  pub comes : (setup : Setup) (net : Net A) (choice : FrameChoice) (last : Happening) (ticks : List Happening) (now : ℕ) (mesh : Mesh) (place : ℕ) (o : Option Arrival) (arrival : Arrival) → o ≡ Some arrival → Begun queries stands net choice last ticks now mesh → AreOnLinks mesh
+  comes : (setup : Setup) (net : Net A) (choice : FrameChoice) (last : Happening) (ticks : List Happening) (now : ℕ) (mesh : Mesh) (place : ℕ) (o : Option Arrival) (arrival : Arrival) → o ≡ Some arrival → Begun queries stands net choice last ticks now mesh → AreOnLinks mesh
       → ((frame : SentFrame) (link : NetLink) → slice_get mesh.frames place ≡ Some frame → slice_get mesh.links frame.link ≡ Some link → (a : Arrival) × (o ≡ Some a) × ArrivalIs (net.sent ++ net.post.fresh.items) mesh frame link a)
       → (slice_get mesh.frames place ≡ None → o ≡ None) → Comes setup net mesh place now arrival
   comes setup net choice last ticks now mesh place o arrival is begun on some none = by_frame (slice_get mesh.frames place)
@@ -202,10 +195,10 @@ module _ {A : Type 0} (queries : Mac → Queries) (stands : A → Mac → RouteL
       none_some a.0 o is a.1)
 
   -- what is given is what comes
-  pub link_is : (setup : Setup) (net : Net A) (mesh : Mesh) (place now : ℕ) (arrival : Arrival) (sending : Sending) (bytes : List ℕ) → Comes setup net mesh place now arrival → slice_get net.sent arrival.sending ≡ Some sending → bytes ≡ sending.bytes
-      → given_to setup arrival.to now sending.root (log.LinkFrame (suc place) arrival.from arrival.tp bytes) mesh ≡ delivered setup place now mesh
-  link_is setup net mesh place now arrival sending bytes it found same =
-      let s : it.sending ≡ sending = some_one it.sending sending (sym it.found ∙ found) in
-      ap (λ b. given_to setup arrival.to now sending.root (log.LinkFrame (suc place) arrival.from arrival.tp b) mesh) same
-      ∙ ap (λ (x : Sending). given_to setup arrival.to now x.root (log.LinkFrame (suc place) arrival.from arrival.tp x.bytes) mesh) (sym s)
-      ∙ sym it.is
+  pub frame_is : (setup : Setup) (net : Net A) (choice : FrameChoice) (last : Happening) (ticks : List Happening) (now : ℕ) (mesh : Mesh) (place : ℕ) (o : Option Arrival) (arrival : Arrival) (sending : Sending) → o ≡ Some arrival → Begun queries stands net choice last ticks now mesh → AreOnLinks mesh
+      → ((frame : SentFrame) (link : NetLink) → slice_get mesh.frames place ≡ Some frame → slice_get mesh.links frame.link ≡ Some link → (a : Arrival) × (o ≡ Some a) × ArrivalIs (net.sent ++ net.post.fresh.items) mesh frame link a)
+      → (slice_get mesh.frames place ≡ None → o ≡ None) → slice_get net.sent arrival.sending ≡ Some sending
+      → given_to setup arrival.to now sending.root (log.LinkFrame (suc place) arrival.from arrival.tp sending.bytes) mesh ≡ delivered setup place now mesh
+  frame_is setup net choice last ticks now mesh place o arrival sending is begun on some none found =
+      let it = comes setup net choice last ticks now mesh place o arrival is begun on some none in
+      ap (λ (x : Sending). given_to setup arrival.to now x.root (log.LinkFrame (suc place) arrival.from arrival.tp x.bytes) mesh) (some_one sending it.sending (sym found ∙ it.found)) ∙ sym it.is

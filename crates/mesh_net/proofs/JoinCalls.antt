@@ -11,18 +11,20 @@ use Rattle.mesh_model.specs.Run.Steps.{new_node}
 use Rattle.mesh_net.specs.declared.failure.NetErr.{NetErr}
 use Rattle.mesh_net.specs.declared.failure.NetErr.TheVariants.{Memory}
 use Rattle.mesh_net.specs.declared.net.Net.{Net}
-use Rattle.mesh_net.specs.NetStands.{NetStands, IsNet}
+use Rattle.mesh_net.specs.NetStands.{NetStands, IsLive, IsNet}
 use Rattle.mesh_post.specs.Joining.{with_node, with_link}
 use Rattle.mesh_net.specs.Tells.{HasJoined, HasJoinedLan, HasLinked, LanTells, NodeTells}
 
 -- memory ran out where there was room
+only_memory : (r : Result ℕ NetErr) (tells : NetErr → Type 0) → tells Memory → IsErrAnd r (λ e. e ≡ Memory) → IfErr r tells
+only_memory (Ok place) tells room h = absurd h
+only_memory (Err e) tells room h = subst tells (sym h) room
+
 pub lan_memory : (r : Result ℕ NetErr) (count : ℕ) → count < lans_limit → IsErrAnd r (λ e. e ≡ Memory) → IfErr r (LanTells count)
-lan_memory (Ok place) count few h = absurd h
-lan_memory (Err e) count few h = subst (LanTells count) (sym h) few
+lan_memory r count few h = only_memory r (LanTells count) few h
 
 pub node_memory : (r : Result ℕ NetErr) (count : ℕ) → count < nodes_limit → IsErrAnd r (λ e. e ≡ Memory) → IfErr r (NodeTells count)
-node_memory (Ok place) count few h = absurd h
-node_memory (Err e) count few h = subst (NodeTells count) (sym h) few
+node_memory r count few h = only_memory r (NodeTells count) few h
 
 module _ {A : Type 0} (queries : Mac → Queries) (stands : A → Mac → RouteLog → Type 0) where
   -- a net that notes whether it is dead
@@ -58,31 +60,27 @@ module _ {A : Type 0} (queries : Mac → Queries) (stands : A → Mac → RouteL
   still_linked (Ok done) net dead choice clock mesh link is h = record { room = h.room; standing = still net dead choice clock (with_link link mesh) is h.standing }
   still_linked (Err error) net dead choice clock mesh link is h = tt
 
-  -- it stands for the mesh with the node, or it is dead
+  -- it stands for the mesh that something joined, or it is dead
+  net_with : {T : Type 0} (r : Result T NetErr) (Joined : FrameChoice → ℕ → Mesh → T → Type 0) (old new : Net A) (dead : Bool) → IsNet queries stands old → old.dead ≡ false → dead ≡ is_err r
+      → ((choice : FrameChoice) (clock : ℕ) (mesh : Mesh) → NetStands queries stands old choice clock mesh → IfOk r (Joined choice clock mesh))
+      → ((choice : FrameChoice) (clock : ℕ) (mesh : Mesh) (value : T) → Joined choice clock mesh value → IsLive queries stands new) → IsNet queries stands (noting new dead)
+  net_with (Err error) Joined old new dead net alive is joins lives = inl is
+  net_with (Ok value) Joined old new dead (inl gone) alive is joins lives = absurd (cc)
+  net_with (Ok value) Joined old new dead (inr live) alive is joins lives =
+      let now = lives live.choice live.clock live.mesh value (joins live.choice live.clock live.mesh live.standing) in
+      inr (record { choice = now.choice; clock = now.clock; mesh = now.mesh; standing = still new dead now.choice now.clock now.mesh is now.standing })
+
   pub joined_net : (r : Result ℕ NetErr) (old new : Net A) (dead : Bool) (mac : Mac) → IsNet queries stands old → old.dead ≡ false → dead ≡ is_err r
       → ((choice : FrameChoice) (clock : ℕ) (mesh : Mesh) → NetStands queries stands old choice clock mesh → IfOk r (HasJoined queries stands new choice clock mesh mac))
       → IsNet queries stands (noting new dead)
-  joined_net (Err error) old new dead mac net alive is joins = inl is
-  joined_net (Ok place) old new dead mac (inl gone) alive is joins = absurd (cc)
-  joined_net (Ok place) old new dead mac (inr live) alive is joins = inr (record {
-    choice = live.choice;
-    clock = live.clock;
-    mesh = with_node (new_node [] mac live.clock) live.mesh;
-    standing = still new dead live.choice live.clock (with_node (new_node [] mac live.clock) live.mesh) is ((joins live.choice live.clock live.mesh live.standing).standing []);
-  })
+  joined_net r old new dead mac net alive is joins = net_with r (λ choice clock mesh. HasJoined queries stands new choice clock mesh mac) old new dead net alive is joins
+      (λ choice clock mesh place h. record { choice = choice; clock = clock; mesh = with_node (new_node [] mac clock) mesh; standing = h.standing [] })
 
-  -- it stands for the mesh with the link, or it is dead
   pub linked_net : (r : Result Unit NetErr) (old new : Net A) (dead : Bool) (link : NetLink) → IsNet queries stands old → old.dead ≡ false → dead ≡ is_err r
       → ((choice : FrameChoice) (clock : ℕ) (mesh : Mesh) → NetStands queries stands old choice clock mesh → OnOk r (HasLinked queries stands new choice clock mesh link))
       → IsNet queries stands (noting new dead)
-  linked_net (Err error) old new dead link net alive is joins = inl is
-  linked_net (Ok done) old new dead link (inl gone) alive is joins = absurd (cc)
-  linked_net (Ok done) old new dead link (inr live) alive is joins = inr (record {
-    choice = live.choice;
-    clock = live.clock;
-    mesh = with_link link live.mesh;
-    standing = still new dead live.choice live.clock (with_link link live.mesh) is (joins live.choice live.clock live.mesh live.standing).standing;
-  })
+  linked_net r old new dead link net alive is joins = net_with r (λ choice clock mesh done. HasLinked queries stands new choice clock mesh link) old new dead net alive is joins
+      (λ choice clock mesh done h. record { choice = choice; clock = clock; mesh = with_link link mesh; standing = h.standing })
 
   pub still_lan : (r : Result ℕ NetErr) (net : Net A) (dead : Bool) (choice : FrameChoice) (clock : ℕ) (mesh : Mesh) (gateways : List ℕ) → dead ≡ is_err r
       → IfOk r (HasJoinedLan queries stands net choice clock mesh gateways) → IfOk r (HasJoinedLan queries stands (noting net dead) choice clock mesh gateways)
@@ -93,12 +91,8 @@ module _ {A : Type 0} (queries : Mac → Queries) (stands : A → Mac → RouteL
   }
   still_lan (Err error) net dead choice clock mesh gateways is h = tt
 
-  -- it stands for the mesh with the LAN, or it is dead
   pub lan_net : (r : Result ℕ NetErr) (old new : Net A) (dead : Bool) (gateways : List ℕ) → IsNet queries stands old → old.dead ≡ false → dead ≡ is_err r
       → ((choice : FrameChoice) (clock : ℕ) (mesh : Mesh) → NetStands queries stands old choice clock mesh → IfOk r (HasJoinedLan queries stands new choice clock mesh gateways))
       → IsNet queries stands (noting new dead)
-  lan_net (Err error) old new dead gateways net alive is joins = inl is
-  lan_net (Ok place) old new dead gateways (inl gone) alive is joins = absurd (cc)
-  lan_net (Ok place) old new dead gateways (inr live) alive is joins =
-      let j = (joins live.choice live.clock live.mesh live.standing).joined [] in
-      inr (record { choice = live.choice; clock = live.clock; mesh = j.after; standing = still new dead live.choice live.clock j.after is j.standing })
+  lan_net r old new dead gateways net alive is joins = net_with r (λ choice clock mesh. HasJoinedLan queries stands new choice clock mesh gateways) old new dead net alive is joins
+      (λ choice clock mesh place h. let j = h.joined [] in record { choice = choice; clock = clock; mesh = j.after; standing = j.standing })

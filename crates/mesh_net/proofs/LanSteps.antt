@@ -1,6 +1,5 @@
 -- Several nodes are given the same, one after another: what the net is then, amid a step.
-use Rattle.std.proofs.Common.{◌≡◌, ℕ, zero, suc, ◌+◌, ◌<◌, ◌≤◌, arith, List, [], ◌∷◌, ◌++◌, drop, filter, length, slice_get, slice_index_or, Bool, cond, Option, Some, None, Result, Ok, Err, refl, sym, ap, ◌∙◌, subst, append-nil}
-use Rattle.std.specs.Result.{OnOk}
+use Rattle.std.proofs.Common.{◌≡◌, ℕ, zero, suc, ◌+◌, ◌<◌, ◌≤◌, arith, List, [], ◌∷◌, ◌++◌, drop, filter, length, slice_get, slice_index_or, Bool, cond, Option, Some, None, Ok, refl, sym, ap, ◌∙◌, subst, append-nil}
 use Rattle.std.proofs.lemmas.Option.{get_or_from_slice_get}
 use Rattle.mesh_base.specs.declared.address.Mac.{Mac}
 use Rattle.mesh_base.specs.declared.event.Event.{Event}
@@ -14,7 +13,7 @@ use Rattle.mesh_model.specs.Net.Lans.{gateways_at, gets, lan_delivered, put_give
 use Rattle.mesh_model.specs.Net.Limits.{scenario_setup}
 use Rattle.mesh_model.specs.Net.Mesh.{NetLan, LanPut, Mesh, Setup}
 use Rattle.mesh_model.specs.Net.Sending.{Attempt, on_ok, with_put}
-use Rattle.mesh_model.specs.Packets.LanFrames.{client_frame_in, lan_message_of}
+use Rattle.mesh_model.specs.Packets.LanFrames.{LanMessage, client_frame_in, lan_message_of}
 use Rattle.mesh_model.specs.Routes.Queries.{Queries}
 use Rattle.mesh_model.specs.Routes.RouteLog.{RouteLog}
 use Rattle.mesh_model.specs.Text.Events.{is_shown}
@@ -31,6 +30,8 @@ use Rattle.mesh_post.specs.Kept.{PutIs, gateways_of}
 use Rattle.mesh_post.specs.Lanes.{is_other}
 use Rattle.mesh_post.specs.Sent.{HasCome, InStep, Logged, passed_more, put_in}
 use Rattle.mesh_post.proofs.ActLemmas.{room_is}
+use Rattle.mesh_post.proofs.Back.{put_there}
+use Rattle.mesh_post.proofs.Besides.{step_beside}
 use Rattle.mesh_post.proofs.Chosen.{drop_there}
 use Rattle.mesh_post.proofs.LookUps.{got_there, some_one}
 use Rattle.mesh_post.proofs.Midway.{logged_none, logged_both}
@@ -38,15 +39,10 @@ use Rattle.mesh_post.proofs.Ways.{attempt_by, put_attempt}
 use Rattle.mesh_net.specs.declared.seat.Seat.{Seat}
 use Rattle.mesh_net.specs.Given.{GiveTells}
 use Rattle.mesh_net.specs.declared.net.Net.{Net}
-use Rattle.mesh_net.specs.Steps.{Begun, HasStage, IsTickless, Stage, Tried}
+use Rattle.mesh_net.specs.Steps.{AreOnLans, Begun, HasStage, IsTickless, Stage, Tried}
 use Rattle.mesh_net.proofs.GiveLemmas.{named_map}
 use Rattle.mesh_net.proofs.MomentLemmas.{given_keeps, past_at}
 use Rattle.mesh_net.proofs.SeatLemmas.{seat_at}
-
--- ---- results
-pub node_ok_map : {P Q : Type 0} (r : Result Unit NodeErr) → (P → Q) → OnOk r P → OnOk r Q
-node_ok_map (Ok done) f p = f p
-node_ok_map (Err error) f p = tt
 
 -- ---- the places that get a frame
 filter_same : (a b : ℕ → Bool) (xs : List ℕ) → ((x : ℕ) → a x ≡ b x) → filter a xs ≡ filter b xs
@@ -78,23 +74,23 @@ lan_kept [] place lan e = cc
 lan_kept (x ∷ lans) zero lan e = ap (λ (l : NetLan). Some l.gateways) (some_one x lan e)
 lan_kept (x ∷ lans) (suc place) lan e = lan_kept lans place lan e
 
-pub gateways_kept : (lans : List NetLan) (place : ℕ) (lan : NetLan) (kept : List (List ℕ)) → kept ≡ gateways_of lans → slice_get lans place ≡ Some lan → slice_index_or kept place [] ≡ lan.gateways
+gateways_kept : (lans : List NetLan) (place : ℕ) (lan : NetLan) (kept : List (List ℕ)) → kept ≡ gateways_of lans → slice_get lans place ≡ Some lan → slice_index_or kept place [] ≡ lan.gateways
 gateways_kept lans place lan kept same found = ap (λ ls. slice_index_or ls place []) same ∙ get_or_from_slice_get (gateways_of lans) place lan.gateways [] (lan_kept lans place lan found)
 
 -- ---- what a LAN frame leads to
 -- the frame that is kept, by its bytes
-pub lan_delivered_is : (setup : Setup) (mesh : Mesh) (place now : ℕ) (put : LanPut) (lan : NetLan) → slice_get mesh.puts place ≡ Some put → slice_get mesh.lans put.lan ≡ Some lan
+lan_delivered_is : (setup : Setup) (mesh : Mesh) (place now : ℕ) (put : LanPut) (lan : NetLan) → slice_get mesh.puts place ≡ Some put → slice_get mesh.lans put.lan ≡ Some lan
     → lan_delivered setup place now mesh ≡ all_given setup (filter (gets (client_frame_in (lan_message_of put.bytes)) put.by) lan.gateways) now (LanFrame put.bytes) (with_events (reach_events now put.lan put.by (client_frame_in (lan_message_of put.bytes))) mesh)
 lan_delivered_is setup mesh place now put lan found on =
     ap (λ o. put_given setup now o mesh) found ∙ ap (λ o. put_over setup now put (client_frame_in (lan_message_of put.bytes)) o mesh) on
 
 -- a LAN frame is kept as its LAN, who put it, and its bytes
-pub record KeptAs (k : Put) (bytes : List ℕ) (put : LanPut) : Type 0 where
+record KeptAs (k : Put) (bytes : List ℕ) (put : LanPut) : Type 0 where
   pub lan : put.lan ≡ k.lan
   pub by : put.by ≡ k.by
   pub bytes_are : put.bytes ≡ bytes
 
-pub kept_as : (sent fresh : List Sending) (k : Put) (sending : Sending) (put : LanPut) → fresh ≡ [] → PutIs (sent ++ fresh) put k → slice_get sent k.sending ≡ Some sending → KeptAs k sending.bytes put
+kept_as : (sent fresh : List Sending) (k : Put) (sending : Sending) (put : LanPut) → fresh ≡ [] → PutIs (sent ++ fresh) put k → slice_get sent k.sending ≡ Some sending → KeptAs k sending.bytes put
 kept_as sent fresh k sending put none is found = record {
   lan = sym is.lan;
   by = sym is.by;
@@ -109,7 +105,7 @@ kept_there sent fresh k put none is missing = no_both is.sending (slice_get sent
     no_both s o a b = cc
 
 -- the gateways that get it, by what is kept
-pub lan_given_is : (setup : Setup) (mesh : Mesh) (place now : ℕ) (k : Put) (bytes : List ℕ) (put : LanPut) (lan : NetLan) (one : Option ℕ) (kept : List (List ℕ)) (places : List ℕ) → slice_get mesh.puts place ≡ Some put → slice_get mesh.lans put.lan ≡ Some lan → KeptAs k bytes put
+lan_given_is : (setup : Setup) (mesh : Mesh) (place now : ℕ) (k : Put) (bytes : List ℕ) (put : LanPut) (lan : NetLan) (one : Option ℕ) (kept : List (List ℕ)) (places : List ℕ) → slice_get mesh.puts place ≡ Some put → slice_get mesh.lans put.lan ≡ Some lan → KeptAs k bytes put
     → kept ≡ gateways_of mesh.lans → ((gateway : ℕ) → gets (client_frame_in (lan_message_of bytes)) k.by gateway ≡ is_other one gateway) → places ≡ filter (is_other one) (slice_index_or kept k.lan [])
     → lan_delivered setup place now mesh ≡ all_given setup places now (LanFrame bytes) (with_events (reach_events now k.lan k.by (client_frame_in (lan_message_of bytes))) mesh)
 lan_given_is setup mesh place now k bytes put lan one kept places found on like same gets_is places_is =
@@ -219,27 +215,24 @@ module _ {A : Type 0} (queries : Mac → Queries) (stands : A → Mac → RouteL
   pub told_stage : (seats : List (Seat A)) (post : Post) (older : List Sending) (last : Happening) (ticks : List Happening) (now : ℕ) (more : List Event) (mesh : Mesh) → Stage queries stands seats post older last ticks now mesh → Stage queries stands seats post older last ticks now (with_events more mesh)
   told_stage seats post older last ticks now more mesh stage = record {
     seats_stand = stage.seats_stand;
-    step = record {
-      amid = record {
-        stands = record {
-          rows = stage.step.amid.stands.rows;
-          turns = stage.step.amid.stands.turns;
-          ways = stage.step.amid.stands.ways;
-          lans = stage.step.amid.stands.lans;
-          frames = stage.step.amid.stands.frames;
-          puts = stage.step.amid.stands.puts;
-          bytes = stage.step.amid.stands.bytes;
-          few = stage.step.amid.stands.few;
-          small = stage.step.amid.stands.small;
-        };
-        waits = stage.step.amid.waits;
-      };
-      older_is = stage.step.older_is;
-    };
+    step = step_beside stage.step;
     past = stage.past;
     late = stage.late;
     soon = stage.soon;
   }
+
+  -- the gateways that get a LAN frame, by what is kept, are given it behind the events that it came
+  pub lan_given : (net : Net A) (choice : FrameChoice) (last : Happening) (ticks : List Happening) (place now : ℕ) (k : Put) (sending : Sending) (message : LanMessage) (one : Option ℕ) (places : List ℕ) (mesh : Mesh)
+      → Begun queries stands net choice last ticks now mesh → AreOnLans mesh → slice_get net.post.puts.items place ≡ Some k → slice_get net.sent k.sending ≡ Some sending → message ≡ lan_message_of sending.bytes
+      → ((gateway : ℕ) → gets (client_frame_in message) k.by gateway ≡ is_other one gateway) → places ≡ filter (is_other one) (slice_index_or net.post.lans.items k.lan [])
+      → all_given (scenario_setup queries) places now (LanFrame sending.bytes) (with_events (reach_events now k.lan k.by (client_frame_in message)) mesh) ≡ lan_delivered (scenario_setup queries) place now mesh
+  lan_given net choice last ticks place now k sending message one places mesh begun on found sent read gets_is places_are =
+      let there = put_there (net.sent ++ net.post.fresh.items) mesh.puts net.post.puts.items place k begun.stage.step.amid.stands.puts found in
+      let lan = got_there mesh.lans there.0.lan (on place there.0 there.1) in
+      let like = kept_as net.sent net.post.fresh.items k sending there.0 begun.settled there.2 sent in
+      ap (λ m. all_given (scenario_setup queries) places now (LanFrame sending.bytes) (with_events (reach_events now k.lan k.by (client_frame_in m)) mesh)) read
+      ∙ sym (lan_given_is (scenario_setup queries) mesh place now k sending.bytes there.0 lan.0 one net.post.lans.items places there.1 lan.1 like begun.stage.step.amid.stands.lans
+      (subst (λ m. (gateway : ℕ) → gets (client_frame_in m) k.by gateway ≡ is_other one gateway) read gets_is) places_are)
 
   -- what was told before what is tried
   pub tried_behind : (seats : List (Seat A)) (post : Post) (choice : FrameChoice) (older : List Sending) (last : Happening) (ticks : List Happening) (more : List Event) (mesh : Mesh) (old mid new : List Event) (attempt : Attempt) → mid ≡ old ++ filter (is_shown choice) more

@@ -10,6 +10,7 @@ pub mod LanSteps
 pub mod TickLemmas
 pub mod PopLemmas
 pub mod Ends
+pub mod LineCalls
 pub mod ToldLemmas
 pub mod RightLemmas
 pub mod WatchLemmas

@@ -30,6 +30,7 @@ use Rattle.mesh_model.specs.Net.Sending.{Attempt}
 use Rattle.mesh_net.specs.NetStands.{SeatsStand}
 use Rattle.mesh_post.specs.Sent.{MaySend}
 use Rattle.mesh_net.specs.Steps.{ticks_with, Counts, Stage, CountsOn, Tried}
+use Rattle.mesh_post.proofs.Besides.{step_waits}
 use Rattle.mesh_post.proofs.Midway.{logged_none}
 use Rattle.mesh_net.proofs.SeatLemmas.{seat_set}
 
@@ -131,23 +132,7 @@ module _ {A : Type 0} (queries : Mac → Queries) (stands : A → Mac → RouteL
       → Stage queries stands seats (record post { queue = queue }) older last (next ∷ ticks) now mesh
   stage_waits seats post older last ticks now mesh queue h next stage is gained = record {
     seats_stand = stage.seats_stand;
-    step = record {
-      amid = record {
-        stands = record {
-          rows = stage.step.amid.stands.rows;
-          turns = stage.step.amid.stands.turns;
-          ways = stage.step.amid.stands.ways;
-          lans = stage.step.amid.stands.lans;
-          frames = stage.step.amid.stands.frames;
-          puts = stage.step.amid.stands.puts;
-          bytes = stage.step.amid.stands.bytes;
-          few = stage.step.amid.stands.few;
-          small = stage.step.amid.stands.small;
-        };
-        waits = λ x. (λ p. to x ((gained x).0 p), λ p. (gained x).1 (from x p));
-      };
-      older_is = stage.step.older_is;
-    };
+    step = step_waits stage.step (λ x. (λ p. to x ((gained x).0 p), λ p. (gained x).1 (from x p)));
     past = stage.past;
     late = stage.late;
     soon = stage.soon;

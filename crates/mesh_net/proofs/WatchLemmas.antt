@@ -25,9 +25,10 @@ use Rattle.mesh_net.specs.declared.seat.Seat.{Seat}
 use Rattle.mesh_net.specs.NetStands.{SeatIs}
 use Rattle.mesh_net.specs.Steps.{Gave, HasHappened}
 use Rattle.mesh_net.specs.Watching.{HasTold, HasWatched, KeepsAllBut, WatchStands}
-use Rattle.mesh_net.proofs.Ends.{ended_with, step_ended}
+use Rattle.mesh_net.proofs.Ends.{ended_with}
 use Rattle.mesh_net.proofs.LanSteps.{all_gateways, gateways_at_is}
 use Rattle.mesh_post.proofs.Back.{no_put, put_there}
+use Rattle.mesh_post.proofs.Besides.{step_beside}
 use Rattle.mesh_post.proofs.Midway.{logged_both}
 use Rattle.mesh_post.specs.Lanes.{is_other}
 use Rattle.mesh_post.specs.Sent.{InStep}
@@ -147,7 +148,7 @@ happened {A} queries stands amid done choice last ticks before old mid new h g k
         is = ap (on_ok (with_last setup h)) g.is;
         choice_is = g.choice_is;
         seats_stand = g.seats_stand;
-        step = step_ended amid.post amid.sent last h ticks lines g.after g.step;
+        step = step_beside g.step;
         logged = logged_both choice before g.after after old mid new g.logged (record {
           more = map route_event lines;
           came = refl;

@@ -25,6 +25,7 @@ use Rattle.mesh_post.specs.declared.row.Sender.{Sender}
 use Rattle.mesh_post.specs.declared.row.Sending.{Sending}
 use Rattle.mesh_post.specs.Kept.{FramesAre, PutsAre, RowsAre, TurnsAre, WaysAre, bytes_in, frames_in, gateways_of}
 use Rattle.mesh_post.specs.Sent.{sent_on, sent_on_all, put_in, actor_of, IsSending, Gained, Amid, SentAll, InStep, MaySend, HasActed, HasCome, HasRoomFor, CarriesPut, AreLow, chosen_ways, lan_among, passed_room, passed_more, passed_on, passed_by}
+use Rattle.mesh_post.proofs.Besides.{step_beside}
 use Rattle.mesh_post.proofs.Midway.{logged_none}
 use Rattle.mesh_post.proofs.Chosen.{drop_there}
 use Rattle.mesh_post.proofs.PostLemmas.{awaits_put, frames_length, length_more, put_bytes_more, puts_length, puts_more}
@@ -206,23 +207,7 @@ pub has_printed : (queries : Mac → Queries) (post : Post) (older : List Sendin
 has_printed queries post older last ticks sender mesh event log log' step told = record {
   after = record mesh { events = mesh.events ++ event ∷ [] };
   is = refl;
-  step = record {
-    amid = record {
-      stands = record {
-        rows = step.amid.stands.rows;
-        turns = step.amid.stands.turns;
-        ways = step.amid.stands.ways;
-        lans = step.amid.stands.lans;
-        frames = step.amid.stands.frames;
-        puts = step.amid.stands.puts;
-        bytes = step.amid.stands.bytes;
-        few = step.amid.stands.few;
-        small = step.amid.stands.small;
-      };
-      waits = step.amid.waits;
-    };
-    older_is = step.older_is;
-  };
+  step = step_beside step;
   logged = record { more = event ∷ []; came = refl; told = told };
   nodes = refl;
 }

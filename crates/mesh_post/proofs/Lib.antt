@@ -1,5 +1,6 @@
 -- What the methods rest on.
 pub mod LookUps
+pub mod Besides
 pub mod RisingLemmas
 pub mod Before
 pub mod QueueLemmas

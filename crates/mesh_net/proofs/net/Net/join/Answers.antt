@@ -7,6 +7,7 @@ use Rattle.mesh_model.specs.Run.Steps.{new_node}
 use Rattle.mesh_net.specs.Reached.{joins}
 use Rattle.mesh_post.specs.Joining.{with_node}
 use Rattle.mesh_net.specs.Steps.{tick_now}
+use Rattle.mesh_post.proofs.Besides.{step_waits}
 use Rattle.mesh_post.proofs.JoinLemmas.{awaits_tick, step_ticks, ticks_more}
 use Rattle.mesh_net.proofs.JoinCalls.{node_memory}
 use Rattle.mesh_net.proofs.SeatLemmas.{seat_joined, seats_length}
@@ -68,7 +69,6 @@ returns-clause-joins g c = λ choice clock mesh st.
           let h : c.tick_of.result ≡ tick_at c.in_ok-place.place new 1 = c.tick_of.ensures ∙ ap (tick_now c.in_ok-place.place) moment in
           let ticks : first_ticks 0 mesh.nodes ++ c.tick_of.result ∷ [] ≡ first_ticks 0 (mesh.nodes ++ new ∷ []) =
           ap (λ (x : Happening). first_ticks 0 mesh.nodes ++ x ∷ []) (h ∙ ap (λ p. tick_at p new 1) (omega (arith, place_is))) ∙ sym (ticks_more 0 mesh.nodes new) in
-          let s = st.kept.amid.stands in
           record {
             alive = st.alive;
             choice_is = c.add_node.ensures.choice ∙ st.choice_is;
@@ -81,23 +81,8 @@ returns-clause-joins g c = λ choice clock mesh st.
               mac = refl;
               ticks = refl;
             });
-            kept = step_ticks c.add_node.new.self c.args.self.now.sent mesh.last (first_ticks 0 mesh.nodes ++ c.tick_of.result ∷ []) (first_ticks 0 (mesh.nodes ++ new ∷ [])) (with_node new mesh) ticks (c.in_ok-add_node.ensures.joins c.args.self.now.sent mesh.last (first_ticks 0 mesh.nodes ++ c.tick_of.result ∷ []) mesh new (record {
-              amid = record {
-                stands = record {
-                  rows = s.rows;
-                  turns = s.turns;
-                  ways = s.ways;
-                  lans = s.lans;
-                  frames = s.frames;
-                  puts = s.puts;
-                  bytes = s.bytes;
-                  few = s.few;
-                  small = s.small;
-                };
-                waits = awaits_tick c.args.self.now.post.queue c.push.new.self mesh.last (first_ticks 0 mesh.nodes) mesh.links mesh.frames mesh.puts c.tick_of.result st.kept.amid.waits c.in_ok-push.ensures.ok;
-              };
-              older_is = st.kept.older_is;
-            }));
+            kept = step_ticks c.add_node.new.self c.args.self.now.sent mesh.last (first_ticks 0 mesh.nodes ++ c.tick_of.result ∷ []) (first_ticks 0 (mesh.nodes ++ new ∷ [])) (with_node new mesh) ticks (c.in_ok-add_node.ensures.joins c.args.self.now.sent mesh.last (first_ticks 0 mesh.nodes ++ c.tick_of.result ∷ []) mesh new
+                (step_waits st.kept (awaits_tick c.args.self.now.post.queue c.push.new.self mesh.last (first_ticks 0 mesh.nodes) mesh.links mesh.frames mesh.puts c.tick_of.result st.kept.amid.waits c.in_ok-push.ensures.ok)));
             settled = (λ i. (c.add_node.ensures.settled i).items) ∙ st.settled;
             watched = st.watched;
             reached = joins clock mesh name c.args.me st.reached few;

@@ -1,7 +1,7 @@
 use Rattle.std.proofs.Common.{sym}
-use Rattle.std.proofs.lemmas.Result.{err_from_is_err_and}
+use Rattle.std.proofs.lemmas.Result.{IfErr-weaker, IfOk-weaker, err_from_is_err_and, on_err_weaker}
 use Rattle.mesh_model.specs.Net.Limits.{scenario_setup}
-use Rattle.mesh_net.proofs.Ends.{if_err_map, if_ok_map, live_of, on_err_map}
+use Rattle.mesh_net.proofs.Ends.{live_of}
 use Rattle.mesh_net.proofs.Slices.{is_alive, late_tells, net_on, none_left, same_live, same_stands, slice_tells}
 use Rattle.mesh_net.proofs.RightLemmas.{left_rightly}
 use Rattle.mesh_net.proofs.net.Net.run_some.Goals as goal
@@ -19,13 +19,13 @@ run_slice-requires-clause-later g c = λ choice clock mesh s.
 pub returns-clause-ran : goal.returns-clause-ran
 returns-clause-ran g c = λ choice clock mesh s.
     let ok = c.in_ok-check_run.ensures.ok in
-    if_ok_map c.run_slice.result (λ more ran. ran.ran)
+    IfOk-weaker c.run_slice.result _ _ (λ more ran. ran.ran)
     (c.run_slice.ensures.ran choice clock mesh (same_stands g.A.Algo.queries g.A.Algo.stands c.args.self.now c.check_run.new.self choice clock mesh ok.0 s))
 
 pub returns-clause-left : goal.returns-clause-left
 returns-clause-left g c = λ choice clock mesh s.
     let ok = c.in_ok-check_run.ensures.ok in
-    on_err_map c.run_slice.result (λ left. left_rightly g.A.Algo.queries choice mesh c.args.t c.args.log.now c.run_slice.new.log left)
+    on_err_weaker c.run_slice.result (λ left. left_rightly g.A.Algo.queries choice mesh c.args.t c.args.log.now c.run_slice.new.log left)
     (c.run_slice.ensures.left choice clock mesh (same_stands g.A.Algo.queries g.A.Algo.stands c.args.self.now c.check_run.new.self choice clock mesh ok.0 s))
 
 pub returns-in_err-check_run-clause-left : goal.returns-in_err-check_run-clause-left
@@ -36,7 +36,7 @@ returns-in_err-check_run-clause-left g c = λ choice clock mesh s.
 pub returns-clause-cause : goal.returns-clause-cause
 returns-clause-cause g c = λ choice clock mesh s.
     let ok = c.in_ok-check_run.ensures.ok in
-    if_err_map c.run_slice.result (λ e tells. slice_tells (scenario_setup g.A.Algo.queries) choice mesh c.args.t c.args.log.now c.run_slice.new.log e ok.2 tells)
+    IfErr-weaker c.run_slice.result _ _ (λ e tells. slice_tells (scenario_setup g.A.Algo.queries) choice mesh c.args.t c.args.log.now c.run_slice.new.log e ok.2 tells)
     (c.run_slice.ensures.cause choice clock mesh (same_stands g.A.Algo.queries g.A.Algo.stands c.args.self.now c.check_run.new.self choice clock mesh ok.0 s))
 
 pub returns-clause-dead : goal.returns-clause-dead

@@ -1,5 +1,6 @@
 use Rattle.std.proofs.Common.{true}
 use Rattle.mesh_model.specs.Net.Limits.{scenario_setup}
+use Rattle.mesh_post.proofs.Besides.{step_beside}
 use Rattle.mesh_net.proofs.EmptyLemmas.{empty_reached}
 use Rattle.mesh_net.proofs.net.Net.watch_routes.Goals as goal
 
@@ -12,23 +13,7 @@ returns-clause-watches g c = λ choice clock was. record {
   past = was.past;
   low = was.low;
   seats = was.seats;
-  kept = record {
-    amid = record {
-      stands = record {
-        rows = was.kept.amid.stands.rows;
-        turns = was.kept.amid.stands.turns;
-        ways = was.kept.amid.stands.ways;
-        lans = was.kept.amid.stands.lans;
-        frames = was.kept.amid.stands.frames;
-        puts = was.kept.amid.stands.puts;
-        bytes = was.kept.amid.stands.bytes;
-        few = was.kept.amid.stands.few;
-        small = was.kept.amid.stands.small;
-      };
-      waits = was.kept.amid.waits;
-    };
-    older_is = was.kept.older_is;
-  };
+  kept = step_beside was.kept;
   settled = was.settled;
   watched = record { each = c.new.ensures.each };
   reached = empty_reached (scenario_setup g.A.Algo.queries) true clock was.low;

@@ -1,23 +1,9 @@
+use Rattle.mesh_post.proofs.Besides.{step_over}
 use Rattle.mesh_post.proofs.JoinLemmas.{rows_kept, ways_kept}
 use Rattle.mesh_post.proofs.post.Post.add_node.Goals as goal
 
 pub returns-clause-joins : goal.returns-clause-joins
 returns-clause-joins c = λ older last ticks mesh node step.
     let s = step.amid.stands in
-    record {
-      amid = record {
-        stands = record {
-          rows = rows_kept mesh.nodes node mesh.links c.args.self.now.rows.items s.rows;
-          turns = s.turns;
-          ways = ways_kept mesh.nodes node mesh.links c.args.self.now.rows.items c.args.self.now.ways.items c.push.new.self.items c.new.result.items c.in_ok-push.ensures.items c.new.ensures.items s.rows s.ways;
-          lans = s.lans;
-          frames = s.frames;
-          puts = s.puts;
-          bytes = s.bytes;
-          few = s.few;
-          small = s.small;
-        };
-        waits = step.amid.waits;
-      };
-      older_is = step.older_is;
-    }
+    step_over step (rows_kept mesh.nodes node mesh.links c.args.self.now.rows.items s.rows) s.turns
+    (ways_kept mesh.nodes node mesh.links c.args.self.now.rows.items c.args.self.now.ways.items c.push.new.self.items c.new.result.items c.in_ok-push.ensures.items c.new.ensures.items s.rows s.ways) step.amid.waits
