@@ -71,8 +71,8 @@ fn text_part(fact: &Fact) -> Part<'_>
     }
 }
 
-/// Appends the line of a fact at a moment: its source, its type and version, how the node came by it,
-/// its age and its text, or the bytes of a picture in hex digits.
+/// Appends the line of a fact at a moment: its source, its type and version, how the node came by
+/// it, its age and its text, or the bytes of a picture in hex digits.
 #[tactic(auto, unfolding(mesh_model::specs::Text::Services::fact_line))]
 pub fn fact_line(out: &mut Vec<u8>, now: Millis, kept: &KeptFact) -> Result<(), NoMemory>
     ensures ok { OnOk result (out.new.items ≡ out.old.items ++ fact_line now kept.now) }

@@ -129,7 +129,8 @@ pub fn iv_link_line(out: &mut Vec<u8>, neigh: Mac, rq: u32, eq: u32) -> Result<(
 /// milliseconds since its last ELP.
 #[tactic(auto, unfolding(mesh_model::specs::Text::Tables::neighbor_line))]
 pub fn v_link_line(out: &mut Vec<u8>, neigh: Mac, tp: u32, seen: Millis) -> Result<(), NoMemory>
-    ensures ok { OnOk result (out.new.items ≡ out.old.items ++ neighbor_line (VLink neigh tp seen)) }
+    ensures ok { OnOk result (out.new.items
+        ≡ out.old.items ++ neighbor_line (VLink neigh tp seen)) }
     ensures err { OnErr result (out.new.items ≡ out.old.items) }
 {
     put_line(

@@ -5,8 +5,8 @@ use mesh_base::NoMemory;
 use std::alloc::Global;
 use std::test::Fail;
 
-/// A container of each type: gateway, ARP table, translation table with two VLANs and two changes, a
-/// part of one, roaming, multicast.
+/// A container of each type: gateway, ARP table, translation table with two VLANs and two changes,
+/// a part of one, roaming, multicast.
 const CONTAINERS: &str = "01010008000000640000001402010000\
     0401002c0105000281a0d31400000000529adaa980070000\
     0000000002000000010100001000000002000000010280070402001c1405000100010002\

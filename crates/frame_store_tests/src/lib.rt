@@ -1,4 +1,5 @@
-//! Tests of frame_store: frames at the ends of chunks, the limit of frames, and bytes that are lent.
+//! Tests of frame_store: frames at the ends of chunks, the limit of frames, and bytes that are
+//! lent.
 
 #![tactic(auto)]
 

@@ -64,8 +64,8 @@ fn reading(words: &mut Words<'_>) -> RouteReading
     }
 }
 
-/// Reads what a line of routes says: the bytes before its newline, less a carriage return that stood
-/// there.
+/// Reads what a line of routes says: the bytes before its newline, less a carriage return that
+/// stood there.
 pub fn read_route(line: &[u8]) -> RouteReading
     ensures { result ≡ route_of_line line.now }
 {
