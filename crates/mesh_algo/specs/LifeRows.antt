@@ -54,8 +54,8 @@ life_with moment number restarted row sent_on = record {
   restarted = restarted;
 }
 
--- what is made of an OGM on time, the first of its number from its neighbour, by the row of its life
--- before it and the head with which it is sent on
+-- what is made of an OGM on time, the first of its number from its neighbour, by the row of its
+-- life before it and the head with which it is sent on
 abbrev pub first_hearing : ℕ → Option Life → Option Head → Hearing
 first_hearing number row forward = record {
   accepted = is_none row || nat_lt (newest_by row) number;

@@ -1,5 +1,5 @@
--- What is written into two tables, one of originators and one of pairs, for an OGM that is the first of
--- its number from its neighbour. The main word is `IsWritten`.
+-- What is written into two tables, one of originators and one of pairs, for an OGM that is the
+-- first of its number from its neighbour. The main word is `IsWritten`.
 use Rattle.std.specs.Prelude.{◌≡◌, Bool, List, Some, if◌then◌else◌}
 use Rattle.std.specs.List.Sorted.{IsStrictlySortedBy}
 use Rattle.std.specs.Map.{keys_of, lookup}
@@ -20,8 +20,8 @@ OrigsRise rows = IsStrictlySortedBy mac_order (keys_of rows.0)
 abbrev pub PathsRise : {O X : Type 0} → Rows O X → Type 0
 PathsRise rows = IsStrictlySortedBy pair_order (keys_of rows.1)
 
--- the two tables have the row of a pair and that of its originator more, where their keys ascend, and
--- no other row of the originator if a life of it begins
+-- the two tables have the row of a pair and that of its originator more, where their keys ascend,
+-- and no other row of the originator if a life of it begins
 pub record IsWritten {O X : Type 0} (pair : Pair) (begins : Bool) (path : X) (orig : O)
     (old new : Rows O X) : Type 0 where
   pub paths_are : (key : Pair) →
