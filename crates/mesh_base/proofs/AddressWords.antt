@@ -1,9 +1,9 @@
 -- Six bytes are one number, and the number tells them.
 use Rattle.std.specs.Prelude.{zero, suc}
-use Rattle.std.proofs.Common.{◌≡◌, ℕ, ◌<◌, length, nat_eq, Bool, true, false, ◌&&◌, List, [], ◌∷◌, drop, get_or, arith, refl, sym, subst, ap, ap₂, ◌∙◌}
-use Rattle.std.specs.Int.{from_be_bytes, to_be_bytes, w64}
+use Rattle.std.proofs.Common.{◌≡◌, ℕ, ◌<◌, length, nat_eq, Bool, true, false, ◌&&◌, List, [], ◌∷◌, ◌++◌, drop, take, get_or, arith, refl, sym, subst, ap, ap₂, ◌∙◌}
+use Rattle.std.specs.Int.{from_be_bytes, to_be_bytes, w32, w64}
 use Rattle.std.specs.Cmp.Lexicographic.{pointwise}
-use Rattle.std.proofs.lemmas.List.{get_or_past}
+use Rattle.std.proofs.lemmas.List.{get_or_past, take-append-drop}
 use Rattle.std.proofs.lemmas.Nat.{be_bytes_8}
 use Rattle.std.proofs.lemmas.Bool.{eqb-true, eq-eqb, false≢true}
 
@@ -49,9 +49,13 @@ same_tests true false f g = sym (f refl)
 same_tests false true f g = g refl
 same_tests false false f g = refl
 
--- two numbers are equal where their bytes are
-pub words_agree : (a b : List ℕ) (m n : ℕ) → m ≡ word a → n ≡ word b → to_be_bytes w64 m ≡ 0 ∷ 0 ∷ a → to_be_bytes w64 n ≡ 0 ∷ 0 ∷ b → nat_eq m n ≡ pointwise nat_eq a b
-words_agree a b m n is_m is_n has_m has_n =
+-- of two that agree in the last two bytes, the first four tell whether they are equal
+pub heads_agree : (a b : List ℕ) (m n : ℕ) → m ≡ from_be_bytes w32 (take 4 a) → n ≡ from_be_bytes w32 (take 4 b) → to_be_bytes w32 m ≡ take 4 a → to_be_bytes w32 n ≡ take 4 b → drop 4 a ≡ drop 4 b
+    → nat_eq m n ≡ pointwise nat_eq a b
+heads_agree a b m n is_m is_n has_m has_n tails =
     same_tests (nat_eq m n) (pointwise nat_eq a b)
-    (λ t. let same : a ≡ b = ap (drop 2) (sym has_m ∙ ap (to_be_bytes w64) (eqb-true m n t) ∙ has_n) in ap (λ c. pointwise nat_eq a c) (sym same) ∙ same_self a)
-    (λ t. eq-eqb m n (is_m ∙ ap word (equal a b t) ∙ sym is_n))
+    (λ t.
+    let heads : take 4 a ≡ take 4 b = sym has_m ∙ ap (to_be_bytes w32) (eqb-true m n t) ∙ has_n in
+    let same : a ≡ b = sym (take-append-drop 4 a) ∙ ap₂ (λ x y. x ++ y) heads tails ∙ take-append-drop 4 b in
+    ap (λ c. pointwise nat_eq a c) (sym same) ∙ same_self a)
+    (λ t. eq-eqb m n (is_m ∙ ap (λ c. from_be_bytes w32 (take 4 c)) (equal a b t) ∙ sym is_n))

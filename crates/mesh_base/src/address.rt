@@ -1,10 +1,10 @@
-ghost use Rattle.std.specs.Prelude.{◌≡◌, ◌∷◌, nat_eq, true, Some};
+ghost use Rattle.std.specs.Prelude.{◌≡◌, ◌∷◌, drop, nat_eq, take, true, Some};
 ghost use Rattle.std.specs.Cmp.{partial_order_from_own_ties};
 ghost use Rattle.std.specs.Cmp.Lexicographic.{pointwise, slice_cmp};
 ghost use Rattle.std.specs.Ordering.{nat_cmp};
 ghost use Rattle.std.specs.Cmp.Rules.{comparing, hashing};
 ghost use Rattle.std.specs.Hash as fed;
-ghost use Rattle.std.specs.Int.{from_be_bytes, to_be_bytes, w64};
+ghost use Rattle.std.specs.Int.{from_be_bytes, to_be_bytes, w16, w32, w64};
 ghost use Rattle.std.proofs.Common.{rules};
 ghost use Rattle.mesh_base.specs.Address.{mac_of_text, is_broadcast, is_group, is_zero};
 
@@ -16,15 +16,15 @@ use std::hash::{Hash, Hasher};
 #[derive(Clone, Copy, Debug, Eq)]
 pub struct Mac(pub [u8; 6]);
 
-// Addresses are compared and hashed as one word each, since tables are looked up by them all the
-// time.
+// Addresses are ordered and hashed as one word each, and are equal where two pieces are: tables are
+// looked up by them all the time.
 impl PartialEq for Mac {
     ghost eq = { λ a b. pointwise nat_eq a.0 b.0 };
 
     ghost laws = { Prim.search (comparing, rules) };
 
     fn eq(&self, other: &Mac) -> bool {
-        self.word() == other.word()
+        self.tail() == other.tail() && self.head() == other.head()
     }
 }
 
@@ -99,6 +99,24 @@ impl Mac {
         };
         let bytes = <[u8; 6]>::from_hex([a, b, c, d, e, f, g, h, i, j, k, l]).ok()?;
         Some(Mac(bytes))
+    }
+
+    // The first four bytes as a number, the first the highest.
+    fn head(self) -> u32
+        ensures value { result ≡ from_be_bytes w32 (take 4 self.0) }
+        ensures bytes { to_be_bytes w32 result ≡ take 4 self.0 }
+    {
+        let [a, b, c, d, _, _] = self.0;
+        u32::from_be_bytes([a, b, c, d])
+    }
+
+    // The last two bytes as a number, the first the higher: those of neighbours differ here first.
+    fn tail(self) -> u16
+        ensures value { result ≡ from_be_bytes w16 (drop 4 self.0) }
+        ensures bytes { to_be_bytes w16 result ≡ drop 4 self.0 }
+    {
+        let [_, _, _, _, e, f] = self.0;
+        u16::from_be_bytes([e, f])
     }
 
     // The bytes as a number, the first the highest.
