@@ -76,13 +76,11 @@ impl Algo for Iv {
     }
 
     fn hear(&mut self, now: Millis, from: Mac, _tp: u32, head: &Head) -> Result<Hearing, NoMemory> {
-        match ogm_came(now, from, head) {
-            Some(ogm) => {
-                let hearing = self.hear_ogm(&ogm)?;
-                Ok(hearing)
-            }
-            None => Ok(UNHEARD),
-        }
+        let Some(ogm) = ogm_came(now, from, head) else {
+            return Ok(UNHEARD);
+        };
+        let hearing = self.hear_ogm(&ogm)?;
+        Ok(hearing)
     }
 
     fn restart(&mut self) {
@@ -180,7 +178,7 @@ impl Iv {
 fn ogm_came(moment: Millis, from: Mac, head: &Head) -> Option<OgmCame>
     ensures { IsCame moment from head.now result }
 {
-    match *head {
+    match head {
         Head::IvOgm {
             ttl,
             flags,
@@ -191,12 +189,12 @@ fn ogm_came(moment: Millis, from: Mac, head: &Head) -> Option<OgmCame>
         } => Some(OgmCame {
             moment,
             from,
-            ttl,
-            flags,
-            seq,
-            orig,
-            prev,
-            tq,
+            ttl: *ttl,
+            flags: *flags,
+            seq: *seq,
+            orig: *orig,
+            prev: *prev,
+            tq: *tq,
         }),
         Head::Bcast { .. }
         | Head::Elp { .. }
