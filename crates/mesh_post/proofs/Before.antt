@@ -1,7 +1,8 @@
 -- What a refused act leaves is as before.
-use Rattle.std.proofs.Common.{◌≡◌, ◌↔◌, ◌≤◌, ℕ, zero, suc, Bool, true, false, cond, List, [], ◌∷◌, ◌++◌, length, take, refl, sym, ap, subst, ◌∙◌, append_assoc, append-nil, arith}
+use Rattle.std.proofs.Common.{◌≡◌, ◌↔◌, ◌≤◌, ℕ, zero, suc, Bool, true, false, cond, List, [], ◌∷◌, ◌++◌, length, take, drop, refl, sym, ap, subst, ◌∙◌, append_assoc, append-nil, arith}
 use Rattle.std.specs.List.{filter}
 use Rattle.std.proofs.lemmas.Bool.{lt-ltb, ltb-true}
+use Rattle.std.proofs.Math.Seq.{drop-append_seam}
 use Rattle.mesh_base.specs.declared.event.Event.{Event}
 use Rattle.mesh_model.specs.declared.happening.Class.{Class}
 use Rattle.mesh_model.specs.declared.happening.Class.TheVariants.{LinkDelivery, LanDelivery, NodeTick}
@@ -14,10 +15,11 @@ use Rattle.mesh_post.specs.declared.post.Post.{Post}
 use Rattle.mesh_post.specs.Posting.{Posted}
 use Rattle.mesh_post.specs.declared.row.Put.{Put}
 use Rattle.mesh_post.specs.declared.row.Sending.{Sending}
-use Rattle.mesh_post.specs.Refused.{Enters, IsAsBefore, IsMark, KeepsJoined, TakesBack, is_older, stays}
+use Rattle.mesh_post.specs.Refused.{Enters, IsAsBefore, IsMark, KeepsJoined, TakesBack, is_older, stays, with_turns}
 use Rattle.mesh_post.specs.Sent.{Grew}
 use Rattle.mesh_post.specs.Waiting.{IsRising}
 use Rattle.mesh_post.proofs.RisingLemmas.{first_before, has_at, rest_rises}
+use Rattle.mesh_post.proofs.TurnLemmas.{turns_both}
 
 -- ---- lists
 first : {X : Type 0} (xs more : List X) → take (length xs) (xs ++ more) ≡ xs
@@ -26,6 +28,9 @@ first (x ∷ xs) more = ap (λ l. x ∷ l) (first xs more)
 
 take_front : {X : Type 0} (xs more all : List X) → all ≡ xs ++ more → take (length xs) all ≡ xs
 take_front xs more all is = ap (take (length xs)) is ∙ first xs more
+
+drop_front : {X : Type 0} (xs more all : List X) → all ≡ xs ++ more → drop (length xs) all ≡ more
+drop_front xs more all is = ap (drop (length xs)) is ∙ drop-append_seam xs more
 
 -- a log that grew is cut back
 pub cut_back : (old new : List Event) (told : ℕ) → told ≡ length old → Grew old new → take told new ≡ old
@@ -77,6 +82,7 @@ enters_none p = record {
   joined = joined_none p;
   frames = [];
   frames_are = sym (append-nil p.frames.items);
+  turns = refl;
   puts = [];
   puts_are = sym (append-nil p.puts.items);
   fresh = [];
@@ -89,6 +95,7 @@ enters_both a b c p q = record {
   joined = joined_both a b c p.joined q.joined;
   frames = p.frames ++ q.frames;
   frames_are = q.frames_are ∙ ap (λ l. l ++ q.frames) p.frames_are ∙ append_assoc a.frames.items p.frames q.frames;
+  turns = q.turns ∙ ap (with_turns q.frames) p.turns ∙ sym (turns_both p.frames q.frames a.turns.items);
   puts = p.puts ++ q.puts;
   puts_are = q.puts_are ∙ ap (λ l. l ++ q.puts) p.puts_are ∙ append_assoc a.puts.items p.puts q.puts;
   fresh = p.fresh ++ q.fresh;
@@ -110,12 +117,13 @@ no_next_put frames puts x old class place =
     let low = ltb-true x.place puts (subst (λ c. is_older frames puts c x.place ≡ true) class old) in omega (arith, low, place)
 
 -- a frame on a link may have been entered, and its deliveries
-pub frame_entered : (a b : Post) (place : ℕ) (more : List Posted) → KeepsJoined a b → place ≡ length a.frames.items → b.frames.items ≡ a.frames.items ++ more → b.puts.items ≡ a.puts.items → b.fresh.items ≡ a.fresh.items
+pub frame_entered : (a b : Post) (place : ℕ) (more : List Posted) → KeepsJoined a b → place ≡ length a.frames.items → b.frames.items ≡ a.frames.items ++ more → b.turns.items ≡ with_turns more a.turns.items → b.puts.items ≡ a.puts.items → b.fresh.items ≡ a.fresh.items
     → ((x : Happening) → (x.class ≡ LinkDelivery → x.place ≡ place → ⊥) → Has b.queue x ↔ Has a.queue x) → Enters a b
-frame_entered a b place more joined next frames puts fresh others = record {
+frame_entered a b place more joined next frames turns puts fresh others = record {
   joined = joined;
   frames = more;
   frames_are = frames;
+  turns = turns;
   puts = [];
   puts_are = puts ∙ sym (append-nil a.puts.items);
   fresh = [];
@@ -124,12 +132,13 @@ frame_entered a b place more joined next frames puts fresh others = record {
 }
 
 -- a frame on a LAN may have been entered, and its delivery
-pub put_entered : (a b : Post) (place : ℕ) (more : List Put) (sent : List Sending) → KeepsJoined a b → place ≡ length a.puts.items → b.frames.items ≡ a.frames.items → b.puts.items ≡ a.puts.items ++ more → b.fresh.items ≡ a.fresh.items ++ sent
+pub put_entered : (a b : Post) (place : ℕ) (more : List Put) (sent : List Sending) → KeepsJoined a b → place ≡ length a.puts.items → b.frames.items ≡ a.frames.items → b.turns.items ≡ a.turns.items → b.puts.items ≡ a.puts.items ++ more → b.fresh.items ≡ a.fresh.items ++ sent
     → ((x : Happening) → (x.class ≡ LanDelivery → x.place ≡ place → ⊥) → Has b.queue x ↔ Has a.queue x) → Enters a b
-put_entered a b place more sent joined next frames puts fresh others = record {
+put_entered a b place more sent joined next frames turns puts fresh others = record {
   joined = joined;
   frames = [];
   frames_are = frames ∙ sym (append-nil a.frames.items);
+  turns = turns;
   puts = more;
   puts_are = puts;
   fresh = sent;
@@ -141,7 +150,7 @@ put_entered a b place more sent joined next frames puts fresh others = record {
 pub as_before : (mark : Mark) (old mid new : Post) → IsMark old mark → Enters old mid → TakesBack mark mid new → IsAsBefore old new
 as_before mark old mid new m e t = record {
   joined = joined_both old mid new e.joined t.joined;
-  turns = t.turns ∙ m.turns;
+  turns = t.turns old.turns.items (e.turns ∙ ap (λ l. with_turns l old.turns.items) (sym came));
   frames = t.frames ∙ ap (λ n. take n mid.frames.items) m.frames ∙ take_front old.frames.items e.frames mid.frames.items e.frames_are;
   puts = t.puts ∙ ap (λ n. take n mid.puts.items) m.puts ∙ take_front old.puts.items e.puts mid.puts.items e.puts_are;
   fresh = t.fresh ∙ ap (λ n. take n mid.fresh.items) m.fresh ∙ take_front old.fresh.items e.fresh mid.fresh.items e.fresh_are;
@@ -152,6 +161,9 @@ as_before mark old mid new m e t = record {
   );
 }
   where
+    came : drop mark.frames mid.frames.items ≡ e.frames
+    came = ap (λ n. drop n mid.frames.items) m.frames ∙ drop_front old.frames.items e.frames mid.frames.items e.frames_are
+
     test : Happening → Bool
     test = stays (length old.frames.items) (length old.puts.items)
 

@@ -2,6 +2,7 @@
 pub mod LookUps
 pub mod Besides
 pub mod RisingLemmas
+pub mod TurnLemmas
 pub mod Before
 pub mod QueueLemmas
 pub mod PostLemmas

@@ -1,5 +1,5 @@
 -- What is kept of frames, after one more is sent.
-use Rattle.std.proofs.Common.{◌≡◌, ◌↔◌, ℕ, zero, suc, ◌+◌, ◌%◌, ◌<◌, ◌≤◌, ◌⊎◌, inl, inr, nat_eq, true, false, cond, List, [], ◌∷◌, ◌++◌, map, length, slice_get, slice_set, slice_index_or, Option, Some, refl, sym, ap, ◌∙◌, subst, arith, append_assoc, append-nil, length-append}
+use Rattle.std.proofs.Common.{◌≡◌, ◌↔◌, ℕ, zero, suc, ◌+◌, ◌%◌, ◌<◌, ◌≤◌, ◌⊎◌, inl, inr, nat_eq, cond, List, [], ◌∷◌, ◌++◌, map, length, slice_get, slice_set, slice_index_or, Option, Some, refl, sym, ap, ◌∙◌, subst, arith, append_assoc, append-nil, length-append}
 use Rattle.std.proofs.lemmas.Bool.{eq-eqb, ne_eqb}
 use Rattle.std.proofs.lemmas.List.{length-set}
 use Rattle.mesh_post.proofs.LookUps.{some_one}
@@ -14,7 +14,6 @@ use Rattle.mesh_model.specs.Scenario.Terms.{held_mark}
 use Rattle.mesh_post.specs.Posting.{Posted}
 use Rattle.mesh_post.specs.declared.row.Put.{Put}
 use Rattle.mesh_post.specs.declared.row.Sending.{Sending}
-use Rattle.mesh_model.specs.Net.Limits.{frames_limit}
 use Rattle.mesh_post.specs.declared.post.Post.{Post}
 use Rattle.mesh_post.specs.declared.row.Lane.{Lane}
 use Rattle.mesh_post.specs.declared.row.Sender.{Sender}
@@ -84,12 +83,6 @@ lan_deliveries_more start [] p = ap (λ n. lan_delivery_at n p ∷ []) (omega ar
 lan_deliveries_more start (x ∷ xs) p =
     ap (λ hs. lan_delivery_at start x ∷ hs) (lan_deliveries_more (suc start) xs p)
     ∙ ap (λ n. lan_delivery_at start x ∷ (lan_deliveries (suc start) xs ++ lan_delivery_at n p ∷ [])) (omega arith)
-
-frames_few : (place : ℕ) (frames : List SentFrame) → frames_on place frames ≤ length frames
-frames_few place [] = omega arith
-frames_few place (x ∷ xs) =
-    let l = frames_few place xs in
-    elim (nat_eq x.link place) as (λ b. cond b 1 0 + frames_on place xs ≤ suc (length xs)) [ true ↦ omega (arith, l) | false ↦ omega (arith, l) ]
 
 -- what a look-up finds in a list of which one item was set: that item at its place, or what was there
 pub set_got : {X : Type 0} (xs : List X) (i j : ℕ) (y z : X) → slice_get (slice_set xs i y) j ≡ Some z → ((i ≡ j) × (z ≡ y)) ⊎ ((i ≡ j → ⊥) × (slice_get xs j ≡ Some z))
@@ -268,6 +261,3 @@ carries old new sender reason parcel way bytes lane sendings last ticks mesh lin
     after = all_after last (length mesh.frames) (arrivals mesh.links f) (λ m h.
         let l = later_of (fate_of_mark lane.mark) sender.now lane.delay m least (subst (λ ms. Has ms m) arrives h) in
         omega (arith, l, late))
-
-pub turn_fits : (way : ℕ) (mesh : Mesh) (turn : ℕ) → turn ≡ frames_on way mesh.frames → length mesh.frames < frames_limit → turn < 4294967295
-turn_fits way mesh turn is few = let l = frames_few way mesh.frames in omega (arith, l, is, few)

@@ -1,7 +1,8 @@
 -- What a refused act leaves. Where it would pass a limit nothing is begun; where memory is wanting
--- amid it, what was entered is taken back: the frames, what they bring, and what was told of them.
--- So what is kept is as before, and so is the log. The main words are `IsAsBefore` and `PortSame`.
-use Rattle.std.specs.Prelude.{◌≡◌, ◌↔◌, ℕ, nat_lt, Bool, true, List, ◌++◌, filter, length, take}
+-- amid it, what was entered is taken back: the frames with the turns of their links, what they
+-- bring, and what was told of them. So what is kept is as before, and so is the log. The main words
+-- are `IsAsBefore` and `PortSame`.
+use Rattle.std.specs.Prelude.{◌≡◌, ◌↔◌, ℕ, nat_lt, Bool, true, List, ◌++◌, filter, length, take, drop, suc, slice_index_or, slice_set, [], ◌∷◌}
 use Rattle.mesh_model.specs.declared.happening.Class.{Class}
 use Rattle.mesh_model.specs.declared.happening.Class.TheVariants.{LinkDelivery, LanDelivery, NodeTick}
 use Rattle.mesh_model.specs.declared.happening.Happening.{Happening}
@@ -33,12 +34,22 @@ pub record KeepsJoined (old new : Post) : Type 0 where
   pub older : new.older ≡ old.older
   pub choice : new.choice ≡ old.choice
 
+-- how many frames each link carried, where the one at a place carried one more
+abbrev pub with_turn : ℕ → List ℕ → List ℕ
+with_turn way turns = slice_set turns way (suc (slice_index_or turns way 0))
+
+-- how many, where they carried these besides
+abbrev pub with_turns : List Posted → List ℕ → List ℕ
+with_turns [] turns = turns
+with_turns (frame ∷ frames) turns = with_turns frames (with_turn frame.link turns)
+
 -- frames and sendings were entered behind the others, and only deliveries of these frames wait
 -- besides what waited
 pub record Enters (old new : Post) : Type 0 where
   pub joined : KeepsJoined old new
   pub frames : List Posted
   pub frames_are : new.frames.items ≡ old.frames.items ++ frames
+  pub turns : new.turns.items ≡ with_turns frames old.turns.items
   pub puts : List Put
   pub puts_are : new.puts.items ≡ old.puts.items ++ puts
   pub fresh : List Sending
@@ -53,7 +64,6 @@ pub record IsMark (post : Post) (mark : Mark) : Type 0 where
   pub puts : mark.puts ≡ length post.puts.items
   pub fresh : mark.fresh ≡ length post.fresh.items
   pub bytes : mark.bytes ≡ post.bytes
-  pub turns : mark.turns.items ≡ post.turns.items
 
 -- what was entered since a mark is taken back
 pub record TakesBack (mark : Mark) (old new : Post) : Type 0 where
@@ -62,7 +72,9 @@ pub record TakesBack (mark : Mark) (old new : Post) : Type 0 where
   pub puts : new.puts.items ≡ take mark.puts old.puts.items
   pub fresh : new.fresh.items ≡ take mark.fresh old.fresh.items
   pub bytes : new.bytes ≡ mark.bytes
-  pub turns : new.turns.items ≡ mark.turns.items
+  pub turns : (before : List ℕ) →
+      old.turns.items ≡ with_turns (drop mark.frames old.frames.items) before →
+      new.turns.items ≡ before
   pub queue : new.queue ≡ filter (stays mark.frames mark.puts) old.queue
 
 -- each delivery that waits is of a frame that is kept

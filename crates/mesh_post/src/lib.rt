@@ -15,6 +15,7 @@ mod rising;
 mod row;
 mod sends;
 mod shown;
+mod turns;
 
 pub use port::NetPort;
 pub use post::{Post, place_of};

@@ -80,9 +80,7 @@ impl Post {
         ensures choice { self.new.choice ≡ self.old.choice }
     {
         self.check_room(1, bytes.len())?;
-        let Ok(mark) = self.mark() else {
-            return Err(PortErr::Memory);
-        };
+        let mark = self.mark();
         let told = log.len();
         match self.carry_put(log, putting, bytes) {
             Ok(()) => Ok(()),

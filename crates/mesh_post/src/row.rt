@@ -155,10 +155,10 @@ impl Row {
         ensures { result
             ≡ slice_index_or self.now.pattern (turn % length self.now.pattern) held_mark }
     {
-        let pattern = self.pattern.as_slice();
-        if pattern.is_empty() {
-            return HELD;
+        match self.pattern.as_slice() {
+            [] => HELD,
+            [mark] => *mark,
+            pattern => pattern[turn as usize % pattern.len()],
         }
-        pattern[turn as usize % pattern.len()]
     }
 }

@@ -1,4 +1,4 @@
-ghost use Rattle.std.specs.Prelude.{◌≡◌, ◌∷◌, [], ◌++◌, ◌≤◌, ◌<◌, List, length, filter, slice_get, Some, None, IfErr, ◌+◌, ◌*◌, ◌^◌, OnOk, OnErr};
+ghost use Rattle.std.specs.Prelude.{◌≡◌, ◌∷◌, [], ◌++◌, ◌≤◌, ◌<◌, List, length, filter, slice_get, Some, None, IfSome, IfErr, ◌+◌, ◌*◌, ◌^◌, OnOk, OnErr};
 ghost use Rattle.mesh_base.specs.declared.event.Event.{Event};
 ghost use Rattle.mesh_model.specs.Net.Mesh.{NetLink, Mesh};
 ghost use Rattle.mesh_post.specs.declared.row.Sending.{Sending};
@@ -17,6 +17,7 @@ use crate::post::{Post, place_of};
 use crate::posted::Posted;
 use crate::row::{Lane, Parcel, Sender, Sending, Told};
 use crate::shown::{is_shown, shows};
+use crate::turns::set_turn;
 use mesh_base::{Bytes, Event, Events, Mac, NoMemory, Reason};
 use node_ground::PortErr;
 
@@ -51,9 +52,7 @@ impl Post {
         if count == 0 {
             return Ok(());
         }
-        let Ok(mark) = self.mark() else {
-            return Err(PortErr::Memory);
-        };
+        let mark = self.mark();
         let told = log.len();
         match self.send_all(log, sender, to, reason, bytes) {
             Ok(()) => Ok(()),
@@ -188,9 +187,11 @@ impl Post {
 
     // What the link at a place does with its next frame.
     fn lane(&self, way: u32) -> Option<Lane>
-        ensures { (sendings : List Sending) (mesh : Mesh) (link : NetLink) →
+        ensures stands { (sendings : List Sending) (mesh : Mesh) (link : NetLink) →
             PostStands self.now sendings mesh → slice_get mesh.links way ≡ Some link →
             (lane : Lane) × (result ≡ Some lane) × LaneIs mesh way link lane }
+        ensures turn { IfSome result
+            (λ lane. slice_get self.now.turns.items way ≡ Some lane.turn) }
     {
         let row = self.rows.get(way as usize)?;
         let turn = *self.turns.get(way as usize)?;
@@ -202,7 +203,8 @@ impl Post {
         })
     }
 
-    // Notes a frame of so many bytes on the link at a place, and what is to come of it.
+    // Notes a frame of so many bytes on the link at a place, and what is to come of it. The turn of
+    // the link comes last, so that a frame that is kept has one, and no other has.
     fn enter(
         &mut self,
         sender: Sender,
@@ -211,18 +213,18 @@ impl Post {
         size: usize,
         way: u32,
     ) -> Result<(), NoMemory>
-        ensures carries { lane.turn < 4294967295 → sender.now + 2 * lane.delay < 2 ^ 64 →
+        requires { slice_get self.old.turns.items way ≡ Some lane.turn }
+        ensures carries { sender.now + 2 * lane.delay < 2 ^ 64 →
             self.old.bytes + size < 2 ^ 64 →
             OnOk result (Carries self.old self.new sender parcel.sending size way lane) }
         ensures enters { Enters self.old self.new }
         ensures kept { KeepsAll self.old self.new }
     {
         let place = place_of(self.frames.len())?;
+        let carried = lane.turn.checked_add(1).ok_or(NoMemory)?;
         self.queue.wait(lane.mark, place, sender.now, lane.delay)?;
         self.frames.push(Posted::new(way, parcel.sending)?)?;
-        if let Some(turn) = self.turns.get_mut(way as usize) {
-            *turn = lane.turn.saturating_add(1);
-        }
+        set_turn(&mut self.turns, way, carried);
         self.bytes = self.bytes.saturating_add(size as u64);
         Ok(())
     }

@@ -1,4 +1,4 @@
-use Rattle.std.proofs.Common.{rules, vec_len, ◌≡◌, ℕ, suc, ◌<◌, length, refl, sym, ap, ◌∙◌, subst, arith, [], ◌∷◌, ◌++◌}
+use Rattle.std.proofs.Common.{rules, vec_len, ◌≡◌, ℕ, suc, length, refl, sym, ap, ◌∙◌, subst, arith, [], ◌∷◌, ◌++◌}
 use Rattle.std.specs.Option.{option_map_or}
 use Rattle.std.specs.List.{filter}
 use Rattle.mesh_base.specs.declared.address.Mac.{Mac}
@@ -11,21 +11,19 @@ use Rattle.mesh_post.specs.Sent.{actor_of, next_event}
 use Rattle.mesh_post.specs.Lanes.{LaneIs}
 use Rattle.mesh_post.proofs.Before.{enters_none}
 use Rattle.mesh_post.proofs.LookUps.{some_one}
-use Rattle.mesh_post.proofs.PostLemmas.{carries, length_more, turn_fits, frames_length}
+use Rattle.mesh_post.proofs.PostLemmas.{carries, length_more, frames_length}
 use Rattle.mesh_post.proofs.post.Post.carry.Goals as goal
 
 pub returns-clause-sent : goal.returns-clause-sent
 returns-clause-sent c = λ sendings last ticks mesh link amid found sending room late.
-    let l = c.lane.ensures sendings mesh link amid.stands found in
+    let l = c.lane.ensures.stands sendings mesh link amid.stands found in
     let is : LaneIs mesh c.args.way link c.in-Some.lane = subst (LaneIs mesh c.args.way link) (some_one l.0 c.in-Some.lane (sym l.1 ∙ c.in-Some.is)) l.2 in
-    let few = room.few in
-    let turn_low : c.in-Some.lane.turn < 4294967295 = turn_fits c.args.way mesh c.in-Some.lane.turn is.turn (omega (arith, few)) in
     let delay = is.delay in
     let most = is.most in
     let soon = room.soon in
     let small = room.small in
     let bytes = amid.stands.bytes in
-    let done = c.in_ok-enter.ensures.carries turn_low (omega (arith, delay, most, soon)) (omega (arith, bytes, small)) in
+    let done = c.in_ok-enter.ensures.carries (omega (arith, delay, most, soon)) (omega (arith, bytes, small)) in
     let a = c.in_ok-place_of.ensures.is in let b = c.len.ensures in let d = done.frames in
     let len_is : vec_len c.enter.new.self.frames ≡ length c.enter.new.self.frames.items = search rules in
     let number_is : c.in_ok-place_of.field-0 ≡ suc (length mesh.frames) = a ∙ b ∙ len_is ∙ ap length d ∙ length_more c.args.self.now.frames.items _ ∙ ap suc (frames_length sendings mesh.frames c.args.self.now.frames.items amid.stands.frames) in

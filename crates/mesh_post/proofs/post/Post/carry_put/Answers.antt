@@ -40,24 +40,24 @@ returns-in_err-sending-clause-enters c = enters_none c.args.self.now
 pub returns-in_err-wait_on_lan-clause-enters : goal.returns-in_err-wait_on_lan-clause-enters
 returns-in_err-wait_on_lan-clause-enters c =
     let next : c.in_ok-place.place ≡ length c.args.self.now.puts.items = search rules in
-    put_entered c.args.self.now _ c.in_ok-place.place [] [] (search rules) next (search rules) (sym (append-nil c.args.self.now.puts.items)) (sym (append-nil c.args.self.now.fresh.items)) c.wait_on_lan.ensures.others
+    put_entered c.args.self.now _ c.in_ok-place.place [] [] (search rules) next (search rules) (search rules) (sym (append-nil c.args.self.now.puts.items)) (sym (append-nil c.args.self.now.fresh.items)) c.wait_on_lan.ensures.others
 
 pub returns-in_err-push-clause-enters : goal.returns-in_err-push-clause-enters
 returns-in_err-push-clause-enters c =
     let next : c.in_ok-place.place ≡ length c.args.self.now.puts.items = search rules in
-    put_entered c.args.self.now _ c.in_ok-place.place [] [] (search rules) next (search rules) (c.in_err-push.ensures.items ∙ sym (append-nil c.args.self.now.puts.items)) (sym (append-nil c.args.self.now.fresh.items)) c.wait_on_lan.ensures.others
+    put_entered c.args.self.now _ c.in_ok-place.place [] [] (search rules) next (search rules) (search rules) (c.in_err-push.ensures.items ∙ sym (append-nil c.args.self.now.puts.items)) (sym (append-nil c.args.self.now.fresh.items)) c.wait_on_lan.ensures.others
 
 pub returns-in_err-tell_put-clause-enters : goal.returns-in_err-tell_put-clause-enters
 returns-in_err-tell_put-clause-enters c =
     let next : c.in_ok-place.place ≡ length c.args.self.now.puts.items = search rules in
-    put_entered c.args.self.now _ c.in_ok-place.place (record { lan = c.args.putting.lan; sending = c.in_ok-sending.sending; by = c.args.putting.by } ∷ []) [] (search rules) next (search rules) (c.in_ok-push.ensures.items) (sym (append-nil c.args.self.now.fresh.items)) c.wait_on_lan.ensures.others
+    put_entered c.args.self.now _ c.in_ok-place.place (record { lan = c.args.putting.lan; sending = c.in_ok-sending.sending; by = c.args.putting.by } ∷ []) [] (search rules) next (search rules) (search rules) (c.in_ok-push.ensures.items) (sym (append-nil c.args.self.now.fresh.items)) c.wait_on_lan.ensures.others
 
 pub returns-in_err-push-2-clause-enters : goal.returns-in_err-push-2-clause-enters
 returns-in_err-push-2-clause-enters c =
     let next : c.in_ok-place.place ≡ length c.args.self.now.puts.items = search rules in
-    put_entered c.args.self.now _ c.in_ok-place.place (record { lan = c.args.putting.lan; sending = c.in_ok-sending.sending; by = c.args.putting.by } ∷ []) [] (search rules) next (search rules) (c.in_ok-push.ensures.items) (c.in_err-push-2.ensures.items ∙ sym (append-nil c.args.self.now.fresh.items)) c.wait_on_lan.ensures.others
+    put_entered c.args.self.now _ c.in_ok-place.place (record { lan = c.args.putting.lan; sending = c.in_ok-sending.sending; by = c.args.putting.by } ∷ []) [] (search rules) next (search rules) (search rules) (c.in_ok-push.ensures.items) (c.in_err-push-2.ensures.items ∙ sym (append-nil c.args.self.now.fresh.items)) c.wait_on_lan.ensures.others
 
 pub returns-clause-enters : goal.returns-clause-enters
 returns-clause-enters c =
     let next : c.in_ok-place.place ≡ length c.args.self.now.puts.items = search rules in
-    put_entered c.args.self.now _ c.in_ok-place.place (record { lan = c.args.putting.lan; sending = c.in_ok-sending.sending; by = c.args.putting.by } ∷ []) (record { root = 0; bytes = c.args.bytes } ∷ []) (search rules) next (search rules) (c.in_ok-push.ensures.items) (c.in_ok-push-2.ensures.items) c.wait_on_lan.ensures.others
+    put_entered c.args.self.now _ c.in_ok-place.place (record { lan = c.args.putting.lan; sending = c.in_ok-sending.sending; by = c.args.putting.by } ∷ []) (record { root = 0; bytes = c.args.bytes } ∷ []) (search rules) next (search rules) (search rules) (c.in_ok-push.ensures.items) (c.in_ok-push-2.ensures.items) c.wait_on_lan.ensures.others

@@ -4,8 +4,8 @@ use Rattle.mesh_post.specs.Kept.{RowIs}
 use Rattle.mesh_post.proofs.LookUps.{got, some_one}
 use Rattle.mesh_post.proofs.post.Post.lane.Goals as goal
 
-pub returns : goal.returns
-returns c = λ sendings mesh link stands found.
+pub returns-clause-stands : goal.returns-clause-stands
+returns-clause-stands c = λ sendings mesh link stands found.
     let h = stands.rows.each c.args.way link found in
     let k = c.in_ok-row.ensures.lookup in
     let m = c.in_ok-turn.ensures.lookup in

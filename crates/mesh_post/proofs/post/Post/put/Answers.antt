@@ -10,15 +10,15 @@ returns-then-count-eq0-clause-taken c = λ queries older last ticks mesh step ma
     let none : passed_by c.args.self.now c.args.sender.place (Link c.args.to c.args.reason c.args.bytes) ≡ None = rw (c.count-count.ensures, c.len.ensures.value) at c.in_ok-check_room.ensures.within in
     has_sent_none queries c.args.self.now older last ticks c.args.sender mesh c.args.to c.args.reason c.args.bytes c.args.log.now step may none (sym c.count-count.ensures ∙ c.if-count-eq0.true)
 
-pub returns-in-Ok-send_all-clause-taken : goal.returns-in-Ok-send_all-clause-taken
-returns-in-Ok-send_all-clause-taken c = λ queries older last ticks mesh step may.
+pub returns-in-Ok-clause-taken : goal.returns-in-Ok-clause-taken
+returns-in-Ok-clause-taken c = λ queries older last ticks mesh step may.
     let none : passed_by c.args.self.now c.args.sender.place (Link c.args.to c.args.reason c.args.bytes) ≡ None = rw (c.count-count.ensures, c.len.ensures.value) at c.in_ok-check_room.ensures.within in
     has_sent queries c.args.self.now c.send_all.new.self older last ticks c.args.sender mesh c.args.to c.args.reason c.args.bytes c.args.log.now c.send_all.new.log step may none
-    (c.in-Ok-send_all.ensures.sent older last ticks mesh step (room_for c.args.self.now older last ticks c.args.sender mesh c.args.to c.args.reason c.args.bytes step may none)
+    (c.in-Ok.ensures.sent older last ticks mesh step (room_for c.args.self.now older last ticks c.args.sender mesh c.args.to c.args.reason c.args.bytes step may none)
     (are_low c.args.self.now older last ticks c.args.sender c.args.to mesh step may.place) may.late)
 
 pub returns-in-Err-clause-refused : goal.returns-in-Err-clause-refused
-returns-in-Err-clause-refused c = as_before c.in-Ok.mark c.args.self.now c.send_all.new.self c.take_back.new.self c.in-Ok.ensures c.send_all.ensures.enters c.take_back.ensures
+returns-in-Err-clause-refused c = as_before c.mark-mark.result c.args.self.now c.send_all.new.self c.take_back.new.self c.mark-mark.ensures c.send_all.ensures.enters c.take_back.ensures
 
 pub returns-in-Err-clause-grew : goal.returns-in-Err-clause-grew
 returns-in-Err-clause-grew c = record {
