@@ -59,6 +59,19 @@ impl Kept {
         ensures ok { OnOk result ((self.new ≡ self.old ++ fresh.old.items)
             × (fresh.new.items ≡ [])) }
     {
+        // Most steps send nothing.
+        if fresh.is_empty() {
+            return Ok(());
+        }
+        self.keep_each(fresh)?;
+        Ok(())
+    }
+
+    // Puts sendings behind the others one after another, as `keep` does.
+    fn keep_each(&mut self, fresh: &mut Vec<Sending>) -> Result<(), NoMemory>
+        ensures ok { OnOk result ((self.new ≡ self.old ++ fresh.old.items)
+            × (fresh.new.items ≡ [])) }
+    {
         for sending in fresh.iter() {
             self.push(sending)?;
         }

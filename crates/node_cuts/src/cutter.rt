@@ -155,6 +155,27 @@ impl Cutter {
         ensures counted { OnOk result
             (self.new.cuts ≡ self.old.cuts + cuts_among self.old.most acts.items) }
     {
+        // Most inputs give no act.
+        if acts.is_empty() {
+            return Ok(());
+        }
+        self.put_each(alloc, port, acts)?;
+        Ok(())
+    }
+
+    // Puts acts one after another, as `put_all` does.
+    fn put_each<P: Port>(
+        &mut self,
+        alloc: Global,
+        port: &mut P,
+        acts: Vec<Act>,
+    ) -> Result<(), NodeErr>
+        requires few { self.old.cuts ≤ 65535 }
+        ensures puts { Leaves P.takes P.same P.over (cut_limit (cutter_of self.old) acts.items)
+            port.old (cut_acts (cutter_of self.old) acts.items) result port.new }
+        ensures counted { OnOk result
+            (self.new.cuts ≡ self.old.cuts + cuts_among self.old.most acts.items) }
+    {
         for act in acts {
             self.put(alloc, port, act)?;
         }

@@ -1,5 +1,5 @@
 use Rattle.std.proofs.Common.{◌≡◌, ◌++◌, take}
-use Rattle.mesh_net.proofs.kept.Kept.keep.Given as goal
+use Rattle.mesh_net.proofs.kept.Kept.keep_each.Given as goal
 
 abbrev pub invariant-loop-sending : goal.invariant-loop-sending
 invariant-loop-sending l = l.self ≡ l.fn.self ++ take l.sending-index l.sending-items

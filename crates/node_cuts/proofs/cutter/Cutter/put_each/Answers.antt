@@ -7,7 +7,7 @@ use Rattle.mesh_model.specs.Acts.Cuts.{after_act, cuts_among}
 use Rattle.node_ground.specs.declared.failure.NodeErr.{NodeErr}
 use Rattle.node_cuts.specs.Collected.{cutter_of}
 use Rattle.node_cuts.proofs.CutLemmas.{counted_all, counting, none_left, puts_rest, stops_at_first}
-use Rattle.node_cuts.proofs.cutter.Cutter.put_all.Goals as goal
+use Rattle.node_cuts.proofs.cutter.Cutter.put_each.Goals as goal
 
 pub loop-act-preserved : goal.loop-act-preserved
 loop-act-preserved g c =

@@ -3,7 +3,7 @@ use Rattle.std.specs.Vec.Iter.{into_iter_items, into_iter_len}
 use Rattle.mesh_model.specs.Acts.Cuts.{cuts_among}
 use Rattle.node_cuts.specs.Collected.{cutter_of}
 use Rattle.node_cuts.proofs.CutLemmas.{CutsOnFrom}
-use Rattle.node_cuts.proofs.cutter.Cutter.put_all.Given as goal
+use Rattle.node_cuts.proofs.cutter.Cutter.put_each.Given as goal
 
 abbrev pub invariant-loop-act : goal.invariant-loop-act
 invariant-loop-act g l =
