@@ -61,13 +61,9 @@ impl Locals {
     /// Notes a sighting of a client, and answers whether the client is newly present. `Clients` and
     /// `Vlans` where a new client would be too many beside the present ones.
     pub fn see(&mut self, now: Millis, key: Key, flags: u8) -> Result<bool, LocalErr>
-        ensures noted { (mentions : List Mention) (history : History) (since : ℕ) →
-            LocalsStand self.old mentions history since →
-            let mention : Mention = record { moment = now; key = key; news = Sighted flags } in
-            OnOk result (LocalsStand self.new (mention ∷ mentions) history since) }
-        ensures newly { IfOk result (λ newly. (mentions : List Mention) (history : History)
-            (since : ℕ) → LocalsStand self.old mentions history since → since ≤ now →
-            IsTrue newly ↔ IsNone (present_row mentions now key)) }
+        ensures noted { Notes (record { moment = now; key = key; news = Sighted flags })
+            self.old self.new result }
+        ensures newly { TellsNew now key self.old result }
 
         // Refused exactly for the limit that is passed, or for want of memory, and then as before.
         ensures within { (mentions : List Mention) (history : History) (since : ℕ) →
@@ -103,10 +99,8 @@ impl Locals {
     /// Notes that a group was joined. `Clients` and `Vlans` where a group that isn't present would
     /// be too many beside the present clients.
     pub fn join(&mut self, now: Millis, key: Key) -> Result<(), LocalErr>
-        ensures noted { (mentions : List Mention) (history : History) (since : ℕ) →
-            LocalsStand self.old mentions history since →
-            let mention : Mention = record { moment = now; key = key; news = Joined } in
-            OnOk result (LocalsStand self.new (mention ∷ mentions) history since) }
+        ensures noted { Notes (record { moment = now; key = key; news = Joined })
+            self.old self.new result }
 
         // Refused exactly for the limit that is passed, or for want of memory, and then as before.
         ensures within { (mentions : List Mention) (history : History) (since : ℕ) →
