@@ -21,6 +21,7 @@ use Rattle.mesh_node.specs.declared.node.Node.{Node}
 use Rattle.node_ground.specs.declared.knowledge.NodeKnowledge.{NodeKnowledge}
 use Rattle.node_ground.specs.declared.services.Services.{Services}
 use Rattle.node_ground.specs.KnowledgeStands.{KnowledgeStands}
+use Rattle.node_ground.proofs.StandsLemmas.{with_services}
 use Rattle.node_ground.specs.ServicesStand.{ServicesStand}
 use Rattle.mesh_node.specs.NodeStands.{KeepsLog, given_session}
 use Rattle.node_ground.specs.OwnStands.{with_input}
@@ -212,13 +213,4 @@ wifi_is stands queries node me log is = ap (λ s. s.wifi) (is.kept.services.sett
 -- what is kept after a setting
 pub set_stands : {A : Type 0} (stands : A → Mac → RouteLog → Type 0) (kept : NodeKnowledge A) (services : Services) (me : Mac) (setting : Setting) (known : Knowledge) → KnowledgeStands stands kept me known
     → ServicesStand services me (after_set setting known.services) → KnowledgeStands stands (record kept { services = services }) me (with_set setting known)
-set_stands stands kept services me setting known is set = record {
-  routes = is.routes;
-  tables = is.tables;
-  marks = is.marks;
-  probes = is.probes;
-  taken = is.taken;
-  parts = is.parts;
-  sent = is.sent;
-  services = set;
-}
+set_stands stands kept services me setting known is set = with_services stands kept me known is services (after_set setting known.services) set

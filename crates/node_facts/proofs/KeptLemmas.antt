@@ -2,7 +2,6 @@
 use Rattle.std.proofs.Common.{◌≡◌, ℕ, Bool, true, false, cond, List, [], ◌∷◌, ◌++◌, refl, sym, ap, subst, ◌∙◌, Option, Some, None}
 use Rattle.std.specs.Prelude.{◌^◌, ◌%◌}
 use Rattle.std.proofs.lemmas.Bool.{false≢true}
-use Rattle.alfred_core.specs.Facts.{FactsStand}
 use Rattle.alfred_store.specs.Answers.{Answered, answer_to, answer_with}
 use Rattle.alfred_store.specs.StoreStands.{StoreStands, store_in}
 use Rattle.alfred_store.specs.declared.store.Store.{Store}
@@ -105,59 +104,14 @@ stands_as stands kept me known after same is = subst (KnowledgeStands stands kep
 with_facts_of : {A : Type 0} (stands : A → Mac → RouteLog → Type 0) (q : Queries) (kept : NodeKnowledge A) (me : Mac) (now index : ℕ) (table : List Entry) (known : Knowledge) (calls : List FactCall)
     → KnowledgeStands stands kept me (record known { services = record known.services { facts = calls } }) → calls ≡ put_pictures q me now index table known ++ known.services.facts
     → KnowledgeStands stands kept me (with_picture q me now index table known)
-with_facts_of stands q kept me now index table known calls is same = record {
-  routes = is.routes;
-  tables = is.tables;
-  marks = is.marks;
-  probes = is.probes;
-  taken = is.taken;
-  parts = is.parts;
-  sent = is.sent;
-  services = record {
-    settings = is.services.settings;
-    offers = is.services.offers;
-    choice = is.services.choice;
-    cache = is.services.cache;
-    asks = is.services.asks;
-    store = record {
-      facts = subst (FactsStand kept.services.store.facts me) same is.services.store.facts;
-      primaries = is.services.store.primaries;
-      pushes = is.services.store.pushes;
-      answers = is.services.store.answers;
-      requests = is.services.store.requests;
-      ids = is.services.store.ids;
-    };
-  };
-}
+with_facts_of stands q kept me now index table known calls is same = subst (λ (cs : List FactCall). KnowledgeStands stands kept me (record known { services = record known.services { facts = cs } })) same is
 
 -- where no picture is put, all stands as before
 pub not_pictured : {A : Type 0} (stands : A → Mac → RouteLog → Type 0) (q : Queries) (kept : NodeKnowledge A) (me : Mac) (now index : ℕ) (table : List Entry) (known : Knowledge)
     → puts_picture known.services.settings index ≡ false → KnowledgeStands stands kept me known → KnowledgeStands stands kept me (with_picture q me now index table known)
 not_pictured stands q kept me now index table known puts is =
-    with_facts_of stands q kept me now index table known known.services.facts (record {
-      routes = is.routes;
-      tables = is.tables;
-      marks = is.marks;
-      probes = is.probes;
-      taken = is.taken;
-      parts = is.parts;
-      sent = is.sent;
-      services = record {
-        settings = is.services.settings;
-        offers = is.services.offers;
-        choice = is.services.choice;
-        cache = is.services.cache;
-        asks = is.services.asks;
-        store = record {
-          facts = is.services.store.facts;
-          primaries = is.services.store.primaries;
-          pushes = is.services.store.pushes;
-          answers = is.services.store.answers;
-          requests = is.services.store.requests;
-          ids = is.services.store.ids;
-        };
-      };
-    }) (sym (ap (λ (b : Bool). cond b (WasPut now (picture_fact me (own_picture q known.routes now table)) ∷ []) [] ++ known.services.facts) puts))
+    with_facts_of stands q kept me now index table known known.services.facts is
+    (sym (ap (λ (b : Bool). cond b (WasPut now (picture_fact me (own_picture q known.routes now table)) ∷ []) [] ++ known.services.facts) puts))
 
 -- where the picture is put, it is one more fact
 pub pictured : {A : Type 0} (stands : A → Mac → RouteLog → Type 0) (q : Queries) (kept : NodeKnowledge A) (me : Mac) (now index : ℕ) (table : List Entry) (known : Knowledge) (bytes : List ℕ)

@@ -21,6 +21,7 @@ use Rattle.node_ground.specs.declared.knowledge.NodeKnowledge.{NodeKnowledge}
 use Rattle.node_ground.specs.KnowledgeStands.{KnowledgeStands}
 use Rattle.node_ground.specs.Puts.{Puts, StopsAt, TakesAll}
 use Rattle.node_ground.proofs.PutsLemmas.{puts_behind, stops_among}
+use Rattle.node_facts.proofs.KeptLemmas.{stands_with}
 
 -- the next id behind so many
 pub id_behind : (taken count : ℕ) → taken ≡ count % ids → (taken + 1) % ids ≡ suc count % ids
@@ -59,7 +60,7 @@ counted_on kept sent is = ap (λ t. (t + 1) % 2 ^ 32) is ∙ mod-add-mod sent (2
 pub primary_stands : {A : Type 0} (stands : A → Mac → RouteLog → Type 0) (kept : NodeKnowledge A) (sent : ℕ) (store : Store) (me : Mac) (known : Knowledge) (count all : ℕ)
     → KnowledgeStands stands kept me known → sent ≡ suc known.sent % 2 ^ 32 → count ≡ all → StoreStands store me (store_in (with_ids count known))
     → KnowledgeStands stands (record kept { sent = sent; services = record kept.services { store = store } }) me (with_ids all (record known { sent = suc known.sent }))
-primary_stands stands kept sent store me known count all is counted same stored = record {
+primary_stands stands kept sent store me known count all is counted same stored = stands_with stands (record kept { sent = sent }) store me (record known { sent = suc known.sent }) (with_ids all (record known { sent = suc known.sent })) refl (record {
   routes = is.routes;
   tables = is.tables;
   marks = is.marks;
@@ -67,15 +68,8 @@ primary_stands stands kept sent store me known count all is counted same stored 
   taken = is.taken;
   parts = is.parts;
   sent = counted;
-  services = record {
-    settings = is.services.settings;
-    offers = is.services.offers;
-    choice = is.services.choice;
-    cache = is.services.cache;
-    asks = is.services.asks;
-    store = subst (λ n. StoreStands store me (store_in (with_ids n known))) same stored;
-  };
-}
+  services = is.services;
+}) (subst (λ n. StoreStands store me (store_in (with_ids n known))) same stored)
 
 -- one or none
 abbrev one_if : Bool → ℕ

@@ -1,4 +1,5 @@
 -- What the ground of a node rests on, and what every row cites.
+pub mod StandsLemmas
 pub mod PutsLemmas
 pub mod LeavesLemmas
 pub mod BroadcastLemmas

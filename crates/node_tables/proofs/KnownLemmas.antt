@@ -20,6 +20,7 @@ use Rattle.mesh_model.specs.Routes.Queries.{Queries}
 use Rattle.mesh_model.specs.Routes.RouteLog.{RouteLog, HeadCame}
 use Rattle.node_ground.specs.declared.knowledge.NodeKnowledge.{NodeKnowledge}
 use Rattle.node_ground.specs.KnowledgeStands.{KnowledgeStands}
+use Rattle.node_ground.proofs.StandsLemmas.{with_algo, with_services}
 use Rattle.mesh_model.specs.Tables.Judging.{InPart, announcement_row, wanted_request}
 use Rattle.mesh_model.specs.Tables.Known.{Announced, Answered, known_by}
 use Rattle.mesh_model.specs.Tables.Versions.{Stamp}
@@ -72,38 +73,20 @@ announced_is q came orig announced table known request tells is =
 -- once the algorithm was given a head
 pub head_came : {A : Type 0} (stands : A → Mac → RouteLog → Type 0) (kept : NodeKnowledge A) (algo : A) (me : Mac) (came : Coming) (head : Head) (known : Knowledge) → KnowledgeStands stands kept me known
     → stands algo me (HeadCame came.now came.from came.throughput head ∷ known.routes) → KnowledgeStands stands (record kept { algo = algo }) me (with_head came head known)
-head_came stands kept algo me came head known is noted = record {
-  routes = noted;
-  tables = is.tables;
-  marks = is.marks;
-  probes = is.probes;
-  taken = is.taken;
-  parts = is.parts;
-  sent = is.sent;
-  services = is.services;
-}
+head_came stands kept algo me came head known is noted = with_algo stands kept me known is algo (HeadCame came.now came.from came.throughput head ∷ known.routes) noted
 
 -- once it was noted what a message offers
 pub offer_noted : {A : Type 0} (stands : A → Mac → RouteLog → Type 0) (kept : NodeKnowledge A) (offers : List (Mac × Offer)) (me orig : Mac) (tail : List ℕ) (known : Knowledge) → KnowledgeStands stands kept me known
     → OffersStand offers (record { orig = orig; offer = offer_in (containers_of tail) } ∷ known.services.offers)
     → KnowledgeStands stands (record kept { services = record kept.services { offers = offers } }) me (with_offered true orig tail known)
-offer_noted stands kept offers me orig tail known is noted = record {
-  routes = is.routes;
-  tables = is.tables;
-  marks = is.marks;
-  probes = is.probes;
-  taken = is.taken;
-  parts = is.parts;
-  sent = is.sent;
-  services = record {
-    settings = is.services.settings;
-    offers = noted;
-    choice = is.services.choice;
-    cache = is.services.cache;
-    asks = is.services.asks;
-    store = is.services.store;
-  };
-}
+offer_noted stands kept offers me orig tail known is noted = with_services stands kept me known is (record kept.services { offers = offers }) (with_offered true orig tail known).services (record {
+  settings = is.services.settings;
+  offers = noted;
+  choice = is.services.choice;
+  cache = is.services.cache;
+  asks = is.services.asks;
+  store = is.services.store;
+})
 
 -- what is known once a part of an answer came
 pub part_is : (q : Queries) (now : ℕ) (orig : Mac) (number count : ℕ) (part : Announcement) (table : TtData) (known : Knowledge) → Tells part table → q.live known.routes now orig ≡ true

@@ -1,6 +1,6 @@
 -- What a tick, and a reboot, tells of its commit: an alias, if the commit is new and has one, and an
 -- announcement that fits a packet.
-use Rattle.std.proofs.Common.{◌≡◌, ◌≤◌, ◌+◌, ◌*◌, ◌%◌, ℕ, suc, Bool, true, false, List, [], ◌∷◌, ◌++◌, length, map, refl, sym, ap, subst, ◌∙◌, arith, append_assoc, Option, Some, None}
+use Rattle.std.proofs.Common.{◌≡◌, ◌≤◌, ◌+◌, ◌*◌, ◌%◌, ℕ, suc, Bool, true, false, List, [], ◌∷◌, ◌++◌, length, map, refl, sym, ap, subst, ◌∙◌, arith, append_assoc, Some, None}
 use Rattle.std.specs.Prelude.{◌==◌, ◌&&◌, nat_lt, nat_le, if◌then◌else◌}
 use Rattle.std.proofs.lemmas.Bool.{and_parts, leb-true}
 use Rattle.std.proofs.lemmas.Bool.Decides.{nat_tests}
@@ -30,6 +30,7 @@ use Rattle.mesh_model.specs.Routes.RouteLog.{RouteLog, OwnTick}
 use Rattle.node_tables.proofs.WayLemmas.{entry_sums_few}
 use Rattle.node_ground.specs.declared.knowledge.NodeKnowledge.{NodeKnowledge}
 use Rattle.node_ground.specs.KnowledgeStands.{KnowledgeStands}
+use Rattle.node_ground.proofs.StandsLemmas.{with_algo}
 use Rattle.tt_global.specs.Kept.{stamp_in}
 use Rattle.tt_local.specs.Announcing.{IsAnnouncement}
 use Rattle.tt_local.specs.Journal.{new_number}
@@ -161,16 +162,7 @@ committed_few mentions history now few before = by_table (same_table (last_commi
 -- once the algorithm was given a tick
 pub ticked : {A : Type 0} (stands : A → Mac → RouteLog → Type 0) (kept : NodeKnowledge A) (algo : A) (me : Mac) (now index : ℕ) (known : Knowledge) → KnowledgeStands stands kept me known
     → stands algo me (OwnTick now index ∷ known.routes) → KnowledgeStands stands (record kept { algo = algo }) me (record known { routes = OwnTick now index ∷ known.routes })
-ticked stands kept algo me now index known is noted = record {
-  routes = noted;
-  tables = is.tables;
-  marks = is.marks;
-  probes = is.probes;
-  taken = is.taken;
-  parts = is.parts;
-  sent = is.sent;
-  services = is.services;
-}
+ticked stands kept algo me now index known is noted = with_algo stands kept me known is algo (OwnTick now index ∷ known.routes) noted
 
 -- what is known after a tick whose index is that of an even one, or of an odd one
 abbrev known_by : Queries → ℕ → ℕ → Knowledge → Bool → Knowledge
