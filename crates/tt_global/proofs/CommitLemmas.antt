@@ -3,11 +3,10 @@
 use Rattle.std.proofs.Common.{◌≡◌, ℕ, cond, Option, Some, List, ◌∷◌, ◌++◌, IsTrue, sym, ap, ap₂, ◌∙◌, subst}
 use Rattle.mesh_base.specs.declared.address.Mac.{Mac}
 use Rattle.mesh_model.specs.declared.table_change.Change.{Change}
-use Rattle.mesh_model.specs.declared.table_outcome.Heard.{Heard}
 use Rattle.mesh_model.specs.declared.table_outcome.Taken.{Taken}
 use Rattle.mesh_model.specs.declared.table_outcome.Taken.TheVariants.{Taken as IsTaken}
-use Rattle.mesh_model.specs.Tables.Judging.{Carried, InFull, InPart, announcement_row, answer_row}
-use Rattle.mesh_model.specs.Tables.Known.{Announced, Answered, TableCalls, agrees, answered, is_agreed, known_by, stamp_of}
+use Rattle.mesh_model.specs.Tables.Judging.{InFull, InPart, answer_row}
+use Rattle.mesh_model.specs.Tables.Known.{Answered, TableCalls, agrees, answered, is_agreed, known_by, stamp_of}
 use Rattle.mesh_model.specs.Tables.Versions.{Stamp, Version}
 use Rattle.mesh_laws.specs.HeldLaws.{AreOfCommits, CameFrom, HoldsTold}
 use Rattle.mesh_laws.specs.KnownLaws.{ArePartsOf, IsLastPart, IsToldWhole}
@@ -16,26 +15,16 @@ use Rattle.mesh_laws.proofs.KnownLemmas.{full_answer_is_taken}
 use Rattle.mesh_laws.proofs.MacLemmas.{same_self}
 use Rattle.mesh_laws.proofs.PartLemmas.{parts_are_taken}
 use Rattle.tt_global.specs.Globals.{GlobalsStand, Kept, KeepsAgreed, KeepsCommits}
-use Rattle.tt_global.specs.Kept.{HoldsThen, IsTold, answer_of, held_in, row_in, told_in}
+use Rattle.tt_global.specs.Kept.{answer_of, held_in, row_in, told_in}
 use Rattle.tt_global.specs.declared.judging.Judged.{Judged}
 use Rattle.tt_global.specs.declared.known.KnownTable.{KnownTable}
-use Rattle.tt_global.proofs.StandLemmas.{announced_stands, at, taken_is}
+use Rattle.tt_global.proofs.StandLemmas.{at, taken_is}
 
 -- what is kept is of the commits of which all that came tells
-keeps_commits : (made : List Version) (orig : Mac) (kept : Kept) (calls : TableCalls) → GlobalsStand kept calls → CameFrom made orig calls → KeepsCommits made orig kept
+pub keeps_commits : (made : List Version) (orig : Mac) (kept : Kept) (calls : TableCalls) → GlobalsStand kept calls → CameFrom made orig calls → KeepsCommits made orig kept
 keeps_commits made orig kept calls stands came =
     subst (λ t. AreOfCommits made t (held_in (at orig kept))) (sym (stands.told orig))
     (subst (λ h. AreOfCommits made (stamp_of (known_by calls orig)) h) (sym (stands.held orig)) (known_are_of_commits made orig calls came))
-
--- and so it is once an announcement came, or an answer, by what was judged of it
-pub announced_commits : (calls : TableCalls) (orig : Mac) (frame : ℕ) (stamp : Stamp) (changes : List Change) (old mid : Kept) (stands : GlobalsStand old calls) (is_told : IsTold orig stamp old mid) (judged : Judged Heard) (held : Option Version)
-    → held ≡ held_in (at orig old) → row_in judged ≡ announcement_row held stamp changes → (new : Kept) → HoldsThen orig stamp.byte (row_in judged).table mid new
-    → (made : List Version) → CameFrom made orig (Announced orig frame stamp changes ∷ calls) → KeepsCommits made orig new
-announced_commits calls orig frame stamp changes old mid stands is_told judged held was is new holds made came =
-    keeps_commits made orig new (Announced orig frame stamp changes ∷ calls) (announced_stands calls orig frame stamp changes old mid stands is_told judged held was is new holds) came
-
-pub answered_commits : (calls : TableCalls) (orig : Mac) (stamp : Stamp) (carried : Carried) (new : Kept) → GlobalsStand new (Answered orig stamp carried ∷ calls) → (made : List Version) → CameFrom made orig (Answered orig stamp carried ∷ calls) → KeepsCommits made orig new
-answered_commits calls orig stamp carried new stands made came = keeps_commits made orig new (Answered orig stamp carried ∷ calls) stands came
 
 -- whether what is held of an originator agrees, by what is kept of it
 pub agreed_by_kept : (kept : Kept) (calls : TableCalls) (stands : GlobalsStand kept calls) (orig : Mac) (known : KnownTable) → at orig kept ≡ Some known

@@ -12,7 +12,7 @@ use Rattle.mesh_model.specs.declared.table_outcome.Heard.{Heard}
 use Rattle.mesh_model.specs.declared.table_outcome.Taken.{Taken}
 use Rattle.mesh_model.specs.declared.table_outcome.Taken.TheVariants.{BadPart, NotTold}
 use Rattle.mesh_model.specs.Routes.Addresses.{insert_mac, mac_order, same_mac}
-use Rattle.mesh_model.specs.Tables.Gathered.{Gathered, is_bad_part, none_gathered, with_table_part}
+use Rattle.mesh_model.specs.Tables.Gathered.{Gathered, is_bad_part, none_gathered}
 use Rattle.mesh_model.specs.Tables.Judging.{Carried, InFull, InChanges, InPart, Row, announcement_row, answer_row, stays}
 use Rattle.mesh_model.specs.Tables.Known.{Announced, Answered, Dropped, Known, TableCalls, announced, answered, gathered_after, gathered_from, held_after, kept_under, known_by, matches_told, nothing, stamp_of}
 use Rattle.mesh_model.specs.Tables.Versions.{Stamp, Version}
@@ -44,6 +44,11 @@ told_there orig told old new is_told =
     some : (kept : Option KnownTable) → told_in kept ≡ Some told → IsSome kept
     some None is = absurd (false≢true (ap is_some is))
     some (Some known) is = refl
+
+-- without another table, what is held stays
+unchanged : (byte : ℕ) (b : Bool) (held : Option Version) → held ≡ cond b (held_after byte None held) held
+unchanged byte true held = refl
+unchanged byte false held = refl
 
 -- ---- announcements
 module _ (calls : TableCalls) (orig : Mac) (frame : ℕ) (stamp : Stamp) (changes : List Change) (old mid : Kept) (stands : GlobalsStand old calls) (is_told : IsTold orig stamp old mid) where
@@ -83,15 +88,11 @@ module _ (calls : TableCalls) (orig : Mac) (frame : ℕ) (stamp : Stamp) (change
   announced_kept : (row (held_in (at orig old))).table ≡ None → GlobalsStand mid (Announced orig frame stamp changes ∷ calls)
   announced_kept is = record {
     told = told_then;
-    held = λ other. is_told.held_stays other ∙ unchanged (same_mac orig other) _ ∙ held_then None is other;
+    held = λ other. is_told.held_stays other ∙ unchanged stamp.byte (same_mac orig other) _ ∙ held_then None is other;
     gathered = gathered_then;
     originators = is_told.keys_are stands.rise ∙ ap (insert_mac orig) stands.originators;
     rise = is_told.rise stands.rise;
   }
-    where
-      unchanged : (b : Bool) (h : Option Version) → h ≡ cond b (held_after stamp.byte None h) h
-      unchanged true h = refl
-      unchanged false h = refl
 
   announced_held : (table : List Entry) (new : Kept) → (row (held_in (at orig old))).table ≡ Some table → IsHeld orig (record { byte = stamp.byte; table = table }) mid new → GlobalsStand new (Announced orig frame stamp changes ∷ calls)
   announced_held table new is held = record {
@@ -165,15 +166,11 @@ module _ (calls : TableCalls) (orig : Mac) (stamp : Stamp) (carried : Carried) (
     answered_kept : (answer_of (at orig old) stamp carried).table ≡ None → GlobalsStand mid (Answered orig stamp carried ∷ calls)
     answered_kept is = record {
       told = λ other. is_gathered.told_stays other ∙ stands.told other ∙ stays_told other;
-      held = λ other. is_gathered.held_stays other ∙ unchanged (same_mac orig other) _ ∙ held_answered None is other;
+      held = λ other. is_gathered.held_stays other ∙ unchanged stamp.byte (same_mac orig other) _ ∙ held_answered None is other;
       gathered = gathered_answered;
       originators = is_gathered.keys_stay ∙ stands.originators;
       rise = subst (IsStrictlySortedBy mac_order) (sym is_gathered.keys_stay) stands.rise;
     }
-      where
-        unchanged : (b : Bool) (h : Option Version) → h ≡ cond b (held_after stamp.byte None h) h
-        unchanged true h = refl
-        unchanged false h = refl
 
     answered_held : (table : List Entry) (new : Kept) → (answer_of (at orig old) stamp carried).table ≡ Some table → IsHeld orig (record { byte = stamp.byte; table = table }) mid new → GlobalsStand new (Answered orig stamp carried ∷ calls)
     answered_held table new is held = record {
@@ -258,84 +255,69 @@ dropped calls orig old new stands is updates = record {
 }
 
 -- ---- what is written
+-- the row that is written over another
+row_written : (orig : Mac) (old new : Kept) (known row : KnownTable) → at orig old ≡ Some known → new ≡ set_value (same_mac orig) old row → (other : Mac) → at other new ≡ cond (same_mac orig other) (Some row) (at other old)
+row_written orig old new known row found is other = ap (at other) is ∙ lookup-set_value same_equiv (same_mac orig) (same_equiv.congr orig) other row old (ap is_some found)
+
+-- what a part of each row becomes where one is written in the place of what was there, which may be nothing
+module _ (orig : Mac) (old new : Kept) (before : Option KnownTable) (row : KnownTable) (was : at orig old ≡ before) (updates : (other : Mac) → at other new ≡ cond (same_mac orig other) (Some row) (at other old)) where
+  part_becomes : {X : Type 0} (part next : Option KnownTable → X) → part (Some row) ≡ next before → (other : Mac) → part (at other new) ≡ cond (same_mac orig other) (next (at other old)) (part (at other old))
+  part_becomes {X} part next is other = ap part (updates other) ∙ go (same_mac orig other) refl
+    where
+      go : (b : Bool) → same_mac orig other ≡ b → part (cond b (Some row) (at other old)) ≡ cond b (next (at other old)) (part (at other old))
+      go true t = is ∙ ap next (sym was ∙ ap (λ o. at o old) (same_exact orig other t))
+      go false t = refl
+
+  part_stays : {X : Type 0} (part : Option KnownTable → X) → part (Some row) ≡ part before → (other : Mac) → part (at other new) ≡ part (at other old)
+  part_stays {X} part is other = part_becomes part part is other ∙ either (same_mac orig other)
+    where
+      either : (b : Bool) → cond b (part (at other old)) (part (at other old)) ≡ part (at other old)
+      either true = refl
+      either false = refl
+
 -- of a row that is found this table is held
 pub held_written : (orig : Mac) (old new : Kept) (known : KnownTable) (held : HeldTable) → lookup (same_mac orig) old ≡ Some known
     → new ≡ set_value (same_mac orig) old (record { byte = known.byte; sums = known.sums; held = Some held; gathered = known.gathered }) → IsHeld orig (version_of held) old new
 held_written orig old new known held found is =
     let row : KnownTable = record { byte = known.byte; sums = known.sums; held = Some held; gathered = known.gathered } in
-    let some : IsSome (lookup (same_mac orig) old) = ap is_some found in
-    let updates : (other : Mac) → at other new ≡ cond (same_mac orig other) (Some row) (at other old) = λ other. ap (at other) is ∙ lookup-set_value same_equiv (same_mac orig) (same_equiv.congr orig) other row old some in record {
-      told_stays = λ other. ap told_in (updates other) ∙ go other (same_mac orig other) refl;
-      held_is = λ other. ap held_in (updates other) ∙ elim (same_mac orig other) as (λ b. held_in (cond b (Some row) (at other old)) ≡ cond b (Some (version_of held)) (held_in (at other old))) [ true ↦ refl | false ↦ refl ];
-      gathered_stays = λ other. ap gathered_in (updates other) ∙ parts_stay other (same_mac orig other) refl;
+    let updates = row_written orig old new known row found is in record {
+      told_stays = part_stays orig old new (Some known) row found updates told_in refl;
+      held_is = part_becomes orig old new (Some known) row found updates held_in (λ _. Some (version_of held)) refl;
+      gathered_stays = part_stays orig old new (Some known) row found updates gathered_in refl;
       keys_stay = ap keys_of is ∙ keys-set_value (same_mac orig) old row;
     }
-  where
-    parts_stay : (other : Mac) → (b : Bool) → same_mac orig other ≡ b → gathered_in (cond b (Some (record { byte = known.byte; sums = known.sums; held = Some held; gathered = known.gathered })) (at other old)) ≡ gathered_in (at other old)
-    parts_stay other true t = ap gathered_in (sym found ∙ ap (λ o. at o old) (same_exact orig other t))
-    parts_stay other false t = refl
-
-    go : (other : Mac) → (b : Bool) → same_mac orig other ≡ b → told_in (cond b (Some (record { byte = known.byte; sums = known.sums; held = Some held; gathered = known.gathered })) (at other old)) ≡ told_in (at other old)
-    go other true t = ap told_in (sym found ∙ ap (λ o. at o old) (same_exact orig other t))
-    go other false t = refl
 
 -- of a row that is found this was told
 pub told_written : (orig : Mac) (old new : Kept) (known row : KnownTable) (told : Stamp) → lookup (same_mac orig) old ≡ Some known → told_in (Some row) ≡ Some told → row.held ≡ known.held
     → row.gathered ≡ kept_under (told_in (Some known)) told known.gathered → new ≡ set_value (same_mac orig) old row → IsTold orig told old new
 told_written orig old new known row told found row_told row_held row_gathered is =
-    let some : IsSome (lookup (same_mac orig) old) = ap is_some found in
-    let updates : (other : Mac) → at other new ≡ cond (same_mac orig other) (Some row) (at other old) = λ other. ap (at other) is ∙ lookup-set_value same_equiv (same_mac orig) (same_equiv.congr orig) other row old some in
+    let updates = row_written orig old new known row found is in
     let keys : keys_of new ≡ keys_of old = ap keys_of is ∙ keys-set_value (same_mac orig) old row in record {
-      told_is = λ other. ap told_in (updates other) ∙ elim (same_mac orig other) as (λ b. told_in (cond b (Some row) (at other old)) ≡ cond b (Some told) (told_in (at other old))) [ true ↦ row_told | false ↦ refl ];
-      held_stays = λ other. ap held_in (updates other) ∙ go other (same_mac orig other) refl;
-      gathered_is = λ other. ap gathered_in (updates other) ∙ parts other (same_mac orig other) refl;
-      keys_are = λ rise. keys ∙ sym (key_again orig old rise some);
+      told_is = part_becomes orig old new (Some known) row found updates told_in (λ _. Some told) row_told;
+      held_stays = part_stays orig old new (Some known) row found updates held_in (ap (option_map version_of) row_held);
+      gathered_is = part_becomes orig old new (Some known) row found updates gathered_in (λ k. kept_under (told_in k) told (gathered_in k)) row_gathered;
+      keys_are = λ rise. keys ∙ sym (key_again orig old rise (ap is_some found));
       rise = λ rise. subst (IsStrictlySortedBy mac_order) (sym keys) rise;
     }
-  where
-    parts : (other : Mac) → (b : Bool) → same_mac orig other ≡ b → gathered_in (cond b (Some row) (at other old)) ≡ cond b (kept_under (told_in (at other old)) told (gathered_in (at other old))) (gathered_in (at other old))
-    parts other true t = row_gathered ∙ ap (λ k. kept_under (told_in k) told (gathered_in k)) (sym found ∙ ap (λ o. at o old) (same_exact orig other t))
-    parts other false t = refl
-
-    go : (other : Mac) → (b : Bool) → same_mac orig other ≡ b → held_in (cond b (Some row) (at other old)) ≡ held_in (at other old)
-    go other true t = ap (option_map version_of) row_held ∙ ap held_in (sym found ∙ ap (λ o. at o old) (same_exact orig other t))
-    go other false t = refl
 
 -- of a new originator this was told
 pub told_inserted : (orig : Mac) (old new : Kept) (row : KnownTable) (told : Stamp) → lookup (same_mac orig) old ≡ None → told_in (Some row) ≡ Some told → row.held ≡ None → row.gathered ≡ none_gathered
     → ((other : Mac) → at other new ≡ cond (same_mac orig other) (Some row) (at other old))
     → (IsStrictlySortedBy mac_order (keys_of old) → new ≡ insert_entry mac_order old orig row) → IsTold orig told old new
 told_inserted orig old new row told absent row_told row_held row_gathered updates inserted = record {
-  told_is = λ other. ap told_in (updates other) ∙ elim (same_mac orig other) as (λ b. told_in (cond b (Some row) (at other old)) ≡ cond b (Some told) (told_in (at other old))) [ true ↦ row_told | false ↦ refl ];
-  held_stays = λ other. ap held_in (updates other) ∙ go other (same_mac orig other) refl;
-  gathered_is = λ other. ap gathered_in (updates other) ∙ parts other (same_mac orig other) refl;
+  told_is = part_becomes orig old new None row absent updates told_in (λ _. Some told) row_told;
+  held_stays = part_stays orig old new None row absent updates held_in (ap (option_map version_of) row_held);
+  gathered_is = part_becomes orig old new None row absent updates gathered_in (λ k. kept_under (told_in k) told (gathered_in k)) row_gathered;
   keys_are = λ rise. ap keys_of (inserted rise) ∙ keys_inserted old orig row;
   rise = λ rise. subst (λ es. IsStrictlySortedBy mac_order (keys_of es)) (sym (inserted rise)) (ascend_inserted mac_total mac_exact old orig row rise);
 }
-  where
-    parts : (other : Mac) → (b : Bool) → same_mac orig other ≡ b → gathered_in (cond b (Some row) (at other old)) ≡ cond b (kept_under (told_in (at other old)) told (gathered_in (at other old))) (gathered_in (at other old))
-    parts other true t = row_gathered ∙ ap (λ k. kept_under (told_in k) told (gathered_in k)) (sym absent ∙ ap (λ o. at o old) (same_exact orig other t))
-    parts other false t = refl
-
-    go : (other : Mac) → (b : Bool) → same_mac orig other ≡ b → held_in (cond b (Some row) (at other old)) ≡ held_in (at other old)
-    go other true t = ap (option_map version_of) row_held ∙ ap held_in (sym absent ∙ ap (λ o. at o old) (same_exact orig other t))
-    go other false t = refl
 
 -- of a row that is found these parts are gathered
 pub gathered_written : (orig : Mac) (old new : Kept) (known row : KnownTable) → lookup (same_mac orig) old ≡ Some known → told_in (Some row) ≡ told_in (Some known) → row.held ≡ known.held → new ≡ set_value (same_mac orig) old row → IsGathered orig row.gathered old new
 gathered_written orig old new known row found row_told row_held is =
-    let some : IsSome (lookup (same_mac orig) old) = ap is_some found in
-    let updates : (other : Mac) → at other new ≡ cond (same_mac orig other) (Some row) (at other old) = λ other. ap (at other) is ∙ lookup-set_value same_equiv (same_mac orig) (same_equiv.congr orig) other row old some in record {
-      told_stays = λ other. ap told_in (updates other) ∙ told other (same_mac orig other) refl;
-      held_stays = λ other. ap held_in (updates other) ∙ held other (same_mac orig other) refl;
-      gathered_is = λ other. ap gathered_in (updates other) ∙ elim (same_mac orig other) as (λ b. gathered_in (cond b (Some row) (at other old)) ≡ cond b row.gathered (gathered_in (at other old))) [ true ↦ refl | false ↦ refl ];
+    let updates = row_written orig old new known row found is in record {
+      told_stays = part_stays orig old new (Some known) row found updates told_in row_told;
+      held_stays = part_stays orig old new (Some known) row found updates held_in (ap (option_map version_of) row_held);
+      gathered_is = part_becomes orig old new (Some known) row found updates gathered_in (λ _. row.gathered) refl;
       keys_stay = ap keys_of is ∙ keys-set_value (same_mac orig) old row;
     }
-  where
-    told : (other : Mac) → (b : Bool) → same_mac orig other ≡ b → told_in (cond b (Some row) (at other old)) ≡ told_in (at other old)
-    told other true t = row_told ∙ ap told_in (sym found ∙ ap (λ o. at o old) (same_exact orig other t))
-    told other false t = refl
-
-    held : (other : Mac) → (b : Bool) → same_mac orig other ≡ b → held_in (cond b (Some row) (at other old)) ≡ held_in (at other old)
-    held other true t = ap (option_map version_of) row_held ∙ ap held_in (sym found ∙ ap (λ o. at o old) (same_exact orig other t))
-    held other false t = refl

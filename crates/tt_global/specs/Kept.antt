@@ -8,7 +8,7 @@ use Rattle.mesh_base.specs.declared.client.Entry.{Entry}
 use Rattle.mesh_model.specs.Routes.Addresses.{insert_mac, mac_order, same_mac}
 use Rattle.mesh_model.specs.declared.table_row.GlobalRow.{GlobalRow}
 use Rattle.mesh_model.specs.declared.table_outcome.Taken.{Taken}
-use Rattle.mesh_model.specs.Tables.Gathered.{Gathered, none_gathered, with_table_part}
+use Rattle.mesh_model.specs.Tables.Gathered.{Gathered, none_gathered}
 use Rattle.mesh_model.specs.Tables.Judging.{Carried, Row, Trial, Fails, Differs, Leads, answer_row, good_row}
 use Rattle.mesh_model.specs.Tables.Known.{agrees, kept_under}
 use Rattle.mesh_model.specs.Tables.Versions.{Stamp, Version}

@@ -76,10 +76,7 @@ pub(crate) fn judge_announcement<L: Ledger>(
         return Ok(becomes(Heard::Emptied, Table::new(alloc)));
     }
     match held {
-        Some(held) => {
-            let judged = judge_held(held, announced, steps)?;
-            Ok(judged)
-        }
+        Some(held) => judge_held(held, announced, steps),
         None => {
             let told = announced.byte;
             Ok(stays(Heard::Unheld { told }))
@@ -107,8 +104,7 @@ fn judge_held<L: Ledger>(
             told: announced.byte,
         }));
     }
-    let judged = judge_next(held, announced, steps)?;
-    Ok(judged)
+    judge_next(held, announced, steps)
 }
 
 // How a table does that is held under the announced byte.
@@ -265,10 +261,7 @@ pub(crate) fn judge_changes<L: Ledger>(
 {
     match announced(kept, byte, sums) {
         Err(outcome) => Ok(stays(outcome)),
-        Ok(known) => {
-            let judged = judge_carried(known, records, steps)?;
-            Ok(judged)
-        }
+        Ok(known) => judge_carried(known, records, steps),
     }
 }
 

@@ -1,4 +1,4 @@
-use Rattle.std.proofs.Common.{rules, tests, ◌≡◌, ◌∙◌, is_some, nat_eq, subst, None}
+use Rattle.std.proofs.Common.{rules, tests, ◌≡◌, ◌∙◌, nat_eq, subst, None}
 use Rattle.indexmap.specs.IndexMap.{get}
 use Rattle.indexmap.proofs.CallerLemmas.{insert_entry-new}
 use Rattle.mesh_model.specs.Tables.Gathered.{Gathered, with_table_part}

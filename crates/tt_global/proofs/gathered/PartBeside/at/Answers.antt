@@ -1,7 +1,5 @@
-use Rattle.std.proofs.Common.{◌≡◌, ◌∙◌, ap, cond, nat_eq, subst, sym, List, None, Option, Some}
-use Rattle.std.specs.Option.{option_or}
+use Rattle.std.proofs.Common.{◌≡◌, ◌∙◌, ap, cond, subst, sym, None, Some}
 use Rattle.std.proofs.lemmas.Bool.{eq-eqb}
-use Rattle.mesh_model.specs.declared.table_change.Change.{Change}
 use Rattle.mesh_model.specs.Tables.Gathered.{records_at}
 use Rattle.tt_global.specs.Lent.{lent}
 use Rattle.tt_global.proofs.PartLemmas.{at_beside, not_same}

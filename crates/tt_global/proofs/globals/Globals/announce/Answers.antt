@@ -3,7 +3,7 @@ use Rattle.std.specs.Map.{lookup}
 use Rattle.mesh_model.specs.Routes.Addresses.{same_mac}
 use Rattle.tt_global.specs.Kept.{held_in, stamp_in, version_of}
 use Rattle.tt_global.specs.Lent.{lent}
-use Rattle.tt_global.proofs.CommitLemmas.{announced_commits}
+use Rattle.tt_global.proofs.CommitLemmas.{keeps_commits}
 use Rattle.tt_global.proofs.PlaceLemmas.{not_refused}
 use Rattle.tt_global.proofs.StandLemmas.{announced_stands, heard_is}
 use Rattle.tt_global.proofs.globals.Globals.announce.Goals as goal
@@ -24,10 +24,7 @@ returns-clause-heard g c =
 
 pub returns-clause-commits : goal.returns-clause-commits
 returns-clause-commits g c =
-    λ calls frame made stands came.
-    let kept : lent c.get.result ≡ lookup (same_mac c.args.orig) c.args.self.now = c.get.ensures.value ∙ ap (lookup (same_mac c.args.orig)) c.self.view_is in
-    let held : option_map version_of (lent c.and_then-held.result) ≡ held_in (lookup (same_mac c.args.orig) c.args.self.now) = search (rules, kept) in
-    announced_commits calls c.args.orig frame (stamp_in c.args.announced.now) c.args.announced.now.changes c.args.self.now c.tell.new.self stands c.in_ok-tell.ensures.ok _ _ held c.in_ok-outcome.ensures.row c.hold.new.self c.hold.ensures made came
+    λ calls frame made stands came. keeps_commits made c.args.orig c.hold.new.self _ (returns-clause-ok g c calls frame stands) came
 
 pub returns-in_err-outcome-clause-same : goal.returns-in_err-outcome-clause-same
 returns-in_err-outcome-clause-same g c =

@@ -4,7 +4,7 @@ use Rattle.mesh_model.specs.Routes.Addresses.{same_mac}
 use Rattle.mesh_model.specs.Tables.Judging.{InChanges}
 use Rattle.tt_global.specs.Kept.{stamp}
 use Rattle.tt_global.specs.Lent.{lent}
-use Rattle.tt_global.proofs.CommitLemmas.{answered_commits}
+use Rattle.tt_global.proofs.CommitLemmas.{keeps_commits}
 use Rattle.tt_global.proofs.StandLemmas.{answered_stands, taken_is}
 use Rattle.tt_global.proofs.globals.Globals.take_changes.Goals as goal
 
@@ -22,7 +22,4 @@ returns-clause-taken g c =
 
 pub returns-clause-commits : goal.returns-clause-commits
 returns-clause-commits g c =
-    λ calls made stands came.
-    let kept : lent c.get-kept.result ≡ lookup (same_mac c.args.orig) c.args.self.now = c.get-kept.ensures.value ∙ ap (lookup (same_mac c.args.orig)) c.self.view_is in
-    answered_commits calls c.args.orig (stamp c.args.byte c.args.sums.now) (InChanges c.args.records.now) c.hold.new.self
-    (answered_stands calls c.args.orig (stamp c.args.byte c.args.sums.now) (InChanges c.args.records.now) c.args.self.now stands refl _ _ kept c.in_ok-outcome.ensures.row c.hold.new.self c.hold.ensures) made came
+    λ calls made stands came. keeps_commits made c.args.orig c.hold.new.self _ (returns-clause-ok g c calls stands) came

@@ -4,7 +4,7 @@ use Rattle.mesh_model.specs.Routes.Addresses.{same_mac}
 use Rattle.mesh_model.specs.Tables.Judging.{InFull}
 use Rattle.tt_global.specs.Kept.{stamp}
 use Rattle.tt_global.specs.Lent.{lent}
-use Rattle.tt_global.proofs.CommitLemmas.{answered_commits, whole_agrees, whole_taken}
+use Rattle.tt_global.proofs.CommitLemmas.{keeps_commits, whole_agrees, whole_taken}
 use Rattle.tt_global.proofs.StandLemmas.{answered_stands, taken_is}
 use Rattle.tt_global.proofs.globals.Globals.take_full.Goals as goal
 
@@ -22,10 +22,7 @@ returns-clause-taken g c =
 
 pub returns-clause-commits : goal.returns-clause-commits
 returns-clause-commits g c =
-    λ calls made stands came.
-    let kept : lent c.get-kept.result ≡ lookup (same_mac c.args.orig) c.args.self.now = c.get-kept.ensures.value ∙ ap (lookup (same_mac c.args.orig)) c.self.view_is in
-    answered_commits calls c.args.orig (stamp c.args.byte c.args.sums.now) (InFull c.args.records.now) c.hold.new.self
-    (answered_stands calls c.args.orig (stamp c.args.byte c.args.sums.now) (InFull c.args.records.now) c.args.self.now stands refl _ _ kept c.in_ok-outcome.ensures.row c.hold.new.self c.hold.ensures) made came
+    λ calls made stands came. keeps_commits made c.args.orig c.hold.new.self _ (returns-clause-ok g c calls stands) came
 
 pub returns-clause-whole : goal.returns-clause-whole
 returns-clause-whole g c =
@@ -35,7 +32,4 @@ returns-clause-whole g c =
 
 pub returns-clause-agreed : goal.returns-clause-agreed
 returns-clause-agreed g c =
-    λ calls stands whole.
-    let kept : lent c.get-kept.result ≡ lookup (same_mac c.args.orig) c.args.self.now = c.get-kept.ensures.value ∙ ap (lookup (same_mac c.args.orig)) c.self.view_is in
-    whole_agrees calls c.args.orig (stamp c.args.byte c.args.sums.now) c.args.records.now c.hold.new.self
-    (answered_stands calls c.args.orig (stamp c.args.byte c.args.sums.now) (InFull c.args.records.now) c.args.self.now stands refl _ _ kept c.in_ok-outcome.ensures.row c.hold.new.self c.hold.ensures) whole
+    λ calls stands whole. whole_agrees calls c.args.orig (stamp c.args.byte c.args.sums.now) c.args.records.now c.hold.new.self (returns-clause-ok g c calls stands) whole
