@@ -2,7 +2,6 @@
 pub mod GatewayLemmas
 pub mod IpLemmas
 pub mod OptionsLemmas
-pub mod RefusesLemmas
 pub mod SpellLemmas
 pub mod TermsLemmas
 pub mod OffsetLemmas

@@ -18,26 +18,22 @@ const BYTE_LIMIT: u64 = 255;
 const FACT_LIMIT: usize = 1000;
 
 /// `alfred NODE mode M`
-fn read_mode(alloc: Global, node: &[u8], words: &mut Words<'_>) -> Result<Command, LineErr>
-    ensures ok { IfOk result (λ command. read_mode node.now words.old ≡ Ok command) }
-    ensures refused { IfErr result (Refuses (read_mode node.now words.old)) }
+fn read_mode(node: Bytes, words: &mut Words<'_>) -> Result<Command, LineErr>
+    ensures ok { IfOk result (λ command. read_mode node words.old ≡ Ok command) }
+    ensures refused { IfErr result (Refuses (read_mode node words.old)) }
 {
     let mode = words.alfred_mode()?;
-    words.end()?;
-    let node = Bytes::from_slice(alloc, node)?;
-    Ok(Command::Alfred { node, mode })
+    words.end(Command::Alfred { node, mode })
 }
 
 /// `alfred NODE put TYPE VERSION TEXT`
-fn read_put(alloc: Global, node: &[u8], words: &mut Words<'_>) -> Result<Command, LineErr>
-    ensures ok { IfOk result (λ command. read_put node.now words.old ≡ Ok command) }
-    ensures refused { IfErr result (Refuses (read_put node.now words.old)) }
+fn read_put(alloc: Global, node: Bytes, words: &mut Words<'_>) -> Result<Command, LineErr>
+    ensures ok { IfOk result (λ command. read_put node words.old ≡ Ok command) }
+    ensures refused { IfErr result (Refuses (read_put node words.old)) }
 {
     let type_no = words.number(LEAST_TYPE, BYTE_LIMIT)?;
     let version = words.number(0, BYTE_LIMIT)?;
-    let text = words.text_up_to(FACT_LIMIT)?;
-    let node = Bytes::from_slice(alloc, node)?;
-    let text = Bytes::from_slice(alloc, text)?;
+    let text = words.text_up_to(alloc, FACT_LIMIT)?;
     Ok(Command::Put {
         node,
         type_no: type_no as u8,
@@ -47,14 +43,12 @@ fn read_put(alloc: Global, node: &[u8], words: &mut Words<'_>) -> Result<Command
 }
 
 /// `alfred NODE get TYPE`
-fn read_get(alloc: Global, node: &[u8], words: &mut Words<'_>) -> Result<Command, LineErr>
-    ensures ok { IfOk result (λ command. read_get node.now words.old ≡ Ok command) }
-    ensures refused { IfErr result (Refuses (read_get node.now words.old)) }
+fn read_get(node: Bytes, words: &mut Words<'_>) -> Result<Command, LineErr>
+    ensures ok { IfOk result (λ command. read_get node words.old ≡ Ok command) }
+    ensures refused { IfErr result (Refuses (read_get node words.old)) }
 {
     let type_no = words.number(LEAST_TYPE, BYTE_LIMIT)?;
-    words.end()?;
-    let node = Bytes::from_slice(alloc, node)?;
-    Ok(Command::Get {
+    words.end(Command::Get {
         node,
         type_no: type_no as u8,
     })
@@ -63,20 +57,20 @@ fn read_get(alloc: Global, node: &[u8], words: &mut Words<'_>) -> Result<Command
 /// What alfred does at a node.
 fn read_alfred_form(
     alloc: Global,
-    node: &[u8],
+    node: Bytes,
     word: &[u8],
     words: &mut Words<'_>,
 ) -> Result<Command, LineErr>
     ensures ok { IfOk result (λ command.
-        read_alfred_form node.now word.now words.old ≡ Ok command) }
-    ensures refused { IfErr result (Refuses (read_alfred_form node.now word.now words.old)) }
+        read_alfred_form node word.now words.old ≡ Ok command) }
+    ensures refused { IfErr result (Refuses (read_alfred_form node word.now words.old)) }
 {
     if word == b"mode".as_slice() {
-        read_mode(alloc, node, words)
+        read_mode(node, words)
     } else if word == b"put".as_slice() {
         read_put(alloc, node, words)
     } else if word == b"get".as_slice() {
-        read_get(alloc, node, words)
+        read_get(node, words)
     } else {
         Err(LineErr::OutOfRange)
     }
@@ -87,7 +81,7 @@ pub fn read_alfred(alloc: Global, words: &mut Words<'_>) -> Result<Command, Line
     ensures ok { IfOk result (λ command. read_alfred words.old ≡ Ok command) }
     ensures refused { IfErr result (Refuses (read_alfred words.old)) }
 {
-    let node = words.name()?;
+    let node = words.name(alloc)?;
     let word = words.word()?;
     read_alfred_form(alloc, node, word, words)
 }

@@ -6,7 +6,7 @@ ghost use Rattle.mesh_scenario.specs.LineErr.{Refuses};
 
 use crate::line_err::LineErr;
 use crate::words::Words;
-use mesh_base::{Bytes, Key};
+use mesh_base::Key;
 use mesh_model::Command;
 use std::alloc::Global;
 
@@ -15,13 +15,11 @@ pub fn read_frame(alloc: Global, words: &mut Words<'_>) -> Result<Command, LineE
     ensures ok { IfOk result (λ command. read_frame words.old ≡ Ok command) }
     ensures refused { IfErr result (Refuses (read_frame words.old)) }
 {
-    let place = words.name()?;
+    let place = words.name(alloc)?;
     let src = words.unicast()?;
     let dst = words.target()?;
     let vid = words.vid()?;
-    let text = words.text()?;
-    let place = Bytes::from_slice(alloc, place)?;
-    let text = Bytes::from_slice(alloc, text)?;
+    let text = words.text(alloc)?;
     Ok(Command::Frame {
         place,
         src,
@@ -36,12 +34,10 @@ pub fn read_gone(alloc: Global, words: &mut Words<'_>) -> Result<Command, LineEr
     ensures ok { IfOk result (λ command. read_gone words.old ≡ Ok command) }
     ensures refused { IfErr result (Refuses (read_gone words.old)) }
 {
-    let place = words.name()?;
+    let place = words.name(alloc)?;
     let mac = words.unicast()?;
     let vid = words.vid()?;
-    words.end()?;
-    let place = Bytes::from_slice(alloc, place)?;
-    Ok(Command::Gone {
+    words.end(Command::Gone {
         place,
         key: Key { mac, vid },
     })
@@ -52,12 +48,10 @@ pub fn read_join(alloc: Global, words: &mut Words<'_>) -> Result<Command, LineEr
     ensures ok { IfOk result (λ command. read_join words.old ≡ Ok command) }
     ensures refused { IfErr result (Refuses (read_join words.old)) }
 {
-    let node = words.name()?;
+    let node = words.name(alloc)?;
     let mac = words.group()?;
     let vid = words.vid()?;
-    words.end()?;
-    let node = Bytes::from_slice(alloc, node)?;
-    Ok(Command::Join {
+    words.end(Command::Join {
         node,
         key: Key { mac, vid },
     })
@@ -68,12 +62,10 @@ pub fn read_leave(alloc: Global, words: &mut Words<'_>) -> Result<Command, LineE
     ensures ok { IfOk result (λ command. read_leave words.old ≡ Ok command) }
     ensures refused { IfErr result (Refuses (read_leave words.old)) }
 {
-    let node = words.name()?;
+    let node = words.name(alloc)?;
     let mac = words.group()?;
     let vid = words.vid()?;
-    words.end()?;
-    let node = Bytes::from_slice(alloc, node)?;
-    Ok(Command::Leave {
+    words.end(Command::Leave {
         node,
         key: Key { mac, vid },
     })
@@ -84,14 +76,12 @@ pub fn read_arp(alloc: Global, words: &mut Words<'_>) -> Result<Command, LineErr
     ensures ok { IfOk result (λ command. read_arp words.old ≡ Ok command) }
     ensures refused { IfErr result (Refuses (read_arp words.old)) }
 {
-    let node = words.name()?;
+    let node = words.name(alloc)?;
     let mac = words.unicast()?;
     let own_ip = words.ip()?;
     let asked_ip = words.ip()?;
     let vid = words.vid()?;
-    words.end()?;
-    let node = Bytes::from_slice(alloc, node)?;
-    Ok(Command::Arp {
+    words.end(Command::Arp {
         node,
         mac,
         own_ip,
@@ -105,12 +95,10 @@ pub fn read_dhcp(alloc: Global, words: &mut Words<'_>) -> Result<Command, LineEr
     ensures ok { IfOk result (λ command. read_dhcp words.old ≡ Ok command) }
     ensures refused { IfErr result (Refuses (read_dhcp words.old)) }
 {
-    let node = words.name()?;
+    let node = words.name(alloc)?;
     let mac = words.unicast()?;
     let vid = words.vid()?;
-    let text = words.text()?;
-    let node = Bytes::from_slice(alloc, node)?;
-    let text = Bytes::from_slice(alloc, text)?;
+    let text = words.text(alloc)?;
     Ok(Command::Dhcp {
         node,
         key: Key { mac, vid },

@@ -25,8 +25,7 @@ pub fn read_algo(alloc: Global, words: &mut Words<'_>) -> Result<Command, LineEr
     ensures refused { IfErr result (Refuses (read_algo words.old)) }
 {
     let algorithm = words.algorithm()?;
-    words.end()?;
-    Ok(Command::Algo(algorithm))
+    words.end(Command::Algo(algorithm))
 }
 
 /// `node NAME MAC`
@@ -34,11 +33,9 @@ pub fn read_node(alloc: Global, words: &mut Words<'_>) -> Result<Command, LineEr
     ensures ok { IfOk result (λ command. read_node words.old ≡ Ok command) }
     ensures refused { IfErr result (Refuses (read_node words.old)) }
 {
-    let name = words.name()?;
+    let name = words.name(alloc)?;
     let mac = words.unicast()?;
-    words.end()?;
-    let name = Bytes::from_slice(alloc, name)?;
-    Ok(Command::Node { name, mac })
+    words.end(Command::Node { name, mac })
 }
 
 /// `link A B`, with options
@@ -46,11 +43,9 @@ pub fn read_link(alloc: Global, words: &mut Words<'_>) -> Result<Command, LineEr
     ensures ok { IfOk result (λ command. read_link words.old ≡ Ok command) }
     ensures refused { IfErr result (Refuses (read_link words.old)) }
 {
-    let from = words.name()?;
-    let to = words.name()?;
+    let from = words.name(alloc)?;
+    let to = words.name(alloc)?;
     let options = words.options()?;
-    let from = Bytes::from_slice(alloc, from)?;
-    let to = Bytes::from_slice(alloc, to)?;
     let pattern = Bytes::from_slice(alloc, options.pattern.unwrap_or(DEFAULT_PATTERN))?;
     Ok(Command::Link {
         from,
@@ -66,9 +61,8 @@ pub fn read_lan(alloc: Global, words: &mut Words<'_>) -> Result<Command, LineErr
     ensures ok { IfOk result (λ command. read_lan words.old ≡ Ok command) }
     ensures refused { IfErr result (Refuses (read_lan words.old)) }
 {
-    let name = words.name()?;
+    let name = words.name(alloc)?;
     let gateways = words.gateways(alloc)?;
-    let name = Bytes::from_slice(alloc, name)?;
     Ok(Command::Lan { name, gateways })
 }
 
@@ -77,12 +71,9 @@ pub fn read_ping(alloc: Global, words: &mut Words<'_>) -> Result<Command, LineEr
     ensures ok { IfOk result (λ command. read_ping words.old ≡ Ok command) }
     ensures refused { IfErr result (Refuses (read_ping words.old)) }
 {
-    let node = words.name()?;
-    let target = words.name()?;
-    words.end()?;
-    let node = Bytes::from_slice(alloc, node)?;
-    let target = Bytes::from_slice(alloc, target)?;
-    Ok(Command::Ping { node, target })
+    let node = words.name(alloc)?;
+    let target = words.name(alloc)?;
+    words.end(Command::Ping { node, target })
 }
 
 /// `traceroute NODE NODE`
@@ -90,12 +81,9 @@ pub fn read_traceroute(alloc: Global, words: &mut Words<'_>) -> Result<Command, 
     ensures ok { IfOk result (λ command. read_traceroute words.old ≡ Ok command) }
     ensures refused { IfErr result (Refuses (read_traceroute words.old)) }
 {
-    let node = words.name()?;
-    let target = words.name()?;
-    words.end()?;
-    let node = Bytes::from_slice(alloc, node)?;
-    let target = Bytes::from_slice(alloc, target)?;
-    Ok(Command::Trace { node, target })
+    let node = words.name(alloc)?;
+    let target = words.name(alloc)?;
+    words.end(Command::Trace { node, target })
 }
 
 /// `reboot NODE`
@@ -103,10 +91,8 @@ pub fn read_reboot(alloc: Global, words: &mut Words<'_>) -> Result<Command, Line
     ensures ok { IfOk result (λ command. read_reboot words.old ≡ Ok command) }
     ensures refused { IfErr result (Refuses (read_reboot words.old)) }
 {
-    let node = words.name()?;
-    words.end()?;
-    let node = Bytes::from_slice(alloc, node)?;
-    Ok(Command::Reboot { node })
+    let node = words.name(alloc)?;
+    words.end(Command::Reboot { node })
 }
 
 /// `run MS`
@@ -115,8 +101,7 @@ pub fn read_run(alloc: Global, words: &mut Words<'_>) -> Result<Command, LineErr
     ensures refused { IfErr result (Refuses (read_run words.old)) }
 {
     let time = words.number(1, TIME_LIMIT)?;
-    words.end()?;
-    Ok(Command::Run { time })
+    words.end(Command::Run { time })
 }
 
 /// `deliver N`
@@ -125,8 +110,7 @@ pub fn read_deliver(alloc: Global, words: &mut Words<'_>) -> Result<Command, Lin
     ensures refused { IfErr result (Refuses (read_deliver words.old)) }
 {
     let number = words.frame_number()?;
-    words.end()?;
-    Ok(Command::Deliver { number })
+    words.end(Command::Deliver { number })
 }
 
 /// `show NODE T`
@@ -134,11 +118,9 @@ pub fn read_show(alloc: Global, words: &mut Words<'_>) -> Result<Command, LineEr
     ensures ok { IfOk result (λ command. read_show words.old ≡ Ok command) }
     ensures refused { IfErr result (Refuses (read_show words.old)) }
 {
-    let node = words.name()?;
+    let node = words.name(alloc)?;
     let table = words.table()?;
-    words.end()?;
-    let node = Bytes::from_slice(alloc, node)?;
-    Ok(Command::Show { node, table })
+    words.end(Command::Show { node, table })
 }
 
 /// `decode HEX`
@@ -147,6 +129,5 @@ pub fn read_decode(alloc: Global, words: &mut Words<'_>) -> Result<Command, Line
     ensures refused { IfErr result (Refuses (read_decode words.old)) }
 {
     let bytes = words.hex(alloc)?;
-    words.end()?;
-    Ok(Command::Decode { bytes })
+    words.end(Command::Decode { bytes })
 }

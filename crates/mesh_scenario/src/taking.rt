@@ -1,9 +1,11 @@
 //! The next words of a line, taken as fields.
 
-ghost use Rattle.std.specs.Prelude.{◌≡◌, ◌<◌, ◌≤◌, IfOk, IfErr};
+ghost use Rattle.std.specs.Prelude.{◌≡◌, ◌<◌, ◌≤◌, Ok, IfOk, IfErr};
 ghost use Rattle.mesh_model.specs.Scenario.Fields.{word_field, name_field, unicast_field, target_field, group_field, vid_field, ip_field, hex_field, number_field, number_limit, frame_number_field, switch_field, algorithm_field, alfred_mode_field, table_field};
 ghost use Rattle.mesh_model.specs.Scenario.SettingForms.{longest_field};
-ghost use Rattle.mesh_scenario.specs.Inner.Taking.{GivesField, FailsField, RefusesField, GivesText, FailsText, GivesTextUpTo, FailsTextUpTo, IsAtEnd, HasMore};
+ghost use Rattle.mesh_model.specs.Scenario.Readings.{the_end};
+ghost use Rattle.mesh_scenario.specs.LineErr.{Refuses};
+ghost use Rattle.mesh_scenario.specs.Inner.Taking.{GivesField, FailsField, RefusesField, GivesText, RefusesText, GivesTextUpTo, RefusesTextUpTo};
 
 use crate::hex_bytes::hex_bytes;
 use crate::ip::ip;
@@ -11,7 +13,7 @@ use crate::line_err::LineErr;
 use crate::words::Words;
 use crate::{listed, terms};
 use mesh_base::{Bytes, Mac, Vid};
-use mesh_model::{AlfredMode, Algorithm, Table};
+use mesh_model::{AlfredMode, Algorithm, Command, Table};
 use std::alloc::Global;
 
 /// The least length that the greatest length of a packet that goes whole may be.
@@ -30,16 +32,16 @@ impl<'a> Words<'a> {
     }
 
     /// Takes a name.
-    pub fn name(&mut self) -> Result<&'a [u8], LineErr>
-        ensures ok { IfOk result (λ name. GivesField name_field self.old name.now self.new) }
-        ensures refused { IfErr result (FailsField name_field self.old) }
+    pub fn name(&mut self, alloc: Global) -> Result<Bytes, LineErr>
+        ensures ok { IfOk result (λ name. GivesField name_field self.old name self.new) }
+        ensures refused { IfErr result (RefusesField name_field self.old) }
     {
         let found = self.next().ok_or(LineErr::MissingWord)?;
-        if terms::is_name(found.word) {
-            Ok(found.word)
-        } else {
-            Err(LineErr::BadName)
+        if !terms::is_name(found.word) {
+            return Err(LineErr::BadName);
         }
+        let name = Bytes::from_slice(alloc, found.word)?;
+        Ok(name)
     }
 
     /// Takes the address of one station.
@@ -190,34 +192,35 @@ impl<'a> Words<'a> {
     }
 
     /// Takes the rest of the line.
-    pub fn text(&mut self) -> Result<&'a [u8], LineErr>
-        ensures ok { IfOk result (λ text. GivesText self.old text.now) }
-        ensures refused { IfErr result (FailsText self.old) }
+    pub fn text(&mut self, alloc: Global) -> Result<Bytes, LineErr>
+        ensures ok { IfOk result (GivesText self.old) }
+        ensures refused { IfErr result (RefusesText self.old) }
     {
         let found = self.next().ok_or(LineErr::MissingWord)?;
-        Ok(found.text)
+        let text = Bytes::from_slice(alloc, found.text)?;
+        Ok(text)
     }
 
     /// Takes the rest of the line, of at most so many bytes.
-    pub fn text_up_to(&mut self, most: usize) -> Result<&'a [u8], LineErr>
-        ensures ok { IfOk result (λ text. GivesTextUpTo most self.old text.now) }
-        ensures refused { IfErr result (FailsTextUpTo most self.old) }
+    pub fn text_up_to(&mut self, alloc: Global, most: usize) -> Result<Bytes, LineErr>
+        ensures ok { IfOk result (GivesTextUpTo most self.old) }
+        ensures refused { IfErr result (RefusesTextUpTo most self.old) }
     {
         let found = self.next().ok_or(LineErr::MissingWord)?;
-        if found.text.len() <= most {
-            Ok(found.text)
-        } else {
-            Err(LineErr::OutOfRange)
+        if found.text.len() > most {
+            return Err(LineErr::OutOfRange);
         }
+        let text = Bytes::from_slice(alloc, found.text)?;
+        Ok(text)
     }
 
-    /// Sees that there are no more words.
-    pub fn end(&mut self) -> Result<(), LineErr>
-        ensures ok { IfOk result (λ _. IsAtEnd self.old) }
-        ensures refused { IfErr result (HasMore self.old) }
+    /// Gives the command of the words that were taken, where there are no more.
+    pub fn end(&mut self, command: Command) -> Result<Command, LineErr>
+        ensures ok { IfOk result (λ given. the_end command self.old ≡ Ok given) }
+        ensures refused { IfErr result (Refuses (the_end command self.old)) }
     {
         match self.next() {
-            None => Ok(()),
+            None => Ok(command),
             Some(_) => Err(LineErr::ExtraWord),
         }
     }

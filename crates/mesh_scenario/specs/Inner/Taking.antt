@@ -5,7 +5,7 @@ use Rattle.std.specs.Prelude.{◌≡◌, ◌==◌, ℕ, Bool, not, List, Result,
 use Rattle.mesh_model.specs.declared.ending.Refusal.{Refusal}
 use Rattle.mesh_model.specs.declared.line_form.Command.{Command}
 use Rattle.mesh_model.specs.Scenario.NetForms.{the_gateways}
-use Rattle.mesh_model.specs.Scenario.Readings.{Reading, a_field, a_text, a_text_up_to, the_end}
+use Rattle.mesh_model.specs.Scenario.Readings.{Reading, a_field, a_text, a_text_up_to}
 use Rattle.mesh_model.specs.Scenario.Terms.{dot}
 use Rattle.mesh_model.specs.Scenario.Words.{Word, is_separator}
 use Rattle.mesh_scenario.specs.LineErr.{Refuses, reading_of}
@@ -36,14 +36,6 @@ abbrev pub RefusesField : {A : Type 0} → (List ℕ → Result A Refusal) → L
 RefusesField {A} field old error =
     (next : A → List Word → Reading) → Refuses (a_field field next old) error
 
--- there are no more words
-abbrev pub IsAtEnd : List Word → Type 0
-IsAtEnd old = (command : Command) → the_end command old ≡ Ok command
-
--- there are more words
-abbrev pub HasMore : List Word → LineErr → Type 0
-HasMore old error = (command : Command) → reading_of error ≡ Some (the_end command old)
-
 -- whether a byte stands between the numbers of an IP address
 abbrev pub is_dot : ℕ → Bool
 is_dot byte = byte == dot
@@ -52,19 +44,19 @@ is_dot byte = byte == dot
 abbrev pub GivesText : List Word → List ℕ → Type 0
 GivesText old text = (command : List ℕ → Command) → a_text command old ≡ Ok (command text)
 
--- there is no text
-abbrev pub FailsText : List Word → LineErr → Type 0
-FailsText old error = (command : List ℕ → Command) → reading_of error ≡ Some (a_text command old)
+-- there is no text, or memory is wanting
+abbrev pub RefusesText : List Word → LineErr → Type 0
+RefusesText old error = (command : List ℕ → Command) → Refuses (a_text command old) error
 
 -- the rest of the line is this text, which isn't too long
 abbrev pub GivesTextUpTo : ℕ → List Word → List ℕ → Type 0
 GivesTextUpTo most old text =
     (command : List ℕ → Command) → a_text_up_to most command old ≡ Ok (command text)
 
--- there is no text, or it is too long
-abbrev pub FailsTextUpTo : ℕ → List Word → LineErr → Type 0
-FailsTextUpTo most old error =
-    (command : List ℕ → Command) → reading_of error ≡ Some (a_text_up_to most command old)
+-- there is no text, or it is too long, or memory is wanting
+abbrev pub RefusesTextUpTo : ℕ → List Word → LineErr → Type 0
+RefusesTextUpTo most old error =
+    (command : List ℕ → Command) → Refuses (a_text_up_to most command old) error
 
 -- the other words are the names of these gateways
 abbrev pub GivesGateways : List Word → List (List ℕ) → Type 0
