@@ -1,5 +1,5 @@
 -- The parts of what a node knows of the others' clients, by the rows of the live originators.
-use Rattle.std.proofs.Common.{◌≡◌, cond, ℕ, suc, ◌+◌, ◌<◌, ◌≤◌, ◌⊎◌, inl, inr, Bool, true, false, if◌then◌else◌, List, [], ◌∷◌, ◌++◌, length, map, take, slice_get, get_or, Option, Some, None, option_and_then, option_map, refl, sym, ap, ap₂, ◌∙◌, append_assoc, arith}
+use Rattle.std.proofs.Common.{◌≡◌, cond, ℕ, suc, ◌+◌, ◌<◌, ◌≤◌, ◌⊎◌, inl, inr, Bool, true, false, if◌then◌else◌, List, [], ◌∷◌, ◌++◌, length, map, take, slice_get, get_or, Option, Some, None, option_and_then, option_map, refl, sym, ap, ◌∙◌, arith}
 use Rattle.std.specs.List.{cons_option, count_by, fold}
 use Rattle.std.specs.Prelude.{filter_map, flat_map}
 use Rattle.std.proofs.lemmas.List.{length-map}
@@ -7,16 +7,14 @@ use Rattle.std.proofs.lemmas.List.Folds.{flat_map-map}
 use Rattle.std.proofs.lemmas.List.Elements.{filter_map-append}
 use Rattle.std.proofs.lemmas.Option.{slice_get_cases}
 use Rattle.mesh_base.specs.declared.address.Mac.{Mac}
-use Rattle.mesh_base.specs.declared.client.Key.{Key}
 use Rattle.mesh_model.specs.declared.table_row.GlobalRow.{GlobalRow}
 use Rattle.mesh_model.specs.Knowledge.Known.{Knowledge, known_at}
 use Rattle.mesh_model.specs.Routes.Queries.{Queries}
 use Rattle.mesh_model.specs.Run.KnownTables.{held_entries, part_of, parts_at}
 use Rattle.mesh_model.specs.Tables.Known.{TableCalls, known_by, nothing, originators_by, global_row, stamp_of}
-use Rattle.mesh_model.specs.Marks.RoamingMarks.{marks_at}
-use Rattle.mesh_model.specs.Text.GlobalTables.{GlobalPart, global_header, global_table_text, mark_line, part_text}
+use Rattle.mesh_model.specs.Text.GlobalTables.{GlobalPart, global_header, part_text}
 use Rattle.mesh_show.specs.Inner.Parts.{held_part, live_row}
-use Rattle.mesh_show.proofs.RowLemmas.{take-next}
+use Rattle.mesh_show.proofs.RowLemmas.{take-next, then_more}
 
 -- ---- one originator
 
@@ -59,19 +57,15 @@ parts_printed q known now rows are =
     ∙ flat_map-map part_text (held_part known.tables) (filter_map (live_row q known now) (originators_by known.tables))
     ∙ ap (flat_map (λ row. part_text (held_part known.tables row))) (sym are)
 
--- the table, by the texts of its lines
-pub table_printed : (q : Queries) (known : Knowledge) (now count : ℕ) (name old header parts new : List ℕ) (rows : List GlobalRow) (marks : List (Key × Mac))
-    → rows ≡ filter_map (live_row q known now) (originators_by known.tables) → marks ≡ marks_at now known.marks → count ≡ length rows
-    → header ≡ old ++ global_header name count → parts ≡ header ++ flat_map (λ row. part_text (held_part known.tables row)) rows → new ≡ parts ++ flat_map mark_line marks
-    → new ≡ old ++ global_table_text (record { name = name; parts = parts_at q known now; marks = marks_at now known.marks })
-table_printed q known now count name old header parts new rows marks are marked counted first middle last =
-    let top = global_header name (length (parts_at q known now)) in
-    let told = flat_map part_text (parts_at q known now) in
-    let front : header ≡ old ++ top = first ∙ ap (λ (n : ℕ). old ++ global_header name n) (counted ∙ sym (parts_counted q known now rows are)) in
-    let rest : parts ≡ (old ++ top) ++ told = middle ∙ ap₂ (λ (before more : List ℕ). before ++ more) front (sym (parts_printed q known now rows are)) in
-    let end : flat_map mark_line marks ≡ flat_map mark_line (marks_at now known.marks) = ap (flat_map mark_line) marked in
-    let both : parts ≡ old ++ (top ++ told) = rest ∙ append_assoc old top told in
-    last ∙ ap₂ (λ (before more : List ℕ). before ++ more) both end ∙ append_assoc old (top ++ told) (flat_map mark_line (marks_at now known.marks))
+-- the first line and the parts, by the texts of the rows
+pub parts_appended : (q : Queries) (known : Knowledge) (now count : ℕ) (name old header new : List ℕ) (rows : List GlobalRow)
+    → rows ≡ filter_map (live_row q known now) (originators_by known.tables) → count ≡ length rows
+    → header ≡ old ++ global_header name count → new ≡ header ++ flat_map (λ row. part_text (held_part known.tables row)) rows
+    → new ≡ old ++ (global_header name (length (parts_at q known now)) ++ flat_map part_text (parts_at q known now))
+parts_appended q known now count name old header new rows are counted first next =
+    then_more (global_header name (length (parts_at q known now))) (flat_map part_text (parts_at q known now)) old header new
+    (first ∙ ap (λ (n : ℕ). old ++ global_header name n) (counted ∙ sym (parts_counted q known now rows are)))
+    (next ∙ ap (λ (more : List ℕ). header ++ more) (sym (parts_printed q known now rows are)))
 
 -- ---- counts
 

@@ -1,7 +1,8 @@
 -- Lists that grow row by row.
-use Rattle.std.proofs.Common.{◌≡◌, ℕ, zero, suc, ◌+◌, List, [], ◌∷◌, ◌++◌, length, map, take, slice_get, Option, Some, None, option_map, refl, sym, ap, ◌∙◌, append_assoc, append-nil, length-append, arith}
-use Rattle.std.specs.Prelude.{flat_map}
+use Rattle.std.proofs.Common.{◌≡◌, ℕ, zero, suc, ◌+◌, ◌≤◌, List, [], ◌∷◌, ◌++◌, length, map, take, slice_get, Option, Some, None, option_map, refl, sym, ap, ◌∙◌, append_assoc, append-nil, length-append, arith}
+use Rattle.std.specs.Prelude.{flat_map, Result, OnOk}
 use Rattle.std.proofs.lemmas.List.Concat.{flat_map-append}
+use Rattle.std.proofs.lemmas.Option.{none-some}
 use Rattle.mesh_base.specs.declared.address.Mac.{Mac}
 use Rattle.mesh_base.specs.declared.client.Vid.{Vid}
 use Rattle.mesh_model.specs.declared.service.GroupRow.{GroupRow}
@@ -20,6 +21,12 @@ rows-next rows new all row are is next =
     let longer : length new ≡ suc (length rows) = omega (arith, ap length is, length-append rows (row ∷ [])) in
     is ∙ ap (λ front. front ++ row ∷ []) are ∙ sym (take-next all (length rows) row (sym next)) ∙ ap (λ n. take n all) (sym longer)
 
+-- a place without a row is past the last
+pub past-end : {X : Type 0} (xs : List X) (place : ℕ) → slice_get xs place ≡ None → length xs ≤ place
+past-end [] place none = omega arith
+past-end (x ∷ xs) zero none = absurd (none-some x (sym none))
+past-end (x ∷ xs) (suc place) none = omega (arith, past-end xs place none)
+
 -- texts of the first rows, with that of the next
 pub texts-next : {X : Type 0} (line : X → List ℕ) (old mid new : List ℕ) (xs : List X) (i : ℕ) (x : X) → slice_get xs i ≡ Some x → mid ≡ old ++ flat_map line (take i xs) → new ≡ mid ++ line x
     → new ≡ old ++ flat_map line (take (i + 1) xs)
@@ -28,13 +35,14 @@ texts-next line old mid new xs i x found is more =
     more ∙ ap (λ front. front ++ line x) is ∙ append_assoc old (flat_map line (take i xs)) (line x)
     ∙ ap (λ rest. old ++ rest) (ap (λ last. flat_map line (take i xs) ++ last) (sym (append-nil (line x))) ∙ sym (flat_map-append line (take i xs) (x ∷ [])) ∙ ap (flat_map line) (sym (take-next xs i x found)) ∙ ap (λ n. flat_map line (take n xs)) (sym next))
 
--- a first line that tells something and how many rows follow, and then a line for each row
-pub header_then_rows : {T R : Type 0} (header : T → ℕ → List ℕ) (line : R → List ℕ) (said told : T) (count : ℕ) (lent rows : List R) (old mid new : List ℕ) → said ≡ told → count ≡ length rows → lent ≡ rows
-    → mid ≡ old ++ header said count → new ≡ mid ++ flat_map line lent → new ≡ old ++ (header told (length rows) ++ flat_map line rows)
-header_then_rows header line said told count lent rows old mid new says counts lends is more =
-    more ∙ ap (λ front. front ++ flat_map line lent) is ∙ append_assoc old (header said count) (flat_map line lent)
-    ∙ ap (λ t. old ++ (header t count ++ flat_map line lent)) says ∙ ap (λ n. old ++ (header told n ++ flat_map line lent)) counts
-    ∙ ap (λ rs. old ++ (header told (length rows) ++ flat_map line rs)) lends
+-- a text, with what follows its first lines
+pub then_more : (header more old mid new : List ℕ) → mid ≡ old ++ header → new ≡ mid ++ more → new ≡ old ++ (header ++ more)
+then_more header more old mid new is next = next ∙ ap (λ front. front ++ more) is ∙ append_assoc old header more
+
+-- first lines, and then a line for each row, unless memory ran out
+pub then_rows : {T E R : Type 0} (result : Result T E) (line : R → List ℕ) (header old mid new : List ℕ) (lent rows : List R) → lent ≡ rows → mid ≡ old ++ header
+    → OnOk result (new ≡ mid ++ flat_map line lent) → OnOk result (new ≡ old ++ (header ++ flat_map line rows))
+then_rows result line header old mid new lent rows lends is next = rw (← lends, ← append_assoc old header (flat_map line lent), ← is) next
 
 -- a VLAN and its sum
 abbrev pub vlan_pair : VlanSum → Vid × ℕ

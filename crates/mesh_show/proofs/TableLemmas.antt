@@ -6,7 +6,7 @@ use Rattle.mesh_model.specs.declared.line_form.Table.{Table}
 use Rattle.mesh_model.specs.declared.line_form.Table.TheVariants.{Originators, Neighbors, Locals, Globals, Claims, Pictures}
 use Rattle.mesh_model.specs.Net.Mesh.{NodeLog}
 use Rattle.mesh_model.specs.Run.Shown.{claim_table, global_table, link_table, local_table, orig_table, picture_table, shown}
-use Rattle.mesh_model.specs.Run.State.{State, names_of, printed_text}
+use Rattle.mesh_model.specs.Run.State.{State, printed_text}
 use Rattle.mesh_model.specs.Text.Claims.{claim_table_text}
 use Rattle.mesh_model.specs.Text.GlobalTables.{global_table_text}
 use Rattle.mesh_model.specs.Text.Services.{picture_table_text}

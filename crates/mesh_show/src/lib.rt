@@ -2,17 +2,15 @@
 
 #![tactic(auto)]
 
-mod addresses;
 mod choosable;
 mod claims;
 mod clients;
 mod events;
-mod facts;
-mod gateways;
-mod groups;
 mod known;
-mod pictures;
 mod routes;
+mod rows;
+mod seen;
+mod services;
 mod tables;
 
 pub use choosable::Choosable;

@@ -1,48 +1,17 @@
 //! The tables of the originators and of the neighbours of a node.
 
-ghost use Rattle.std.specs.Prelude.{◌≡◌, ◌++◌, IfOk, OnOk};
-ghost use Rattle.mesh_base.specs.declared.address.Mac.{Mac};
-ghost use Rattle.mesh_model.specs.Routes.RouteLog.{RouteLog};
-ghost use Rattle.mesh_model.specs.Text.Tables.{neighbor_line, link_table_text, orig_table_text};
+ghost use Rattle.std.specs.Prelude.{◌≡◌, ◌++◌, OnOk};
+ghost use Rattle.mesh_model.specs.Net.Mesh.{NodeLog};
+ghost use Rattle.mesh_model.specs.Run.Shown.{link_table, orig_table};
+ghost use Rattle.mesh_model.specs.Text.Tables.{link_table_text, neighbor_line, orig_table_text};
+ghost use Rattle.mesh_show.specs.Shown.{IsNodeAt};
 
 use crate::choosable::Choosable;
+use crate::rows::{put_lines, rows_of};
+use crate::seen::Seen;
 use batctl_text::{iv_link_line, link_header, orig_header, orig_line, v_link_line};
-use mesh_algo::Algo;
-use mesh_base::{Millis, NoMemory};
-use mesh_model::{Algorithm, LinkRow, OrigRow};
-use std::alloc::Global;
-
-/// The neighbours of a node.
-fn link_rows<A: Algo>(alloc: Global, algo: &A, now: Millis) -> Result<Vec<LinkRow>, NoMemory>
-    ensures { IfOk result (λ rows. (me : Mac) (log : RouteLog) → A.stands algo.now me log →
-        rows.items ≡ (A.queries me).neighbours log now) }
-{
-    let mut rows = Vec::new(alloc);
-    while let Some(row) = algo.link_at(now, rows.len()) {
-        rows.push(row)?;
-    }
-    Ok(rows)
-}
-
-/// Appends a table of originators.
-fn put_originators(
-    out: &mut Vec<u8>,
-    name: &[u8],
-    algorithm: Algorithm,
-    rows: &[OrigRow],
-) -> Result<(), NoMemory>
-    ensures ok { OnOk result (out.new.items ≡ out.old.items ++ orig_table_text (record {
-      name = name.now;
-      algorithm = algorithm;
-      rows = rows.now;
-    })) }
-{
-    orig_header(out, name, algorithm, rows.len())?;
-    for row in rows {
-        orig_line(out, row.orig, row.seq, row.seen, row.next, row.metric)?;
-    }
-    Ok(())
-}
+use mesh_base::NoMemory;
+use mesh_model::LinkRow;
 
 /// Appends the line of a neighbour.
 fn put_neighbor(out: &mut Vec<u8>, row: LinkRow) -> Result<(), NoMemory>
@@ -55,62 +24,31 @@ fn put_neighbor(out: &mut Vec<u8>, row: LinkRow) -> Result<(), NoMemory>
     Ok(())
 }
 
-/// Appends a table of neighbours.
-fn put_neighbors(
-    out: &mut Vec<u8>,
-    name: &[u8],
-    algorithm: Algorithm,
-    rows: &[LinkRow],
-) -> Result<(), NoMemory>
-    ensures ok { OnOk result (out.new.items ≡ out.old.items ++ link_table_text (record {
-      name = name.now;
-      algorithm = algorithm;
-      rows = rows.now;
-    })) }
-{
-    link_header(out, name, algorithm, rows.len())?;
-    for row in rows {
-        put_neighbor(out, *row)?;
+impl<A: Choosable> Seen<'_, A> {
+    /// Appends the originators that are live at the node.
+    pub fn show_originators(&self, out: &mut Vec<u8>) -> Result<(), NoMemory>
+        ensures { (row : NodeLog) →
+            IsNodeAt A.queries A.stands self.now.node.now self.now.name.now self.now.moment row →
+            OnOk result (out.new.items ≡ out.old.items
+            ++ orig_table_text (orig_table A.algorithm self.now.moment row)) }
+    {
+        let rows = self.node.algo().originators(self.alloc, self.moment)?;
+        orig_header(out, self.name, A::algorithm(), rows.len())?;
+        put_lines(out, rows.as_slice(), |out, row| {
+            orig_line(out, row.orig, row.seq, row.seen, row.next, row.metric)
+        })
     }
-    Ok(())
-}
 
-/// Appends the table of a node's originators.
-pub fn show_originators<A: Choosable>(
-    alloc: Global,
-    algo: &A,
-    name: &[u8],
-    now: Millis,
-    out: &mut Vec<u8>,
-) -> Result<(), NoMemory>
-    ensures { (me : Mac) (log : RouteLog) → A.stands algo.now me log →
-        OnOk result (out.new.items ≡ out.old.items ++ orig_table_text (record {
-          name = name.now;
-          algorithm = A.algorithm;
-          rows = (A.queries me).originators log now;
-        })) }
-{
-    let rows = algo.originators(alloc, now)?;
-    put_originators(out, name, A::algorithm(), rows.as_slice())?;
-    Ok(())
-}
-
-/// Appends the table of a node's neighbours.
-pub fn show_neighbors<A: Choosable>(
-    alloc: Global,
-    algo: &A,
-    name: &[u8],
-    now: Millis,
-    out: &mut Vec<u8>,
-) -> Result<(), NoMemory>
-    ensures { (me : Mac) (log : RouteLog) → A.stands algo.now me log →
-        OnOk result (out.new.items ≡ out.old.items ++ link_table_text (record {
-          name = name.now;
-          algorithm = A.algorithm;
-          rows = (A.queries me).neighbours log now;
-        })) }
-{
-    let rows = link_rows(alloc, algo, now)?;
-    put_neighbors(out, name, A::algorithm(), rows.as_slice())?;
-    Ok(())
+    /// Appends the neighbours of the node.
+    pub fn show_neighbors(&self, out: &mut Vec<u8>) -> Result<(), NoMemory>
+        ensures { (row : NodeLog) →
+            IsNodeAt A.queries A.stands self.now.node.now self.now.name.now self.now.moment row →
+            OnOk result (out.new.items ≡ out.old.items
+            ++ link_table_text (link_table A.algorithm self.now.moment row)) }
+    {
+        let algo = self.node.algo();
+        let rows = rows_of(self.alloc, |place| algo.link_at(self.moment, place))?;
+        link_header(out, self.name, A::algorithm(), rows.len())?;
+        put_lines(out, rows.as_slice(), put_neighbor)
+    }
 }

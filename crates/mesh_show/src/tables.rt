@@ -5,48 +5,35 @@ ghost use Rattle.mesh_model.specs.Net.Mesh.{NodeLog};
 ghost use Rattle.mesh_model.specs.Run.State.{State};
 ghost use Rattle.mesh_show.specs.Shown.{AppendsTable, IsNodeAt, IsSeenAt};
 
-use crate::addresses::show_addresses;
 use crate::choosable::Choosable;
-use crate::claims::show_claims;
-use crate::clients::show_locals;
-use crate::facts::show_facts;
-use crate::gateways::show_gateways;
-use crate::groups::show_groups;
-use crate::known::show_globals;
-use crate::pictures::show_pictures;
-use crate::routes::{show_neighbors, show_originators};
+use crate::seen::Seen;
 use mesh_base::{Millis, Names, NoMemory};
 use mesh_model::Table;
 use mesh_node::Node;
 use std::alloc::Global;
 
-/// Appends a table of a node of this name, line by line. LANs have their names of `names`.
-fn put_shown<A: Choosable>(
-    alloc: Global,
-    node: &Node<A>,
-    names: &Names,
-    name: &[u8],
-    table: Table,
-    now: Millis,
-    out: &mut Vec<u8>,
-) -> Result<(), NoMemory>
-    ensures ok { (state : State) (row : NodeLog) → IsSeenAt A.algorithm names.now now state →
-        IsNodeAt A.queries A.stands node.now name.now now row →
-        OnOk result (AppendsTable state table row out.old.items out.new.items) }
-{
-    match table {
-        Table::Locals => show_locals(alloc, node.locals(), name, now, out)?,
-        Table::Globals => show_globals(alloc, node, name, now, out)?,
-        Table::Originators => show_originators(alloc, node.algo(), name, now, out)?,
-        Table::Neighbors => show_neighbors(alloc, node.algo(), name, now, out)?,
-        Table::Claims => show_claims(alloc, node, names, name, now, out)?,
-        Table::Gateways => show_gateways(alloc, node, name, now, out)?,
-        Table::Groups => show_groups(alloc, node, name, now, out)?,
-        Table::Addresses => show_addresses(alloc, node, name, now, out)?,
-        Table::Facts => show_facts(node, name, now, out)?,
-        Table::Pictures => show_pictures(alloc, node, name, now, out)?,
+impl<A: Choosable> Seen<'_, A> {
+    /// Appends a table of the node, line by line. LANs have their names of `names`.
+    fn show(&self, names: &Names, table: Table, out: &mut Vec<u8>) -> Result<(), NoMemory>
+        ensures ok { (state : State) (row : NodeLog) →
+            IsSeenAt A.algorithm names.now self.now.moment state →
+            IsNodeAt A.queries A.stands self.now.node.now self.now.name.now self.now.moment row →
+            OnOk result (AppendsTable state table row out.old.items out.new.items) }
+    {
+        match table {
+            Table::Locals => self.show_locals(out)?,
+            Table::Globals => self.show_globals(out)?,
+            Table::Originators => self.show_originators(out)?,
+            Table::Neighbors => self.show_neighbors(out)?,
+            Table::Claims => self.show_claims(names, out)?,
+            Table::Gateways => self.show_gateways(out)?,
+            Table::Groups => self.show_groups(out)?,
+            Table::Addresses => self.show_addresses(out)?,
+            Table::Facts => self.show_facts(out)?,
+            Table::Pictures => self.show_pictures(out)?,
+        }
+        Ok(())
     }
-    Ok(())
 }
 
 /// Appends a table of a node of this name, the whole of it or nothing. LANs have their names of
@@ -65,8 +52,14 @@ pub fn show_table<A: Choosable>(
         OnOk result (AppendsTable state table row out.old.items out.new.items) }
     ensures err { OnErr result (out.new.items ≡ out.old.items) }
 {
+    let seen = Seen {
+        alloc,
+        node,
+        name,
+        moment: now,
+    };
     let mut text = Vec::new(alloc);
-    put_shown(alloc, node, names, name, table, now, &mut text)?;
+    seen.show(names, table, &mut text)?;
     out.extend_from_slice(text.as_slice())?;
     Ok(())
 }
