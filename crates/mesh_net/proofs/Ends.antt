@@ -202,37 +202,6 @@ module _ {A : Type 0} (queries : Mac → Queries) (stands : A → Mac → RouteL
   same_has : (a b : List Happening) → b ≡ a → (x : Happening) → Has a x ↔ Has b x
   same_has a b e x = (λ p. subst (λ hs. Has hs x) (sym e) p, λ p. subst (λ hs. Has hs x) e p)
 
-  pub carried : (net amid done : Net A) (choice : FrameChoice) (mesh : Mesh) (old new new' : List Event) (attempt : Attempt)
-      → NetStands queries stands net choice net.clock mesh → KeepsNet net amid → Settled amid done → new' ≡ new → (g : Gave queries stands amid choice mesh.last (first_ticks 0 mesh.nodes) mesh old new attempt)
-      → first_ticks 0 g.after.nodes ≡ first_ticks 0 mesh.nodes → g.after.last ≡ mesh.last → g.after.watch ≡ mesh.watch → IsReached (scenario_setup queries) net.clock g.after
-      → Carried queries stands done choice net.clock mesh old new' attempt
-  carried net amid done choice mesh old new new' attempt s k d told g same last watch way = record {
-    after = g.after;
-    is = g.is;
-    standing = stands_for queries stands amid done done choice mesh.last (first_ticks 0 mesh.nodes) net.clock g.after d (record { post = refl; sent = refl; seats = refl; watch = refl; dead = refl })
-        (k.dead ∙ s.alive) g.choice_is (d.clock ∙ k.clock) (d.last ∙ k.last ∙ s.last_is) last s.past s.low g.seats_stand g.step (same_has (first_ticks 0 mesh.nodes) (first_ticks 0 g.after.nodes) same) (still_watched net.watch amid.watch mesh.watch g.after.watch k.watch watch s.watched) way;
-    gains = gains choice mesh g.after old new' (subst (Logged choice mesh g.after old) (sym told) g.logged);
-  }
-
-  pub carried_line : (net amid done : Net A) (choice : FrameChoice) (mesh : Mesh) (old new new' : List Event) (place : ℕ) (given : Given)
-      → NetStands queries stands net choice net.clock mesh → KeepsNet net amid → Settled amid done → new' ≡ new → IsOfLine given
-      → Gave queries stands amid choice mesh.last (first_ticks 0 mesh.nodes) mesh old new (given_to (scenario_setup queries) place net.clock 0 given mesh)
-      → Carried queries stands done choice net.clock mesh old new' (given_to (scenario_setup queries) place net.clock 0 given mesh)
-  carried_line net amid done choice mesh old new new' place given s k d told line g =
-      let l = of_line mesh.frames given line in
-      let e = tickless (scenario_setup queries) mesh place net.clock 0 given g.after l.0 l.1 g.is in
-      carried net amid done choice mesh old new new' (given_to (scenario_setup queries) place net.clock 0 given mesh) s k d told g
-      (tickless_same mesh g.after e.nodes e.count) e.last e.watch (is_given net.clock mesh g.after place given s.reached line g.is)
-
-  pub carried_frame : (net amid done : Net A) (choice : FrameChoice) (mesh : Mesh) (old new new' : List Event) (place : ℕ)
-      → NetStands queries stands net choice net.clock mesh → KeepsNet net amid → Settled amid done → new' ≡ new
-      → Gave queries stands amid choice mesh.last (first_ticks 0 mesh.nodes) mesh old new (delivered (scenario_setup queries) place net.clock mesh)
-      → Carried queries stands done choice net.clock mesh old new' (delivered (scenario_setup queries) place net.clock mesh)
-  carried_frame net amid done choice mesh old new new' place s k d told g =
-      let e = delivered_effect (scenario_setup queries) mesh place net.clock g.after g.is in
-      carried net amid done choice mesh old new new' (delivered (scenario_setup queries) place net.clock mesh) s k d told g
-      (tickless_same mesh g.after e.nodes e.count) e.last e.watch (is_delivered net.clock mesh g.after place s.reached g.is)
-
   -- a net that isn't dead stands for something
   pub live_of : (net : Net A) → IsNet queries stands net → net.dead ≡ false → IsLive queries stands net
   live_of net (inl dead) alive = clash (sym dead ∙ alive)
@@ -241,32 +210,53 @@ module _ {A : Type 0} (queries : Mac → Queries) (stands : A → Mac → RouteL
       clash e = cc
   live_of net (inr live) alive = live
 
-  -- given to the gateways of a LAN
-  pub carried_all : (net amid done : Net A) (choice : FrameChoice) (mesh : Mesh) (old new new' : List Event) (places : List ℕ) (given : Given)
-      → NetStands queries stands net choice net.clock mesh → KeepsNet net amid → Settled amid done → new' ≡ new → IsOfLine given
-      → Gave queries stands amid choice mesh.last (first_ticks 0 mesh.nodes) mesh old new (all_given (scenario_setup queries) places net.clock given mesh)
-      → Carried queries stands done choice net.clock mesh old new' (all_given (scenario_setup queries) places net.clock given mesh)
-  carried_all net amid done choice mesh old new new' places given s k d told line g =
-      let l = of_line mesh.frames given line in
-      let e = all_effect (scenario_setup queries) places net.clock given mesh g.after l.0 (λ frames. (of_line frames given line).1) g.is in
-      carried net amid done choice mesh old new new' (all_given (scenario_setup queries) places net.clock given mesh) s k d told g
-      (tickless_same mesh g.after e.nodes e.count) e.last e.watch (line_reached net.clock mesh g.after places given line s.reached g.is)
-    where
-      line_reached : (clock : ℕ) (mesh after : Mesh) (places : List ℕ) (given : Given) → IsOfLine given → IsReached (scenario_setup queries) clock mesh → all_given (scenario_setup queries) places clock given mesh ≡ Ok after → IsReached (scenario_setup queries) clock after
-      line_reached clock mesh after places (Tick index) of way is = absurd of
-      line_reached clock mesh after places (LinkFrame number from throughput bytes) of way is = absurd of
-      line_reached clock mesh after places (LanFrame bytes) of way is = absurd of
-      line_reached clock mesh after places (Line line) of way is = all_are_given clock mesh after places line way of is
+  -- a step at the clock, when what it sent was kept
+  module _ (net amid done : Net A) (choice : FrameChoice) (mesh : Mesh) (old new new' : List Event) (s : NetStands queries stands net choice net.clock mesh) (k : KeepsNet net amid) (d : Settled amid done) (told : new' ≡ new) where
+    -- it was carried out, if this was tried in it
+    abbrev pub Carries : Attempt → Type 0
+    Carries attempt = Gave queries stands amid choice mesh.last (first_ticks 0 mesh.nodes) mesh old new attempt → Carried queries stands done choice net.clock mesh old new' attempt
 
-  -- a frame that comes on a LAN
-  pub carried_put : (net amid done : Net A) (choice : FrameChoice) (mesh : Mesh) (old new new' : List Event) (put : LanPut)
-      → NetStands queries stands net choice net.clock mesh → KeepsNet net amid → Settled amid done → new' ≡ new → put.by ≡ None → put.moment ≡ net.clock → put.lan < length mesh.lans
-      → Gave queries stands amid choice mesh.last (first_ticks 0 mesh.nodes) mesh old new (with_put (scenario_setup queries) put mesh)
-      → Carried queries stands done choice net.clock mesh old new' (with_put (scenario_setup queries) put mesh)
-  carried_put net amid done choice mesh old new new' put s k d told none now low g =
-      let e = put_joins (scenario_setup queries) put mesh g.after low g.is in
-      carried net amid done choice mesh old new new' (with_put (scenario_setup queries) put mesh) s k d told g
-      (tickless_same mesh g.after e.nodes e.count) e.last e.watch (lan_comes net.clock mesh g.after put s.reached none now low g.is)
+    carried : (attempt : Attempt) (g : Gave queries stands amid choice mesh.last (first_ticks 0 mesh.nodes) mesh old new attempt)
+        → first_ticks 0 g.after.nodes ≡ first_ticks 0 mesh.nodes → g.after.last ≡ mesh.last → g.after.watch ≡ mesh.watch → IsReached (scenario_setup queries) net.clock g.after
+        → Carried queries stands done choice net.clock mesh old new' attempt
+    carried attempt g same last watch way = record {
+      after = g.after;
+      is = g.is;
+      standing = stands_for queries stands amid done done choice mesh.last (first_ticks 0 mesh.nodes) net.clock g.after d (record { post = refl; sent = refl; seats = refl; watch = refl; dead = refl })
+          (k.dead ∙ s.alive) g.choice_is (d.clock ∙ k.clock) (d.last ∙ k.last ∙ s.last_is) last s.past s.low g.seats_stand g.step (same_has (first_ticks 0 mesh.nodes) (first_ticks 0 g.after.nodes) same) (still_watched net.watch amid.watch mesh.watch g.after.watch k.watch watch s.watched) way;
+      gains = gains choice mesh g.after old new' (subst (Logged choice mesh g.after old) (sym told) g.logged);
+    }
+
+    pub carried_line : (place : ℕ) (given : Given) → IsOfLine given → Carries (given_to (scenario_setup queries) place net.clock 0 given mesh)
+    carried_line place given line g =
+        let l = of_line mesh.frames given line in
+        let e = tickless (scenario_setup queries) mesh place net.clock 0 given g.after l.0 l.1 g.is in
+        carried (given_to (scenario_setup queries) place net.clock 0 given mesh) g (tickless_same mesh g.after e.nodes e.count) e.last e.watch (is_given net.clock mesh g.after place given s.reached line g.is)
+
+    -- a frame that is delivered again
+    pub carried_frame : (place : ℕ) → Carries (delivered (scenario_setup queries) place net.clock mesh)
+    carried_frame place g =
+        let e = delivered_effect (scenario_setup queries) mesh place net.clock g.after g.is in
+        carried (delivered (scenario_setup queries) place net.clock mesh) g (tickless_same mesh g.after e.nodes e.count) e.last e.watch (is_delivered net.clock mesh g.after place s.reached g.is)
+
+    -- given to the gateways of a LAN
+    pub carried_all : (places : List ℕ) (given : Given) → IsOfLine given → Carries (all_given (scenario_setup queries) places net.clock given mesh)
+    carried_all places given line g =
+        let l = of_line mesh.frames given line in
+        let e = all_effect (scenario_setup queries) places net.clock given mesh g.after l.0 (λ frames. (of_line frames given line).1) g.is in
+        carried (all_given (scenario_setup queries) places net.clock given mesh) g (tickless_same mesh g.after e.nodes e.count) e.last e.watch (line_reached net.clock mesh g.after places given line s.reached g.is)
+      where
+        line_reached : (clock : ℕ) (mesh after : Mesh) (places : List ℕ) (given : Given) → IsOfLine given → IsReached (scenario_setup queries) clock mesh → all_given (scenario_setup queries) places clock given mesh ≡ Ok after → IsReached (scenario_setup queries) clock after
+        line_reached clock mesh after places (Tick index) of way is = absurd of
+        line_reached clock mesh after places (LinkFrame number from throughput bytes) of way is = absurd of
+        line_reached clock mesh after places (LanFrame bytes) of way is = absurd of
+        line_reached clock mesh after places (Line line) of way is = all_are_given clock mesh after places line way of is
+
+    -- a frame that comes on a LAN
+    pub carried_put : (put : LanPut) → put.by ≡ None → put.moment ≡ net.clock → put.lan < length mesh.lans → Carries (with_put (scenario_setup queries) put mesh)
+    carried_put put none now low g =
+        let e = put_joins (scenario_setup queries) put mesh g.after low g.is in
+        carried (with_put (scenario_setup queries) put mesh) g (tickless_same mesh g.after e.nodes e.count) e.last e.watch (lan_comes net.clock mesh g.after put s.reached none now low g.is)
 
   -- a LAN that joins, when its gateways were told
   pub carried_lan : (net amid done : Net A) (choice : FrameChoice) (mesh : Mesh) (old new : List Event) (name gateways : List ℕ)

@@ -122,13 +122,13 @@ lan_given_is setup mesh place now k bytes put lan one kept places found on like 
     get_is = places_is ∙ ap (λ gs. filter (is_other one) gs) (ap (λ l. slice_index_or kept l []) (sym like.lan) ∙ gateways_kept mesh.lans put.lan lan kept same on) ∙ sym (filter_same (gets (client_frame_in (lan_message_of bytes)) k.by) (is_other one) lan.gateways gets_is)
 
 -- all gateways of a LAN, by what is kept
-pub all_gateways : (lans : List NetLan) (kept : List (List ℕ)) (place : ℕ) (places : List ℕ) → kept ≡ gateways_of lans → places ≡ filter (is_other None) (slice_index_or kept place []) → places ≡ slice_index_or (gateways_of lans) place []
-all_gateways lans kept place places same is = is ∙ filter_all (slice_index_or kept place []) ∙ ap (λ ls. slice_index_or ls place []) same
-
-pub gateways_at_is : (lans : List NetLan) (place : ℕ) → slice_index_or (gateways_of lans) place [] ≡ gateways_at place lans
-gateways_at_is [] place = refl
-gateways_at_is (lan ∷ lans) zero = refl
-gateways_at_is (lan ∷ lans) (suc place) = gateways_at_is lans place
+pub all_gateways : (lans : List NetLan) (kept : List (List ℕ)) (place : ℕ) (places : List ℕ) → kept ≡ gateways_of lans → places ≡ filter (is_other None) (slice_index_or kept place []) → places ≡ gateways_at place lans
+all_gateways lans kept place places same is = is ∙ filter_all (slice_index_or kept place []) ∙ ap (λ ls. slice_index_or ls place []) same ∙ at lans place
+  where
+    at : (lans : List NetLan) (place : ℕ) → slice_index_or (gateways_of lans) place [] ≡ gateways_at place lans
+    at [] place = refl
+    at (lan ∷ lans) zero = refl
+    at (lan ∷ lans) (suc place) = at lans place
 
 -- there are as many as LANs
 pub lans_count : (lans : List NetLan) → length (gateways_of lans) ≡ length lans

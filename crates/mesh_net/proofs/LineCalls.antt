@@ -15,7 +15,7 @@ use Rattle.node_ground.specs.declared.failure.NodeErr.{NodeErr}
 use Rattle.mesh_net.specs.declared.failure.NetErr.{NetErr}
 use Rattle.mesh_net.specs.declared.net.Net.{Net}
 use Rattle.mesh_net.specs.Given.{GiveTells}
-use Rattle.mesh_net.specs.NetStands.{NetStands, IsDead, IsNet}
+use Rattle.mesh_net.specs.NetStands.{HoldsFor, NetStands, IsDead, IsNet}
 use Rattle.mesh_net.specs.Steps.{Begun, Gave, Settled, SettleTells}
 use Rattle.mesh_net.specs.Tells.{Carried, StepTells}
 use Rattle.mesh_net.proofs.Ends.{begun_now, live_of, net_by, ok_has, settle_tells}
@@ -48,7 +48,7 @@ module _ {A : Type 0} (queries : Mac → Queries) (stands : A → Mac → RouteL
 
   -- the net behind it
   pub line_net : (done : Net A) (log left : List Event) (settled : Result Unit NetErr) (attempt : ℕ → Mesh → Attempt) → IsNet queries stands net → net.dead ≡ false → OnErr settled (IsDead done)
-      → ((choice : FrameChoice) (clock : ℕ) (mesh : Mesh) → NetStands queries stands net choice clock mesh → OnOk settled (Carried queries stands done choice clock mesh log left (attempt clock mesh)))
+      → HoldsFor queries stands net (λ choice clock mesh. OnOk settled (Carried queries stands done choice clock mesh log left (attempt clock mesh)))
       → IsNet queries stands done
   line_net done log left settled attempt is alive refused carries =
       let live = live_of queries stands net is alive in

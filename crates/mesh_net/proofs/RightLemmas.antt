@@ -1,6 +1,6 @@
 -- What a net tells is right: its mesh is one that steps reach, where the mesh before was, and its log
 -- gained events of that mesh.
-use Rattle.std.proofs.Common.{◌≡◌, ◌≤◌, ◌<◌, ℕ, List, [], ◌∷◌, ◌++◌, filter, length, slice_get, Some, None, Ok, refl, sym, ap, subst, ◌∙◌}
+use Rattle.std.proofs.Common.{◌≡◌, ◌<◌, ℕ, List, ◌++◌, filter, length, slice_get, Some, None, Ok, refl, sym, ap, subst, ◌∙◌}
 use Rattle.std.specs.Prelude.{⊤}
 use Rattle.mesh_base.specs.declared.address.Mac.{Mac}
 use Rattle.mesh_base.specs.declared.event.Event.{Event}
@@ -89,46 +89,41 @@ effect_follows : (setup : Setup) (extra : ℕ → ℕ) (now : ℕ) (mesh after :
 effect_follows setup extra now mesh after effect = record { more = effect.adds.more_events; events = effect.adds.events; names = effect.names }
 
 -- ---- what calls tell
--- a step at the clock that was carried out
-carried_rightly : {A : Type 0} (queries : Mac → Queries) (stands : A → Mac → RouteLog → Type 0) (net : Net A) (choice : FrameChoice) (clock : ℕ) (before : Mesh) (old new : List Event) (attempt : Attempt) (brings : Type 0)
-    → ((after : Mesh) → attempt ≡ Ok after → Follows before after) → ((after : Mesh) → attempt ≡ Ok after → AllKeep queries → IsReachable queries before → brings → IsReachable queries after)
-    → (after : Mesh) → attempt ≡ Ok after → Carried queries stands net choice clock before old new attempt → TellsRightly queries brings before after old new
-carried_rightly {A} queries stands net choice clock before old new attempt brings follows steps after is done =
-    let f = follows done.after done.is in
-    subst (λ m. TellsRightly queries brings before m old new) (ok_one done.after after (sym done.is ∙ is))
-    (rightly queries choice brings clock before done.after old new done.standing.reached (steps done.after done.is)
-    (record { more = f.more; came = f.events; told = done.gains ∙ ap (λ es. old ++ filter (is_shown choice) es) (since_is before done.after f) }))
+module _ {A : Type 0} (queries : Mac → Queries) (stands : A → Mac → RouteLog → Type 0) (net : Net A) (choice : FrameChoice) (clock : ℕ) (before after : Mesh) (old new : List Event) where
+  -- a step at the clock that was carried out, and that brings this, tells what is right
+  abbrev pub Tells : Type 0 → Attempt → Type 0
+  Tells brings attempt = attempt ≡ Ok after → Carried queries stands net choice clock before old new attempt → TellsRightly queries brings before after old new
 
-pub input_rightly : {A : Type 0} (queries : Mac → Queries) (stands : A → Mac → RouteLog → Type 0) (net : Net A) (choice : FrameChoice) (clock : ℕ) (before after : Mesh) (old new : List Event) (place : ℕ) (given : Given) → IsOfLine given → IsReached (scenario_setup queries) clock before
-    → given_to (scenario_setup queries) place clock 0 given before ≡ Ok after → Carried queries stands net choice clock before old new (given_to (scenario_setup queries) place clock 0 given before) → TellsRightly queries (NamesClients given) before after old new
-input_rightly {A} queries stands net choice clock before after old new place given line way is done =
-    let of = of_line before.frames given line in
-    carried_rightly queries stands net choice clock before old new (given_to (scenario_setup queries) place clock 0 given before) (NamesClients given)
-    (λ m e. effect_follows (scenario_setup queries) no_ticks clock before m (tickless (scenario_setup queries) before place clock 0 given m of.0 of.1 e))
-    (λ m e keep r names. (given_comes queries before m place clock 0 given r (settled queries clock before way) (λ node found may got. line_step queries before m place clock node given line names found may got) e).reachable) after is done
+  carried_rightly : (brings : Type 0) (attempt : Attempt) → ((m : Mesh) → attempt ≡ Ok m → Follows before m) → ((m : Mesh) → attempt ≡ Ok m → AllKeep queries → IsReachable queries before → brings → IsReachable queries m) → Tells brings attempt
+  carried_rightly brings attempt follows steps is done =
+      let f = follows done.after done.is in
+      subst (λ m. TellsRightly queries brings before m old new) (ok_one done.after after (sym done.is ∙ is))
+      (rightly queries choice brings clock before done.after old new done.standing.reached (steps done.after done.is)
+      (record { more = f.more; came = f.events; told = done.gains ∙ ap (λ es. old ++ filter (is_shown choice) es) (since_is before done.after f) }))
 
-pub deliver_rightly : {A : Type 0} (queries : Mac → Queries) (stands : A → Mac → RouteLog → Type 0) (net : Net A) (choice : FrameChoice) (clock : ℕ) (before after : Mesh) (old new : List Event) (place : ℕ) → IsReached (scenario_setup queries) clock before
-    → delivered (scenario_setup queries) place clock before ≡ Ok after → Carried queries stands net choice clock before old new (delivered (scenario_setup queries) place clock before) → TellsRightly queries ⊤ before after old new
-deliver_rightly {A} queries stands net choice clock before after old new place way is done =
-    carried_rightly queries stands net choice clock before old new (delivered (scenario_setup queries) place clock before) ⊤
-    (λ m e. effect_follows (scenario_setup queries) no_ticks clock before m (delivered_effect (scenario_setup queries) before place clock m e))
-    (λ m e keep r none. (delivered_comes queries before m place clock keep r (settled queries clock before way) e).reachable) after is done
+  pub input_rightly : (place : ℕ) (given : Given) → IsOfLine given → IsReached (scenario_setup queries) clock before → Tells (NamesClients given) (given_to (scenario_setup queries) place clock 0 given before)
+  input_rightly place given line way =
+      let of = of_line before.frames given line in
+      carried_rightly (NamesClients given) (given_to (scenario_setup queries) place clock 0 given before)
+      (λ m e. effect_follows (scenario_setup queries) no_ticks clock before m (tickless (scenario_setup queries) before place clock 0 given m of.0 of.1 e))
+      (λ m e keep r names. (given_comes queries before m place clock 0 given r (settled queries clock before way) (λ node found may got. line_step queries before m place clock node given line names found may got) e).reachable)
 
--- a frame that comes on a LAN
-pub put_rightly : {A : Type 0} (queries : Mac → Queries) (stands : A → Mac → RouteLog → Type 0) (net : Net A) (choice : FrameChoice) (clock : ℕ) (before after : Mesh) (old new : List Event) (put : LanPut) → put.lan < length before.lans → put.by ≡ None
-    → with_put (scenario_setup queries) put before ≡ Ok after → Carried queries stands net choice clock before old new (with_put (scenario_setup queries) put before) → TellsRightly queries (TellsPut put.bytes) before after old new
-put_rightly {A} queries stands net choice clock before after old new put low none is done =
-    carried_rightly queries stands net choice clock before old new (with_put (scenario_setup queries) put before) (TellsPut put.bytes)
-    (λ m e. effect_follows (scenario_setup queries) no_ticks put.moment before m (put_joins (scenario_setup queries) put before m low e))
-    (λ m e keep r told. put_step queries before m put none e r told) after is done
+  pub deliver_rightly : (place : ℕ) → IsReached (scenario_setup queries) clock before → Tells ⊤ (delivered (scenario_setup queries) place clock before)
+  deliver_rightly place way = carried_rightly ⊤ (delivered (scenario_setup queries) place clock before)
+      (λ m e. effect_follows (scenario_setup queries) no_ticks clock before m (delivered_effect (scenario_setup queries) before place clock m e))
+      (λ m e keep r none. (delivered_comes queries before m place clock keep r (settled queries clock before way) e).reachable)
 
--- what a line gives the gateways of a LAN
-pub all_input_rightly : {A : Type 0} (queries : Mac → Queries) (stands : A → Mac → RouteLog → Type 0) (net : Net A) (choice : FrameChoice) (clock : ℕ) (before after : Mesh) (old new : List Event) (places : List ℕ) (given : Given) → IsOfLine given → IsReached (scenario_setup queries) clock before
-    → all_given (scenario_setup queries) places clock given before ≡ Ok after → Carried queries stands net choice clock before old new (all_given (scenario_setup queries) places clock given before) → TellsRightly queries (NamesClients given) before after old new
-all_input_rightly {A} queries stands net choice clock before after old new places given line way is done =
-    carried_rightly queries stands net choice clock before old new (all_given (scenario_setup queries) places clock given before) (NamesClients given)
-    (λ m e. effect_follows (scenario_setup queries) no_ticks clock before m (all_effect (scenario_setup queries) places clock given before m (of_line before.frames given line).0 (λ frames. (of_line frames given line).1) e))
-    (λ m e keep r names. all_step queries places before m clock given line r (settled queries clock before way) names e) after is done
+  -- a frame that comes on a LAN
+  pub put_rightly : (put : LanPut) → put.lan < length before.lans → put.by ≡ None → Tells (TellsPut put.bytes) (with_put (scenario_setup queries) put before)
+  put_rightly put low none = carried_rightly (TellsPut put.bytes) (with_put (scenario_setup queries) put before)
+      (λ m e. effect_follows (scenario_setup queries) no_ticks put.moment before m (put_joins (scenario_setup queries) put before m low e))
+      (λ m e keep r told. put_step queries before m put none e r told)
+
+  -- what a line gives the gateways of a LAN
+  pub all_input_rightly : (places : List ℕ) (given : Given) → IsOfLine given → IsReached (scenario_setup queries) clock before → Tells (NamesClients given) (all_given (scenario_setup queries) places clock given before)
+  all_input_rightly places given line way = carried_rightly (NamesClients given) (all_given (scenario_setup queries) places clock given before)
+      (λ m e. effect_follows (scenario_setup queries) no_ticks clock before m (all_effect (scenario_setup queries) places clock given before m (of_line before.frames given line).0 (λ frames. (of_line frames given line).1) e))
+      (λ m e keep r names. all_step queries places before m clock given line r (settled queries clock before way) names e)
 
 -- ---- refused runs
 pub left_rightly : (queries : Mac → Queries) (choice : FrameChoice) (before : Mesh) (t : ℕ) (old new : List Event) → LeftAt queries choice before t old new → LeavesRightly queries choice before t old new

@@ -24,7 +24,7 @@ use Rattle.mesh_laws.proofs.Schedule.Steps.{step_is}
 use Rattle.mesh_net.specs.declared.failure.NetErr.{NetErr}
 use Rattle.mesh_net.specs.declared.failure.NetErr.TheVariants as net_errors
 use Rattle.mesh_net.specs.declared.net.Net.{Net}
-use Rattle.mesh_net.specs.NetStands.{NetStands, IsDead, IsLive, IsNet}
+use Rattle.mesh_net.specs.NetStands.{HoldsFor, NetStands, IsDead, IsLive, IsNet}
 use Rattle.mesh_net.specs.Reached.{passes}
 use Rattle.mesh_post.specs.Sent.{Logged}
 use Rattle.mesh_net.specs.Steps.{IsLate, LeftAt, RanOn, Rested, SliceTells, StepFails, StepLeaves, Stepped, Went, WentUpTo}
@@ -365,5 +365,5 @@ module _ {A : Type 0} (queries : Mac → Queries) (stands : A → Mac → RouteL
   is_alive net alive dead = clash (sym dead ∙ alive)
 
   -- its clock isn't past a moment that is later than the clock of each mesh that it stands for
-  pub clock_soon : (net : Net A) (t : ℕ) → IsLive queries stands net → ((choice : FrameChoice) (clock : ℕ) (mesh : Mesh) → NetStands queries stands net choice clock mesh → clock ≤ t) → net.clock ≤ t
+  pub clock_soon : (net : Net A) (t : ℕ) → IsLive queries stands net → HoldsFor queries stands net (λ choice clock mesh. clock ≤ t) → net.clock ≤ t
   clock_soon net t live later = let e = live.standing.clock_is in let l = later live.choice live.clock live.mesh live.standing in omega (arith, e, l)

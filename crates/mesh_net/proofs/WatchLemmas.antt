@@ -26,7 +26,7 @@ use Rattle.mesh_net.specs.NetStands.{SeatIs}
 use Rattle.mesh_net.specs.Steps.{Gave, HasHappened}
 use Rattle.mesh_net.specs.Watching.{HasTold, HasWatched, KeepsAllBut, WatchStands}
 use Rattle.mesh_net.proofs.Ends.{ended_with}
-use Rattle.mesh_net.proofs.LanSteps.{all_gateways, gateways_at_is}
+use Rattle.mesh_net.proofs.LanSteps.{all_gateways}
 use Rattle.mesh_post.proofs.Back.{no_put, put_there}
 use Rattle.mesh_post.proofs.Besides.{step_beside}
 use Rattle.mesh_post.proofs.Midway.{logged_both}
@@ -105,7 +105,7 @@ pub gateways_take : (post : Post) (older : List Sending) (last : Happening) (tic
 gateways_take post older last ticks mesh place put places step found is =
     let there = put_there (older ++ post.fresh.items) mesh.puts post.puts.items place put step.amid.stands.puts found in
     let lan = there.2.lan in
-    all_gateways mesh.lans post.lans.items put.lan places step.amid.stands.lans is ∙ gateways_at_is mesh.lans put.lan ∙ ap (λ l. gateways_at l mesh.lans) lan
+    all_gateways mesh.lans post.lans.items put.lan places step.amid.stands.lans is ∙ ap (λ l. gateways_at l mesh.lans) lan
     ∙ sym (ap (λ o. option_map_or (λ (x : LanPut). gateways_at x.lan mesh.lans) o []) there.1)
 
 -- none was put at a place

@@ -1,10 +1,10 @@
 -- What a net stands for: a clock and a mesh that is reached, and which frames it is to show. The
 -- names of the mesh's nodes, and its events, are no matter of the net: it stands for a mesh
 -- whatever they are. The main word is `NetStands`.
-use Rattle.std.specs.Prelude.{◌≡◌, ℕ, ◌<◌, ◌≤◌, ◌⊎◌, true, false, List, [], ◌∷◌, length, ⊤}
+use Rattle.std.specs.Prelude.{◌≡◌, ℕ, ◌<◌, ◌≤◌, ◌⊎◌, true, false, List, [], ◌∷◌, length, None, ⊤}
 use Rattle.mesh_base.specs.declared.address.Mac.{Mac}
 use Rattle.mesh_model.specs.declared.frame_choice.FrameChoice.{FrameChoice}
-use Rattle.mesh_model.specs.Net.Mesh.{NodeLog, NetLink, Mesh}
+use Rattle.mesh_model.specs.Net.Mesh.{NodeLog, NetLink, LanPut, Mesh}
 use Rattle.mesh_model.specs.Routes.Queries.{Queries}
 use Rattle.mesh_model.specs.Routes.RouteLog.{RouteLog}
 use Rattle.mesh_net.specs.declared.link.Link.{Link}
@@ -65,6 +65,12 @@ pub record IsLive {A : Type 0} (queries : Mac → Queries) (stands : A → Mac �
 abbrev pub IsNet : {A : Type 0} → (Mac → Queries) → (A → Mac → RouteLog → Type 0) → Net A → Type 0
 IsNet queries stands net = IsDead net ⊎ IsLive queries stands net
 
+-- this holds for each choice, clock and mesh that a net stands for
+abbrev pub HoldsFor : {A : Type 0} → (Mac → Queries) → (A → Mac → RouteLog → Type 0) → Net A
+    → (FrameChoice → ℕ → Mesh → Type 0) → Type 0
+HoldsFor queries stands net This = (choice : FrameChoice) (clock : ℕ) (mesh : Mesh)
+    → NetStands queries stands net choice clock mesh → This choice clock mesh
+
 -- a link between the nodes at two places, as its line tells it
 abbrev pub net_link : ℕ → ℕ → Link → NetLink
 net_link from to link = record {
@@ -74,6 +80,10 @@ net_link from to link = record {
   pattern = link.pattern;
   throughput = link.tp;
 }
+
+-- a frame that a line puts on the LAN at a place, at a moment: no gateway puts it
+abbrev pub line_put : ℕ → List ℕ → ℕ → LanPut
+line_put lan bytes moment = record { lan = lan; moment = moment; bytes = bytes; by = None }
 
 -- a net that stands for something that has a node at a place
 pub record HasNode {A : Type 0} (queries : Mac → Queries) (stands : A → Mac → RouteLog → Type 0)

@@ -158,6 +158,14 @@ pub record Begun {A : Type 0} (queries : Mac → Queries) (stands : A → Mac �
   pub settled : net.post.fresh.items ≡ []
   pub stage : Stage queries stands net.seats.items net.post net.sent last ticks now mesh
 
+-- this holds for each choice, last happening, waiting ticks and mesh with which a step of a net
+-- begins at a moment
+abbrev pub HoldsAmid : {A : Type 0} → (Mac → Queries) → (A → Mac → RouteLog → Type 0) → Net A → ℕ
+    → (FrameChoice → Happening → List Happening → Mesh → Type 0) → Type 0
+HoldsAmid queries stands net now This =
+    (choice : FrameChoice) (last : Happening) (ticks : List Happening) (mesh : Mesh)
+    → Begun queries stands net choice last ticks now mesh → This choice last ticks mesh
+
 -- a step of a net may begin now
 abbrev pub MayBegin : {A : Type 0} → (Mac → Queries) → (A → Mac → RouteLog → Type 0) → Net A
     → Type 0

@@ -6,10 +6,9 @@ ghost use Rattle.mesh_model.specs.Net.Limits.{scenario_setup};
 ghost use Rattle.mesh_model.specs.Net.Mesh.{Mesh};
 ghost use Rattle.mesh_model.specs.Packets.LanFrames.{client_frame_in};
 ghost use Rattle.mesh_model.specs.Text.Events.{is_shown};
-ghost use Rattle.mesh_model.specs.declared.frame_choice.FrameChoice.{FrameChoice};
 ghost use Rattle.mesh_model.specs.declared.happening.Happening.{Happening};
 ghost use Rattle.mesh_net.specs.Given.{GiveTells};
-ghost use Rattle.mesh_net.specs.Steps.{AreOnLans, Begun, Gave, HasStage, IsTickless, KeepsNet, Stage, Tried};
+ghost use Rattle.mesh_net.specs.Steps.{AreOnLans, Gave, HasStage, HoldsAmid, IsTickless, KeepsNet, Stage, Tried};
 ghost use Rattle.mesh_net.specs.declared.seat.Seat.{Seat};
 ghost use Rattle.mesh_node.specs.NodeStands.{given_by};
 ghost use Rattle.mesh_post.specs.Lanes.{is_other};
@@ -69,15 +68,13 @@ impl<A: Algo + Drop> Net<A> {
         log: &mut Events,
     ) -> Result<(), NodeErr>
         requires { HasStage A.queries A.stands self.old.seats.items self.old.post now }
-        ensures given { (choice : FrameChoice) (last : Happening) (ticks : List Happening)
-            (mesh : Mesh) → Begun A.queries A.stands self.old choice last ticks now mesh →
+        ensures given { HoldsAmid A.queries A.stands self.old now (λ choice last ticks mesh.
             AreOnLans mesh →
             OnOk result (Gave A.queries A.stands self.new choice last ticks mesh log.old log.new
-            (lan_delivered (scenario_setup A.queries) place now mesh)) }
-        ensures cause { (choice : FrameChoice) (last : Happening) (ticks : List Happening)
-            (mesh : Mesh) → Begun A.queries A.stands self.old choice last ticks now mesh →
+            (lan_delivered (scenario_setup A.queries) place now mesh))) }
+        ensures cause { HoldsAmid A.queries A.stands self.old now (λ choice last ticks mesh.
             AreOnLans mesh →
-            IfErr result (GiveTells (lan_delivered (scenario_setup A.queries) place now mesh)) }
+            IfErr result (GiveTells (lan_delivered (scenario_setup A.queries) place now mesh))) }
         ensures kept { KeepsNet self.old self.new }
         ensures grew { Grew log.old log.new }
     {

@@ -1,7 +1,5 @@
 ghost use Rattle.std.specs.Prelude.{◌-◌, ◌+◌, ℕ, ◌<◌, [], length, IfOk, IfErr, OnOk, OnErr, IsErrOf};
-ghost use Rattle.mesh_model.specs.declared.frame_choice.FrameChoice.{FrameChoice};
-ghost use Rattle.mesh_model.specs.Net.Mesh.{Mesh};
-ghost use Rattle.mesh_net.specs.NetStands.{NetStands, IsNet, IsDead, net_link};
+ghost use Rattle.mesh_net.specs.NetStands.{HoldsFor, IsNet, IsDead, net_link};
 ghost use Rattle.mesh_net.specs.declared.seat.Seat.{Seat};
 ghost use Rattle.mesh_net.specs.Reached.{IsNewLink};
 ghost use Rattle.mesh_net.specs.Tells.{NodeTells, LinkTells, HasJoined, HasLinked};
@@ -27,15 +25,12 @@ impl<A: Algo + Drop> Net<A> {
     pub fn add_node(&mut self, me: Mac, algo: A) -> Result<u32, NetErr>
         requires net { IsNet A.queries A.stands self.old }
         requires algo { A.stands algo me [] }
-        ensures joins { (choice : FrameChoice) (clock : ℕ) (mesh : Mesh) →
-            NetStands A.queries A.stands self.old choice clock mesh →
-            IfOk result (λ place.
-            HasJoined A.queries A.stands self.new choice clock mesh me place) }
+        ensures joins { HoldsFor A.queries A.stands self.old (λ choice clock mesh.
+            IfOk result (HasJoined A.queries A.stands self.new choice clock mesh me)) }
 
         // The first cause counts: an earlier refusal, the limit, memory.
-        ensures cause { (choice : FrameChoice) (clock : ℕ) (mesh : Mesh) →
-            NetStands A.queries A.stands self.old choice clock mesh →
-            IfErr result (NodeTells (length mesh.nodes)) }
+        ensures cause { HoldsFor A.queries A.stands self.old (λ choice clock mesh.
+            IfErr result (NodeTells (length mesh.nodes))) }
         ensures dead { IsDead self.old → IsErrOf result NetErr.Dead }
         ensures refused { OnErr result (IsDead self.new) }
         ensures net { IsNet A.queries A.stands self.new }
@@ -51,18 +46,15 @@ impl<A: Algo + Drop> Net<A> {
     /// Adds a link from the node at one place to the node at another.
     pub fn add_link(&mut self, from: u32, to: u32, link: &Link) -> Result<(), NetErr>
         requires net { IsNet A.queries A.stands self.old }
-        requires rules { (choice : FrameChoice) (clock : ℕ) (mesh : Mesh) →
-            NetStands A.queries A.stands self.old choice clock mesh →
-            IsNewLink mesh (net_link from to link.now) }
-        ensures joins { (choice : FrameChoice) (clock : ℕ) (mesh : Mesh) →
-            NetStands A.queries A.stands self.old choice clock mesh →
+        requires rules { HoldsFor A.queries A.stands self.old (λ choice clock mesh.
+            IsNewLink mesh (net_link from to link.now)) }
+        ensures joins { HoldsFor A.queries A.stands self.old (λ choice clock mesh.
             OnOk result (HasLinked A.queries A.stands self.new choice clock mesh
-            (net_link from to link.now)) }
+            (net_link from to link.now))) }
 
         // The first cause counts: an earlier refusal, the limit, memory.
-        ensures cause { (choice : FrameChoice) (clock : ℕ) (mesh : Mesh) →
-            NetStands A.queries A.stands self.old choice clock mesh →
-            IfErr result (LinkTells (length mesh.links)) }
+        ensures cause { HoldsFor A.queries A.stands self.old (λ choice clock mesh.
+            IfErr result (LinkTells (length mesh.links))) }
         ensures dead { IsDead self.old → IsErrOf result NetErr.Dead }
         ensures refused { OnErr result (IsDead self.new) }
         ensures net { IsNet A.queries A.stands self.new }
@@ -78,13 +70,10 @@ impl<A: Algo + Drop> Net<A> {
     // A new node joins.
     fn join(&mut self, me: Mac, algo: A) -> Result<u32, NetErr>
         requires { A.stands algo me [] }
-        ensures joins { (choice : FrameChoice) (clock : ℕ) (mesh : Mesh) →
-            NetStands A.queries A.stands self.old choice clock mesh →
-            IfOk result (λ place.
-            HasJoined A.queries A.stands self.new choice clock mesh me place) }
-        ensures cause { (choice : FrameChoice) (clock : ℕ) (mesh : Mesh) →
-            NetStands A.queries A.stands self.old choice clock mesh →
-            IfErr result (NodeTells (length mesh.nodes)) }
+        ensures joins { HoldsFor A.queries A.stands self.old (λ choice clock mesh.
+            IfOk result (HasJoined A.queries A.stands self.new choice clock mesh me)) }
+        ensures cause { HoldsFor A.queries A.stands self.old (λ choice clock mesh.
+            IfErr result (NodeTells (length mesh.nodes))) }
     {
         if self.seats.len() >= NODES_LIMIT {
             return Err(NetErr::Limit(LimitName::Nodes));
@@ -104,16 +93,13 @@ impl<A: Algo + Drop> Net<A> {
 
     // A new link joins.
     fn join_link(&mut self, from: u32, to: u32, link: &Link) -> Result<(), NetErr>
-        requires { (choice : FrameChoice) (clock : ℕ) (mesh : Mesh) →
-            NetStands A.queries A.stands self.old choice clock mesh →
-            IsNewLink mesh (net_link from to link.now) }
-        ensures joins { (choice : FrameChoice) (clock : ℕ) (mesh : Mesh) →
-            NetStands A.queries A.stands self.old choice clock mesh →
+        requires { HoldsFor A.queries A.stands self.old (λ choice clock mesh.
+            IsNewLink mesh (net_link from to link.now)) }
+        ensures joins { HoldsFor A.queries A.stands self.old (λ choice clock mesh.
             OnOk result (HasLinked A.queries A.stands self.new choice clock mesh
-            (net_link from to link.now)) }
-        ensures cause { (choice : FrameChoice) (clock : ℕ) (mesh : Mesh) →
-            NetStands A.queries A.stands self.old choice clock mesh →
-            IfErr result (LinkTells (length mesh.links)) }
+            (net_link from to link.now))) }
+        ensures cause { HoldsFor A.queries A.stands self.old (λ choice clock mesh.
+            IfErr result (LinkTells (length mesh.links))) }
     {
         if self.post.rows.len() >= LINKS_LIMIT {
             return Err(NetErr::Limit(LimitName::Links));

@@ -1,15 +1,14 @@
-ghost use Rattle.std.specs.Prelude.{◌≡◌, ℕ, ◌<◌, None, Ok, is_some, length, List, map, IfErr, IfOk, OnErr, OnOk, IsErrOf};
+ghost use Rattle.std.specs.Prelude.{◌≡◌, ℕ, ◌<◌, Ok, is_some, length, List, map, IfErr, IfOk, OnErr, OnOk, IsErrOf};
 ghost use Rattle.mesh_model.specs.Net.Inputs.{all_given};
 ghost use Rattle.mesh_model.specs.Net.Limits.{scenario_setup};
 ghost use Rattle.mesh_model.specs.Net.Mesh.{NodeLog, Mesh, address_at};
 ghost use Rattle.mesh_model.specs.Net.Sending.{lan_of, with_put};
 ghost use Rattle.mesh_model.specs.Net.Lans.{gateways_at};
 ghost use Rattle.mesh_model.specs.declared.frame_choice.FrameChoice.{FrameChoice};
-ghost use Rattle.mesh_model.specs.declared.happening.Happening.{Happening};
 ghost use Rattle.mesh_net.specs.Given.{GiveTells};
-ghost use Rattle.mesh_net.specs.NetStands.{NetStands, IsNet, IsDead, IsLive, SeatsStand};
+ghost use Rattle.mesh_net.specs.NetStands.{HoldsFor, NetStands, IsNet, IsDead, IsLive, SeatsStand, line_put};
 ghost use Rattle.mesh_net.specs.Reached.{IsNewLan, IsOfLine};
-ghost use Rattle.mesh_net.specs.Steps.{Begun, Gave, GaveAndKept, IsTickless, KeepsNet, MayBegin};
+ghost use Rattle.mesh_net.specs.Steps.{Gave, GaveAndKept, HoldsAmid, IsTickless, KeepsNet, MayBegin};
 ghost use Rattle.mesh_net.specs.Tells.{Carried, HasJoinedLan, LanTells, StepTells, TellsRightly};
 ghost use Rattle.mesh_tie.specs.NetTables.{NamesClients, TellsPut};
 ghost use Rattle.mesh_node.specs.NodeStands.{given_by};
@@ -31,17 +30,14 @@ impl<A: Algo + Drop> Net<A> {
     /// Adds a LAN whose gateways are the nodes at these places, and answers its place, from 0.
     pub fn add_lan(&mut self, gateways: &[u32]) -> Result<u32, NetErr>
         requires net { IsNet A.queries A.stands self.old }
-        requires rules { (choice : FrameChoice) (clock : ℕ) (mesh : Mesh) →
-            NetStands A.queries A.stands self.old choice clock mesh → IsNewLan mesh gateways.now }
-        ensures joins { (choice : FrameChoice) (clock : ℕ) (mesh : Mesh) →
-            NetStands A.queries A.stands self.old choice clock mesh →
-            IfOk result (λ place.
-            HasJoinedLan A.queries A.stands self.new choice clock mesh gateways.now place) }
+        requires rules { HoldsFor A.queries A.stands self.old (λ choice clock mesh.
+            IsNewLan mesh gateways.now) }
+        ensures joins { HoldsFor A.queries A.stands self.old (λ choice clock mesh.
+            IfOk result (HasJoinedLan A.queries A.stands self.new choice clock mesh gateways.now)) }
 
         // The first cause counts: an earlier refusal, the limit, memory.
-        ensures cause { (choice : FrameChoice) (clock : ℕ) (mesh : Mesh) →
-            NetStands A.queries A.stands self.old choice clock mesh →
-            IfErr result (LanTells (length mesh.lans)) }
+        ensures cause { HoldsFor A.queries A.stands self.old (λ choice clock mesh.
+            IfErr result (LanTells (length mesh.lans))) }
         ensures dead { IsDead self.old → IsErrOf result NetErr.Dead }
         ensures refused { OnErr result (IsDead self.new) }
         ensures net { IsNet A.queries A.stands self.new }
@@ -57,24 +53,19 @@ impl<A: Algo + Drop> Net<A> {
     /// Puts a frame on the LAN at a place, now. No gateway puts it.
     pub fn lan_frame(&mut self, lan: u32, bytes: Bytes, log: &mut Events) -> Result<(), NetErr>
         requires net { IsNet A.queries A.stands self.old }
-        requires known { (choice : FrameChoice) (clock : ℕ) (mesh : Mesh) →
-            NetStands A.queries A.stands self.old choice clock mesh → lan < length mesh.lans }
-        ensures carried { (choice : FrameChoice) (clock : ℕ) (mesh : Mesh) →
-            NetStands A.queries A.stands self.old choice clock mesh →
+        requires known { HoldsFor A.queries A.stands self.old (λ choice clock mesh.
+            lan < length mesh.lans) }
+        ensures carried { HoldsFor A.queries A.stands self.old (λ choice clock mesh.
             OnOk result (Carried A.queries A.stands self.new choice clock mesh log.old log.new
-            (with_put (scenario_setup A.queries)
-            (record { lan = lan; moment = clock; bytes = bytes; by = None }) mesh)) }
+            (with_put (scenario_setup A.queries) (line_put lan bytes clock) mesh))) }
         ensures right { (choice : FrameChoice) (clock : ℕ) (mesh after : Mesh) →
             NetStands A.queries A.stands self.old choice clock mesh →
-            with_put (scenario_setup A.queries)
-            (record { lan = lan; moment = clock; bytes = bytes; by = None }) mesh ≡ Ok after →
+            with_put (scenario_setup A.queries) (line_put lan bytes clock) mesh ≡ Ok after →
             OnOk result (TellsRightly A.queries (TellsPut bytes) mesh after log.old log.new) }
 
         // An earlier refusal comes first; want of memory may stand in place of a limit.
-        ensures cause { (choice : FrameChoice) (clock : ℕ) (mesh : Mesh) →
-            NetStands A.queries A.stands self.old choice clock mesh →
-            IfErr result (StepTells (with_put (scenario_setup A.queries)
-            (record { lan = lan; moment = clock; bytes = bytes; by = None }) mesh)) }
+        ensures cause { HoldsFor A.queries A.stands self.old (λ choice clock mesh. IfErr result
+            (StepTells (with_put (scenario_setup A.queries) (line_put lan bytes clock) mesh))) }
         ensures as_before { OnErr result (log.new ≡ log.old) }
         ensures dead { IsDead self.old → IsErrOf result NetErr.Dead }
         ensures refused { OnErr result (IsDead self.new) }
@@ -92,11 +83,10 @@ impl<A: Algo + Drop> Net<A> {
     pub fn input_all(&mut self, lan: u32, input: &Input<'_>, log: &mut Events) -> Result<(), NetErr>
         requires net { IsNet A.queries A.stands self.old }
         requires line { IsOfLine (given_by 0 input.now) }
-        ensures carried { (choice : FrameChoice) (clock : ℕ) (mesh : Mesh) →
-            NetStands A.queries A.stands self.old choice clock mesh →
+        ensures carried { HoldsFor A.queries A.stands self.old (λ choice clock mesh.
             OnOk result (Carried A.queries A.stands self.new choice clock mesh log.old log.new
             (all_given (scenario_setup A.queries) (gateways_at lan mesh.lans) clock
-            (given_by 0 input.now) mesh)) }
+            (given_by 0 input.now) mesh))) }
         ensures right { (choice : FrameChoice) (clock : ℕ) (mesh after : Mesh) →
             NetStands A.queries A.stands self.old choice clock mesh →
             all_given (scenario_setup A.queries) (gateways_at lan mesh.lans) clock
@@ -105,10 +95,9 @@ impl<A: Algo + Drop> Net<A> {
             log.old log.new) }
 
         // An earlier refusal comes first; want of memory may stand in place of a limit.
-        ensures cause { (choice : FrameChoice) (clock : ℕ) (mesh : Mesh) →
-            NetStands A.queries A.stands self.old choice clock mesh →
+        ensures cause { HoldsFor A.queries A.stands self.old (λ choice clock mesh.
             IfErr result (StepTells (all_given (scenario_setup A.queries)
-            (gateways_at lan mesh.lans) clock (given_by 0 input.now) mesh)) }
+            (gateways_at lan mesh.lans) clock (given_by 0 input.now) mesh))) }
         ensures as_before { OnErr result (log.new ≡ log.old) }
         ensures dead { IsDead self.old → IsErrOf result NetErr.Dead }
         ensures refused { OnErr result (IsDead self.new) }
@@ -124,9 +113,8 @@ impl<A: Algo + Drop> Net<A> {
 
     /// Whether the node at a place is a gateway.
     pub fn is_gateway(&self, node: u32) -> bool
-        ensures { (choice : FrameChoice) (clock : ℕ) (mesh : Mesh) →
-            NetStands A.queries A.stands self.now choice clock mesh →
-            result ≡ is_some (lan_of node mesh.lans) }
+        ensures { HoldsFor A.queries A.stands self.now (λ choice clock mesh.
+            result ≡ is_some (lan_of node mesh.lans)) }
     {
         self.post.lan_of(node).is_some()
     }
@@ -134,15 +122,12 @@ impl<A: Algo + Drop> Net<A> {
     // A new LAN joins.
     fn join_lan(&mut self, gateways: &[u32]) -> Result<u32, NetErr>
         requires live { IsLive A.queries A.stands self.old }
-        requires rules { (choice : FrameChoice) (clock : ℕ) (mesh : Mesh) →
-            NetStands A.queries A.stands self.old choice clock mesh → IsNewLan mesh gateways.now }
-        ensures joins { (choice : FrameChoice) (clock : ℕ) (mesh : Mesh) →
-            NetStands A.queries A.stands self.old choice clock mesh →
-            IfOk result (λ place.
-            HasJoinedLan A.queries A.stands self.new choice clock mesh gateways.now place) }
-        ensures cause { (choice : FrameChoice) (clock : ℕ) (mesh : Mesh) →
-            NetStands A.queries A.stands self.old choice clock mesh →
-            IfErr result (LanTells (length mesh.lans)) }
+        requires rules { HoldsFor A.queries A.stands self.old (λ choice clock mesh.
+            IsNewLan mesh gateways.now) }
+        ensures joins { HoldsFor A.queries A.stands self.old (λ choice clock mesh.
+            IfOk result (HasJoinedLan A.queries A.stands self.new choice clock mesh gateways.now)) }
+        ensures cause { HoldsFor A.queries A.stands self.old (λ choice clock mesh.
+            IfErr result (LanTells (length mesh.lans))) }
     {
         if self.post.lans.len() >= LANS_LIMIT {
             return Err(NetErr::Limit(LimitName::Lans));
@@ -165,12 +150,10 @@ impl<A: Algo + Drop> Net<A> {
     fn attach(&mut self, gateways: &[u32], input: &Input<'_>) -> Result<(), NetErr>
         requires stage { MayBegin A.queries A.stands self.old }
         requires tickless { IsTickless input.now }
-        ensures given { (choice : FrameChoice) (last : Happening) (ticks : List Happening)
-            (mesh : Mesh) →
-            Begun A.queries A.stands self.old choice last ticks self.old.clock mesh →
-            OnOk result (GaveAndKept A.queries A.stands self.old self.new choice last ticks mesh
-            (all_given (scenario_setup A.queries) gateways.now self.old.clock
-            (given_by 0 input.now) mesh)) }
+        ensures given { HoldsAmid A.queries A.stands self.old self.old.clock
+            (λ choice last ticks mesh. OnOk result
+            (GaveAndKept A.queries A.stands self.old self.new choice last ticks mesh (all_given
+            (scenario_setup A.queries) gateways.now self.old.clock (given_by 0 input.now) mesh))) }
         ensures err { IfErr result (λ error. error ≡ NetErr.Memory) }
     {
         let mut log = Events::new(self.alloc);
@@ -195,17 +178,13 @@ impl<A: Algo + Drop> Net<A> {
 
     // Puts a frame on the LAN at a place.
     fn put_now(&mut self, lan: u32, bytes: Bytes, log: &mut Events) -> Result<(), NodeErr>
-        ensures given { (choice : FrameChoice) (last : Happening) (ticks : List Happening)
-            (mesh : Mesh) →
-            Begun A.queries A.stands self.old choice last ticks self.old.clock mesh →
-            OnOk result (Gave A.queries A.stands self.new choice last ticks mesh log.old log.new
-            (with_put (scenario_setup A.queries)
-            (record { lan = lan; moment = self.old.clock; bytes = bytes; by = None }) mesh)) }
-        ensures cause { (choice : FrameChoice) (last : Happening) (ticks : List Happening)
-            (mesh : Mesh) →
-            Begun A.queries A.stands self.old choice last ticks self.old.clock mesh →
-            IfErr result (GiveTells (with_put (scenario_setup A.queries)
-            (record { lan = lan; moment = self.old.clock; bytes = bytes; by = None }) mesh)) }
+        ensures given { HoldsAmid A.queries A.stands self.old self.old.clock
+            (λ choice last ticks mesh. OnOk result
+            (Gave A.queries A.stands self.new choice last ticks mesh log.old log.new
+            (with_put (scenario_setup A.queries) (line_put lan bytes self.old.clock) mesh))) }
+        ensures cause { HoldsAmid A.queries A.stands self.old self.old.clock
+            (λ choice last ticks mesh. IfErr result (GiveTells
+            (with_put (scenario_setup A.queries) (line_put lan bytes self.old.clock) mesh))) }
         ensures kept { KeepsNet self.old self.new }
         ensures grew { Grew log.old log.new }
     {
@@ -227,17 +206,14 @@ impl<A: Algo + Drop> Net<A> {
     ) -> Result<(), NodeErr>
         requires stage { MayBegin A.queries A.stands self.old }
         requires tickless { IsTickless input.now }
-        ensures given { (choice : FrameChoice) (last : Happening) (ticks : List Happening)
-            (mesh : Mesh) →
-            Begun A.queries A.stands self.old choice last ticks self.old.clock mesh →
-            OnOk result (Gave A.queries A.stands self.new choice last ticks mesh log.old log.new
+        ensures given { HoldsAmid A.queries A.stands self.old self.old.clock
+            (λ choice last ticks mesh. OnOk result
+            (Gave A.queries A.stands self.new choice last ticks mesh log.old log.new
             (all_given (scenario_setup A.queries) (gateways_at lan mesh.lans) self.old.clock
-            (given_by 0 input.now) mesh)) }
-        ensures cause { (choice : FrameChoice) (last : Happening) (ticks : List Happening)
-            (mesh : Mesh) →
-            Begun A.queries A.stands self.old choice last ticks self.old.clock mesh →
-            IfErr result (GiveTells (all_given (scenario_setup A.queries)
-            (gateways_at lan mesh.lans) self.old.clock (given_by 0 input.now) mesh)) }
+            (given_by 0 input.now) mesh))) }
+        ensures cause { HoldsAmid A.queries A.stands self.old self.old.clock
+            (λ choice last ticks mesh. IfErr result (GiveTells (all_given (scenario_setup A.queries)
+            (gateways_at lan mesh.lans) self.old.clock (given_by 0 input.now) mesh))) }
         ensures kept { KeepsNet self.old self.new }
         ensures grew { Grew log.old log.new }
     {
@@ -254,17 +230,13 @@ impl<A: Algo + Drop> Net<A> {
     ) -> Result<(), NodeErr>
         requires stage { MayBegin A.queries A.stands self.old }
         requires tickless { IsTickless input.now }
-        ensures given { (choice : FrameChoice) (last : Happening) (ticks : List Happening)
-            (mesh : Mesh) →
-            Begun A.queries A.stands self.old choice last ticks self.old.clock mesh →
-            OnOk result (Gave A.queries A.stands self.new choice last ticks mesh log.old log.new
-            (all_given (scenario_setup A.queries) places.now self.old.clock
-            (given_by 0 input.now) mesh)) }
-        ensures cause { (choice : FrameChoice) (last : Happening) (ticks : List Happening)
-            (mesh : Mesh) →
-            Begun A.queries A.stands self.old choice last ticks self.old.clock mesh →
-            IfErr result (GiveTells (all_given (scenario_setup A.queries) places.now
-            self.old.clock (given_by 0 input.now) mesh)) }
+        ensures given { HoldsAmid A.queries A.stands self.old self.old.clock
+            (λ choice last ticks mesh. OnOk result
+            (Gave A.queries A.stands self.new choice last ticks mesh log.old log.new (all_given
+            (scenario_setup A.queries) places.now self.old.clock (given_by 0 input.now) mesh))) }
+        ensures cause { HoldsAmid A.queries A.stands self.old self.old.clock
+            (λ choice last ticks mesh. IfErr result (GiveTells (all_given (scenario_setup A.queries)
+            places.now self.old.clock (given_by 0 input.now) mesh))) }
         ensures kept { KeepsNet self.old self.new }
         ensures grew { Grew log.old log.new }
     {

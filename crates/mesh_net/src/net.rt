@@ -5,7 +5,7 @@ ghost use Rattle.mesh_model.specs.Net.Mesh.{Mesh, NodeLog, begun_mesh, empty_mes
 ghost use Rattle.mesh_model.specs.declared.happening.Happening.{Happening};
 ghost use Rattle.mesh_model.specs.Net.Limits.{clock_limit};
 ghost use Rattle.mesh_node.specs.NodeStands.{NodeStands};
-ghost use Rattle.mesh_net.specs.NetStands.{NetStands, IsNet, IsDead, HasNode, SeatsStand};
+ghost use Rattle.mesh_net.specs.NetStands.{HoldsFor, NetStands, IsNet, IsDead, HasNode, SeatsStand};
 ghost use Rattle.mesh_net.specs.Reached.{begun_watch};
 ghost use Rattle.mesh_net.specs.declared.seat.Seat.{Seat};
 
@@ -70,9 +70,8 @@ impl<A: Algo + Drop> Net<A> {
     /// From now on only those link frames become events that a choice shows; other events always
     /// do. It takes no memory.
     pub fn show_frames(&mut self, choice: FrameChoice)
-        ensures shows { (old : FrameChoice) (clock : ℕ) (mesh : Mesh) →
-            NetStands A.queries A.stands self.old old clock mesh →
-            NetStands A.queries A.stands self.new choice clock mesh }
+        ensures shows { HoldsFor A.queries A.stands self.old (λ old clock mesh.
+            NetStands A.queries A.stands self.new choice clock mesh) }
         ensures dead { IsDead self.new ↔ IsDead self.old }
     {
         self.post.choice = choice;
@@ -80,8 +79,7 @@ impl<A: Algo + Drop> Net<A> {
 
     /// The choice of the link frames that become events.
     pub fn choice(&self) -> FrameChoice
-        ensures { (choice : FrameChoice) (clock : ℕ) (mesh : Mesh) →
-            NetStands A.queries A.stands self.now choice clock mesh → result ≡ choice }
+        ensures { HoldsFor A.queries A.stands self.now (λ choice clock mesh. result ≡ choice) }
     {
         self.post.choice
     }
@@ -99,29 +97,25 @@ impl<A: Algo + Drop> Net<A> {
 
     /// The address of the node at a place.
     pub fn address(&self, node: u32) -> Mac
-        ensures { (choice : FrameChoice) (clock : ℕ) (mesh : Mesh) →
-            NetStands A.queries A.stands self.now choice clock mesh →
-            result ≡ address_at node mesh.nodes }
+        ensures { HoldsFor A.queries A.stands self.now (λ choice clock mesh.
+            result ≡ address_at node mesh.nodes) }
     {
         self.mac_at(node)
     }
 
     /// Whether there is a node. A mesh without nodes is the one at the begin, at whatever moment.
     pub fn has_nodes(&self) -> bool
-        ensures told { (choice : FrameChoice) (clock : ℕ) (mesh : Mesh) →
-            NetStands A.queries A.stands self.now choice clock mesh →
-            result ≡ nat_lt 0 (length mesh.nodes) }
-        ensures empty { (choice : FrameChoice) (clock : ℕ) (mesh : Mesh) →
-            NetStands A.queries A.stands self.now choice clock mesh →
-            result ≡ false → mesh ≡ begun_mesh (begun_watch (is_some mesh.watch)) }
+        ensures told { HoldsFor A.queries A.stands self.now (λ choice clock mesh.
+            result ≡ nat_lt 0 (length mesh.nodes)) }
+        ensures empty { HoldsFor A.queries A.stands self.now (λ choice clock mesh.
+            result ≡ false → mesh ≡ begun_mesh (begun_watch (is_some mesh.watch))) }
     {
         !self.seats.is_empty()
     }
 
     /// The clock.
     pub fn now(&self) -> Millis
-        ensures { (choice : FrameChoice) (clock : ℕ) (mesh : Mesh) →
-            NetStands A.queries A.stands self.now choice clock mesh → result ≡ clock }
+        ensures { HoldsFor A.queries A.stands self.now (λ choice clock mesh. result ≡ clock) }
     {
         self.clock
     }
@@ -129,9 +123,8 @@ impl<A: Algo + Drop> Net<A> {
     /// How many link frames were sent.
     pub fn sent(&self) -> u32
         requires { IsNet A.queries A.stands self.now }
-        ensures { (choice : FrameChoice) (clock : ℕ) (mesh : Mesh) →
-            NetStands A.queries A.stands self.now choice clock mesh →
-            result ≡ length mesh.frames }
+        ensures { HoldsFor A.queries A.stands self.now (λ choice clock mesh.
+            result ≡ length mesh.frames) }
     {
         match u32::try_from(self.post.frames.as_slice().len()) {
             Ok(count) => count,
@@ -141,9 +134,8 @@ impl<A: Algo + Drop> Net<A> {
 
     /// How many nodes there are.
     pub fn len(&self) -> usize
-        ensures { (choice : FrameChoice) (clock : ℕ) (mesh : Mesh) →
-            NetStands A.queries A.stands self.now choice clock mesh →
-            result ≡ length mesh.nodes }
+        ensures { HoldsFor A.queries A.stands self.now (λ choice clock mesh.
+            result ≡ length mesh.nodes) }
     {
         self.seats.len()
     }

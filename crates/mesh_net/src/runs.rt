@@ -1,8 +1,6 @@
 ghost use Rattle.std.specs.Prelude.{◌≡◌, ◌-◌, ◌+◌, ℕ, ◌≤◌, ◌<◌, true, false, Some, IfOk, IfErr, OnOk, OnErr, IsErrOf};
-ghost use Rattle.mesh_model.specs.declared.frame_choice.FrameChoice.{FrameChoice};
-ghost use Rattle.mesh_model.specs.Net.Mesh.{Mesh};
 ghost use Rattle.mesh_model.specs.Net.Limits.{clock_limit, scenario_setup};
-ghost use Rattle.mesh_net.specs.NetStands.{NetStands, IsNet, IsDead, IsLive};
+ghost use Rattle.mesh_net.specs.NetStands.{HoldsFor, IsNet, IsDead, IsLive};
 ghost use Rattle.mesh_net.specs.Steps.{LeftAt, RanOn, WentUpTo, IsLate, SliceTells, StepFails, StepLeaves};
 ghost use Rattle.mesh_net.specs.Tells.{LeavesRightly, Ran, RanAll, RunTells};
 
@@ -20,21 +18,17 @@ impl<A: Algo + Drop> Net<A> {
     /// isn't before the clock.
     pub fn run_to(&mut self, t: Millis, log: &mut Events) -> Result<(), NetErr>
         requires net { IsNet A.queries A.stands self.old }
-        requires later { (choice : FrameChoice) (clock : ℕ) (mesh : Mesh) →
-            NetStands A.queries A.stands self.old choice clock mesh → clock ≤ t }
-        ensures ran { (choice : FrameChoice) (clock : ℕ) (mesh : Mesh) →
-            NetStands A.queries A.stands self.old choice clock mesh →
+        requires later { HoldsFor A.queries A.stands self.old (λ choice clock mesh. clock ≤ t) }
+        ensures ran { HoldsFor A.queries A.stands self.old (λ choice clock mesh.
             OnOk result (RanAll A.queries A.stands (scenario_setup A.queries) self.new choice mesh t
-            log.old log.new) }
+            log.old log.new)) }
 
         // An earlier refusal comes first, then the clock; want of memory may stand in place of a
         // limit.
-        ensures cause { (choice : FrameChoice) (clock : ℕ) (mesh : Mesh) →
-            NetStands A.queries A.stands self.old choice clock mesh →
-            IfErr result (RunTells (scenario_setup A.queries) choice mesh t log.old log.new) }
-        ensures left { (choice : FrameChoice) (clock : ℕ) (mesh : Mesh) →
-            NetStands A.queries A.stands self.old choice clock mesh →
-            OnErr result (LeavesRightly A.queries choice mesh t log.old log.new) }
+        ensures cause { HoldsFor A.queries A.stands self.old (λ choice clock mesh.
+            IfErr result (RunTells (scenario_setup A.queries) choice mesh t log.old log.new)) }
+        ensures left { HoldsFor A.queries A.stands self.old (λ choice clock mesh.
+            OnErr result (LeavesRightly A.queries choice mesh t log.old log.new)) }
         ensures dead { IsDead self.old → IsErrOf result NetErr.Dead × (log.new ≡ log.old) }
         ensures refused { OnErr result (IsDead self.new) }
         ensures net { IsNet A.queries A.stands self.new }
@@ -48,21 +42,17 @@ impl<A: Algo + Drop> Net<A> {
     /// whether more are due; where none is, the time passes. The moment isn't before the clock.
     pub fn run_some(&mut self, t: Millis, most: u32, log: &mut Events) -> Result<bool, NetErr>
         requires net { IsNet A.queries A.stands self.old }
-        requires later { (choice : FrameChoice) (clock : ℕ) (mesh : Mesh) →
-            NetStands A.queries A.stands self.old choice clock mesh → clock ≤ t }
-        ensures ran { (choice : FrameChoice) (clock : ℕ) (mesh : Mesh) →
-            NetStands A.queries A.stands self.old choice clock mesh →
+        requires later { HoldsFor A.queries A.stands self.old (λ choice clock mesh. clock ≤ t) }
+        ensures ran { HoldsFor A.queries A.stands self.old (λ choice clock mesh.
             IfOk result (Ran A.queries A.stands (scenario_setup A.queries) self.new choice clock
-            mesh t most log.old log.new) }
+            mesh t most log.old log.new)) }
 
         // An earlier refusal comes first, then the clock; want of memory may stand in place of a
         // limit.
-        ensures cause { (choice : FrameChoice) (clock : ℕ) (mesh : Mesh) →
-            NetStands A.queries A.stands self.old choice clock mesh →
-            IfErr result (RunTells (scenario_setup A.queries) choice mesh t log.old log.new) }
-        ensures left { (choice : FrameChoice) (clock : ℕ) (mesh : Mesh) →
-            NetStands A.queries A.stands self.old choice clock mesh →
-            OnErr result (LeavesRightly A.queries choice mesh t log.old log.new) }
+        ensures cause { HoldsFor A.queries A.stands self.old (λ choice clock mesh.
+            IfErr result (RunTells (scenario_setup A.queries) choice mesh t log.old log.new)) }
+        ensures left { HoldsFor A.queries A.stands self.old (λ choice clock mesh.
+            OnErr result (LeavesRightly A.queries choice mesh t log.old log.new)) }
         ensures dead { IsDead self.old → IsErrOf result NetErr.Dead × (log.new ≡ log.old) }
         ensures refused { OnErr result (IsDead self.new) }
         ensures net { IsNet A.queries A.stands self.new }
@@ -94,18 +84,14 @@ impl<A: Algo + Drop> Net<A> {
     fn run_slice(&mut self, t: Millis, most: u32, log: &mut Events) -> Result<bool, NetErr>
         requires live { IsLive A.queries A.stands self.old }
         requires soon { t ≤ clock_limit }
-        requires later { (choice : FrameChoice) (clock : ℕ) (mesh : Mesh) →
-            NetStands A.queries A.stands self.old choice clock mesh → clock ≤ t }
-        ensures ran { (choice : FrameChoice) (clock : ℕ) (mesh : Mesh) →
-            NetStands A.queries A.stands self.old choice clock mesh →
+        requires later { HoldsFor A.queries A.stands self.old (λ choice clock mesh. clock ≤ t) }
+        ensures ran { HoldsFor A.queries A.stands self.old (λ choice clock mesh.
             IfOk result
-            (RanOn A.queries A.stands self.new choice clock mesh t most log.old log.new) }
-        ensures cause { (choice : FrameChoice) (clock : ℕ) (mesh : Mesh) →
-            NetStands A.queries A.stands self.old choice clock mesh →
-            IfErr result (SliceTells (scenario_setup A.queries) choice mesh t log.old log.new) }
-        ensures left { (choice : FrameChoice) (clock : ℕ) (mesh : Mesh) →
-            NetStands A.queries A.stands self.old choice clock mesh →
-            OnErr result (LeftAt A.queries choice mesh t log.old log.new) }
+            (RanOn A.queries A.stands self.new choice clock mesh t most log.old log.new)) }
+        ensures cause { HoldsFor A.queries A.stands self.old (λ choice clock mesh.
+            IfErr result (SliceTells (scenario_setup A.queries) choice mesh t log.old log.new)) }
+        ensures left { HoldsFor A.queries A.stands self.old (λ choice clock mesh.
+            OnErr result (LeftAt A.queries choice mesh t log.old log.new)) }
         ensures refused { OnErr result (IsDead self.new) }
     {
         self.step_often(t, most, log)?;
@@ -120,18 +106,14 @@ impl<A: Algo + Drop> Net<A> {
     fn step_often(&mut self, t: Millis, most: u32, log: &mut Events) -> Result<(), NetErr>
         requires live { IsLive A.queries A.stands self.old }
         requires soon { t ≤ clock_limit }
-        requires later { (choice : FrameChoice) (clock : ℕ) (mesh : Mesh) →
-            NetStands A.queries A.stands self.old choice clock mesh → clock ≤ t }
-        ensures went { (choice : FrameChoice) (clock : ℕ) (mesh : Mesh) →
-            NetStands A.queries A.stands self.old choice clock mesh →
+        requires later { HoldsFor A.queries A.stands self.old (λ choice clock mesh. clock ≤ t) }
+        ensures went { HoldsFor A.queries A.stands self.old (λ choice clock mesh.
             OnOk result (WentUpTo A.queries A.stands self.new choice clock mesh t most
-            log.old log.new) }
-        ensures cause { (choice : FrameChoice) (clock : ℕ) (mesh : Mesh) →
-            NetStands A.queries A.stands self.old choice clock mesh →
-            IfErr result (SliceTells (scenario_setup A.queries) choice mesh t log.old log.new) }
-        ensures left { (choice : FrameChoice) (clock : ℕ) (mesh : Mesh) →
-            NetStands A.queries A.stands self.old choice clock mesh →
-            OnErr result (LeftAt A.queries choice mesh t log.old log.new) }
+            log.old log.new)) }
+        ensures cause { HoldsFor A.queries A.stands self.old (λ choice clock mesh.
+            IfErr result (SliceTells (scenario_setup A.queries) choice mesh t log.old log.new)) }
+        ensures left { HoldsFor A.queries A.stands self.old (λ choice clock mesh.
+            OnErr result (LeftAt A.queries choice mesh t log.old log.new)) }
         ensures refused { OnErr result (IsDead self.new) }
     {
         for _ in 0..most {
@@ -146,13 +128,11 @@ impl<A: Algo + Drop> Net<A> {
     fn step(&mut self, t: Millis, log: &mut Events) -> Result<bool, NetErr>
         requires live { IsLive A.queries A.stands self.old }
         requires soon { t ≤ clock_limit }
-        ensures stepped { (choice : FrameChoice) (clock : ℕ) (mesh : Mesh) →
-            NetStands A.queries A.stands self.old choice clock mesh →
+        ensures stepped { HoldsFor A.queries A.stands self.old (λ choice clock mesh.
             IfOk result
-            (StepLeaves A.queries A.stands self.new choice clock mesh t log.old log.new) }
-        ensures cause { (choice : FrameChoice) (clock : ℕ) (mesh : Mesh) →
-            NetStands A.queries A.stands self.old choice clock mesh →
-            IfErr result (StepFails A.queries mesh t) }
+            (StepLeaves A.queries A.stands self.new choice clock mesh t log.old log.new)) }
+        ensures cause { HoldsFor A.queries A.stands self.old (λ choice clock mesh.
+            IfErr result (StepFails A.queries mesh t)) }
         ensures as_before { OnErr result (log.new ≡ log.old) }
         ensures refused { OnErr result (IsDead self.new) }
     {

@@ -1,18 +1,17 @@
-ghost use Rattle.std.specs.Prelude.{◌≡◌, ◌-◌, ◌+◌, ℕ, suc, ◌<◌, true, is_ok, List, ◌∷◌, take, Some, IfErr, Ok, OnOk, OnErr, IsErrOf, slice_get, ⊤};
+ghost use Rattle.std.specs.Prelude.{◌≡◌, ◌-◌, ◌+◌, ℕ, suc, ◌<◌, true, is_ok, ◌∷◌, take, Some, IfErr, Ok, OnOk, OnErr, IsErrOf, slice_get, ⊤};
 ghost use Rattle.mesh_model.specs.declared.frame_choice.FrameChoice.{FrameChoice};
 ghost use Rattle.mesh_model.specs.Net.Mesh.{Mesh};
 ghost use Rattle.mesh_model.specs.declared.happening.Class.TheVariants.{NodeTick};
-ghost use Rattle.mesh_model.specs.declared.happening.Happening.{Happening};
 ghost use Rattle.mesh_model.specs.Net.Due.{tick_time};
 ghost use Rattle.mesh_model.specs.Net.Limits.{scenario_setup};
 ghost use Rattle.mesh_model.specs.Net.Inputs.{given_to};
 ghost use Rattle.mesh_model.specs.Net.Runs.{after_happening, delivered, effect, ticked};
 ghost use Rattle.mesh_node.specs.NodeStands.{given_by};
-ghost use Rattle.mesh_net.specs.NetStands.{NetStands, IsNet, IsDead};
+ghost use Rattle.mesh_net.specs.NetStands.{HoldsFor, NetStands, IsNet, IsDead};
 ghost use Rattle.mesh_net.specs.declared.seat.Seat.{Seat};
 ghost use Rattle.mesh_net.specs.Given.{GiveTells};
 ghost use Rattle.mesh_post.specs.Sent.{Grew};
-ghost use Rattle.mesh_net.specs.Steps.{AreOnLans, AreOnLinks, Begun, Gave, HasHappened, HasNodes, HasStage, KeepsNet, KeepsSent, MayTickAt, Settled, SettleTells, net_error, tick_now, ticks_amid};
+ghost use Rattle.mesh_net.specs.Steps.{AreOnLans, AreOnLinks, Gave, HasHappened, HasNodes, HasStage, HoldsAmid, KeepsNet, KeepsSent, MayTickAt, Settled, SettleTells, net_error, tick_now, ticks_amid};
 ghost use Rattle.mesh_net.specs.Watching.{WatchStands};
 ghost use Rattle.mesh_net.specs.Reached.{IsOfLine};
 ghost use Rattle.mesh_net.specs.Tells.{Carried, StepTells, TellsRightly};
@@ -34,10 +33,9 @@ impl<A: Algo + Drop> Net<A> {
     pub fn input(&mut self, node: u32, input: &Input<'_>, log: &mut Events) -> Result<(), NetErr>
         requires net { IsNet A.queries A.stands self.old }
         requires line { IsOfLine (given_by 0 input.now) }
-        ensures carried { (choice : FrameChoice) (clock : ℕ) (mesh : Mesh) →
-            NetStands A.queries A.stands self.old choice clock mesh →
+        ensures carried { HoldsFor A.queries A.stands self.old (λ choice clock mesh.
             OnOk result (Carried A.queries A.stands self.new choice clock mesh log.old log.new
-            (given_to (scenario_setup A.queries) node clock 0 (given_by 0 input.now) mesh)) }
+            (given_to (scenario_setup A.queries) node clock 0 (given_by 0 input.now) mesh))) }
         ensures right { (choice : FrameChoice) (clock : ℕ) (mesh after : Mesh) →
             NetStands A.queries A.stands self.old choice clock mesh →
             given_to (scenario_setup A.queries) node clock 0 (given_by 0 input.now) mesh ≡ Ok after →
@@ -45,10 +43,9 @@ impl<A: Algo + Drop> Net<A> {
             log.old log.new) }
 
         // An earlier refusal comes first; want of memory may stand in place of a limit.
-        ensures cause { (choice : FrameChoice) (clock : ℕ) (mesh : Mesh) →
-            NetStands A.queries A.stands self.old choice clock mesh →
+        ensures cause { HoldsFor A.queries A.stands self.old (λ choice clock mesh.
             IfErr result (StepTells
-            (given_to (scenario_setup A.queries) node clock 0 (given_by 0 input.now) mesh)) }
+            (given_to (scenario_setup A.queries) node clock 0 (given_by 0 input.now) mesh))) }
         ensures as_before { OnErr result (log.new ≡ log.old) }
         ensures dead { IsDead self.old → IsErrOf result NetErr.Dead }
         ensures refused { OnErr result (IsDead self.new) }
@@ -65,20 +62,17 @@ impl<A: Algo + Drop> Net<A> {
     /// Delivers the link frame of a number again, now.
     pub fn deliver(&mut self, number: u32, log: &mut Events) -> Result<(), NetErr>
         requires { IsNet A.queries A.stands self.old }
-        ensures carried { (choice : FrameChoice) (clock : ℕ) (mesh : Mesh) →
-            NetStands A.queries A.stands self.old choice clock mesh →
+        ensures carried { HoldsFor A.queries A.stands self.old (λ choice clock mesh.
             OnOk result (Carried A.queries A.stands self.new choice clock mesh log.old log.new
-            (delivered (scenario_setup A.queries) (number - 1) clock mesh)) }
+            (delivered (scenario_setup A.queries) (number - 1) clock mesh))) }
         ensures right { (choice : FrameChoice) (clock : ℕ) (mesh after : Mesh) →
             NetStands A.queries A.stands self.old choice clock mesh →
             delivered (scenario_setup A.queries) (number - 1) clock mesh ≡ Ok after →
             OnOk result (TellsRightly A.queries ⊤ mesh after log.old log.new) }
 
         // An earlier refusal comes first; want of memory may stand in place of a limit.
-        ensures cause { (choice : FrameChoice) (clock : ℕ) (mesh : Mesh) →
-            NetStands A.queries A.stands self.old choice clock mesh →
-            IfErr result
-            (StepTells (delivered (scenario_setup A.queries) (number - 1) clock mesh)) }
+        ensures cause { HoldsFor A.queries A.stands self.old (λ choice clock mesh. IfErr result
+            (StepTells (delivered (scenario_setup A.queries) (number - 1) clock mesh))) }
         ensures as_before { OnErr result (log.new ≡ log.old) }
         ensures dead { IsDead self.old → IsErrOf result NetErr.Dead }
         ensures refused { OnErr result (IsDead self.new) }
@@ -96,17 +90,13 @@ impl<A: Algo + Drop> Net<A> {
     fn input_at(&mut self, place: u32, input: &Input<'_>, log: &mut Events) -> Result<(), NodeErr>
         requires nodes { HasNodes A.queries A.stands self.old self.old.clock }
         requires line { IsOfLine (given_by 0 input.now) }
-        ensures given { (choice : FrameChoice) (last : Happening) (ticks : List Happening)
-            (mesh : Mesh) →
-            Begun A.queries A.stands self.old choice last ticks self.old.clock mesh →
-            OnOk result (Gave A.queries A.stands self.new choice last ticks mesh log.old log.new
-            (given_to (scenario_setup A.queries) place self.old.clock 0 (given_by 0 input.now)
-            mesh)) }
-        ensures cause { (choice : FrameChoice) (last : Happening) (ticks : List Happening)
-            (mesh : Mesh) →
-            Begun A.queries A.stands self.old choice last ticks self.old.clock mesh →
-            IfErr result (GiveTells (given_to (scenario_setup A.queries) place self.old.clock 0
-            (given_by 0 input.now) mesh)) }
+        ensures given { HoldsAmid A.queries A.stands self.old self.old.clock
+            (λ choice last ticks mesh. OnOk result
+            (Gave A.queries A.stands self.new choice last ticks mesh log.old log.new (given_to
+            (scenario_setup A.queries) place self.old.clock 0 (given_by 0 input.now) mesh))) }
+        ensures cause { HoldsAmid A.queries A.stands self.old self.old.clock
+            (λ choice last ticks mesh. IfErr result (GiveTells (given_to (scenario_setup A.queries)
+            place self.old.clock 0 (given_by 0 input.now) mesh))) }
         ensures kept { KeepsNet self.old self.new }
         ensures grew { Grew log.old log.new }
     {
@@ -121,15 +111,13 @@ impl<A: Algo + Drop> Net<A> {
     // Gives the node at the end of its link the frame at a place.
     fn deliver_at(&mut self, place: u32, now: Millis, log: &mut Events) -> Result<(), NodeErr>
         requires { HasNodes A.queries A.stands self.old now }
-        ensures given { (choice : FrameChoice) (last : Happening) (ticks : List Happening)
-            (mesh : Mesh) → Begun A.queries A.stands self.old choice last ticks now mesh →
+        ensures given { HoldsAmid A.queries A.stands self.old now (λ choice last ticks mesh.
             AreOnLinks mesh →
             OnOk result (Gave A.queries A.stands self.new choice last ticks mesh log.old log.new
-            (delivered (scenario_setup A.queries) place now mesh)) }
-        ensures cause { (choice : FrameChoice) (last : Happening) (ticks : List Happening)
-            (mesh : Mesh) → Begun A.queries A.stands self.old choice last ticks now mesh →
+            (delivered (scenario_setup A.queries) place now mesh))) }
+        ensures cause { HoldsAmid A.queries A.stands self.old now (λ choice last ticks mesh.
             AreOnLinks mesh →
-            IfErr result (GiveTells (delivered (scenario_setup A.queries) place now mesh)) }
+            IfErr result (GiveTells (delivered (scenario_setup A.queries) place now mesh))) }
         ensures kept { KeepsNet self.old self.new }
         ensures grew { Grew log.old log.new }
     {
@@ -155,14 +143,12 @@ impl<A: Algo + Drop> Net<A> {
     // The node at a place ticks.
     fn tick_at(&mut self, place: u32, now: Millis, log: &mut Events) -> Result<(), NodeErr>
         requires { MayTickAt A.queries A.stands self.old place now }
-        ensures given { (choice : FrameChoice) (last : Happening) (others : List Happening)
-            (mesh : Mesh) → Begun A.queries A.stands self.old choice last others now mesh →
+        ensures given { HoldsAmid A.queries A.stands self.old now (λ choice last others mesh.
             OnOk result (Gave A.queries A.stands self.new choice last
             (tick_now place (now + tick_time) ∷ others) mesh log.old log.new
-            (ticked (scenario_setup A.queries) place now mesh)) }
-        ensures cause { (choice : FrameChoice) (last : Happening) (others : List Happening)
-            (mesh : Mesh) → Begun A.queries A.stands self.old choice last others now mesh →
-            IfErr result (GiveTells (ticked (scenario_setup A.queries) place now mesh)) }
+            (ticked (scenario_setup A.queries) place now mesh))) }
+        ensures cause { HoldsAmid A.queries A.stands self.old now (λ choice last others mesh.
+            IfErr result (GiveTells (ticked (scenario_setup A.queries) place now mesh))) }
         ensures kept { KeepsNet self.old self.new }
         ensures grew { Grew log.old log.new }
     {
@@ -194,17 +180,14 @@ impl<A: Algo + Drop> Net<A> {
         requires stage { HasStage A.queries A.stands self.old.seats.items self.old.post h.moment }
         requires tick { h.class ≡ NodeTick →
             MayTickAt A.queries A.stands self.old h.place h.moment }
-        ensures given { (choice : FrameChoice) (last : Happening) (others : List Happening)
-            (mesh : Mesh) → Begun A.queries A.stands self.old choice last others h.moment mesh →
+        ensures given { HoldsAmid A.queries A.stands self.old h.moment (λ choice last others mesh.
             AreOnLinks mesh → AreOnLans mesh →
             OnOk result (Gave A.queries A.stands self.new choice last
             (ticks_amid h.class h.place h.moment others) mesh log.old log.new
-            (effect (scenario_setup A.queries) h.class h.place h.moment mesh)) }
-        ensures cause { (choice : FrameChoice) (last : Happening) (others : List Happening)
-            (mesh : Mesh) → Begun A.queries A.stands self.old choice last others h.moment mesh →
-            AreOnLinks mesh → AreOnLans mesh →
-            IfErr result (GiveTells
-            (effect (scenario_setup A.queries) h.class h.place h.moment mesh)) }
+            (effect (scenario_setup A.queries) h.class h.place h.moment mesh))) }
+        ensures cause { HoldsAmid A.queries A.stands self.old h.moment (λ choice last others mesh.
+            AreOnLinks mesh → AreOnLans mesh → IfErr result (GiveTells
+            (effect (scenario_setup A.queries) h.class h.place h.moment mesh))) }
         ensures kept { KeepsNet self.old self.new }
         ensures grew { Grew log.old log.new }
     {
@@ -220,15 +203,14 @@ impl<A: Algo + Drop> Net<A> {
         requires stage { HasStage A.queries A.stands self.old.seats.items self.old.post h.moment }
         requires tick { h.class ≡ NodeTick →
             MayTickAt A.queries A.stands self.old h.place h.moment }
-        ensures happened { (choice : FrameChoice) (last : Happening) (others : List Happening)
-            (mesh : Mesh) → Begun A.queries A.stands self.old choice last others h.moment mesh →
+        ensures happened { HoldsAmid A.queries A.stands self.old h.moment
+            (λ choice last others mesh.
             AreOnLinks mesh → AreOnLans mesh → WatchStands self.old.watch mesh.watch →
             OnOk result (HasHappened A.queries A.stands self.new choice last
-            (ticks_amid h.class h.place h.moment others) mesh log.old log.new h) }
-        ensures cause { (choice : FrameChoice) (last : Happening) (others : List Happening)
-            (mesh : Mesh) → Begun A.queries A.stands self.old choice last others h.moment mesh →
+            (ticks_amid h.class h.place h.moment others) mesh log.old log.new h)) }
+        ensures cause { HoldsAmid A.queries A.stands self.old h.moment (λ choice last others mesh.
             AreOnLinks mesh → AreOnLans mesh →
-            IfErr result (GiveTells (after_happening (scenario_setup A.queries) h mesh)) }
+            IfErr result (GiveTells (after_happening (scenario_setup A.queries) h mesh))) }
         ensures kept { KeepsSent self.old self.new }
         ensures grew { Grew log.old log.new }
     {

@@ -7,7 +7,7 @@ ghost use Rattle.mesh_model.specs.declared.frame_choice.FrameChoice.{FrameChoice
 ghost use Rattle.mesh_model.specs.declared.happening.Class.TheVariants.{LanDelivery};
 ghost use Rattle.mesh_model.specs.declared.happening.Happening.{Happening};
 ghost use Rattle.mesh_model.specs.declared.route_line.RouteLine.{RouteLine};
-ghost use Rattle.mesh_net.specs.NetStands.{IsDead, NetStands, SeatsStand};
+ghost use Rattle.mesh_net.specs.NetStands.{HoldsFor, IsDead, NetStands, SeatsStand};
 ghost use Rattle.mesh_net.specs.Watching.{HasTold, HasWatched, KeepsAllBut, WatchStands};
 ghost use Rattle.mesh_post.specs.Sent.{Grew, InStep};
 ghost use Rattle.mesh_post.specs.declared.row.Sending.{Sending};
@@ -36,9 +36,8 @@ impl<A: Algo + Drop> Net<A> {
 
     /// Whether its routes are watched.
     pub fn is_watched(&self) -> bool
-        ensures { (choice : FrameChoice) (clock : ℕ) (mesh : Mesh) →
-            NetStands A.queries A.stands self.now choice clock mesh →
-            result ≡ is_some mesh.watch }
+        ensures { HoldsFor A.queries A.stands self.now (λ choice clock mesh.
+            result ≡ is_some mesh.watch) }
     {
         self.watch.is_some()
     }

@@ -1,6 +1,6 @@
 -- What a line gives a node, and a frame that is delivered again: the outcome, and what becomes of the scene.
-use Rattle.std.proofs.Common.{◌≡◌, ℕ, ◌-◌, ◌<◌, ◌≤◌, Bool, true, false, ◌||◌, ◌&&◌, List, length, filter, Some, None, Ok, refl, sym, ap, ◌∙◌, subst, arith}
-use Rattle.std.specs.Prelude.{flat_map, nat_lt, not, ◌==◌, if◌then◌else◌}
+use Rattle.std.proofs.Common.{◌≡◌, ℕ, ◌-◌, ◌<◌, ◌≤◌, true, false, ◌||◌, List, length, Some, None, refl, ap, ◌∙◌, arith}
+use Rattle.std.specs.Prelude.{nat_lt, ◌==◌}
 use Rattle.std.specs.Option.{option_map_or, option_or}
 use Rattle.std.proofs.lemmas.Bool.Decides.{nat_tests}
 use Rattle.mesh_base.specs.declared.address.Mac.{Mac}
@@ -14,7 +14,7 @@ use Rattle.mesh_model.specs.Clients.Log.{Given, Line, Sets}
 use Rattle.mesh_model.specs.Clients.Log.{Frame as GivenFrame, Gone as GivenGone, Join as GivenJoin, Leave as GivenLeave, Put as GivenPut, Get as GivenGet}
 use Rattle.mesh_model.specs.Clients.Settings.{Setting, NoPart, Serves, Chooses}
 use Rattle.mesh_model.specs.Clients.Settings.{ArpTable as SetsArpTable, FactStore as SetsFactStore, Gateway as SetsGateway, LongestWhole as SetsLongestWhole, Multicast as SetsMulticast, Pictures as SetsPictures, Wifi as SetsWifi}
-use Rattle.mesh_model.specs.Net.Mesh.{Mesh, Setup}
+use Rattle.mesh_model.specs.Net.Mesh.{Setup}
 use Rattle.mesh_model.specs.Net.Runs.{delivered}
 use Rattle.mesh_model.specs.Packets.Payload.{payload_spelling}
 use Rattle.mesh_model.specs.Run.Names.{OfNode}

@@ -7,9 +7,7 @@ pub mod TopologyLemmas
 pub mod GivenLemmas
 pub mod TableLemmas
 pub mod SessionLemmas
-pub mod CallLemmas
-pub mod QuestionLemmas
-pub mod RebootLemmas
+pub mod ApartLemmas
 pub mod PassLemmas
 pub mod CountLemmas
 pub mod LanLemmas

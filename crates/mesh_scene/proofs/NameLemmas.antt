@@ -1,5 +1,5 @@
 -- The rules on the names that a line uses.
-use Rattle.std.proofs.Common.{◌≡◌, ℕ, Bool, true, false, ◌||◌, List, [], ◌∷◌, map, Option, Some, None, is_some, refl, sym, ap, ap₂, ◌∙◌}
+use Rattle.std.proofs.Common.{◌≡◌, ℕ, Bool, true, false, ◌||◌, List, ◌∷◌, Option, Some, None, is_some, refl, ap, ap₂, ◌∙◌}
 use Rattle.std.specs.Prelude.{not, option_and_then}
 use Rattle.std.specs.Option.{option_or, option_map_or}
 use Rattle.mesh_model.specs.declared.ending.Refusal.{Refusal}
@@ -7,7 +7,7 @@ use Rattle.mesh_model.specs.declared.ending.Refusal.TheVariants.{Attached, Unkno
 use Rattle.mesh_model.specs.declared.ending.Stop.TheVariants.{Refused, Limit}
 use Rattle.mesh_model.specs.Net.Sending.{lan_of}
 use Rattle.mesh_model.specs.Run.Demands.{is_attached, is_known, is_known_lan, is_taken, refusal_if}
-use Rattle.mesh_model.specs.Run.Names.{NameUse, OfNode, OfPlace}
+use Rattle.mesh_model.specs.Run.Names.{NameUse, OfNode}
 use Rattle.mesh_model.specs.Run.Outcome.{Outcome, Ends, Goes}
 use Rattle.mesh_model.specs.Run.Rules.{name_refusal, names_refusal, unless_refused}
 use Rattle.mesh_model.specs.Run.State.{State, lan_place_of, place_of}

@@ -1,5 +1,5 @@
 -- What a scene prints of what happened, and where it stands behind.
-use Rattle.std.proofs.Common.{◌≡◌, ℕ, Bool, true, false, List, [], ◌∷◌, ◌++◌, map, filter, Ok, refl, sym, subst, ap, ◌∙◌, append-nil}
+use Rattle.std.proofs.Common.{◌≡◌, ℕ, Bool, true, false, List, [], ◌∷◌, ◌++◌, map, filter, refl, sym, subst, ap, ◌∙◌, append-nil}
 use Rattle.std.specs.Prelude.{flat_map, if◌then◌else◌}
 use Rattle.std.proofs.lemmas.List.Concat.{flat_map-append}
 use Rattle.mesh_base.specs.declared.address.Mac.{Mac}
@@ -16,9 +16,10 @@ use Rattle.mesh_model.specs.Run.Passing.{after_attempt, events_since, gone_on}
 use Rattle.mesh_model.specs.Run.Shown.{after_print}
 use Rattle.mesh_model.specs.Run.State.{Happened, Printed, State, names_of, printed_text, text_of}
 use Rattle.mesh_model.specs.Text.Events.{event_line, is_shown}
-use Rattle.mesh_net.specs.Tells.{StepTells}
+use Rattle.mesh_net.specs.Tells.{Carried, StepTells}
 use Rattle.mesh_net.specs.declared.failure.NetErr.{NetErr}
 use Rattle.mesh_net.specs.declared.failure.NetErr.TheVariants.{Limit, Dead, Memory}
+use Rattle.mesh_net.specs.declared.net.Net.{Net}
 use Rattle.mesh_scene.specs.CarriesOut.{Carries, HasLineCause}
 use Rattle.mesh_net.specs.NetStands.{NetStands}
 use Rattle.mesh_scene.specs.SceneStands.{AreApart, SceneStands, ends_of}
@@ -66,16 +67,17 @@ attempt_fails state attempt (Limit limit) tells = ap (after_attempt state) tells
 attempt_fails state attempt Dead tells = absurd tells
 attempt_fails state attempt Memory tells = tt
 
--- a step at the clock that the net carries out
-pub attempt_carries : {A : Type 0} (algorithm : Algorithm) (queries : Mac → Queries) (stand : A → Mac → RouteLog → Type 0) (state : State) (old new : Scene A) (attempt : Attempt) (after : Mesh) (events : List Event) (text : List ℕ) → SceneStands algorithm queries stand old state → attempt ≡ Ok after
-    → SceneStands algorithm queries stand new (gone_on state state.clock after) → names_of after ≡ names_of state.mesh
-    → events ≡ filter (is_shown state.choice) (events_since state.mesh after) → text ≡ flat_map (event_line old.names) events
-    → Carries (SceneStands algorithm queries stand) (after_attempt state attempt) state new text
-attempt_carries algorithm queries stand state old new attempt after events text stands is standing named are says = record {
-  after = gone_on state state.clock after;
-  carried = ap (after_attempt state) is;
-  standing = standing;
-  text = text_gone algorithm queries stand old state state.clock after events text stands named are says;
+-- a step at the clock that the net carries out, when the events that it logs are printed
+pub attempt_carries : {A : Type 0} (algorithm : Algorithm) (queries : Mac → Queries) (stand : A → Mac → RouteLog → Type 0) (state : State) (old : Scene A) (net : Net A) (attempt : Attempt) (none events : List Event) (empty text : List ℕ) → SceneStands algorithm queries stand old state
+    → (done : Carried queries stand net state.choice state.clock state.mesh none events attempt) → names_of done.after ≡ names_of state.mesh → done.after.links ≡ state.mesh.links → none ≡ [] → text ≡ empty ++ flat_map (event_line old.names) events → empty ≡ []
+    → Carries (SceneStands algorithm queries stand) (after_attempt state attempt) state (record old { net = net; events = events }) text
+attempt_carries algorithm queries stand state old net attempt none events empty text stands done named links fresh says is = record {
+  after = gone_on state state.clock done.after;
+  carried = ap (after_attempt state) done.is;
+  standing = stands_gone algorithm queries stand old (record old { net = net; events = events }) state state.clock done.after stands done.standing refl refl named links;
+  text = text_gone algorithm queries stand old state state.clock done.after events text stands named
+      (done.gains ∙ ap (λ (before : List Event). before ++ filter (is_shown state.choice) (events_since state.mesh done.after)) fresh)
+      (says ∙ ap (λ (before : List ℕ). before ++ flat_map (event_line old.names) events) is);
 }
 
 -- something is printed

@@ -1,5 +1,5 @@
 -- Tables of nodes, and the node of a name.
-use Rattle.std.proofs.Common.{◌≡◌, ℕ, ◌<◌, ◌≤◌, ◌⊎◌, inl, inr, get_or, true, false, List, [], ◌∷◌, ◌++◌, length, slice_get, Some, None, refl, sym, subst, ap, ◌∙◌, arith}
+use Rattle.std.proofs.Common.{◌≡◌, ℕ, ◌<◌, ◌≤◌, ◌⊎◌, inl, inr, get_or, List, [], ◌++◌, length, slice_get, Some, None, ap, ◌∙◌, arith}
 use Rattle.std.proofs.lemmas.Option.{slice_get_cases}
 use Rattle.mesh_base.specs.declared.address.Mac.{Mac}
 use Rattle.mesh_model.specs.declared.line_form.Algorithm.{Algorithm}
@@ -11,7 +11,7 @@ use Rattle.mesh_model.specs.Net.Mesh.{NodeLog, Setup}
 use Rattle.mesh_model.specs.Routes.Queries.{Queries}
 use Rattle.mesh_model.specs.Routes.RouteLog.{RouteLog}
 use Rattle.mesh_model.specs.Run.Names.{OfNode}
-use Rattle.mesh_model.specs.Run.Outcome.{Goes, Outcome}
+use Rattle.mesh_model.specs.Run.Outcome.{Goes}
 use Rattle.mesh_model.specs.Run.Rules.{carried_out, name_refusal, unless_refused}
 use Rattle.mesh_model.specs.Run.Shown.{after_print, shown}
 use Rattle.mesh_model.specs.Run.Steps.{show_step}

@@ -7,10 +7,11 @@ ghost use Rattle.mesh_net.specs.Reached.{IsOfLine};
 ghost use Rattle.mesh_node.specs.NodeStands.{given_by};
 ghost use Rattle.mesh_scene.specs.CarriesOut.{CarriesFrom, FailsFrom, outcome_under};
 ghost use Rattle.mesh_scene.specs.SceneStands.{IsSomewhere, SceneStands};
-ghost use Rattle.mesh_scene.specs.Inner.AtNodes.{given_at, given_of, given_step};
+ghost use Rattle.mesh_scene.specs.Inner.AtNodes.{given_apart, given_at, given_of, given_step};
 
 use crate::fault::{LineFault, refused};
 use crate::scene::Scene;
+use mesh_base::{Key, Mac, Vid};
 use mesh_model::{Command, Refusal};
 use mesh_node::Input;
 use mesh_show::{Choosable, put_events};
@@ -94,6 +95,87 @@ impl<A: Choosable + Drop> Scene<A> {
             (given_at (scenario_setup A.queries) name.now (given_by 0 input.now)) result }
     {
         let place = self.node_place(name)?;
+        self.give_node(place, input, text)
+    }
+
+    /// `dhcp NODE MAC VID TEXT`
+    pub fn dhcp(
+        &mut self,
+        name: &[u8],
+        key: Key,
+        call: &[u8],
+        text: &mut Vec<u8>,
+    ) -> Result<(), LineFault>
+        requires somewhere { IsSomewhere A.algorithm A.queries A.stands self.old }
+        requires empty { text.old.items ≡ [] }
+        ensures ok { CarriesFrom (SceneStands A.algorithm A.queries A.stands) self.old self.new
+            (outcome_under A.queries (command.Dhcp name.now key call.now)) text.new.items result }
+        ensures refused { FailsFrom (SceneStands A.algorithm A.queries A.stands) self.old
+            (outcome_under A.queries (command.Dhcp name.now key call.now)) result }
+    {
+        let input = Input::Dhcp { key, text: call };
+        self.give_apart(name, &input, text)
+    }
+
+    /// `arp NODE MAC IP1 IP2 VID`
+    pub fn arp(
+        &mut self,
+        name: &[u8],
+        mac: Mac,
+        own_ip: u32,
+        asked_ip: u32,
+        vid: Vid,
+        text: &mut Vec<u8>,
+    ) -> Result<(), LineFault>
+        requires somewhere { IsSomewhere A.algorithm A.queries A.stands self.old }
+        requires empty { text.old.items ≡ [] }
+        ensures ok { CarriesFrom (SceneStands A.algorithm A.queries A.stands) self.old self.new
+            (outcome_under A.queries (command.Arp name.now mac own_ip asked_ip vid))
+            text.new.items result }
+        ensures refused { FailsFrom (SceneStands A.algorithm A.queries A.stands) self.old
+            (outcome_under A.queries (command.Arp name.now mac own_ip asked_ip vid)) result }
+    {
+        let input = Input::Arp {
+            mac,
+            own_ip,
+            asked_ip,
+            vid,
+        };
+        self.give_apart(name, &input, text)
+    }
+
+    /// `reboot NODE`
+    pub fn reboot(&mut self, name: &[u8], text: &mut Vec<u8>) -> Result<(), LineFault>
+        requires somewhere { IsSomewhere A.algorithm A.queries A.stands self.old }
+        requires empty { text.old.items ≡ [] }
+        ensures ok { CarriesFrom (SceneStands A.algorithm A.queries A.stands) self.old self.new
+            (outcome_under A.queries (command.Reboot name.now)) text.new.items result }
+        ensures refused { FailsFrom (SceneStands A.algorithm A.queries A.stands) self.old
+            (outcome_under A.queries (command.Reboot name.now)) result }
+    {
+        self.give_apart(name, &Input::Reboot, text)
+    }
+
+    /// Gives the node of a name what a line gives it, where that is no gateway of a LAN.
+    fn give_apart(
+        &mut self,
+        name: &[u8],
+        input: &Input<'_>,
+        text: &mut Vec<u8>,
+    ) -> Result<(), LineFault>
+        requires somewhere { IsSomewhere A.algorithm A.queries A.stands self.old }
+        requires line { IsOfLine (given_by 0 input.now) }
+        requires empty { text.old.items ≡ [] }
+        ensures ok { CarriesFrom (SceneStands A.algorithm A.queries A.stands) self.old self.new
+            (given_apart (scenario_setup A.queries) name.now (given_by 0 input.now))
+            text.new.items result }
+        ensures refused { FailsFrom (SceneStands A.algorithm A.queries A.stands) self.old
+            (given_apart (scenario_setup A.queries) name.now (given_by 0 input.now)) result }
+    {
+        let place = self.node_place(name)?;
+        if self.net.is_gateway(place) {
+            return Err(refused(Refusal::Attached));
+        }
         self.give_node(place, input, text)
     }
 

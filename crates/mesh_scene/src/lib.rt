@@ -2,7 +2,6 @@
 
 #![tactic(auto)]
 
-mod calls;
 mod command;
 mod counts;
 mod fault;
@@ -10,8 +9,6 @@ mod given;
 mod lans;
 mod link_ends;
 mod places;
-mod questions;
-mod reboots;
 mod scene;
 mod sessions;
 mod slice;

@@ -1,6 +1,7 @@
--- What a line does at the node of a name. The main words are `given_at`, `given_of`,
+-- What a line does at the node of a name. The main words are `given_at`, `given_apart`, `given_of`,
 -- `session_at` and `IsNodeOf`.
-use Rattle.std.specs.Prelude.{◌≡◌, ℕ, List, slice_get, Option, Some, None}
+use Rattle.std.specs.Prelude.{◌≡◌, ℕ, List, [], ◌∷◌, slice_get, Option, Some, None}
+use Rattle.std.specs.Option.{option_or}
 use Rattle.mesh_base.specs.declared.address.Mac.{Mac}
 use Rattle.mesh_model.specs.Clients.Log.{Given, LineGiven, Line, Sets}
 use Rattle.mesh_model.specs.Clients.Log.{Join as GivenJoin, Leave as GivenLeave, Put as GivenPut, Get as GivenGet}
@@ -13,10 +14,11 @@ use Rattle.mesh_model.specs.Net.Inputs.{given_to}
 use Rattle.mesh_model.specs.Net.Mesh.{NodeLog, Setup}
 use Rattle.mesh_model.specs.Routes.Queries.{Queries}
 use Rattle.mesh_model.specs.Routes.RouteLog.{RouteLog}
+use Rattle.mesh_model.specs.Run.Demands.{NoGateway, first_unmet}
 use Rattle.mesh_model.specs.Run.Names.{NameUse, OfNode}
 use Rattle.mesh_model.specs.Run.Outcome.{Outcome}
 use Rattle.mesh_model.specs.Run.Passing.{after_attempt}
-use Rattle.mesh_model.specs.Run.Rules.{first_refused_rule, name_refusal, unless_refused}
+use Rattle.mesh_model.specs.Run.Rules.{first_refused_rule, name_refusal, names_refusal, unless_refused}
 use Rattle.mesh_model.specs.Run.State.{State, place_of}
 use Rattle.mesh_model.specs.Run.Steps.{Step, at_node, session_step}
 use Rattle.mesh_node.specs.declared.node.Node.{Node as NodeValue}
@@ -32,6 +34,12 @@ given_step setup given place state =
 -- the outcome of a line that gives the node of a name something
 abbrev pub given_at : Setup → List ℕ → Given → State → Outcome
 given_at setup name given state = unless_refused state (name_refusal state (OfNode name))
+    (at_node name (given_step setup given) state)
+
+-- the outcome of a line that gives the node of a name something, where that is no gateway of a LAN
+abbrev pub given_apart : Setup → List ℕ → Given → State → Outcome
+given_apart setup name given state = unless_refused state
+    (option_or (names_refusal state (OfNode name ∷ [])) (first_unmet state (NoGateway name)))
     (at_node name (given_step setup given) state)
 
 -- the node of a name is given a setting

@@ -23,7 +23,7 @@ returns-clause-carried g c = λ choice clock mesh s.
     subst (λ p. OnOk c.settle.result (Carried q st c.settle.new.self choice clock mesh c.args.log.now c.settle.new.log (delivered (scenario_setup q) p clock mesh))) c.saturating_sub.ensures
     (line_carried q st net c.deliver_at-given.new.self c.settle.new.self choice clock mesh c.args.log.now c.deliver_at-given.new.log c.settle.new.log c.deliver_at-given.result c.settle.result
     (λ k. delivered (scenario_setup q) place k mesh) s c.settle.ensures.ok (λ begun. c.deliver_at-given.ensures.given choice mesh.last (first_ticks 0 mesh.nodes) mesh begun (on_links q st net choice clock mesh s))
-    (λ now done told gave. carried_frame q st net c.deliver_at-given.new.self c.settle.new.self choice mesh c.args.log.now c.deliver_at-given.new.log c.settle.new.log place now c.deliver_at-given.ensures.kept done told gave))
+    (λ now done told. carried_frame q st net c.deliver_at-given.new.self c.settle.new.self choice mesh c.args.log.now c.deliver_at-given.new.log c.settle.new.log now c.deliver_at-given.ensures.kept done told place))
 
 pub returns-clause-right : goal.returns-clause-right
 returns-clause-right g c = λ choice clock mesh after s is.

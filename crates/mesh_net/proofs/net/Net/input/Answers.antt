@@ -20,7 +20,7 @@ returns-clause-carried g c = λ choice clock mesh s.
     let net = c.args.self.now in
     line_carried q st net c.input_at-given.new.self c.settle.new.self choice clock mesh c.args.log.now c.input_at-given.new.log c.settle.new.log c.input_at-given.result c.settle.result
     (λ k. given_to (scenario_setup q) c.args.node k 0 (given_by 0 c.args.input.now) mesh) s c.settle.ensures.ok (c.input_at-given.ensures.given choice mesh.last (first_ticks 0 mesh.nodes) mesh)
-    (λ now done told gave. carried_line q st net c.input_at-given.new.self c.settle.new.self choice mesh c.args.log.now c.input_at-given.new.log c.settle.new.log c.args.node (given_by 0 c.args.input.now) now c.input_at-given.ensures.kept done told c.requires.line gave)
+    (λ now done told. carried_line q st net c.input_at-given.new.self c.settle.new.self choice mesh c.args.log.now c.input_at-given.new.log c.settle.new.log now c.input_at-given.ensures.kept done told c.args.node (given_by 0 c.args.input.now) c.requires.line)
 
 pub returns-clause-right : goal.returns-clause-right
 returns-clause-right g c = λ choice clock mesh after s is.

@@ -25,7 +25,7 @@ returns-clause-carried g c = λ choice clock mesh s.
     let net = c.args.self.now in
     line_carried q st net c.give_gateways-given.new.self c.settle.new.self choice clock mesh c.args.log.now c.give_gateways-given.new.log c.settle.new.log c.give_gateways-given.result c.settle.result
     (λ k. all_given (scenario_setup q) (gateways_at c.args.lan mesh.lans) k (given_by 0 c.args.input.now) mesh) s c.settle.ensures.ok (c.give_gateways-given.ensures.given choice mesh.last (first_ticks 0 mesh.nodes) mesh)
-    (λ now done told gave. carried_all q st net c.give_gateways-given.new.self c.settle.new.self choice mesh c.args.log.now c.give_gateways-given.new.log c.settle.new.log (gateways_at c.args.lan mesh.lans) (given_by 0 c.args.input.now) now c.give_gateways-given.ensures.kept done told c.requires.line gave)
+    (λ now done told. carried_all q st net c.give_gateways-given.new.self c.settle.new.self choice mesh c.args.log.now c.give_gateways-given.new.log c.settle.new.log now c.give_gateways-given.ensures.kept done told (gateways_at c.args.lan mesh.lans) (given_by 0 c.args.input.now) c.requires.line)
 
 pub returns-clause-right : goal.returns-clause-right
 returns-clause-right g c = λ choice clock mesh after s is.

@@ -22,31 +22,19 @@ returns-then-len-ge-NODES_LIMIT-clause-cause g c = λ choice clock mesh st.
 
 pub returns-in_err-place-clause-cause : goal.returns-in_err-place-clause-cause
 returns-in_err-place-clause-cause g c = λ choice clock mesh st.
-    let all = seats_length g.A.Algo.queries g.A.Algo.stands c.args.self.now.seats.items mesh.nodes st.seats in
-    let len = c.len.ensures in
-    let room = c.if-len-ge-NODES_LIMIT.false in
-    node_memory c.from_residual.result (length mesh.nodes) (omega (arith, all, len, room)) c.from_residual.ensures.1
+    node_memory g.A.Algo.queries g.A.Algo.stands c.from_residual.result c.args.self.now.seats.items mesh st.seats (omega (arith, c.len.ensures, c.if-len-ge-NODES_LIMIT.false)) c.from_residual.ensures.1
 
 pub returns-in_err-push-clause-cause : goal.returns-in_err-push-clause-cause
 returns-in_err-push-clause-cause g c = λ choice clock mesh st.
-    let all = seats_length g.A.Algo.queries g.A.Algo.stands c.args.self.now.seats.items mesh.nodes st.seats in
-    let len = c.len.ensures in
-    let room = c.if-len-ge-NODES_LIMIT.false in
-    node_memory c.from_residual-in_err-push.result (length mesh.nodes) (omega (arith, all, len, room)) c.from_residual-in_err-push.ensures.1
+    node_memory g.A.Algo.queries g.A.Algo.stands c.from_residual-in_err-push.result c.args.self.now.seats.items mesh st.seats (omega (arith, c.len.ensures, c.if-len-ge-NODES_LIMIT.false)) c.from_residual-in_err-push.ensures.1
 
 pub returns-in_err-add_node-clause-cause : goal.returns-in_err-add_node-clause-cause
 returns-in_err-add_node-clause-cause g c = λ choice clock mesh st.
-    let all = seats_length g.A.Algo.queries g.A.Algo.stands c.args.self.now.seats.items mesh.nodes st.seats in
-    let len = c.len.ensures in
-    let room = c.if-len-ge-NODES_LIMIT.false in
-    node_memory c.from_residual-in_err-add_node.result (length mesh.nodes) (omega (arith, all, len, room)) c.from_residual-in_err-add_node.ensures.1
+    node_memory g.A.Algo.queries g.A.Algo.stands c.from_residual-in_err-add_node.result c.args.self.now.seats.items mesh st.seats (omega (arith, c.len.ensures, c.if-len-ge-NODES_LIMIT.false)) c.from_residual-in_err-add_node.ensures.1
 
 pub returns-in_err-push-2-clause-cause : goal.returns-in_err-push-2-clause-cause
 returns-in_err-push-2-clause-cause g c = λ choice clock mesh st.
-    let all = seats_length g.A.Algo.queries g.A.Algo.stands c.args.self.now.seats.items mesh.nodes st.seats in
-    let len = c.len.ensures in
-    let room = c.if-len-ge-NODES_LIMIT.false in
-    node_memory c.from_residual-in_err-push-2.result (length mesh.nodes) (omega (arith, all, len, room)) c.from_residual-in_err-push-2.ensures.1
+    node_memory g.A.Algo.queries g.A.Algo.stands c.from_residual-in_err-push-2.result c.args.self.now.seats.items mesh st.seats (omega (arith, c.len.ensures, c.if-len-ge-NODES_LIMIT.false)) c.from_residual-in_err-push-2.ensures.1
 
 pub returns-clause-joins : goal.returns-clause-joins
 returns-clause-joins g c = λ choice clock mesh st.

@@ -1,8 +1,6 @@
-use Rattle.std.proofs.Common.{ℕ, ◌+◌, ◌*◌, ◌-◌, ◌≤◌}
-use Rattle.mesh_model.specs.declared.frame_choice.FrameChoice.{FrameChoice}
-use Rattle.mesh_model.specs.Net.Mesh.{Mesh}
+use Rattle.std.proofs.Common.{◌+◌, ◌*◌, ◌-◌, ◌≤◌}
 use Rattle.mesh_laws.specs.Soundness.{rank}
-use Rattle.mesh_net.specs.NetStands.{NetStands, IsLive}
+use Rattle.mesh_net.specs.NetStands.{HoldsFor, IsLive}
 use Rattle.mesh_net.proofs.Slices.{UnderWay}
 use Rattle.mesh_net.proofs.net.Net.run_to.Given as goal
 
@@ -10,8 +8,8 @@ abbrev pub invariant-loop : goal.invariant-loop
 invariant-loop g l = record {
   live : IsLive g.A.Algo.queries g.A.Algo.stands l.self;
   soon : l.self.clock ≤ l.t;
-  way : (choice : FrameChoice) (clock : ℕ) (mesh : Mesh) → NetStands g.A.Algo.queries g.A.Algo.stands l.fn.self choice clock mesh →
-      UnderWay g.A.Algo.queries g.A.Algo.stands l.self choice mesh l.t l.fn.log l.log;
+  way : HoldsFor g.A.Algo.queries g.A.Algo.stands l.fn.self (λ choice clock mesh.
+      UnderWay g.A.Algo.queries g.A.Algo.stands l.self choice mesh l.t l.fn.log l.log);
 }
 
 abbrev pub decreases-loop : goal.decreases-loop

@@ -1,18 +1,13 @@
-use Rattle.std.proofs.Common.{ℕ, ◌-◌, ◌++◌, List, refl, sym, ap, ◌∙◌, subst, arith}
+use Rattle.std.proofs.Common.{◌-◌, sym, subst, arith}
 use Rattle.std.proofs.lemmas.Result.{err_from_is_err_and}
-use Rattle.std.specs.Prelude.{filter, flat_map}
 use Rattle.mesh_model.specs.Net.Limits.{scenario_setup}
-use Rattle.mesh_base.specs.declared.event.Event.{Event}
 use Rattle.mesh_model.specs.Net.Runs.{delivered}
 use Rattle.mesh_model.specs.Run.Outcome.{Outcome}
-use Rattle.mesh_model.specs.Run.Passing.{events_since}
-use Rattle.mesh_model.specs.Text.Events.{event_line, is_shown}
 use Rattle.mesh_laws.proofs.Schedule.Steps.{delivered_effect}
 use Rattle.mesh_scene.specs.Inner.NetAnswers.{fault_of}
 use Rattle.mesh_scene.specs.SceneStands.{SceneStands}
 use Rattle.mesh_scene.specs.CarriesOut.{Carries, HasLineCause}
-use Rattle.mesh_scene.specs.declared.scene.Scene.{Scene}
-use Rattle.mesh_scene.proofs.PrintLemmas.{attempt_carries, attempt_fails, stands_gone}
+use Rattle.mesh_scene.proofs.PrintLemmas.{attempt_carries, attempt_fails}
 use Rattle.mesh_scene.proofs.GivenLemmas.{deliver_again, deliver_none, deliver_past}
 use Rattle.mesh_scene.proofs.scene.Scene.deliver.Goals as goal
 
@@ -45,10 +40,6 @@ returns-clause-ok g c = λ state stands.
     let again = deliver_again (scenario_setup g.A.Algo.queries) state c.args.number c.if-number-eq0.false (omega (arith, sent, within, c.from.ensures)) in
     let done = c.in_ok-deliver.ensures.carried state.choice state.clock state.mesh stands.net_is in
     let effect = delivered_effect (scenario_setup g.A.Algo.queries) state.mesh (c.args.number - 1) state.clock done.after done.is in
-    let new : Scene _ = record { alloc = scene.alloc; net = c.deliver.new.self; names = scene.names; ends = scene.ends; events = c.deliver.new.log } in
-    let P : Outcome → Type 0 = λ o. Carries (SceneStands g.A.Choosable.algorithm g.A.Algo.queries g.A.Algo.stands) o state new c.put_events.new.out.items in
+    let P : Outcome → Type 0 = λ o. Carries (SceneStands g.A.Choosable.algorithm g.A.Algo.queries g.A.Algo.stands) o state (record scene { net = c.deliver.new.self; events = c.deliver.new.log }) c.put_events.new.out.items in
     subst P (sym again)
-    (attempt_carries g.A.Choosable.algorithm g.A.Algo.queries g.A.Algo.stands state scene new attempt done.after c.deliver.new.log c.put_events.new.out.items stands done.is
-    (stands_gone g.A.Choosable.algorithm g.A.Algo.queries g.A.Algo.stands scene new state state.clock done.after stands done.standing refl refl effect.names effect.adds.links) effect.names
-    (done.gains ∙ ap (λ (old : List Event). old ++ filter (is_shown state.choice) (events_since state.mesh done.after)) c.cut.ensures.kept)
-    (c.in_ok-put_events.ensures.ok ∙ ap (λ (old : List ℕ). old ++ flat_map (event_line scene.names) c.deliver.new.log) c.requires.empty))
+    (attempt_carries g.A.Choosable.algorithm g.A.Algo.queries g.A.Algo.stands state scene c.deliver.new.self attempt c.cut.new.self c.deliver.new.log c.args.text.now.items c.put_events.new.out.items stands done effect.names effect.adds.links c.cut.ensures.kept c.in_ok-put_events.ensures.ok c.requires.empty)

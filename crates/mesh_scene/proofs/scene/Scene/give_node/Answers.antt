@@ -1,16 +1,10 @@
-use Rattle.std.proofs.Common.{ℕ, ◌++◌, List, refl, ap, ◌∙◌}
 use Rattle.std.proofs.lemmas.Result.{err_from_is_err_and}
-use Rattle.std.specs.Prelude.{filter, flat_map}
-use Rattle.mesh_base.specs.declared.event.Event.{Event}
 use Rattle.mesh_laws.proofs.Schedule.Steps.{tickless}
 use Rattle.mesh_model.specs.Net.Inputs.{given_to}
 use Rattle.mesh_model.specs.Net.Limits.{scenario_setup}
-use Rattle.mesh_model.specs.Run.Passing.{events_since}
-use Rattle.mesh_model.specs.Text.Events.{event_line, is_shown}
 use Rattle.mesh_node.specs.NodeStands.{given_by}
-use Rattle.mesh_scene.specs.declared.scene.Scene.{Scene}
 use Rattle.mesh_scene.proofs.NetLemmas.{of_line}
-use Rattle.mesh_scene.proofs.PrintLemmas.{attempt_carries, attempt_fails, stands_gone}
+use Rattle.mesh_scene.proofs.PrintLemmas.{attempt_carries, attempt_fails}
 use Rattle.mesh_scene.proofs.scene.Scene.give_node.Goals as goal
 
 pub returns-in_err-input-clause-refused : goal.returns-in_err-input-clause-refused
@@ -28,8 +22,4 @@ returns-clause-ok g c = λ state stands.
     let done = c.in_ok-input.ensures.carried state.choice state.clock state.mesh stands.net_is in
     let l = of_line state.mesh.frames given c.requires.line in
     let effect = tickless setup state.mesh c.args.place state.clock 0 given done.after l.0 l.1 done.is in
-    let new : Scene _ = record { alloc = scene.alloc; net = c.input.new.self; names = scene.names; ends = scene.ends; events = c.input.new.log } in
-    attempt_carries g.A.Choosable.algorithm g.A.Algo.queries g.A.Algo.stands state scene new attempt done.after c.input.new.log c.put_events.new.out.items stands done.is
-    (stands_gone g.A.Choosable.algorithm g.A.Algo.queries g.A.Algo.stands scene new state state.clock done.after stands done.standing refl refl effect.names effect.adds.links) effect.names
-    (done.gains ∙ ap (λ (old : List Event). old ++ filter (is_shown state.choice) (events_since state.mesh done.after)) c.cut.ensures.kept)
-    (c.in_ok-put_events.ensures.ok ∙ ap (λ (old : List ℕ). old ++ flat_map (event_line scene.names) c.input.new.log) c.requires.empty)
+    attempt_carries g.A.Choosable.algorithm g.A.Algo.queries g.A.Algo.stands state scene c.input.new.self attempt c.cut.new.self c.input.new.log c.args.text.now.items c.put_events.new.out.items stands done effect.names effect.adds.links c.cut.ensures.kept c.in_ok-put_events.ensures.ok c.requires.empty

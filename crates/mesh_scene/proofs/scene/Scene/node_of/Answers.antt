@@ -1,6 +1,4 @@
 use Rattle.std.proofs.lemmas.Result.{err_from_is_err_and}
-use Rattle.mesh_model.specs.Run.Names.{OfNode}
-use Rattle.mesh_scene.specs.Inner.AtNodes.{IsNameFault}
 use Rattle.mesh_scene.proofs.NetLemmas.{net_settled}
 use Rattle.mesh_scene.proofs.PlaceLemmas.{named_so}
 use Rattle.mesh_scene.proofs.TableLemmas.{node_at}

@@ -1,5 +1,5 @@
 use Rattle.std.proofs.Common.{sym, ◌∙◌}
-use Rattle.mesh_scene.proofs.NameLemmas.{at_gateway, at_lan, at_none, at_the_node}
+use Rattle.mesh_scene.proofs.NameLemmas.{at_gateway, at_lan}
 use Rattle.mesh_scene.proofs.PlaceLemmas.{lan_within}
 use Rattle.mesh_scene.proofs.scene.Scene.whereabouts.Goals as goal
 
