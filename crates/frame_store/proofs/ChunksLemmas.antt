@@ -1,10 +1,8 @@
 -- Places in chunks of which the last one takes more, or behind which one is begun.
-use Rattle.std.proofs.Common.{◌≡◌, ℕ, ◌+◌, ◌-◌, ◌<◌, ◌≤◌, List, [], ◌∷◌, ◌++◌, length, get_or, take, drop, refl, sym, ◌∙◌, ap, arith, append_assoc, length-append}
-use Rattle.std.proofs.Math.ListN.{get_or-append}
+use Rattle.std.proofs.Common.{◌≡◌, ℕ, ◌+◌, ◌-◌, ◌<◌, ◌≤◌, List, [], ◌∷◌, ◌++◌, length, take, drop, arith, append_assoc}
 use Rattle.std.proofs.Math.Seq.{get_or-append_seam}
 use Rattle.std.proofs.lemmas.Grind.{common_steps}
-use Rattle.frame_store.specs.declared.place.Place.{Place}
-use Rattle.frame_store.specs.Chunks.{bytes_at, chunk_at, Extends, IsWithin}
+use Rattle.frame_store.specs.Chunks.{chunk_at, Extends}
 use Rattle.frame_store.specs.Filling.{Filling}
 use Rattle.frame_store.specs.Frames.{last_chunk}
 

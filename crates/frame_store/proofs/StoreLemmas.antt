@@ -1,6 +1,6 @@
 -- That a store stays one, and its frames, through a push and where what grew is brought to the
 -- older chunks.
-use Rattle.std.proofs.Common.{◌≡◌, ℕ, ◌+◌, ◌-◌, ◌*◌, ◌<◌, ◌≤◌, List, [], ◌∷◌, ◌++◌, ◌⊎◌, inl, inr, length, map, All, sum_by, refl, sym, ◌∙◌, ap, arith, rules, append_assoc, append-nil, length-append}
+use Rattle.std.proofs.Common.{◌≡◌, ℕ, ◌+◌, ◌-◌, ◌<◌, ◌≤◌, List, [], ◌∷◌, ◌++◌, inl, inr, length, map, All, refl, ◌∙◌, arith, append_assoc, append-nil}
 use Rattle.frame_store.proofs.ChunksLemmas.{last_pushed, youngest_at}
 use Rattle.std.proofs.lemmas.Bool.{cases_lt}
 use Rattle.std.proofs.lemmas.Grind.{common_steps}
@@ -10,11 +10,11 @@ use Rattle.std.proofs.lemmas.List.Sums.{sum_by_push}
 use Rattle.frame_store.specs.declared.grown.Grown.{Grown}
 use Rattle.frame_store.specs.declared.older.Older.{Older}
 use Rattle.frame_store.specs.declared.place.Place.{Place}
-use Rattle.frame_store.specs.Chunks.{bytes_at, chunk_at, Extends, IsWithin}
+use Rattle.frame_store.specs.Chunks.{bytes_at, Extends, IsWithin}
 use Rattle.frame_store.specs.Filling.{Filling}
 use Rattle.frame_store.specs.Frames.{bytes_limit, chunks, frames, frames_limit, last_chunk, newest, Passes, with_staged}
 use Rattle.frame_store.specs.Inner.{HasWritten, IsRoomier}
-use Rattle.frame_store.specs.Store.{AreChunks, AreFilled, begun, IsApart, IsReady, IsStore, IsTail}
+use Rattle.frame_store.specs.Store.{AreChunks, begun, IsApart, IsReady, IsStore, IsTail}
 
 -- what is at places stays where chunks extend others
 pub same_frames : (xs ys : List Filling) (places : List Place) → All (IsWithin xs) places

@@ -1,13 +1,13 @@
 -- What the three ways to write bytes leave of the chunks.
-use Rattle.std.proofs.Common.{◌≡◌, ℕ, zero, suc, ◌*◌, ◌+◌, ◌-◌, ◌<◌, ◌≤◌, List, [], ◌∷◌, ◌++◌, ◌⊎◌, inl, inr, max, length, get_or, take, drop, refl, sym, ◌∙◌, ap, arith, rules, append_assoc, length-append}
+use Rattle.std.proofs.Common.{◌≡◌, ℕ, zero, suc, ◌*◌, ◌+◌, ◌-◌, ◌<◌, ◌≤◌, List, [], ◌∷◌, ◌++◌, inl, inr, max, length, refl, ◌∙◌, arith, append_assoc}
 use Rattle.std.proofs.Math.Seq.{get_or-append_seam}
 use Rattle.std.proofs.lemmas.Grind.{common_steps}
 use Rattle.frame_store.specs.declared.grown.Grown.{Grown}
 use Rattle.frame_store.specs.declared.older.Older.{Older}
 use Rattle.frame_store.specs.declared.place.Place.{Place}
-use Rattle.frame_store.specs.Chunks.{bytes_at, chunk_at, Extends, IsWithin}
+use Rattle.frame_store.specs.Chunks.{chunk_at}
 use Rattle.frame_store.specs.Filling.{Filling, rest}
-use Rattle.frame_store.specs.Frames.{chunks, last_chunk, newest, spare_bytes, with_staged}
+use Rattle.frame_store.specs.Frames.{chunks, last_chunk, newest, with_staged}
 use Rattle.frame_store.specs.Inner.{HasWritten, IsFresh, IsTaken}
 use Rattle.frame_store.specs.Store.{AreChunks, AreFilled, begun, chunk_size, IsReady}
 use Rattle.frame_store.proofs.ChunksLemmas.{extends_more, extends_youngest, last_pushed, youngest_at}

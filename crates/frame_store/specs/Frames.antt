@@ -1,7 +1,7 @@
 -- What a store is seen as: the list of its frames, and how many more frames and bytes find room
 -- without more memory. A store keeps 4,194,304 frames and 536,870,912 bytes of them at most. The
 -- main word is `frames`.
-use Rattle.std.specs.Prelude.{◌≡◌, ◌<◌, ◌≤◌, ◌+◌, ◌-◌, ◌++◌, ◌∷◌, ◌⊎◌, ℕ, List, length, map, max, slice_index_or, sum_by}
+use Rattle.std.specs.Prelude.{◌<◌, ◌≤◌, ◌+◌, ◌-◌, ◌++◌, ◌∷◌, ◌⊎◌, ℕ, List, length, map, max, slice_index_or, sum_by}
 use Rattle.std.specs.Vec.{vec_len, vec_capacity}
 use Rattle.frame_store.specs.declared.grown.Grown.{Grown}
 use Rattle.frame_store.specs.declared.older.Older.{Older}

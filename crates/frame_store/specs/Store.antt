@@ -1,8 +1,8 @@
 -- How the two parts of a store belong together. No invariant of a type can say it, since a lent
 -- tail holds one part and the lent frame the other; so each call asks for it and ensures it. The
 -- main words are `IsStore` and, while a frame is lent, `IsTail`.
-use Rattle.std.specs.Prelude.{◌≡◌, ◌<◌, ◌≤◌, ◌+◌, ◌*◌, ◌⊎◌, ℕ, List, [], length, All, sum_by}
-use Rattle.std.specs.Vec.{vec_len, vec_capacity}
+use Rattle.std.specs.Prelude.{◌≡◌, ◌<◌, ◌≤◌, ◌+◌, ◌*◌, ◌⊎◌, ℕ, [], length, All, sum_by}
+use Rattle.std.specs.Vec.{vec_capacity}
 use Rattle.frame_store.specs.declared.grown.Grown.{Grown}
 use Rattle.frame_store.specs.declared.older.Older.{Older}
 use Rattle.frame_store.specs.declared.place.Place.{Place}

@@ -1,6 +1,6 @@
 -- How a hearing changes the row of a neighbour in a life, whatever the row keeps of the numbers and
 -- their values. A number that was heard before changes no row.
-use Rattle.std.proofs.Common.{◌≡◌, ⊎_elim, ℕ, Bool, true, false, not, ◌&&◌, List, ◌∷◌, Option, sym, ap, ◌∙◌}
+use Rattle.std.proofs.Common.{◌≡◌, ⊎_elim, ℕ, true, false, not, ◌&&◌, List, ◌∷◌, Option, sym, ap, ◌∙◌}
 use Rattle.std.proofs.lemmas.Bool.{cases_Bool, not-false}
 use Rattle.mesh_base.specs.declared.address.Mac.{Mac}
 use Rattle.mesh_model.specs.Routes.Addresses.{same_mac}

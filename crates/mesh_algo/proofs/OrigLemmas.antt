@@ -1,5 +1,5 @@
 -- The originators heard stand in the order of their addresses, each once.
-use Rattle.std.proofs.Common.{◌≡◌, Bool, true, false, cond, ◌||◌, List, [], ◌∷◌, find, Some, None, is_eq, refl, sym, ap, ◌∙◌, subst, map-id, Less, Equal, Greater}
+use Rattle.std.proofs.Common.{◌≡◌, Bool, true, false, cond, ◌||◌, List, [], ◌∷◌, find, Some, None, is_eq, refl, sym, ap, ◌∙◌, subst, map-id}
 use Rattle.std.specs.Bool.{Decides}
 use Rattle.std.specs.List.{list_any}
 use Rattle.std.specs.List.Sorted.{IsStrictlySortedBy}

@@ -1,7 +1,7 @@
 -- How the assemblies that a node keeps stand for all parts that came, and what a part is answered.
 -- Exactly those are kept that a part can still make whole. The main words are `FragsStand` and
 -- `Answers`.
-use Rattle.std.specs.Prelude.{◌≡◌, ◌==◌, ◌≤◌, ◌&&◌, Bool, ℕ, length, List, [], ◌∷◌, map, Option, None, Some, IsSomeAnd}
+use Rattle.std.specs.Prelude.{◌≡◌, ◌==◌, ◌&&◌, Bool, ℕ, length, List, [], ◌∷◌, map, Option, None, Some, IsSomeAnd}
 use Rattle.std.specs.List.{IsDistinct}
 use Rattle.std.specs.Map.{keys_of, lookup}
 use Rattle.mesh_model.specs.declared.packet.Head.{Head}

@@ -1,5 +1,5 @@
 -- What the text of a run says of aliases.
-use Rattle.std.proofs.Common.{◌≡◌, ◌⊎◌, inl, inr, ℕ, zero, suc, Bool, true, false, cond, List, [], ◌∷◌, ◌++◌, slice_get, Some, option_map, refl, sym, ap, subst, ◌∙◌, append_assoc, append-nil, arith}
+use Rattle.std.proofs.Common.{◌≡◌, ◌⊎◌, inl, inr, ℕ, zero, suc, Bool, true, false, cond, List, [], ◌∷◌, ◌++◌, slice_get, Some, option_map, refl, sym, ap, subst, ◌∙◌, append-nil, arith}
 use Rattle.std.specs.Prelude.{bytes_eq, filter, find, flat_map}
 use Rattle.std.specs.Option.{unwrap_or}
 use Rattle.std.proofs.lemmas.List.{append_cancel_left}
@@ -34,7 +34,7 @@ use Rattle.mesh_tie.proofs.SeenLemmas.{all_tell, aliases_are_told}
 use Rattle.mesh_tie.proofs.StandLemmas.{aliases_stand_in_steps}
 use Rattle.mesh_tie.proofs.VLemmas.{algorithms_keep}
 use Rattle.mesh_lines.specs.AliasText.{AliasLinesAreRight, IsAliasIn, StandsOrFollows, TellsOfAlias, alias_line, follows, stands}
-use Rattle.mesh_lines.specs.ItemLines.{ArePlain, lines_printed}
+use Rattle.mesh_lines.specs.ItemLines.{lines_printed}
 use Rattle.mesh_lines.specs.LineSources.{IsOfEvent}
 use Rattle.mesh_lines.specs.LineWords.{event_kind, kind_of, of_alias}
 use Rattle.mesh_lines.specs.PlainLines.{PlainContents}
@@ -42,7 +42,6 @@ use Rattle.mesh_lines.specs.TableText.{names_behind}
 use Rattle.mesh_lines.specs.TextLaws.{IsFrontOf}
 use Rattle.mesh_lines.proofs.Found.{has_at}
 use Rattle.mesh_lines.proofs.ItemLemmas.{lines_of_text, printed_are_lines}
-use Rattle.mesh_lines.proofs.NamesGoOn.{IsNamed}
 use Rattle.mesh_lines.proofs.NodeNames.{alias_among}
 use Rattle.mesh_lines.proofs.SourceLemmas.{aliases_have_one_source}
 use Rattle.mesh_lines.proofs.TableTextLemmas.{IsPlainFront, alias_line_is, choice_stays, line_among, line_printed, plain_front}

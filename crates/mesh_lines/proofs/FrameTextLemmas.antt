@@ -1,5 +1,5 @@
 -- What the text of a run says of frames that are sent by table.
-use Rattle.std.proofs.Common.{◌≡◌, ◌<◌, ◌^◌, ℕ, List, ◌∷◌, ◌++◌, Some, refl, sym, ap, subst, ◌∙◌, append_assoc, arith}
+use Rattle.std.proofs.Common.{◌≡◌, ◌<◌, ◌^◌, ℕ, List, ◌∷◌, ◌++◌, Some, refl, sym, subst, ◌∙◌, arith}
 use Rattle.std.specs.Prelude.{decimal}
 use Rattle.std.proofs.lemmas.Fmt.{decimal_injective}
 use Rattle.mesh_base.specs.Names.{NamesGiven}
@@ -11,14 +11,12 @@ use Rattle.mesh_model.specs.declared.frame_choice.FrameChoice.{FrameChoice}
 use Rattle.mesh_model.specs.Net.Next.{Has}
 use Rattle.mesh_model.specs.Run.PlainRun.{after_lines, start}
 use Rattle.mesh_model.specs.Run.State.{Happened, Printed}
-use Rattle.mesh_model.specs.Scenario.Lines.{complete_lines}
 use Rattle.mesh_model.specs.Text.Events.{event_line, name_text}
 use Rattle.mesh_laws.proofs.Schedule.Members.{has_left}
 use Rattle.mesh_tie.specs.LinesByTable.{SentRightlyIn}
 use Rattle.mesh_tie.specs.ShownTables.{PrintedNone}
 use Rattle.mesh_tie.proofs.PrintLemmas.{lines_by_table_are_right}
 use Rattle.mesh_lines.specs.FrameText.{SentByName, TableFramesAreRight, table_frame_line}
-use Rattle.mesh_lines.specs.ItemLines.{ArePlain, lines_printed}
 use Rattle.mesh_lines.specs.LineSources.{IsOfEvent}
 use Rattle.mesh_lines.specs.LineWords.{AreNamed, event_kind, of_frame}
 use Rattle.mesh_lines.specs.PlainLines.{PlainContents}

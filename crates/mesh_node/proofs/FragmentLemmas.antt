@@ -1,5 +1,5 @@
 -- Packets that are put together here.
-use Rattle.std.proofs.Common.{◌≡◌, ℕ, Bool, true, false, cond, List, [], ◌∷◌, ◌++◌, Option, Some, None, option_and_then, option_map, Result, Ok, Err, refl, sym, ap, ap₂, subst, ◌∙◌}
+use Rattle.std.proofs.Common.{◌≡◌, ℕ, List, ◌∷◌, ◌++◌, Option, Some, None, option_and_then, option_map, Result, Ok, Err, refl, sym, ap, ap₂, ◌∙◌}
 use Rattle.std.proofs.lemmas.Option.{same_Some}
 use Rattle.mesh_base.specs.declared.address.Mac.{Mac}
 use Rattle.mesh_codec.proofs.Decoded.{no_cause}
@@ -12,7 +12,7 @@ use Rattle.mesh_model.specs.declared.link_frame.NoPacket.{NoPacket}
 use Rattle.mesh_model.specs.declared.packet.Head.{Head}
 use Rattle.mesh_model.specs.Acts.BridgeRows.{Place}
 use Rattle.mesh_model.specs.Acts.FactRows.{fact_acts}
-use Rattle.mesh_model.specs.Acts.FragmentRows.{carried_here, unicast_here}
+use Rattle.mesh_model.specs.Acts.FragmentRows.{carried_here}
 use Rattle.mesh_model.specs.Acts.FrameRows.{here_acts}
 use Rattle.mesh_model.specs.Clients.Lans.{Bridge}
 use Rattle.mesh_model.specs.Clients.Mentions.{Mention}

@@ -9,13 +9,12 @@ use Rattle.mesh_model.specs.declared.packet.Head.{Head}
 use Rattle.mesh_model.specs.declared.service.Fact.{Fact}
 use Rattle.mesh_model.specs.Clients.Log.{Given, Tick, LinkFrame, LanFrame, Line, LineGiven, Attach, Frame, Gone, Join, Leave, Arp, Dhcp, Sets, Put, Get, Ping, Trace, Reboot, Log}
 use Rattle.mesh_model.specs.Clients.Mentions.{key_of, mentions, next_mentions, passed_from_lan}
-use Rattle.mesh_model.specs.Fragments.Assembly.{PartCall}
 use Rattle.mesh_model.specs.Knowledge.FactStore.{after_answering, after_brought, after_closing, after_fact_message, after_get, after_push, after_store_message, after_whole_push, closed_by, txn_call, with_fact, with_facts}
 use Rattle.mesh_model.specs.Knowledge.Known.{Knowledge}
 use Rattle.mesh_model.specs.Knowledge.Pairs.{after_arp, after_came, after_question, is_asked, with_ask, with_learned}
 use Rattle.mesh_model.specs.Knowledge.PutTogether.{fact_carried, put_together, with_part}
 use Rattle.mesh_model.specs.Knowledge.Served.{FactRequest}
-use Rattle.mesh_model.specs.Knowledge.Steps.{Coming, after_call, after_frame, after_packet, after_packets, after_passed, after_sighting, after_tick, knowledge, line_knowledge, next_knowledge, table_behind, with_set}
+use Rattle.mesh_model.specs.Knowledge.Steps.{Coming, after_call, after_frame, after_packet, after_packets, after_passed, after_sighting, after_tick, knowledge, line_knowledge, next_knowledge, table_behind}
 use Rattle.mesh_model.specs.Knowledge.Told.{message_of}
 use Rattle.mesh_model.specs.Packets.ArpMessages.{ArpCame, Asks, Puts, Tells}
 use Rattle.mesh_model.specs.Packets.FactMessages.{CameFact, FactMessage, HasPart, Primary, Requests, HasEnd}

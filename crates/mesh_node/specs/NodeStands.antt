@@ -2,7 +2,7 @@
 -- what it knows by that log, its local clients for the mentions and the commits there, its bridge for
 -- the LAN and the claims there, whose moments never fall, it has refused nothing, and it counted its
 -- cuts. `stands` is the algorithm's own word. The main word is `NodeStands`.
-use Rattle.std.specs.Prelude.{◌≡◌, ◌≤◌, ℕ, Bool, true, false, List, [], ◌∷◌, ⊤}
+use Rattle.std.specs.Prelude.{◌≡◌, ◌≤◌, ℕ, Bool, true, false, [], ◌∷◌, ⊤}
 use Rattle.mesh_base.specs.declared.address.Mac.{Mac}
 use Rattle.mesh_model.specs.declared.service.GroupRow.{GroupRow}
 use Rattle.mesh_model.specs.Acts.Choosing.{cuts_by}

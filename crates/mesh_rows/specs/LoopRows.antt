@@ -1,6 +1,6 @@
 -- Route lines of the nodes A, B and C to the originator D, and what is said of the run of such lines.
 -- The main words are `route`, `routes` and `Reports`.
-use Rattle.std.specs.Prelude.{◌≡◌, ℕ, List, [], ◌∷◌, ◌++◌, codes, Option, Some, None}
+use Rattle.std.specs.Prelude.{◌≡◌, ℕ, List, ◌++◌, codes, Option, Some, None}
 use Rattle.mesh_base.specs.declared.address.Mac.{Mac}
 use Rattle.mesh_model.specs.declared.route_line.RouteLine.{RouteLine}
 use Rattle.mesh_model.specs.declared.route_loop.Loop.{Loop}

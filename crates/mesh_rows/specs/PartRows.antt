@@ -1,9 +1,8 @@
 -- A table of two clients that comes to a node in parts, and answers of many records that go in
 -- parts. The main words are `outcome` and `part_sizes`.
-use Rattle.std.specs.Prelude.{ℕ, Bool, List, [], ◌∷◌, length, map, replicate, Option, option_map}
+use Rattle.std.specs.Prelude.{ℕ, Bool, List, [], ◌∷◌, length, map, replicate, Option}
 use Rattle.mesh_model.specs.declared.table_change.Change.{Change}
 use Rattle.mesh_model.specs.declared.table_outcome.Taken.{Taken}
-use Rattle.mesh_model.specs.Packets.Bodies.{VlanSum}
 use Rattle.mesh_model.specs.Tables.Answers.{PartPlace, Reply, parts_of_reply}
 use Rattle.mesh_model.specs.Tables.Changes.{addition}
 use Rattle.mesh_model.specs.Tables.Judging.{Carried, InPart, answer_row}

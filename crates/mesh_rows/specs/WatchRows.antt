@@ -1,6 +1,6 @@
 -- A node A with what it knows of routes, and a LAN of the first and the third node. The main words are
 -- `row_to` and `lan_mesh`.
-use Rattle.std.specs.Prelude.{ℕ, List, [], ◌∷◌, Option, Some}
+use Rattle.std.specs.Prelude.{ℕ, [], ◌∷◌, Option, Some}
 use Rattle.mesh_base.specs.declared.address.Mac.{Mac}
 use Rattle.mesh_model.specs.declared.route.OrigRow.{OrigRow}
 use Rattle.mesh_model.specs.declared.route_line.RouteLine.{RouteLine}

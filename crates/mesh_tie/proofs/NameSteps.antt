@@ -38,7 +38,7 @@ use Rattle.mesh_tie.specs.Originators.{commits_of, log_of}
 use Rattle.mesh_tie.specs.Sayings.{PacketSays}
 use Rattle.mesh_tie.specs.Sources.{IsWhole, KeepsOriginators}
 use Rattle.mesh_tie.specs.Steps.{IsReachable, Steps, TellsClient, begins, frame_comes, goes_on, lan_comes, lan_joins, line_gives, link_joins, node_joins, node_ticks, put_comes, put_reaches, time_passes, routes_told}
-use Rattle.mesh_tie.specs.Tie.{CommitsFit, IsTied, KnowsWhole, NodeIsTied, known_at_node}
+use Rattle.mesh_tie.specs.Tie.{CommitsFit, KnowsWhole, NodeIsTied, known_at_node}
 use Rattle.mesh_tie.specs.TieLaws.{AllKeep}
 use Rattle.mesh_tie.proofs.BridgeActs.{claimed_puts}
 use Rattle.mesh_tie.proofs.EtherReading.{dst_whole, src_whole}

@@ -1,6 +1,5 @@
 -- What a node knows of an originator changes as the machine's moves do.
 use Rattle.std.proofs.Common.{◌≡◌, ◌≢◌, ◌⊎◌, inl, inr, ◌≤◌, ◌-◌, ℕ, false, cond, ◌==◌, List, [], ◌∷◌, slice_get, Option, Some, None, is_some, Ok, refl, sym, ap, ap₂, subst, ◌∙◌, arith}
-use Rattle.std.specs.List.{range_with_len}
 use Rattle.std.proofs.lemmas.Bool.{eq-eqb}
 use Rattle.std.proofs.lemmas.List.{append-nil}
 use Rattle.mesh_base.specs.declared.address.Mac.{Mac}

@@ -18,7 +18,7 @@ use Rattle.mesh_model.specs.Fragments.Assembly.{PartCall, part_of}
 use Rattle.mesh_model.specs.Knowledge.FactStore.{after_fact_message}
 use Rattle.mesh_model.specs.Knowledge.Known.{Broadcast, Knowledge, is_new_broadcast, taken_at}
 use Rattle.mesh_model.specs.Knowledge.PutTogether.{after_part, fact_carried, put_together, with_part}
-use Rattle.mesh_model.specs.Knowledge.Steps.{Coming, after_announcement, after_answer, after_broadcast, after_containers, after_head, after_message, after_packet, after_reply, after_roaming, after_taken, announced_by, announced_table, before_announcement, request_out, with_announcement, with_head, with_life}
+use Rattle.mesh_model.specs.Knowledge.Steps.{Coming, after_announcement, after_answer, after_broadcast, after_containers, after_head, after_message, after_packet, after_reply, after_roaming, after_taken, announced_by, before_announcement, with_head, with_life}
 use Rattle.mesh_model.specs.Knowledge.Told.{Message, TableMessage, Asks, Answers, Neither, message_changes, message_in, message_of, message_with, part_told, stamp_told}
 use Rattle.mesh_model.specs.Net.Mesh.{SentFrame}
 use Rattle.mesh_model.specs.Packets.ArpMessages.{arp_came}

@@ -8,7 +8,7 @@ use Rattle.mesh_model.specs.declared.happening.Happening.{Happening}
 use Rattle.mesh_model.specs.Clients.Log.{Given, Tick, LinkFrame, LanFrame, Line, LineGiven}
 use Rattle.mesh_model.specs.Net.Due.{next_due, ticks_in}
 use Rattle.mesh_model.specs.Net.Happenings.{Before}
-use Rattle.mesh_model.specs.Net.Inputs.{all_given, entry_of, given_to, noting}
+use Rattle.mesh_model.specs.Net.Inputs.{all_given, entry_of, given_to}
 use Rattle.mesh_model.specs.Net.Lans.{gets, lan_delivered, put_given, put_over, reach_events, with_events}
 use Rattle.mesh_model.specs.Net.Limits.{scenario_setup}
 use Rattle.mesh_model.specs.Net.Mesh.{NodeLog, NetLan, NetLink, LanPut, SentFrame, Mesh, Setup, address_at}

@@ -1,8 +1,7 @@
 -- An OGM that is the first of its number from its neighbour: whether it is sent on, and the tables
 -- after it.
-use Rattle.std.proofs.Common.{◌≡◌, ⊎_elim, ℕ, max, nat_lt, Bool, true, false, cond, not, ◌&&◌, ◌||◌, List, ◌∷◌, is_none, Option, Some, None, arith, refl, sym, ap, ap₂, ◌∙◌}
+use Rattle.std.proofs.Common.{◌≡◌, ℕ, max, nat_lt, Bool, true, false, cond, not, ◌&&◌, List, ◌∷◌, is_none, Option, Some, None, arith, refl, sym, ap, ap₂, ◌∙◌}
 use Rattle.std.specs.Map.{lookup}
-use Rattle.std.proofs.lemmas.Bool.{cases_Bool}
 use Rattle.mesh_base.specs.declared.address.Mac.{Mac}
 use Rattle.mesh_model.specs.Routes.Addresses.{same_mac}
 use Rattle.mesh_model.specs.Routes.AlgorithmV.{answer_to_v}

@@ -1,7 +1,7 @@
 -- What the rows say, and how a hearing changes that of a neighbour in a life.
-use Rattle.std.proofs.Common.{◌≡◌, ⊎_elim, ℕ, ◌+◌, ◌-◌, ◌≤◌, ◌<◌, max, nat_eq, nat_lt, nat_le, Bool, true, false, cond, not, ◌&&◌, List, [], ◌∷◌, unwrap_or, Option, Some, None, arith, refl, sym, ap, ap₂, ◌∙◌}
+use Rattle.std.proofs.Common.{◌≡◌, ⊎_elim, ℕ, ◌+◌, ◌-◌, ◌≤◌, ◌<◌, max, nat_eq, nat_lt, nat_le, Bool, true, false, cond, List, [], ◌∷◌, unwrap_or, Option, Some, None, arith, refl, sym, ap, ap₂, ◌∙◌}
 use Rattle.std.specs.Option.{option_map_or}
-use Rattle.std.proofs.lemmas.Bool.{cases_Bool, cases_lt, not-false, le-leb, lt-leb, eq-eqb, ne_eqb, true≢false}
+use Rattle.std.proofs.lemmas.Bool.{cases_lt, le-leb, lt-leb, eq-eqb, ne_eqb, true≢false}
 use Rattle.mesh_base.specs.declared.address.Mac.{Mac}
 use Rattle.mesh_model.specs.Routes.Addresses.{same_mac}
 use Rattle.mesh_model.specs.Routes.HearingsV.{heard_v, last_number, path_throughput}
@@ -9,12 +9,11 @@ use Rattle.mesh_model.specs.Routes.Life.{HeardOgm, life_span, of, since, life, n
 use Rattle.mesh_model.specs.Routes.Neighbours.{ElpHeard, is_up, is_young, last_elp}
 use Rattle.mesh_model.specs.Routes.Numbers.{has, greatest, window}
 use Rattle.mesh_model.specs.Routes.RouteLog.{RouteLog}
-use Rattle.mesh_laws.proofs.MacLemmas.{same_exact}
 use Rattle.mesh_laws.proofs.WindowLemmas.{greatest-window, window-cons}
 use Rattle.mesh_algo.specs.declared.life.Life.{Life}
 use Rattle.mesh_algo.specs.LifeRows.{latest, life_row}
 use Rattle.mesh_algo.proofs.HearingLemmas.{timely_from}
-use Rattle.mesh_algo.proofs.LifeLemmas.{first_value, late_numbers, other_numbers, own_numbers, other_value, again_value, unheard_value}
+use Rattle.mesh_algo.proofs.LifeLemmas.{first_value, own_numbers, unheard_value}
 use Rattle.mesh_algo.proofs.LifeRows.{greatest_again, window_again, window_nil}
 use Rattle.mesh_algo.proofs.HeardPaths as paths
 use Rattle.mesh_v.specs.declared.path.Path.{Path}

@@ -1,6 +1,5 @@
 -- The youngest chunk leaves the list and comes back longer.
 use Rattle.std.proofs.Common.{rules}
-use Rattle.std.proofs.lemmas.Grind.{common_steps}
 use Rattle.frame_store.proofs.WritingLemmas.{lengthens}
 use Rattle.frame_store.proofs.writing.lengthen.Goals as goal
 

@@ -1,4 +1,4 @@
-use Rattle.std.proofs.Common.{◌≡◌, ◌∙◌, Bool, None, cond, ap, subst, sym}
+use Rattle.std.proofs.Common.{◌∙◌, Bool, None, cond, subst, sym}
 use Rattle.std.proofs.lemmas.Result.{err_from_is_err_and}
 use Rattle.std.specs.Prelude.{Option, option_and_then}
 use Rattle.mesh_model.specs.Acts.FrameRows.{broadcast_acts}

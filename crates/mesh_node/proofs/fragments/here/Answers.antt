@@ -1,11 +1,10 @@
-use Rattle.std.proofs.Common.{◌≡◌, ◌∙◌, ◌∷◌, Err, List, Ok, ap, subst, sym}
+use Rattle.std.proofs.Common.{◌∷◌, Err, List, Ok, subst}
 use Rattle.std.proofs.lemmas.Result.{err_from_is_err_and}
-use Rattle.std.specs.Prelude.{IfSome, option_and_then}
+use Rattle.std.specs.Prelude.{IfSome}
 use Rattle.mesh_frag.specs.Frags.{Answers, FragsStand, part_of_head}
 use Rattle.mesh_model.specs.declared.act.Act.{Act}
 use Rattle.mesh_model.specs.declared.packet.Head.{Head}
 use Rattle.mesh_model.specs.Acts.FragmentRows.{carried_here}
-use Rattle.mesh_model.specs.Knowledge.Known.{Knowledge}
 use Rattle.mesh_model.specs.Knowledge.PutTogether.{put_together, with_part}
 use Rattle.node_ground.specs.KnowledgeStands.{place}
 use Rattle.node_ground.specs.Puts.{Puts}

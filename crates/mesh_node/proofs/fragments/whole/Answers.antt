@@ -1,9 +1,8 @@
-use Rattle.std.proofs.Common.{◌≡◌, Err, None, Option, Some, refl, subst, sym}
+use Rattle.std.proofs.Common.{Err, Option, refl, subst, sym}
 use Rattle.std.proofs.lemmas.Result.{err_from_is_err_and}
 use Rattle.mesh_model.specs.Acts.FragmentRows.{carried_here}
 use Rattle.mesh_model.specs.Knowledge.FactStore.{after_fact_message}
-use Rattle.mesh_model.specs.Knowledge.PutTogether.{Carried, carried_in, fact_carried}
-use Rattle.mesh_model.specs.Packets.FirstPacket.{first_packet}
+use Rattle.mesh_model.specs.Knowledge.PutTogether.{Carried, fact_carried}
 use Rattle.node_ground.specs.KnowledgeStands.{KnowledgeStands, place}
 use Rattle.node_ground.specs.Puts.{Puts, TakesAll}
 use Rattle.mesh_node.proofs.FragmentLemmas.{another_carried, none_carried, one_carried}

@@ -3,7 +3,7 @@ use Rattle.mesh_model.specs.declared.line_form.Algorithm.TheVariants as chosen
 use Rattle.mesh_model.specs.Routes.AlgorithmIv.{iv_queries}
 use Rattle.mesh_model.specs.Routes.AlgorithmV.{v_queries}
 use Rattle.mesh_scene.specs.SceneStands.{IsSomewhere, SceneStands}
-use Rattle.mesh_scene.specs.StageStands.{IsOnStage, StageStands}
+use Rattle.mesh_scene.specs.StageStands.{StageStands}
 use Rattle.mesh_scene.specs.declared.stage.Stage.{Stage}
 use Rattle.mesh_scene.specs.declared.stage.Stage.TheVariants.{Iv, V}
 use Rattle.mesh_show.specs.IvStands.{iv_stands}

@@ -1,9 +1,7 @@
 use Rattle.std.proofs.Common.{rules, ◌≡◌, ◌∙◌, ap, ap₂, Some, ℤ, pos}
 use Rattle.std.specs.Int.{int_max, int_min}
 use Rattle.clap.specs.Values.{signed_between}
-use Rattle.clap.specs.Words.{rule_of}
 use Rattle.clap.specs.declared.builder.value_parser.ValueParser.TheVariants.{Signed}
-use Rattle.mesh_model.specs.Run.CommandLine.{generate_rule}
 use Rattle.mesh_words.proofs.command.generate_arg.Goals as goal
 
 pub returns-clause-rule : goal.returns-clause-rule

@@ -1,4 +1,4 @@
-use Rattle.std.proofs.Common.{◌≡◌, ◌≤◌, ◌∙◌, ◌++◌, List, ap, ap₂, length, subst, sym, take}
+use Rattle.std.proofs.Common.{◌≤◌, ◌∙◌, ◌++◌, List, ap, ap₂, length, subst, sym, take}
 use Rattle.std.specs.Prelude.{ℕ, filter_map}
 use Rattle.mesh_base.specs.declared.address.Mac.{Mac}
 use Rattle.mesh_model.specs.Packets.Pictures.{picture_spelling}

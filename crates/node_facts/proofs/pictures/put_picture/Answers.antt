@@ -2,10 +2,6 @@ use Rattle.std.proofs.Common.{◌≡◌, ◌∙◌, ap, sym}
 use Rattle.std.specs.Prelude.{true}
 use Rattle.mesh_model.specs.Commits.Versions.{last_commit}
 use Rattle.mesh_model.specs.Knowledge.OwnPictures.{puts_picture}
-use Rattle.mesh_model.specs.Packets.Pictures.{picture_spelling}
-use Rattle.mesh_model.specs.Services.Pictures.{own_picture, picture_type, picture_version}
-use Rattle.mesh_model.specs.Knowledge.FactStore.{after_put}
-use Rattle.node_ground.specs.KnowledgeStands.{KnowledgeStands}
 use Rattle.node_facts.proofs.KeptLemmas.{pictured}
 use Rattle.node_facts.proofs.pictures.put_picture.Goals as goal
 

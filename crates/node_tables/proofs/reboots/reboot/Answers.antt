@@ -1,4 +1,4 @@
-use Rattle.std.proofs.Common.{Err, Ok, [], ◌+◌, arith, length, subst}
+use Rattle.std.proofs.Common.{Err, Ok, [], arith, subst}
 use Rattle.std.proofs.lemmas.Result.{err_from_is_err_and}
 use Rattle.mesh_model.specs.Acts.Rows.{reboot_acts}
 use Rattle.mesh_model.specs.Commits.History.{restarted}

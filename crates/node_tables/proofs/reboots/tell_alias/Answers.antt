@@ -1,4 +1,4 @@
-use Rattle.std.proofs.Common.{rules, ◌∙◌, None, Some, ap, sym, subst, refl}
+use Rattle.std.proofs.Common.{rules, ◌∙◌, sym, subst, refl}
 use Rattle.std.proofs.lemmas.Result.{err_from_is_err_and}
 use Rattle.mesh_model.specs.Acts.Rows.{alias_event}
 use Rattle.mesh_model.specs.Commits.Aliases.{last_alias}

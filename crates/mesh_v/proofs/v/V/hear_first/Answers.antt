@@ -1,4 +1,4 @@
-use Rattle.std.proofs.Common.{◌≡◌, ◌∙◌, ap, is_none, sym, subst, rules}
+use Rattle.std.proofs.Common.{◌∙◌, ap, is_none, sym, subst, rules}
 use Rattle.std.specs.List.Sorted.{IsStrictlySortedBy}
 use Rattle.std.specs.Map.{keys_of}
 use Rattle.mesh_algo.specs.Pairs.{pair_order}

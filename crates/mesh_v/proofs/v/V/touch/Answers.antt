@@ -5,7 +5,7 @@ use Rattle.mesh_model.specs.Routes.Addresses.{mac_order, same_mac}
 use Rattle.mesh_model.specs.Routes.HearingsV.{heard_v}
 use Rattle.mesh_model.specs.Routes.Life.{of}
 use Rattle.mesh_algo.proofs.HearingLemmas.{touches_life}
-use Rattle.mesh_v.specs.Hears.{IsHeard, hearing_of, life_before}
+use Rattle.mesh_v.specs.Hears.{IsHeard, hearing_of}
 use Rattle.mesh_v.specs.Tables.{Tables}
 use Rattle.mesh_v.proofs.StepLemmas.{is_met, touch_stands}
 use Rattle.mesh_v.proofs.v.V.touch.Goals as goal

@@ -1,4 +1,4 @@
-use Rattle.std.proofs.Common.{◌∙◌, ap, false, is_some, Some, subst, sym}
+use Rattle.std.proofs.Common.{◌∙◌, ap, is_some, subst, sym}
 use Rattle.node_ground.specs.BroadcastsStand.{BroadcastsStand}
 use Rattle.node_ground.proofs.BroadcastLemmas.{new_by_next, one_more, taken_by_next}
 use Rattle.node_ground.proofs.broadcasts.Broadcasts.take.Goals as goal
