@@ -57,6 +57,7 @@ pub fn place_of<K: Copy + Ord + Hash, V: Copy>(table: &IndexMap<K, V>, key: K) -
 }
 
 /// The row of a key. It is looked for first at a place where it may stand.
+#[inline(always)]
 pub fn row_near<K: Copy + Ord + Hash, V: Copy>(
     table: &IndexMap<K, V>,
     near: usize,
@@ -73,6 +74,7 @@ pub fn row_near<K: Copy + Ord + Hash, V: Copy>(
 }
 
 /// Puts a row as `put` does. The row before it is looked for first at a place where it may stand.
+#[inline(always)]
 pub fn put_near<K: Copy + Ord + Hash, V: Copy>(
     table: &mut IndexMap<K, V>,
     near: usize,
@@ -96,6 +98,7 @@ pub fn put_near<K: Copy + Ord + Hash, V: Copy>(
 }
 
 // Whether the row of a key stands at a place.
+#[inline(always)]
 fn stands_at<K: Copy + Ord + Hash, V: Copy>(table: &IndexMap<K, V>, place: usize, key: K) -> bool
     ensures { result ≡ true → (other : K) × (row : V)
         × (slice_get table.now.entries place ≡ Some (other, row)) × (K.eq key other ≡ true) }

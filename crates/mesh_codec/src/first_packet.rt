@@ -45,6 +45,7 @@ fn whole(fields: &[u8], size: usize) -> Result<&[u8], NoPacket>
 }
 
 // The header of the kind with this type byte, from the bytes after type and version.
+#[inline(always)]
 fn header_in(kind: u8, fields: &[u8]) -> Result<Header<'_>, NoPacket>
     ensures ok { IfOk result (λ header. IsHeader (shape_of_type kind) fields.now header) }
     ensures err { IfErr result (λ cause.
@@ -92,6 +93,7 @@ fn cut(header: Header<'_>) -> Result<Front<'_>, NoPacket>
 }
 
 /// The packet that the bytes begin with, or why there is none.
+#[inline(always)]
 pub fn first_packet(bytes: &[u8]) -> Result<Front<'_>, NoPacket>
     ensures ok { IfOk result (λ front. first_packet bytes.now ≡ Ok (seen_front front)) }
     ensures written { IfOk result (λ front. HasSpelling front.packet.head front.packet.tail.now) }

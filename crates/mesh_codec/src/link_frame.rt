@@ -12,6 +12,7 @@ use mesh_tvlv::first_flaw;
 use std::marker::Model;
 
 // Why the containers of a packet can't be read to their end.
+#[inline(always)]
 fn packet_flaw(packet: &Packet<'_>) -> Option<TvlvErr>
     ensures { result ≡ packet_flaw (seen packet.now) }
 {
@@ -53,6 +54,7 @@ fn is_followed(head: &Head, rest: &[u8]) -> bool
 }
 
 // What ends the packets behind this one, or none where a further one follows.
+#[inline(always)]
 fn ending_behind(front: &Front<'_>) -> Option<Ending>
     ensures { frame_left front.now.rest.now result
         ≡ behind link_frame (seen_front front.now) (packet_flaw (seen front.now.packet)) }
@@ -99,6 +101,7 @@ impl<'a> LinkFrame<'a> {
 
     /// Takes the next packet from the frame, which can be written again. `Err` where there is none,
     /// with what ends them.
+    #[inline(always)]
     pub fn next(&mut self) -> Result<Packet<'a>, Ending>
         ensures ok { IfOk result (λ packet. self.old ≡ put_before (seen packet) self.new) }
         ensures written { IfOk result (λ packet. HasSpelling packet.head packet.tail.now) }

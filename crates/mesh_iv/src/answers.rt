@@ -75,6 +75,7 @@ impl Algo for Iv {
         }
     }
 
+    #[inline(always)]
     fn hear(&mut self, now: Millis, from: Mac, _tp: u32, head: &Head) -> Result<Hearing, NoMemory> {
         let Some(ogm) = ogm_came(now, from, head) else {
             return Ok(UNHEARD);

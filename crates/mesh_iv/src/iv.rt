@@ -66,6 +66,7 @@ impl Iv {
     }
 
     // The life of an originator.
+    #[inline(always)]
     pub(crate) fn life(&self, now: Millis, orig: Mac) -> Option<Life>
         ensures { (me : Mac) (log : RouteLog) → StandsFor me self.now log →
             result ≡ life_row (iv_life me log now orig) }
@@ -74,6 +75,7 @@ impl Iv {
     }
 
     // The row of an originator, if it is live.
+    #[inline(always)]
     fn orig(&self, now: Millis, orig: Mac) -> Option<Orig>
         ensures { (me : Mac) (log : RouteLog) → StandsFor me self.now log →
             result ≡ row_of_life (iv_life me log now orig) }
@@ -82,6 +84,7 @@ impl Iv {
     }
 
     // The row of an originator, if it is live, which may stand at a place.
+    #[inline(always)]
     pub(crate) fn orig_near(&self, near: usize, now: Millis, orig: Mac) -> Option<Orig>
         ensures { (me : Mac) (log : RouteLog) → StandsFor me self.now log →
             result ≡ row_of_life (iv_life me log now orig) }
@@ -90,6 +93,7 @@ impl Iv {
     }
 
     // The row of an originator and a neighbour, which may stand at a place.
+    #[inline(always)]
     pub(crate) fn path_near(&self, near: usize, pair: Pair) -> Option<Path>
         ensures { (me : Mac) (log : RouteLog) → StandsFor me self.now log →
             result ≡ path_at me (heard me log) (λ k. echoes_from me k log) pair }
@@ -98,6 +102,7 @@ impl Iv {
     }
 
     // How many of the last numbers of a neighbour were heard from itself.
+    #[inline(always)]
     pub(crate) fn receive_quality(&self, now: Millis, k: Mac) -> u32
         ensures quality { (me : Mac) (log : RouteLog) → StandsFor me self.now log →
             result ≡ receive_quality now k (heard me log) }
@@ -114,6 +119,7 @@ impl Iv {
     }
 
     // How many of the own last numbers came back from a neighbour.
+    #[inline(always)]
     pub(crate) fn echo_quality(&self, k: Mac) -> u32
         ensures { (me : Mac) (log : RouteLog) → StandsFor me self.now log →
             result ≡ echo_quality me k log }

@@ -78,6 +78,7 @@ impl Path {
     }
 
     /// The mean of the values above 0 among the newest five numbers of the originator.
+    #[inline(always)]
     pub(crate) fn average(&self, newest: u32) -> u32
         ensures { result ≡ average_of newest self.now }
     {

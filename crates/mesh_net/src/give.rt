@@ -27,6 +27,7 @@ pub struct Occasion {
 }
 
 // Gives a node something: its acts are carried out.
+#[inline(always)]
 pub(crate) fn give<A: Algo>(
     node: &mut Node<A>,
     post: &mut Post,
@@ -60,6 +61,7 @@ pub(crate) fn give<A: Algo>(
 }
 
 // Gives the node at a place something, where there is one.
+#[inline(always)]
 pub(crate) fn give_at<A: Algo>(
     seats: &mut Vec<Seat<A>>,
     post: &mut Post,

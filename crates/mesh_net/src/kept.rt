@@ -55,6 +55,7 @@ impl Kept {
     }
 
     /// Puts the sendings of a step behind the others, and lets them go.
+    #[inline(always)]
     pub(crate) fn keep(&mut self, fresh: &mut Vec<Sending>) -> Result<(), NoMemory>
         ensures ok { OnOk result ((self.new ≡ self.old ++ fresh.old.items)
             × (fresh.new.items ≡ [])) }

@@ -109,6 +109,7 @@ impl<A: Algo + Drop> Net<A> {
     }
 
     // Gives the node at the end of its link the frame at a place.
+    #[inline(always)]
     fn deliver_at(&mut self, place: u32, now: Millis, log: &mut Events) -> Result<(), NodeErr>
         requires { HasNodes A.queries A.stands self.old now }
         ensures given { HoldsAmid A.queries A.stands self.old now (λ choice last ticks mesh.

@@ -53,6 +53,7 @@ impl Queue {
     }
 
     /// Lets a happening wait, too.
+    #[inline(always)]
     pub fn push(&mut self, h: Happening) -> Result<(), NoMemory>
         ensures ok { OnOk result (Joins h self.old self.new) }
         ensures err { OnErr result (self.new ≡ self.old) }
@@ -70,6 +71,7 @@ impl Queue {
     }
 
     /// Takes the first happening away, if it is until a moment.
+    #[inline(always)]
     pub fn pop_due(&mut self, t: Millis) -> Option<Happening>
         ensures some { IfSome result (IsPopped self.old self.new t) }
         ensures none { IfNone result ((self.new ≡ self.old) × IsNoneDue self.old t) }
@@ -146,6 +148,7 @@ impl Queue {
     }
 
     // The first happening.
+    #[inline(always)]
     fn earliest(&self) -> Option<Happening>
         ensures { IsEarliest self.now result }
     {
@@ -157,6 +160,7 @@ impl Queue {
     }
 
     // Takes the first happening away.
+    #[inline(always)]
     fn leave(&mut self, h: Happening)
         requires { (x : Happening) → Has self.old x → AtMost h x }
         ensures { Leaves h self.old self.new }

@@ -38,6 +38,7 @@ impl Rising {
     }
 
     /// Whether a happening comes behind all that wait.
+    #[inline(always)]
     pub fn takes(&self, h: Happening) -> bool
         ensures { result ≡ true → (x : Happening) → Has self.now x → Before x h }
     {
@@ -48,6 +49,7 @@ impl Rising {
     }
 
     /// Lets a happening wait behind the others.
+    #[inline(always)]
     pub fn push(&mut self, h: Happening) -> Result<(), NoMemory>
         requires { (x : Happening) → Has self.old x → Before x h }
         ensures ok { OnOk result (self.new ≡ self.old ++ h ∷ []) }
@@ -58,6 +60,7 @@ impl Rising {
     }
 
     /// The first happening.
+    #[inline(always)]
     pub fn earliest(&self) -> Option<Happening>
         ensures { IsEarliest self.now result }
     {
@@ -68,6 +71,7 @@ impl Rising {
     }
 
     /// Takes a happening away that is after none of those that wait.
+    #[inline(always)]
     pub fn leave(&mut self, h: Happening)
         requires { (x : Happening) → Has self.old x → AtMost h x }
         ensures { Leaves h self.old self.new }

@@ -57,6 +57,7 @@ fn is_ogm(bytes: &[u8]) -> bool
 }
 
 /// Notes the clients that the advertisements for this node in a link frame name.
+#[inline(always)]
 pub fn note_roamed(locals: &mut Locals, me: Mac, bytes: &[u8])
     ensures { (mentions : List Mention) (history : History) (since now : ℕ) →
         LocalsStand locals.old mentions history since →

@@ -143,6 +143,7 @@ impl Cutter {
     }
 
     /// Puts acts, of which those are cut that are too long, and counts the cuts.
+    #[inline(always)]
     pub fn put_all<P: Port>(
         &mut self,
         alloc: Global,

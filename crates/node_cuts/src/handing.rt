@@ -30,6 +30,7 @@ fn is_memory(error: NodeErr) -> bool
 
 /// Puts what a row collected, cut where it is too long, and answers as the row did; where it lacked
 /// memory nothing is put.
+#[inline(always)]
 pub fn hand_over<P: Port>(
     cutter: &mut Cutter,
     alloc: Global,
