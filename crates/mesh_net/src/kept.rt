@@ -11,7 +11,7 @@ use std::marker::Model;
 #[derive(Debug, Drop)]
 pub struct Kept {
     store: FrameStore,
-    roots: Vec<u64>,
+    roots: Vec<u32>,
 }
 
 impl Model for Kept {
@@ -51,7 +51,7 @@ impl Kept {
         ensures none { IfNone result (slice_get self.now place ≡ None) }
     {
         let root = *self.roots.get(place as usize)?;
-        Some((self.store.get(place), root))
+        Some((self.store.get(place), u64::from(root)))
     }
 
     /// Puts the sendings of a step behind the others, and lets them go.
@@ -82,13 +82,17 @@ impl Kept {
 
     // Puts a sending behind the others. A full store would be told as want of memory; the limits on
     // frames and bytes, which are looked at before anything is sent, are met no later than its own.
+    // So would a root past 32 bits: it is the index of a tick, and the clock ends before.
     fn push(&mut self, sending: &Sending) -> Result<(), NoMemory>
         ensures { OnOk result (self.new ≡ self.old ++ sending.now ∷ []) }
     {
+        let Ok(root) = u32::try_from(sending.root) else {
+            return Err(NoMemory);
+        };
         self.roots.reserve(1)?;
         match self.store.push(sending.bytes.as_slice()) {
             Ok(_) => {
-                self.roots.push_reserved(sending.root);
+                self.roots.push_reserved(root);
                 Ok(())
             }
             Err(_) => Err(NoMemory),

@@ -126,7 +126,7 @@ impl<A: Algo + Drop> Net<A> {
         ensures { HoldsFor A.queries A.stands self.now (λ choice clock mesh.
             result ≡ length mesh.frames) }
     {
-        match u32::try_from(self.post.frames.as_slice().len()) {
+        match u32::try_from(self.post.frames.len()) {
             Ok(count) => count,
             Err(_) => u32::MAX,
         }

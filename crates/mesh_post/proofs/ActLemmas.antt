@@ -19,7 +19,7 @@ use Rattle.mesh_model.specs.Routes.Queries.{Queries}
 use Rattle.std.specs.List.{filter, list_any}
 use Rattle.mesh_model.specs.Text.Events.{is_shown}
 use Rattle.mesh_post.specs.declared.post.Post.{Post}
-use Rattle.mesh_post.specs.Posting.{Posted}
+use Rattle.mesh_post.specs.declared.posted.Posted.{Posted}
 use Rattle.mesh_post.specs.declared.row.Put.{Put}
 use Rattle.mesh_post.specs.declared.row.Sender.{Sender}
 use Rattle.mesh_post.specs.declared.row.Sending.{Sending}
@@ -58,7 +58,7 @@ amid_more post sendings s last ticks mesh amid = record {
     turns = amid.stands.turns;
     ways = amid.stands.ways;
     lans = amid.stands.lans;
-    frames = frames_keep sendings s mesh.frames post.frames.items amid.stands.frames;
+    frames = frames_keep sendings s mesh.frames post.frames amid.stands.frames;
     puts = puts_keep sendings s mesh.puts post.puts.items amid.stands.puts;
     bytes = amid.stands.bytes;
     few = amid.stands.few;
@@ -100,11 +100,11 @@ pub room_is : (post : Post) (older : List Sending) (last : Happening) (ticks : L
 room_is post older last ticks mesh count size step =
     let sendings = older ++ post.fresh.items in
     ap (λ n. passed_room n (bytes_in mesh) count size) (
-    let f = frames_length sendings mesh.frames post.frames.items step.amid.stands.frames in
+    let f = frames_length sendings mesh.frames post.frames step.amid.stands.frames in
     let p = puts_length sendings mesh.puts post.puts.items step.amid.stands.puts in
     omega (arith, f, p)
     )
-    ∙ ap (λ n. passed_room (length post.frames.items + length post.puts.items) n count size) (sym step.amid.stands.bytes)
+    ∙ ap (λ n. passed_room (length post.frames + length post.puts.items) n count size) (sym step.amid.stands.bytes)
 
 -- the LAN of a node is told by its gateways
 pub lan_by_gateways : (node place : ℕ) (lans : List NetLan) → lan_among node place (gateways_of lans) ≡ lan_from node place lans
@@ -226,7 +226,7 @@ came queries old new put older last ticks mesh log log' step late soon none c to
         turns = subst (TurnsAre mesh.links mesh.frames) (sym c.turns) more.stands.turns;
         ways = subst (WaysAre mesh.nodes mesh.links) (sym c.ways) more.stands.ways;
         lans = c.lans ∙ more.stands.lans;
-        frames = subst (λ ss. FramesAre ss mesh.frames new.frames.items) sendings_are (subst (FramesAre sendings mesh.frames) (sym c.frames) more.stands.frames);
+        frames = subst (λ ss. FramesAre ss mesh.frames new.frames) sendings_are (subst (FramesAre sendings mesh.frames) (sym c.frames) more.stands.frames);
         puts = subst (λ ss. PutsAre ss (mesh.puts ++ put ∷ []) new.puts.items) sendings_are (subst (PutsAre sendings (mesh.puts ++ put ∷ [])) (sym c.puts) (puts_more sendings mesh.puts old.puts.items put kept more.stands.puts (record {
           lan = refl;
           by = refl;

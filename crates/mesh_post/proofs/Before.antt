@@ -12,7 +12,7 @@ use Rattle.mesh_model.specs.Net.Next.{Has}
 use Rattle.mesh_laws.proofs.Schedule.Members.{filter_has, has_filter, one_some}
 use Rattle.mesh_post.specs.declared.marks.Mark.{Mark}
 use Rattle.mesh_post.specs.declared.post.Post.{Post}
-use Rattle.mesh_post.specs.Posting.{Posted}
+use Rattle.mesh_post.specs.declared.posted.Posted.{Posted}
 use Rattle.mesh_post.specs.declared.row.Put.{Put}
 use Rattle.mesh_post.specs.declared.row.Sending.{Sending}
 use Rattle.mesh_post.specs.Refused.{Enters, IsAsBefore, IsMark, KeepsJoined, TakesBack, is_older, stays, with_turns}
@@ -81,7 +81,7 @@ pub enters_none : (p : Post) → Enters p p
 enters_none p = record {
   joined = joined_none p;
   frames = [];
-  frames_are = sym (append-nil p.frames.items);
+  frames_are = sym (append-nil p.frames);
   turns = refl;
   puts = [];
   puts_are = sym (append-nil p.puts.items);
@@ -94,14 +94,14 @@ pub enters_both : (a b c : Post) → Enters a b → Enters b c → Enters a c
 enters_both a b c p q = record {
   joined = joined_both a b c p.joined q.joined;
   frames = p.frames ++ q.frames;
-  frames_are = q.frames_are ∙ ap (λ l. l ++ q.frames) p.frames_are ∙ append_assoc a.frames.items p.frames q.frames;
+  frames_are = q.frames_are ∙ ap (λ l. l ++ q.frames) p.frames_are ∙ append_assoc a.frames p.frames q.frames;
   turns = q.turns ∙ ap (with_turns q.frames) p.turns ∙ sym (turns_both p.frames q.frames a.turns.items);
   puts = p.puts ++ q.puts;
   puts_are = q.puts_are ∙ ap (λ l. l ++ q.puts) p.puts_are ∙ append_assoc a.puts.items p.puts q.puts;
   fresh = p.fresh ++ q.fresh;
   fresh_are = q.fresh_are ∙ ap (λ l. l ++ q.fresh) p.fresh_are ∙ append_assoc a.fresh.items p.fresh q.fresh;
   waits = λ x old.
-      let later = older_grows (length a.frames.items) (length a.puts.items) (length b.frames.items) (length b.puts.items) x.class x.place (longer a.frames.items p.frames b.frames.items p.frames_are) (longer a.puts.items p.puts b.puts.items p.puts_are) old in
+      let later = older_grows (length a.frames) (length a.puts.items) (length b.frames) (length b.puts.items) x.class x.place (longer a.frames p.frames b.frames p.frames_are) (longer a.puts.items p.puts b.puts.items p.puts_are) old in
       let one = p.waits x old in
       let two = q.waits x later in
       (λ has. one.0 (two.0 has), λ has. two.1 (one.1 has));
@@ -117,7 +117,7 @@ no_next_put frames puts x old class place =
     let low = ltb-true x.place puts (subst (λ c. is_older frames puts c x.place ≡ true) class old) in omega (arith, low, place)
 
 -- a frame on a link may have been entered, and its deliveries
-pub frame_entered : (a b : Post) (place : ℕ) (more : List Posted) → KeepsJoined a b → place ≡ length a.frames.items → b.frames.items ≡ a.frames.items ++ more → b.turns.items ≡ with_turns more a.turns.items → b.puts.items ≡ a.puts.items → b.fresh.items ≡ a.fresh.items
+pub frame_entered : (a b : Post) (place : ℕ) (more : List Posted) → KeepsJoined a b → place ≡ length a.frames → b.frames ≡ a.frames ++ more → b.turns.items ≡ with_turns more a.turns.items → b.puts.items ≡ a.puts.items → b.fresh.items ≡ a.fresh.items
     → ((x : Happening) → (x.class ≡ LinkDelivery → x.place ≡ place → ⊥) → Has b.queue x ↔ Has a.queue x) → Enters a b
 frame_entered a b place more joined next frames turns puts fresh others = record {
   joined = joined;
@@ -128,22 +128,22 @@ frame_entered a b place more joined next frames turns puts fresh others = record
   puts_are = puts ∙ sym (append-nil a.puts.items);
   fresh = [];
   fresh_are = fresh ∙ sym (append-nil a.fresh.items);
-  waits = λ x old. others x (λ class at. no_next_frame (length a.frames.items) (length a.puts.items) x old class (at ∙ next));
+  waits = λ x old. others x (λ class at. no_next_frame (length a.frames) (length a.puts.items) x old class (at ∙ next));
 }
 
 -- a frame on a LAN may have been entered, and its delivery
-pub put_entered : (a b : Post) (place : ℕ) (more : List Put) (sent : List Sending) → KeepsJoined a b → place ≡ length a.puts.items → b.frames.items ≡ a.frames.items → b.turns.items ≡ a.turns.items → b.puts.items ≡ a.puts.items ++ more → b.fresh.items ≡ a.fresh.items ++ sent
+pub put_entered : (a b : Post) (place : ℕ) (more : List Put) (sent : List Sending) → KeepsJoined a b → place ≡ length a.puts.items → b.frames ≡ a.frames → b.turns.items ≡ a.turns.items → b.puts.items ≡ a.puts.items ++ more → b.fresh.items ≡ a.fresh.items ++ sent
     → ((x : Happening) → (x.class ≡ LanDelivery → x.place ≡ place → ⊥) → Has b.queue x ↔ Has a.queue x) → Enters a b
 put_entered a b place more sent joined next frames turns puts fresh others = record {
   joined = joined;
   frames = [];
-  frames_are = frames ∙ sym (append-nil a.frames.items);
+  frames_are = frames ∙ sym (append-nil a.frames);
   turns = turns;
   puts = more;
   puts_are = puts;
   fresh = sent;
   fresh_are = fresh;
-  waits = λ x old. others x (λ class at. no_next_put (length a.frames.items) (length a.puts.items) x old class (at ∙ next));
+  waits = λ x old. others x (λ class at. no_next_put (length a.frames) (length a.puts.items) x old class (at ∙ next));
 }
 
 -- ---- what is taken back
@@ -151,7 +151,7 @@ pub as_before : (mark : Mark) (old mid new : Post) → IsMark old mark → Enter
 as_before mark old mid new m e t = record {
   joined = joined_both old mid new e.joined t.joined;
   turns = t.turns old.turns.items (e.turns ∙ ap (λ l. with_turns l old.turns.items) (sym came));
-  frames = t.frames ∙ ap (λ n. take n mid.frames.items) m.frames ∙ take_front old.frames.items e.frames mid.frames.items e.frames_are;
+  frames = t.frames ∙ ap (λ n. take n mid.frames) m.frames ∙ take_front old.frames e.frames mid.frames e.frames_are;
   puts = t.puts ∙ ap (λ n. take n mid.puts.items) m.puts ∙ take_front old.puts.items e.puts mid.puts.items e.puts_are;
   fresh = t.fresh ∙ ap (λ n. take n mid.fresh.items) m.fresh ∙ take_front old.fresh.items e.fresh mid.fresh.items e.fresh_are;
   bytes = t.bytes ∙ m.bytes;
@@ -161,11 +161,11 @@ as_before mark old mid new m e t = record {
   );
 }
   where
-    came : drop mark.frames mid.frames.items ≡ e.frames
-    came = ap (λ n. drop n mid.frames.items) m.frames ∙ drop_front old.frames.items e.frames mid.frames.items e.frames_are
+    came : drop mark.frames mid.frames ≡ e.frames
+    came = ap (λ n. drop n mid.frames) m.frames ∙ drop_front old.frames e.frames mid.frames e.frames_are
 
     test : Happening → Bool
-    test = stays (length old.frames.items) (length old.puts.items)
+    test = stays (length old.frames) (length old.puts.items)
 
     queue : new.queue ≡ filter test mid.queue
-    queue = t.queue ∙ ap (λ n. filter (stays n mark.puts) mid.queue) m.frames ∙ ap (λ n. filter (stays (length old.frames.items) n) mid.queue) m.puts
+    queue = t.queue ∙ ap (λ n. filter (stays n mark.puts) mid.queue) m.frames ∙ ap (λ n. filter (stays (length old.frames) n) mid.queue) m.puts

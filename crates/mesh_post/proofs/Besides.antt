@@ -44,8 +44,8 @@ step_waits step waits = record {
 }
 
 -- amid a step, in a mesh with other nodes and links
-pub step_over : {post : Post} {older : List Sending} {last : Happening} {ticks : List Happening} {mesh : Mesh} {nodes : List NodeLog} {links : List NetLink} {rows : Vec Row} {turns : Vec ℕ} {ways : Vec (List ℕ)}
-    → InStep post older last ticks mesh → RowsAre nodes links rows.items → TurnsAre links mesh.frames turns.items → WaysAre nodes links ways.items → Awaits post.queue last ticks links mesh.frames mesh.puts
+pub step_over : {post : Post} {older : List Sending} {last : Happening} {ticks : List Happening} {mesh : Mesh} {nodes : List NodeLog} {links : List NetLink} {rows : List Row} {turns : Vec ℕ} {ways : Vec (List ℕ)}
+    → InStep post older last ticks mesh → RowsAre nodes links rows → TurnsAre links mesh.frames turns.items → WaysAre nodes links ways.items → Awaits post.queue last ticks links mesh.frames mesh.puts
     → InStep (record post { rows = rows; turns = turns; ways = ways }) older last ticks (record mesh { nodes = nodes; links = links })
 step_over step rows turns ways waits = record {
   amid = record {

@@ -1,5 +1,6 @@
 -- What the methods rest on.
 pub mod LookUps
+pub mod FrameLemmas
 pub mod Besides
 pub mod RisingLemmas
 pub mod TurnLemmas
@@ -11,4 +12,5 @@ pub mod Ways
 pub mod Midway
 pub mod ActLemmas
 pub mod Back
+pub mod RowLemmas
 pub mod JoinLemmas

@@ -1,5 +1,5 @@
 -- Look-ups by place.
-use Rattle.std.proofs.Common.{◌≡◌, ℕ, zero, suc, ◌<◌, List, [], ◌∷◌, length, get_or, slice_get, Some, refl, sym, ap, ◌∙◌, arith}
+use Rattle.std.proofs.Common.{◌≡◌, ℕ, zero, suc, ◌<◌, List, [], ◌∷◌, length, get_or, slice_get, None, Some, refl, sym, ap, ◌∙◌, arith}
 
 pub some_one : {X : Type 0} (x y : X) → Some x ≡ Some y → x ≡ y
 some_one x y e = cc
@@ -19,3 +19,7 @@ pub got_there : {X : Type 0} (xs : List X) (i : ℕ) → i < length xs → (x : 
 got_there [] i l = absurd (omega (arith, l))
 got_there (x ∷ xs) zero l = (x, refl)
 got_there (x ∷ xs) (suc i) l = got_there xs i (omega (arith, l))
+
+-- something found is not nothing found
+pub some_none : {X : Type 0} (x : X) → Some x ≡ None → ⊥
+some_none x e = cc

@@ -109,7 +109,7 @@ midway_step choice old_post post sendings last ticks sender reason bytes all res
     (send at.mid link.0 at.sends.amid link.1 (first_room at.mid sender.now (length bytes) next at.room))
 
 pub chosen_kept : (a b : Post) (node i : ℕ) (to : Option Mac) → KeepsAll a b → chosen_at b node i to ≡ chosen_at a node i to
-chosen_kept a b node i to kept = λ k. option_and_then (if_passes (row_goes (kept.rows k).items to)) (slice_get (slice_index_or (kept.ways k).items node []) i)
+chosen_kept a b node i to kept = λ k. option_and_then (if_passes (row_goes (kept.rows k) to)) (slice_get (slice_index_or (kept.ways k).items node []) i)
 
 pub count_kept : (a b : Post) (node : ℕ) → KeepsAll a b → length (slice_index_or b.ways.items node []) ≡ length (slice_index_or a.ways.items node [])
 count_kept a b node kept = λ k. length (slice_index_or (kept.ways k).items node [])

@@ -11,7 +11,7 @@ use Rattle.mesh_model.specs.Net.Mesh.{NetLink, SentFrame, LanPut, Mesh}
 use Rattle.mesh_model.specs.Net.Next.{Has}
 use Rattle.mesh_model.specs.Net.Sending.{frames_on, put_bytes, total_bytes}
 use Rattle.mesh_model.specs.Scenario.Terms.{held_mark}
-use Rattle.mesh_post.specs.Posting.{Posted}
+use Rattle.mesh_post.specs.declared.posted.Posted.{Posted}
 use Rattle.mesh_post.specs.declared.row.Put.{Put}
 use Rattle.mesh_post.specs.declared.row.Sending.{Sending}
 use Rattle.mesh_post.specs.declared.post.Post.{Post}
@@ -230,7 +230,7 @@ carries old new sender reason parcel way bytes lane sendings last ticks mesh lin
     ways = subst (WaysAre mesh.nodes mesh.links) (sym c.ways) amid.stands.ways;
     lans = c.lans ∙ amid.stands.lans;
     puts = subst (PutsAre sendings mesh.puts) (sym c.puts) amid.stands.puts;
-    frames = subst (FramesAre sendings (mesh.frames ++ f ∷ [])) (sym c.frames) (frames_more sendings mesh.frames old.frames.items f (record { link = way; sending = parcel }) amid.stands.frames (record {
+    frames = subst (FramesAre sendings (mesh.frames ++ f ∷ [])) (sym c.frames) (frames_more sendings mesh.frames old.frames f (record { link = way; sending = parcel }) amid.stands.frames (record {
       link = refl;
       sending = sending.sending;
       found = sending.found;
@@ -252,7 +252,7 @@ carries old new sender reason parcel way bytes lane sendings last ticks mesh lin
 
     gained : Gained old.queue new.queue (map (delivery_at (length mesh.frames)) (arrivals mesh.links f))
     gained = subst (λ ms. Gained old.queue new.queue (map (delivery_at (length mesh.frames)) ms)) (sym arrives)
-        (subst (λ n. Gained old.queue new.queue (map (delivery_at n) (arrivals_by (fate_of_mark lane.mark) sender.now lane.delay))) (frames_length sendings mesh.frames old.frames.items amid.stands.frames) c.queue)
+        (subst (λ n. Gained old.queue new.queue (map (delivery_at n) (arrivals_by (fate_of_mark lane.mark) sender.now lane.delay))) (frames_length sendings mesh.frames old.frames amid.stands.frames) c.queue)
 
     least : 1 ≤ lane.delay
     least = subst (λ d. 1 ≤ d) (sym is.delay) is.least

@@ -1,7 +1,7 @@
 -- How many frames each link carried, as frames are entered.
 use Rattle.std.proofs.Common.{◌≡◌, ℕ, zero, suc, ◌≤◌, List, [], ◌∷◌, ◌++◌, length, drop, slice_get, slice_set, Some, refl, sym, ap, ◌∙◌}
 use Rattle.std.proofs.lemmas.List.{drop-append-le}
-use Rattle.mesh_post.specs.Posting.{Posted}
+use Rattle.mesh_post.specs.declared.posted.Posted.{Posted}
 use Rattle.mesh_post.specs.Refused.{with_turn, with_turns}
 use Rattle.mesh_post.proofs.LookUps.{some_one}
 

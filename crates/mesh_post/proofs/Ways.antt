@@ -97,13 +97,13 @@ filter_same a b (w ∷ ws) same =
     ap (λ c. cond c (w ∷ filter a ws) (filter a ws)) (same w (inl refl))
     ∙ ap (λ xs. cond (b w) (w ∷ xs) xs) (filter_same a b ws (λ v h. same v (inr h)))
 
-pub chosen_are_ways : (post : Post) (nodes : List NodeLog) (links : List NetLink) (place : ℕ) (to : Option Mac) → RowsAre nodes links post.rows.items → ((leaving : List ℕ) → slice_get post.ways.items place ≡ Some leaving → leaving ≡ ways [] place None 0 links) → place < length post.ways.items → chosen_ways post place to ≡ ways nodes place to 0 links
+pub chosen_are_ways : (post : Post) (nodes : List NodeLog) (links : List NetLink) (place : ℕ) (to : Option Mac) → RowsAre nodes links post.rows → ((leaving : List ℕ) → slice_get post.ways.items place ≡ Some leaving → leaving ≡ ways [] place None 0 links) → place < length post.ways.items → chosen_ways post place to ≡ ways nodes place to 0 links
 chosen_are_ways post nodes links place to rows leaving low =
     let there = got_there post.ways.items place low in
     let is = leaving there.0 there.1 in
     let read : slice_index_or post.ways.items place [] ≡ ways [] place None 0 links = get_or_from_slice_get post.ways.items place there.0 [] there.1 ∙ is in
-    ap (filter (row_goes post.rows.items to)) read
-    ∙ filter_same (row_goes post.rows.items to) (goes_on nodes to links) (ways [] place None 0 links) (λ w h. row_goes_on nodes to links post.rows.items w rows (let l = low_ways [] place None 0 links w h in omega (arith, l)))
+    ap (filter (row_goes post.rows to)) read
+    ∙ filter_same (row_goes post.rows to) (goes_on nodes to links) (ways [] place None 0 links) (λ w h. row_goes_on nodes to links post.rows w rows (let l = low_ways [] place None 0 links w h in omega (arith, l)))
     ∙ sym (chosen_from nodes place to 0 links links (λ i. ap (slice_get links) (omega arith)))
 
 -- ---- one frame after another is what an act sends

@@ -9,7 +9,7 @@ use Rattle.mesh_model.specs.Net.Sending.{frames_on, put_bytes, total_bytes, ways
 use Rattle.mesh_model.specs.Scenario.LinkOptions.{least_delay, delay_limit}
 use Rattle.mesh_post.specs.declared.post.Post.{Post}
 use Rattle.mesh_post.specs.declared.row.Row.{Row}
-use Rattle.mesh_post.specs.Posting.{Posted}
+use Rattle.mesh_post.specs.declared.posted.Posted.{Posted}
 use Rattle.mesh_post.specs.declared.row.Put.{Put}
 use Rattle.mesh_post.specs.declared.row.Sending.{Sending}
 
@@ -98,11 +98,11 @@ bytes_in mesh = total_bytes mesh.frames + put_bytes mesh.puts
 
 -- what is kept is what a mesh has, with these sendings
 pub record PostStands (post : Post) (sendings : List Sending) (mesh : Mesh) : Type 0 where
-  pub rows : RowsAre mesh.nodes mesh.links post.rows.items
+  pub rows : RowsAre mesh.nodes mesh.links post.rows
   pub turns : TurnsAre mesh.links mesh.frames post.turns.items
   pub ways : WaysAre mesh.nodes mesh.links post.ways.items
   pub lans : post.lans.items ≡ gateways_of mesh.lans
-  pub frames : FramesAre sendings mesh.frames post.frames.items
+  pub frames : FramesAre sendings mesh.frames post.frames
   pub puts : PutsAre sendings mesh.puts post.puts.items
   pub bytes : post.bytes ≡ bytes_in mesh
   pub few : frames_in mesh ≤ frames_limit

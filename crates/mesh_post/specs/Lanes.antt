@@ -1,7 +1,6 @@
 -- What a net asks of a link before a frame goes on it: the mark of its turn, the delay, and the
 -- address at its end; and who gets a frame of a LAN. The main word is `LaneIs`.
-use Rattle.std.specs.Prelude.{◌≡◌, ℕ, ◌≤◌, ◌%◌, nat_eq, not, Bool, true, false, List, [], ◌∷◌, length, slice_get, slice_index_or, Option, Some, None, if◌then◌else◌}
-use Rattle.std.specs.Option.{option_map_or}
+use Rattle.std.specs.Prelude.{◌≡◌, ℕ, ◌≤◌, ◌%◌, nat_eq, not, Bool, true, List, length, slice_get, slice_index_or, Option, Some, None}
 use Rattle.mesh_model.specs.Net.Mesh.{NetLink, SentFrame, Mesh, address_at}
 use Rattle.mesh_model.specs.Net.Runs.{throughput_between}
 use Rattle.mesh_model.specs.Net.Sending.{frames_on}
@@ -9,7 +8,6 @@ use Rattle.mesh_model.specs.Scenario.LinkOptions.{least_delay, delay_limit}
 use Rattle.mesh_model.specs.Scenario.Terms.{held_mark}
 use Rattle.mesh_post.specs.declared.row.Arrival.{Arrival}
 use Rattle.mesh_post.specs.declared.row.Lane.{Lane}
-use Rattle.mesh_post.specs.declared.row.Row.{Row}
 use Rattle.mesh_post.specs.declared.row.Sending.{Sending}
 
 -- the next frame of the link at a place finds this
@@ -31,24 +29,6 @@ pub record ArrivalIs (sendings : List Sending) (mesh : Mesh) (frame : SentFrame)
   pub found : slice_get sendings arrival.sending ≡ Some sending
   pub bytes : sending.bytes ≡ frame.bytes
   pub root : sending.root ≡ frame.root
-
--- whether the link of the row at a place leads to a node
-abbrev pub row_leads : List Row → ℕ → ℕ → Bool
-row_leads rows to way = option_map_or (λ (row : Row). nat_eq row.to to) (slice_get rows way) false
-
--- its throughput
-abbrev pub row_throughput : List Row → ℕ → ℕ
-row_throughput rows way = option_map_or (λ (row : Row). row.tp) (slice_get rows way) 0
-
--- its throughput, where it leads to a node
-abbrev pub if_leads : List Row → ℕ → ℕ → Option ℕ
-if_leads rows to way = if row_leads rows to way then Some (row_throughput rows way) else None
-
--- the throughput of the first of some links that leads to a node, or 0
-abbrev pub first_throughput : List Row → ℕ → List ℕ → ℕ
-first_throughput rows to [] = 0
-first_throughput rows to (way ∷ rest) =
-    if row_leads rows to way then row_throughput rows way else first_throughput rows to rest
 
 -- whether a place is another than one, where that is named
 abbrev pub is_other : Option ℕ → ℕ → Bool

@@ -5,5 +5,6 @@ pub mod Waiting
 pub mod Posting
 pub mod Kept
 pub mod Lanes
+pub mod Links
 pub mod Sent
 pub mod Refused

@@ -10,7 +10,7 @@ use Rattle.mesh_model.specs.Net.Next.{Has}
 use Rattle.mesh_post.specs.declared.marks.Mark.{Mark}
 use Rattle.mesh_post.specs.declared.port.NetPort.{NetPort}
 use Rattle.mesh_post.specs.declared.post.Post.{Post}
-use Rattle.mesh_post.specs.Posting.{Posted}
+use Rattle.mesh_post.specs.declared.posted.Posted.{Posted}
 use Rattle.mesh_post.specs.declared.row.Put.{Put}
 use Rattle.mesh_post.specs.declared.row.Sending.{Sending}
 
@@ -48,19 +48,19 @@ with_turns (frame ∷ frames) turns = with_turns frames (with_turn frame.link tu
 pub record Enters (old new : Post) : Type 0 where
   pub joined : KeepsJoined old new
   pub frames : List Posted
-  pub frames_are : new.frames.items ≡ old.frames.items ++ frames
+  pub frames_are : new.frames ≡ old.frames ++ frames
   pub turns : new.turns.items ≡ with_turns frames old.turns.items
   pub puts : List Put
   pub puts_are : new.puts.items ≡ old.puts.items ++ puts
   pub fresh : List Sending
   pub fresh_are : new.fresh.items ≡ old.fresh.items ++ fresh
   pub waits : (x : Happening) →
-      stays (length old.frames.items) (length old.puts.items) x ≡ true →
+      stays (length old.frames) (length old.puts.items) x ≡ true →
       Has new.queue x ↔ Has old.queue x
 
 -- a mark is of what is kept
 pub record IsMark (post : Post) (mark : Mark) : Type 0 where
-  pub frames : mark.frames ≡ length post.frames.items
+  pub frames : mark.frames ≡ length post.frames
   pub puts : mark.puts ≡ length post.puts.items
   pub fresh : mark.fresh ≡ length post.fresh.items
   pub bytes : mark.bytes ≡ post.bytes
@@ -68,25 +68,25 @@ pub record IsMark (post : Post) (mark : Mark) : Type 0 where
 -- what was entered since a mark is taken back
 pub record TakesBack (mark : Mark) (old new : Post) : Type 0 where
   pub joined : KeepsJoined old new
-  pub frames : new.frames.items ≡ take mark.frames old.frames.items
+  pub frames : new.frames ≡ take mark.frames old.frames
   pub puts : new.puts.items ≡ take mark.puts old.puts.items
   pub fresh : new.fresh.items ≡ take mark.fresh old.fresh.items
   pub bytes : new.bytes ≡ mark.bytes
   pub turns : (before : List ℕ) →
-      old.turns.items ≡ with_turns (drop mark.frames old.frames.items) before →
+      old.turns.items ≡ with_turns (drop mark.frames old.frames) before →
       new.turns.items ≡ before
   pub queue : new.queue ≡ filter (stays mark.frames mark.puts) old.queue
 
 -- each delivery that waits is of a frame that is kept
 abbrev pub AwaitsItsFrames : Post → Type 0
 AwaitsItsFrames post = (x : Happening) → Has post.queue x →
-    stays (length post.frames.items) (length post.puts.items) x ≡ true
+    stays (length post.frames) (length post.puts.items) x ≡ true
 
 -- what is kept is as it was
 pub record IsAsBefore (old new : Post) : Type 0 where
   pub joined : KeepsJoined old new
   pub turns : new.turns.items ≡ old.turns.items
-  pub frames : new.frames.items ≡ old.frames.items
+  pub frames : new.frames ≡ old.frames
   pub puts : new.puts.items ≡ old.puts.items
   pub fresh : new.fresh.items ≡ old.fresh.items
   pub bytes : new.bytes ≡ old.bytes

@@ -124,14 +124,14 @@ pub record HasRoom (mesh : Mesh) (now more : ℕ) : Type 0 where
 -- wait
 pub record Carries (old new : Post) (sender : Sender) (parcel size way : ℕ) (lane : Lane) : Type 0
   where
-    pub rows : new.rows.items ≡ old.rows.items
+    pub rows : new.rows ≡ old.rows
     pub ways : new.ways.items ≡ old.ways.items
     pub lans : new.lans.items ≡ old.lans.items
     pub puts : new.puts.items ≡ old.puts.items
     pub turns : new.turns.items ≡ slice_set old.turns.items way (suc lane.turn)
-    pub frames : new.frames.items ≡ old.frames.items ++ record { link = way; sending = parcel } ∷ []
+    pub frames : new.frames ≡ old.frames ++ record { link = way; sending = parcel } ∷ []
     pub bytes : new.bytes ≡ old.bytes + size
-    pub queue : Gained old.queue new.queue (map (delivery_at (length old.frames.items))
+    pub queue : Gained old.queue new.queue (map (delivery_at (length old.frames))
         (arrivals_by (fate_of_mark lane.mark) sender.now lane.delay))
 
 -- the mesh with one more LAN frame, and its event
@@ -144,11 +144,11 @@ put_in put mesh = record mesh {
 -- what is kept has one LAN frame more, by its LAN and who put it, with its bytes as a sending, and
 -- its delivery waits
 pub record CarriesPut (old new : Post) (put : LanPut) : Type 0 where
-  pub rows : new.rows.items ≡ old.rows.items
+  pub rows : new.rows ≡ old.rows
   pub ways : new.ways.items ≡ old.ways.items
   pub turns : new.turns.items ≡ old.turns.items
   pub lans : new.lans.items ≡ old.lans.items
-  pub frames : new.frames.items ≡ old.frames.items
+  pub frames : new.frames ≡ old.frames
   pub puts : new.puts.items ≡ old.puts.items
       ++ record { lan = put.lan; sending = old.older + length old.fresh.items; by = put.by } ∷ []
   pub fresh : new.fresh.items ≡ old.fresh.items ++ record { root = 0; bytes = put.bytes } ∷ []
@@ -169,7 +169,7 @@ row_goes rows to way = option_map_or (λ (row : Row). goes_mac to row.end) (slic
 -- the places of the links on which a frame of the node at a place goes
 abbrev pub chosen_ways : Post → ℕ → Option Mac → List ℕ
 chosen_ways post place to =
-    filter (row_goes post.rows.items to) (slice_index_or post.ways.items place [])
+    filter (row_goes post.rows to) (slice_index_or post.ways.items place [])
 
 -- a way, where it passes a test
 abbrev pub if_passes : (ℕ → Bool) → ℕ → Option ℕ
@@ -177,7 +177,7 @@ if_passes test way = if test way then Some way else None
 
 -- the place of the link at a place among those that leave a node, where a frame goes on it
 abbrev pub chosen_at : Post → ℕ → ℕ → Option Mac → Option ℕ
-chosen_at post node i to = option_and_then (if_passes (row_goes post.rows.items to))
+chosen_at post node i to = option_and_then (if_passes (row_goes post.rows to))
     (slice_get (slice_index_or post.ways.items node []) i)
 
 -- the limit that so many more frames of so many bytes would pass
@@ -190,7 +190,7 @@ passed_room frames bytes count size =
 -- the limit that so many more frames of so many bytes would pass, behind those that are kept
 abbrev pub passed_more : Post → ℕ → ℕ → Option LimitName
 passed_more post count size =
-    passed_room (length post.frames.items + length post.puts.items) post.bytes count size
+    passed_room (length post.frames + length post.puts.items) post.bytes count size
 
 -- the place of the LAN that has the node at a place among its gateways, by the gateways of LANs of
 -- which the first stands at a place

@@ -1,7 +1,7 @@
-ghost use Rattle.std.specs.Prelude.{◌≡◌, [], ◌<◌, List, slice_get, slice_index_or, option_and_then, option_map, Some, None};
+ghost use Rattle.std.specs.Prelude.{◌≡◌, List, slice_get, option_and_then, option_map, Some, None};
 ghost use Rattle.mesh_model.specs.Net.Mesh.{NetLink, SentFrame, Mesh};
 ghost use Rattle.mesh_post.specs.declared.row.Arrival.{Arrival};
-ghost use Rattle.mesh_post.specs.Lanes.{ArrivalIs, first_throughput, if_leads};
+ghost use Rattle.mesh_post.specs.Lanes.{ArrivalIs};
 ghost use Rattle.mesh_post.specs.declared.row.Sending.{Sending};
 ghost use Rattle.mesh_post.specs.Kept.{PostStands};
 
@@ -16,8 +16,8 @@ impl Post {
             (λ (frame : SentFrame). slice_get mesh.links frame.link)
             (slice_get mesh.frames place)) }
     {
-        let frame = self.frames.get(place as usize)?;
-        let row = self.rows.get(frame.link() as usize)?;
+        let frame = self.frames.get(place)?;
+        let row = self.rows.get(frame.link)?;
         Some(row.to)
     }
 
@@ -33,44 +33,13 @@ impl Post {
             PostStands self.now sendings mesh → slice_get mesh.frames place ≡ None →
             result ≡ None }
     {
-        let frame = self.frames.get(place as usize)?;
-        let row = self.rows.get(frame.link() as usize)?;
+        let frame = self.frames.get(place)?;
+        let row = self.rows.get(frame.link)?;
         Some(Arrival {
-            sending: frame.sending(),
+            sending: frame.sending,
             to: row.to,
             from: row.start,
-            tp: self.throughput(row.to, row.from),
+            tp: self.rows.back(frame.link),
         })
-    }
-
-    // The throughput of the link from one node to another, or 0 where there is none.
-    fn throughput(&self, from: u32, to: u32) -> u32
-        ensures { result ≡ first_throughput self.now.rows.items to
-            (slice_index_or self.now.ways.items from []) }
-    {
-        for i in 0..self.way_count(from) {
-            if let Some(tp) = self.throughput_at(from, i, to) {
-                return tp;
-            }
-        }
-        0
-    }
-
-    // The throughput of the link at a place among those that leave a node, where it leads to
-    // another.
-    fn throughput_at(&self, from: u32, i: usize, to: u32) -> Option<u32>
-        ensures { result ≡ option_and_then (if_leads self.now.rows.items to)
-            (slice_get (slice_index_or self.now.ways.items from []) i) }
-    {
-        let way = self.way_at(from, i)?;
-        self.leads(way, to)
-    }
-
-    // The throughput of the link at a place, where it leads to a node.
-    fn leads(&self, way: u32, to: u32) -> Option<u32>
-        ensures { result ≡ if_leads self.now.rows.items to way }
-    {
-        let row = self.rows.get(way as usize)?;
-        if row.to == to { Some(row.tp) } else { None }
     }
 }

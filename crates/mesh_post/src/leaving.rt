@@ -24,9 +24,9 @@ impl Post {
 
     // Whether a frame goes on the link at a place.
     fn goes(&self, way: u32, to: Option<Mac>) -> bool
-        ensures { result ≡ row_goes self.now.rows.items to way }
+        ensures { result ≡ row_goes self.now.rows to way }
     {
-        let Some(row) = self.rows.get(way as usize) else {
+        let Some(row) = self.rows.get(way) else {
             return false;
         };
         match to {

@@ -4,6 +4,7 @@
 #![tactic(auto)]
 
 mod arrivals;
+mod frames;
 mod leaving;
 mod marks;
 mod port;
@@ -13,12 +14,15 @@ mod puts;
 mod queue;
 mod rising;
 mod row;
+mod rows;
 mod sends;
 mod shown;
 mod turns;
 
+pub use frames::Frames;
 pub use port::NetPort;
 pub use post::{Post, place_of};
 pub use puts::Putting;
 pub use queue::Queue;
 pub use row::{Arrival, Gateways, Put, Row, Sender, Sending};
+pub use rows::Rows;

@@ -1,8 +1,8 @@
 ghost use Rattle.std.specs.Prelude.{◌≡◌, ℕ, List, drop, take};
 ghost use Rattle.mesh_post.specs.Refused.{IsMark, TakesBack, with_turns};
 
+use crate::frames::Frames;
 use crate::post::Post;
-use crate::posted::Posted;
 use crate::turns::take_turn;
 
 /// What is kept at a moment, as far as acts change it: how many frames, LAN frames and sendings of
@@ -41,15 +41,15 @@ impl Post {
 }
 
 // Takes back the frames from a place on, the last one first, and the turns of their links.
-fn take_frames(frames: &mut Vec<Posted>, turns: &mut Vec<u32>, place: usize)
-    ensures frames { frames.new.items ≡ take place frames.old.items }
+fn take_frames(frames: &mut Frames, turns: &mut Vec<u32>, place: usize)
+    ensures frames { frames.new ≡ take place frames.old }
     ensures turns { (before : List ℕ) →
-        turns.old.items ≡ with_turns (drop place frames.old.items) before →
+        turns.old.items ≡ with_turns (drop place frames.old) before →
         turns.new.items ≡ before }
 {
     while frames.len() > place {
         if let Some(frame) = frames.pop() {
-            take_turn(turns, frame.link());
+            take_turn(turns, frame.link);
         }
     }
 }

@@ -9,9 +9,10 @@ ghost use Rattle.mesh_post.specs.Kept.{RowIs};
 ghost use Rattle.mesh_post.specs.Joining.{with_node, with_link};
 ghost use Rattle.mesh_post.specs.Sent.{InStep};
 
-use crate::posted::Posted;
+use crate::frames::Frames;
 use crate::queue::Queue;
 use crate::row::{Gateways, Put, Row, Sending, Ways};
+use crate::rows::Rows;
 use mesh_base::NoMemory;
 use mesh_model::FrameChoice;
 use std::alloc::Global;
@@ -21,7 +22,7 @@ use std::alloc::Global;
 pub struct Post {
     pub alloc: Global,
     /// In the order of the links.
-    pub rows: Vec<Row>,
+    pub rows: Rows,
     /// How many frames each link carried.
     pub turns: Vec<u32>,
     /// By the places of the nodes.
@@ -29,7 +30,7 @@ pub struct Post {
     /// In the order of the LANs.
     pub lans: Vec<Gateways>,
     /// In the order of sending.
-    pub frames: Vec<Posted>,
+    pub frames: Frames,
     /// In the order of putting.
     pub puts: Vec<Put>,
     /// How many sendings are older than the fresh ones.
@@ -53,11 +54,11 @@ impl Post {
     {
         Post {
             alloc,
-            rows: Vec::new(alloc),
+            rows: Rows::new(alloc),
             turns: Vec::new(alloc),
             ways: Vec::new(alloc),
             lans: Vec::new(alloc),
-            frames: Vec::new(alloc),
+            frames: Frames::new(alloc),
             puts: Vec::new(alloc),
             older: 0,
             fresh: Vec::new(alloc),

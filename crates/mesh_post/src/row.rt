@@ -2,6 +2,7 @@ ghost use Rattle.std.specs.Prelude.{◌≡◌, ◌%◌, length, nat_eq, slice_in
 ghost use Rattle.std.specs.List.{list_any};
 ghost use Rattle.mesh_model.specs.Scenario.Terms.{held_mark};
 ghost use Rattle.mesh_post.specs.Lanes.{is_other};
+ghost use Rattle.mesh_post.specs.Links.{between};
 
 use mesh_base::{Bytes, Mac, Millis, NoMemory, Reason};
 use std::alloc::Global;
@@ -150,6 +151,13 @@ fn is_other(one: Option<u32>, place: u32) -> bool
 }
 
 impl Row {
+    // Whether the link leads from one node to another.
+    pub(crate) fn leads(&self, from: u32, to: u32) -> bool
+        ensures { result ≡ between from to self.now }
+    {
+        self.from == from && self.to == to
+    }
+
     // The mark of the frame of a turn.
     pub(crate) fn mark(&self, turn: u32) -> u8
         ensures { result

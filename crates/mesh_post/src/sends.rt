@@ -81,7 +81,7 @@ impl Post {
         ensures within { OnOk result (passed_more self.now count size ≡ None) }
         ensures cause { IfErr result (HasPortCause (passed_more self.now count size)) }
     {
-        let frames = self.frames.as_slice().len();
+        let frames = self.frames.len();
         let puts = self.puts.as_slice().len();
         if frames.saturating_add(puts).saturating_add(count) > FRAMES_LIMIT {
             return Err(PortErr::Frames);
@@ -193,7 +193,7 @@ impl Post {
         ensures turn { IfSome result
             (λ lane. slice_get self.now.turns.items way ≡ Some lane.turn) }
     {
-        let row = self.rows.get(way as usize)?;
+        let row = self.rows.get(way)?;
         let turn = *self.turns.get(way as usize)?;
         Some(Lane {
             turn,
@@ -223,7 +223,10 @@ impl Post {
         let place = place_of(self.frames.len())?;
         let carried = lane.turn.checked_add(1).ok_or(NoMemory)?;
         self.queue.wait(lane.mark, place, sender.now, lane.delay)?;
-        self.frames.push(Posted::new(way, parcel.sending)?)?;
+        self.frames.push(Posted {
+            link: way,
+            sending: parcel.sending,
+        })?;
         set_turn(&mut self.turns, way, carried);
         self.bytes = self.bytes.saturating_add(size as u64);
         Ok(())

@@ -18,6 +18,6 @@ returns-clause-some c =
     let k = c.in_ok-root.ensures.lookup in
     let there = rw c.deref.ensures.value at k.3.0 in
     let is = rw c.deref.ensures.value at k.1 in
-    rw (← c.self.view_is, c.get-2.ensures)
+    rw (← c.self.view_is, c.get-2.ensures, c.from.ensures)
     (sending_at (frames c.self.inside.store.older c.self.inside.store.grown)
     c.self.inside.roots.items c.args.place c.in_ok-root.field-0.now c.self.invariant.count there is)

@@ -1,4 +1,4 @@
-use Rattle.std.proofs.Common.{rules, vec_len, ◌≡◌, ℕ, suc, length, refl, sym, ap, ◌∙◌, subst, arith, [], ◌∷◌, ◌++◌}
+use Rattle.std.proofs.Common.{◌≡◌, ℕ, suc, length, refl, sym, ap, ◌∙◌, subst, arith, [], ◌∷◌, ◌++◌}
 use Rattle.std.specs.Option.{option_map_or}
 use Rattle.std.specs.List.{filter}
 use Rattle.mesh_base.specs.declared.address.Mac.{Mac}
@@ -25,8 +25,7 @@ returns-clause-sent c = λ sendings last ticks mesh link amid found sending room
     let bytes = amid.stands.bytes in
     let done = c.in_ok-enter.ensures.carries (omega (arith, delay, most, soon)) (omega (arith, bytes, small)) in
     let a = c.in_ok-place_of.ensures.is in let b = c.len.ensures in let d = done.frames in
-    let len_is : vec_len c.enter.new.self.frames ≡ length c.enter.new.self.frames.items = search rules in
-    let number_is : c.in_ok-place_of.field-0 ≡ suc (length mesh.frames) = a ∙ b ∙ len_is ∙ ap length d ∙ length_more c.args.self.now.frames.items _ ∙ ap suc (frames_length sendings mesh.frames c.args.self.now.frames.items amid.stands.frames) in
+    let number_is : c.in_ok-place_of.field-0 ≡ suc (length mesh.frames) = a ∙ b ∙ ap length d ∙ length_more c.args.self.now.frames _ ∙ ap suc (frames_length sendings mesh.frames c.args.self.now.frames amid.stands.frames) in
     let end_is : c.in-Some.lane.end ≡ address_at (end_of c.args.way mesh.links) mesh.nodes = is.end ∙ ap (λ o. address_at (option_map_or (λ (x : NetLink). x.to) o 0) mesh.nodes) (sym found) in
     let event = λ (n : ℕ) (e : Mac). FrameSent n c.args.sender.now c.args.sender.mac e c.args.parcel.reason c.args.bytes.now in
     record {

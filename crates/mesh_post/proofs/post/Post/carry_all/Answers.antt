@@ -15,7 +15,7 @@ loop-i-init c = record { kept = search rules; grew = search rules; enters = ente
 pub loop-i-preserved : goal.loop-i-preserved
 loop-i-preserved c =
     let inv = c.loop-i.invariant in
-    let test = row_goes c.args.self.now.rows.items c.args.to in
+    let test = row_goes c.args.self.now.rows c.args.to in
     let ws : List ℕ = slice_index_or c.args.self.now.ways.items c.args.sender.place [] in
     let found : c.chosen_at.result ≡ option_and_then (if_passes test) (slice_get ws c.loop-i.i) = c.chosen_at.ensures ∙ chosen_kept c.args.self.now c.loop-i.self c.args.sender.place c.loop-i.i c.args.to inv.kept in
     elim c.match-chosen_at.branch [
@@ -46,7 +46,7 @@ loop-i-preserved c =
 pub returns-clause-sent : goal.returns-clause-sent
 returns-clause-sent c = λ sendings last ticks mesh amid sending room low late.
     let inv = c.loop-i.invariant in
-    let test = row_goes c.args.self.now.rows.items c.args.to in
+    let test = row_goes c.args.self.now.rows c.args.to in
     let ws : List ℕ = slice_index_or c.args.self.now.ways.items c.args.sender.place [] in
     let all = chosen_ways c.args.self.now c.args.sender.place c.args.to in
     let low_end = c.loop-i.auto.i-end in

@@ -18,5 +18,5 @@ invariant-loop-i l = record {
       HasRoomFor mesh l.sender.now (length (chosen_ways l.fn.self l.sender.place l.to)) (length l.bytes) →
       AreLow (chosen_ways l.fn.self l.sender.place l.to) mesh → last.moment ≤ l.sender.now →
       Midway l.fn.self.choice l.self sendings last ticks l.sender l.parcel.reason l.bytes (chosen_ways l.fn.self l.sender.place l.to)
-      (filter (row_goes l.fn.self.rows.items l.to) (drop l.i (slice_index_or l.fn.self.ways.items l.sender.place []))) mesh l.fn.log l.log;
+      (filter (row_goes l.fn.self.rows l.to) (drop l.i (slice_index_or l.fn.self.ways.items l.sender.place []))) mesh l.fn.log l.log;
 }

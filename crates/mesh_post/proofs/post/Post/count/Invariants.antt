@@ -5,6 +5,6 @@ use Rattle.mesh_post.proofs.post.Post.count.Given as goal
 
 abbrev pub invariant-loop-i : goal.invariant-loop-i
 invariant-loop-i l = record {
-  all : l.count + length (filter (row_goes l.self.rows.items l.to) (drop l.i (slice_index_or l.self.ways.items l.node []))) ≡ length (chosen_ways l.self l.node l.to);
+  all : l.count + length (filter (row_goes l.self.rows l.to) (drop l.i (slice_index_or l.self.ways.items l.node []))) ≡ length (chosen_ways l.self l.node l.to);
   few : l.count ≤ l.i;
 }

@@ -11,21 +11,16 @@ returns-in_err-carried-clause-enters c = enters_none c.args.self.now
 
 pub returns-in_err-wait-clause-enters : goal.returns-in_err-wait-clause-enters
 returns-in_err-wait-clause-enters c =
-    let next : c.in_ok-place.place ≡ length c.args.self.now.frames.items = search rules in
-    frame_entered c.args.self.now _ c.in_ok-place.place [] (search rules) next (search rules) (search rules) (search rules) (search rules) c.wait.ensures.others
-
-pub returns-in_err-new-clause-enters : goal.returns-in_err-new-clause-enters
-returns-in_err-new-clause-enters c =
-    let next : c.in_ok-place.place ≡ length c.args.self.now.frames.items = search rules in
+    let next : c.in_ok-place.place ≡ length c.args.self.now.frames = search rules in
     frame_entered c.args.self.now _ c.in_ok-place.place [] (search rules) next (search rules) (search rules) (search rules) (search rules) c.wait.ensures.others
 
 pub returns-in_err-push-clause-enters : goal.returns-in_err-push-clause-enters
 returns-in_err-push-clause-enters c =
-    let next : c.in_ok-place.place ≡ length c.args.self.now.frames.items = search rules in
-    frame_entered c.args.self.now _ c.in_ok-place.place [] (search rules) next (c.in_err-push.ensures.items ∙ sym (append-nil c.args.self.now.frames.items)) (search rules) (search rules) (search rules) c.wait.ensures.others
+    let next : c.in_ok-place.place ≡ length c.args.self.now.frames = search rules in
+    frame_entered c.args.self.now _ c.in_ok-place.place [] (search rules) next (c.in_err-push.ensures.err ∙ sym (append-nil c.args.self.now.frames)) (search rules) (search rules) (search rules) c.wait.ensures.others
 
 pub returns-clause-enters : goal.returns-clause-enters
 returns-clause-enters c =
-    let next : c.in_ok-place.place ≡ length c.args.self.now.frames.items = search rules in
+    let next : c.in_ok-place.place ≡ length c.args.self.now.frames = search rules in
     let one_more : c.in_ok-carried.carried ≡ suc c.args.lane.turn = search rules in
     frame_entered c.args.self.now _ c.in_ok-place.place (record { link = c.args.way; sending = c.args.parcel.sending } ∷ []) (search rules) next (search rules) (c.set_turn.ensures ∙ ap (slice_set c.args.self.now.turns.items c.args.way) one_more ∙ turn_known c.args.self.now.turns.items c.args.way c.args.lane.turn c.requires) (search rules) (search rules) (search rules)

@@ -7,11 +7,10 @@ use Rattle.mesh_post.proofs.post.Post.lane.Goals as goal
 pub returns-clause-stands : goal.returns-clause-stands
 returns-clause-stands c = λ sendings mesh link stands found.
     let h = stands.rows.each c.args.way link found in
-    let k = c.in_ok-row.ensures.lookup in
     let m = c.in_ok-turn.ensures.lookup in
-    let row_is : h.row ≡ c.in_ok-row.row.now = some_one _ _ (sym h.found ∙ rw (← c.deref.ensures.value) (got c.deref.result.now c.args.way c.in_ok-row.row.now (k.3.0) k.1)) in
+    let row_is : h.row ≡ c.in_ok-row.row.now = some_one _ _ (sym h.found ∙ sym c.in_ok-row.ensures) in
     let is : RowIs mesh.nodes link c.in_ok-row.row.now = subst (RowIs mesh.nodes link) row_is h.is in
-    let turn_is = stands.turns.each c.args.way c.in_ok-turn.field-0.now (rw (← c.deref-2.ensures.value) (got c.deref-2.result.now c.args.way c.in_ok-turn.field-0.now m.3.0 m.1)) in (
+    let turn_is = stands.turns.each c.args.way c.in_ok-turn.field-0.now (rw (← c.deref.ensures.value) (got c.deref.result.now c.args.way c.in_ok-turn.field-0.now m.3.0 m.1)) in (
       _,
       refl,
       record {
