@@ -1,5 +1,5 @@
 -- How what a node keeps goes on to stand for what it knows, once the store changed.
-use Rattle.std.proofs.Common.{◌≡◌, ℕ, Bool, true, false, cond, List, [], ◌∷◌, ◌++◌, refl, sym, ap, subst, ◌∙◌, Option, Some, None}
+use Rattle.std.proofs.Common.{◌≡◌, ℕ, Bool, true, false, cond, List, [], ◌∷◌, ◌++◌, refl, sym, ap, ap₂, subst, ◌∙◌, Option, Some, None}
 use Rattle.std.specs.Prelude.{◌^◌, ◌%◌}
 use Rattle.std.proofs.lemmas.Bool.{false≢true}
 use Rattle.alfred_store.specs.Answers.{Answered, answer_to, answer_with}
@@ -133,7 +133,7 @@ whole_beside now sender None known = refl
 whole_beside now sender (Some facts) known = facts_beside now sender facts known
 
 -- after a message of a push
-pub push_beside : (call : TxnCall) (known : Knowledge) → beside (after_push call known) ≡ beside known
+push_beside : (call : TxnCall) (known : Knowledge) → beside (after_push call known) ≡ beside known
 push_beside call known = whole_beside call.moment call.sender (made_whole call known.services.pushes) (record known {
   services = record known.services { pushes = call ∷ known.services.pushes };
 })
@@ -143,13 +143,13 @@ closing_beside None known = refl
 closing_beside (Some request) known = refl
 
 -- after a message of an answer
-pub answering_beside : (call : TxnCall) (known : Knowledge) → beside (after_answering call known) ≡ beside known
+answering_beside : (call : TxnCall) (known : Knowledge) → beside (after_answering call known) ≡ beside known
 answering_beside call known = closing_beside (closed_by call known.services) (record known {
   services = record known.services { answers = call ∷ known.services.answers };
 })
 
 -- what answers a request is what is printed
-pub answer_is : (services : Services) (at : Place) (call : TxnCall) (answer : Option Answered) → answer ≡ answer_to call services → answer_acts at answer ≡ answering_acts services at call
+answer_is : (services : Services) (at : Place) (call : TxnCall) (answer : Option Answered) → answer ≡ answer_to call services → answer_acts at answer ≡ answering_acts services at call
 answer_is services at call answer is = ap (answer_acts at) is ∙ go (made_whole call services.answers)
   where
     told : (facts : List Fact) (request : Option FactRequest) → answer_acts at (answer_with request (Some facts)) ≡ answer_told at facts request
@@ -171,7 +171,7 @@ announced_at Secondary now mac known part = refl
 -- ---- messages of transactions
 
 -- a push that is taken comes to a primary
-pub pushed_at : (mode : AlfredMode) (push : Bool) (call : TxnCall) (known : Knowledge) → takes mode push ≡ true → push ≡ true → after_push call known ≡ after_brought mode push call known
+pushed_at : (mode : AlfredMode) (push : Bool) (call : TxnCall) (known : Knowledge) → takes mode push ≡ true → push ≡ true → after_push call known ≡ after_brought mode push call known
 pushed_at Off push call known takes is = absurd (false≢true takes)
 pushed_at IsPrimary true call known takes is = refl
 pushed_at IsPrimary false call known takes is = absurd (false≢true is)
@@ -187,7 +187,7 @@ silent_at Secondary true services at call is = refl
 silent_at Secondary false services at call is = absurd (false≢true is)
 
 -- an answer that is taken may close a request
-pub answered_at : (mode : AlfredMode) (push : Bool) (call : TxnCall) (known : Knowledge) → takes mode push ≡ true → push ≡ false → after_answering call known ≡ after_brought mode push call known
+answered_at : (mode : AlfredMode) (push : Bool) (call : TxnCall) (known : Knowledge) → takes mode push ≡ true → push ≡ false → after_answering call known ≡ after_brought mode push call known
 answered_at Off push call known takes is = absurd (false≢true takes)
 answered_at IsPrimary true call known takes is = absurd (false≢true (sym is))
 answered_at IsPrimary false call known takes is = refl
@@ -195,9 +195,37 @@ answered_at Secondary true call known takes is = absurd (false≢true (sym is))
 answered_at Secondary false call known takes is = refl
 
 -- and is printed then
-pub told_at : (mode : AlfredMode) (push : Bool) (services : Services) (at : Place) (call : TxnCall) → takes mode push ≡ true → push ≡ false → answering_acts services at call ≡ brought_acts mode services at push call
+told_at : (mode : AlfredMode) (push : Bool) (services : Services) (at : Place) (call : TxnCall) → takes mode push ≡ true → push ≡ false → answering_acts services at call ≡ brought_acts mode services at push call
 told_at Off push services at call takes is = absurd (false≢true takes)
 told_at IsPrimary true services at call takes is = absurd (false≢true (sym is))
 told_at IsPrimary false services at call takes is = refl
 told_at Secondary true services at call takes is = absurd (false≢true (sym is))
 told_at Secondary false services at call takes is = refl
+
+-- a message of a transaction that a node takes, by the part in the store that it keeps
+module _ {A : Type 0} (stands : A → Mac → RouteLog → Type 0) (kept : NodeKnowledge A) (me : Mac) (known : Knowledge) (is : KnowledgeStands stands kept me known)
+    (push : Bool) (taken : takes kept.services.settings.fact_store push ≡ true) (came call : TxnCall) (same : came ≡ call) where
+  -- by what is known
+  by_known : {X : Type 0} (f : AlfredMode → TxnCall → X) → f kept.services.settings.fact_store came ≡ f known.services.settings.fact_store call
+  by_known f = ap₂ f (ap (λ (s : Settings). s.fact_store) is.services.settings) same
+
+  -- after one of a push
+  pub pushed_stands : (store : Store) → push ≡ true → StoreStands store me (store_in (after_push came known))
+      → KnowledgeStands stands (record kept { services = record kept.services { store = store } }) me (after_brought known.services.settings.fact_store push call known)
+  pushed_stands store is_push stored =
+      stands_as stands _ me _ _ (pushed_at kept.services.settings.fact_store push came known taken is_push ∙ by_known (λ mode call. after_brought mode push call known))
+      (stands_with stands kept store me known (after_push came known) (push_beside came known) is stored)
+
+  -- after one of an answer
+  pub answered_stands : (store : Store) → push ≡ false → StoreStands store me (store_in (after_answering came known))
+      → KnowledgeStands stands (record kept { services = record kept.services { store = store } }) me (after_brought known.services.settings.fact_store push call known)
+  answered_stands store answers stored =
+      stands_as stands _ me _ _ (answered_at kept.services.settings.fact_store push came known taken answers ∙ by_known (λ mode call. after_brought mode push call known))
+      (stands_with stands kept store me known (after_answering came known) (answering_beside came known) is stored)
+
+  -- what one of an answer prints
+  pub answer_printed : (at : Place) (answer : Option Answered) → push ≡ false → answer ≡ answer_to came known.services
+      → answer_acts at answer ≡ brought_acts known.services.settings.fact_store known.services at push call
+  answer_printed at answer answers told =
+      answer_is known.services at came answer told ∙ told_at kept.services.settings.fact_store push known.services at came taken answers
+      ∙ by_known (λ mode call. brought_acts mode known.services at push call)

@@ -1,5 +1,5 @@
 -- How facts are pushed in a round, and how a question goes to a primary.
-use Rattle.std.proofs.Common.{◌≡◌, ℕ, suc, ◌+◌, ◌&&◌, Bool, true, false, List, [], ◌∷◌, refl, ap, subst, ◌∙◌, arith, Option, Some, Result}
+use Rattle.std.proofs.Common.{◌≡◌, ◌<◌, ℕ, suc, ◌+◌, ◌&&◌, Bool, true, false, List, [], ◌∷◌, length, refl, ap, subst, ◌∙◌, arith, rules, Option, Some, Result}
 use Rattle.std.specs.Prelude.{◌%◌, ◌^◌, is_some, if◌then◌else◌}
 use Rattle.std.proofs.Math.Nat.{mod-add-mod}
 use Rattle.alfred_store.specs.StoreStands.{StoreStands, store_in}
@@ -9,13 +9,14 @@ use Rattle.mesh_model.specs.declared.act.Act.{Act}
 use Rattle.mesh_model.specs.declared.ending.LimitName.{LimitName}
 use Rattle.mesh_model.specs.declared.service.Fact.{Fact}
 use Rattle.mesh_model.specs.Acts.BridgeRows.{Place}
-use Rattle.mesh_model.specs.Acts.FactRows.{messages_to, pushed_to, request_to}
+use Rattle.mesh_model.specs.Acts.FactRows.{messages_to, push_acts, pushed_to, request_to}
 use Rattle.mesh_model.specs.Knowledge.FactStore.{after_asking_for, chosen_primary, ids, next_id, with_ids}
 use Rattle.mesh_model.specs.Knowledge.Known.{Knowledge}
 use Rattle.mesh_model.specs.Packets.FactMessages.{Requests}
 use Rattle.mesh_model.specs.Routes.Queries.{Queries}
 use Rattle.mesh_model.specs.Routes.RouteLog.{RouteLog}
 use Rattle.mesh_model.specs.Services.Parts.{transaction_messages}
+use Rattle.node_facts.specs.Pushes.{pushes_of}
 use Rattle.node_ground.specs.declared.failure.NodeErr.{NodeErr}
 use Rattle.node_ground.specs.declared.knowledge.NodeKnowledge.{NodeKnowledge}
 use Rattle.node_ground.specs.KnowledgeStands.{KnowledgeStands}
@@ -70,6 +71,16 @@ primary_stands stands kept sent store me known count all is counted same stored 
   sent = counted;
   services = is.services;
 }) (subst (λ n. StoreStands store me (store_in (with_ids n known))) same stored)
+
+-- facts of which there are some are pushed to each of the nodes
+pub pushed_each : (q : Queries) (known : Knowledge) (at : Place) (facts : List Fact) (nodes : List Mac) → 0 < length facts → pushed_to q known at facts known.services.ids nodes ≡ push_acts q known at facts nodes
+pushed_each q known at [] nodes some = absurd (omega (arith, some))
+pushed_each q known at (fact ∷ facts) nodes some = search rules
+
+-- and so many pushes there are
+pub pushes_each : (facts : List Fact) (nodes : List Mac) → 0 < length facts → length nodes ≡ pushes_of facts nodes
+pushes_each [] nodes some = absurd (omega (arith, some))
+pushes_each (fact ∷ facts) nodes some = search rules
 
 -- one or none
 abbrev one_if : Bool → ℕ

@@ -3,7 +3,6 @@
 ghost use Rattle.std.specs.Prelude.{◌≡◌, ◌≢◌, List, Some, OnErr, OnOk, option_and_then};
 ghost use Rattle.alfred_store.specs.StoreStands.{IsBefore, store_in};
 ghost use Rattle.mesh_base.specs.declared.address.Mac.{Mac};
-ghost use Rattle.mesh_model.specs.declared.line_form.AlfredMode.TheVariants as parts;
 ghost use Rattle.mesh_model.specs.Acts.FactRows.{brought_acts, fact_acts, requested_acts};
 ghost use Rattle.mesh_model.specs.Knowledge.FactStore.{after_announced, after_brought, after_fact_message, if_announces, txn_call};
 ghost use Rattle.mesh_model.specs.Knowledge.Known.{Knowledge};
@@ -35,6 +34,7 @@ fn takes(part: AlfredMode, push: bool) -> bool
 }
 
 // A part of a transaction came.
+#[tactic(auto, using(node_ground::proofs::PutsLemmas::stops_free))]
 fn part<A: Algo, P: Port>(
     kept: &mut NodeKnowledge<A>,
     port: &mut P,
@@ -120,27 +120,8 @@ fn announced<A: Algo>(kept: &mut NodeKnowledge<A>, now: Millis, sender: Mac) -> 
     Ok(())
 }
 
-// A primary answers a request by its live facts of the type.
-fn send_answer<A: Algo, P: Port>(
-    kept: &NodeKnowledge<A>,
-    port: &mut P,
-    at: Place,
-    sender: Mac,
-    id: u16,
-    type_no: u8,
-) -> Result<(), NodeErr>
-    ensures { (known : Knowledge) → KnowledgeStands A.stands kept.now at.me known →
-        Puts P.takes P.same P.over port.old
-        (requested_acts (A.queries at.me) known (place at) parts.Primary sender id type_no)
-        result port.new }
-{
-    let facts = kept.services.store.of_type(at.now, type_no)?;
-    let answer = Transaction { push: false, id };
-    send_transaction(kept, port, at, sender, answer, facts.as_slice())?;
-    Ok(())
-}
-
-// A request came.
+// A request came. A primary answers it by its live facts of the type.
+#[tactic(auto, using(node_ground::proofs::PutsLemmas::stops_free))]
 fn requested<A: Algo, P: Port>(
     kept: &NodeKnowledge<A>,
     port: &mut P,
@@ -154,11 +135,12 @@ fn requested<A: Algo, P: Port>(
         (requested_acts (A.queries at.me) known (place at) known.services.settings.fact_store
         sender id type_no) result port.new }
 {
-    match kept.services.settings.fact_store {
-        AlfredMode::Off => {}
-        AlfredMode::Primary => send_answer(kept, port, at, sender, id, type_no)?,
-        AlfredMode::Secondary => {}
+    if kept.services.settings.fact_store != AlfredMode::Primary {
+        return Ok(());
     }
+    let facts = kept.services.store.of_type(at.now, type_no)?;
+    let answer = Transaction { push: false, id };
+    send_transaction(kept, port, at, sender, answer, facts.as_slice())?;
     Ok(())
 }
 

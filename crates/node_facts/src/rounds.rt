@@ -73,34 +73,8 @@ fn push_to<A: Algo, P: Port>(
     Ok(())
 }
 
-// Facts are pushed to some nodes, where there are any.
-fn push<A: Algo, P: Port>(
-    kept: &NodeKnowledge<A>,
-    port: &mut P,
-    at: Place,
-    facts: &[&Fact],
-    nodes: &[Mac],
-) -> Result<(), NodeErr>
-    ensures { (known : Knowledge) → KnowledgeStands A.stands kept.now at.me known →
-        Puts P.takes P.same P.over port.old
-        (push_acts (A.queries at.me) known (place at) (lent_facts facts.now) nodes.now)
-        result port.new }
-{
-    if facts.is_empty() {
-        return Ok(());
-    }
-    push_to(kept, port, at, facts, kept.services.store.ids, nodes)?;
-    Ok(())
-}
-
-// How many pushes there are of facts to some nodes.
-fn pushes(facts: &[&Fact], nodes: &[Mac]) -> usize
-    ensures { result ≡ pushes_of (lent_facts facts.now) nodes.now }
-{
-    if facts.is_empty() { 0 } else { nodes.len() }
-}
-
 // Facts that a node tells are pushed to some nodes. Answers how many pushes there are.
+#[tactic(auto, using(node_ground::proofs::PutsLemmas::stops_free))]
 fn push_shared<A: Algo, P: Port>(
     kept: &NodeKnowledge<A>,
     port: &mut P,
@@ -117,8 +91,12 @@ fn push_shared<A: Algo, P: Port>(
         IfOk result (λ count. count ≡ pushes_of facts nodes.now) }
 {
     let facts = kept.services.store.shared(at.now, share)?;
-    push(kept, port, at, facts.as_slice(), nodes)?;
-    Ok(pushes(facts.as_slice(), nodes))
+    if facts.is_empty() {
+        return Ok(0);
+    }
+    let taken = kept.services.store.ids;
+    push_to(kept, port, at, facts.as_slice(), taken, nodes)?;
+    Ok(nodes.len())
 }
 
 // What a primary puts in a round: it announces itself, and pushes what it has at first hand to each
@@ -144,6 +122,7 @@ fn primary_round<A: Algo, P: Port>(
 }
 
 // What a secondary puts in a round: it pushes its own facts to the chosen primary.
+#[tactic(auto, using(node_ground::proofs::PutsLemmas::stops_free))]
 fn secondary_round<A: Algo, P: Port>(
     kept: &mut NodeKnowledge<A>,
     port: &mut P,

@@ -4,7 +4,7 @@ ghost use Rattle.std.specs.Prelude.{◌≡◌, ◌∷◌, ◌++◌, [], map};
 ghost use Rattle.mesh_model.specs.Acts.FactRows.{messages_to};
 ghost use Rattle.mesh_model.specs.Knowledge.Known.{Knowledge};
 ghost use Rattle.mesh_model.specs.Packets.FactMessages.{Requests};
-ghost use Rattle.mesh_model.specs.Services.Parts.{part_message, parts_of, transaction_messages};
+ghost use Rattle.mesh_model.specs.Services.Parts.{part_message, transaction_messages};
 ghost use Rattle.mesh_messages.specs.LentFacts.{lent_facts};
 ghost use Rattle.mesh_messages.specs.Parts.{seen_part};
 ghost use Rattle.node_facts.specs.Messages.{carried_over, message_over};
@@ -71,26 +71,6 @@ fn send_part<P: Port>(
     Ok(())
 }
 
-// The parts of a transaction of facts go to a node over a neighbour.
-fn send_parts<P: Port>(
-    alloc: Global,
-    port: &mut P,
-    at: Place,
-    next: Mac,
-    dst: Mac,
-    transaction: Transaction,
-    facts: &[&Fact],
-) -> Result<(), NodeErr>
-    ensures { Puts P.takes P.same P.over port.old (map (message_over next (place at) dst)
-        (map (part_message transaction.push transaction.id) (parts_of (lent_facts facts.now))))
-        result port.new }
-{
-    for part in Parts::new(facts) {
-        send_part(alloc, port, at, next, dst, transaction, &part)?;
-    }
-    Ok(())
-}
-
 // A transaction of facts goes to a node over a neighbour: its parts, and then its end.
 fn send_transaction_over<P: Port>(
     alloc: Global,
@@ -105,7 +85,9 @@ fn send_transaction_over<P: Port>(
         (transaction_messages transaction.push transaction.id (lent_facts facts.now)))
         result port.new }
 {
-    send_parts(alloc, port, at, next, dst, transaction, facts)?;
+    for part in Parts::new(facts) {
+        send_part(alloc, port, at, next, dst, transaction, &part)?;
+    }
     let Transaction { push, id } = transaction;
     let end = end_bytes(dst, at.me, push, id, part_count(facts));
     send_over(alloc, port, next, dst, end.as_slice())?;

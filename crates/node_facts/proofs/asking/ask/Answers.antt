@@ -1,9 +1,8 @@
-use Rattle.std.proofs.Common.{◌∙◌, Err, Ok, Some, ap, refl, subst, sym}
+use Rattle.std.proofs.Common.{◌∙◌, Some, ap, refl, sym}
 use Rattle.std.proofs.lemmas.Result.{err_from_is_err_and}
 use Rattle.mesh_model.specs.Knowledge.FactStore.{after_asking_for}
 use Rattle.mesh_model.specs.Knowledge.Known.{Knowledge}
 use Rattle.node_ground.specs.KnowledgeStands.{place}
-use Rattle.node_ground.specs.Puts.{Puts}
 use Rattle.node_facts.proofs.KeptLemmas.{stands_as, stands_with}
 use Rattle.node_facts.proofs.RoundLemmas.{asked_of}
 use Rattle.node_facts.proofs.asking.ask.Goals as goal
@@ -15,9 +14,8 @@ returns-in_err-send_request-clause-puts g c = λ known stands.
     let after : Knowledge = after_asking_for c.args.type_no (Some c.in-Some.primary) known in
     let chosen = sym c.in-Some.is ∙ c.in_ok-primary.ensures c.args.at.me known stands in
     let stand = stands_with g.A.Algo.stands c.args.kept.now c.ask.new.self c.args.at.me known after refl stands (c.in_ok-id.ensures.noted c.args.at.me known stands.services.store) in
-    rw (p.1, p.2) (subst (λ acts. Puts g.P.Port.takes g.P.Port.same g.P.Port.over c.args.port.now acts (Err c.in_err-send_request.field-0.0) c.send_request.new.port)
-    (asked_of q known (place c.args.at) c.args.type_no c.in_ok-id.id c.in-Some.primary chosen (c.in_ok-id.ensures.id c.args.at.me known stands.services.store))
-    (c.in_err-send_request.ensures after stand))
+    let asked = asked_of q known (place c.args.at) c.args.type_no c.in_ok-id.id c.in-Some.primary chosen (c.in_ok-id.ensures.id c.args.at.me known stands.services.store) in
+    rw (p.1, p.2, sym asked) (c.in_err-send_request.ensures after stand)
 
 pub returns-clause-puts : goal.returns-clause-puts
 returns-clause-puts g c = λ known stands.
@@ -25,9 +23,8 @@ returns-clause-puts g c = λ known stands.
     let after : Knowledge = after_asking_for c.args.type_no (Some c.in-Some.primary) known in
     let chosen = sym c.in-Some.is ∙ c.in_ok-primary.ensures c.args.at.me known stands in
     let stand = stands_with g.A.Algo.stands c.args.kept.now c.ask.new.self c.args.at.me known after refl stands (c.in_ok-id.ensures.noted c.args.at.me known stands.services.store) in
-    subst (λ acts. Puts g.P.Port.takes g.P.Port.same g.P.Port.over c.args.port.now acts (Ok tt) c.send_request.new.port)
-    (asked_of q known (place c.args.at) c.args.type_no c.in_ok-id.id c.in-Some.primary chosen (c.in_ok-id.ensures.id c.args.at.me known stands.services.store))
-    (c.in_ok-send_request.ensures after stand)
+    let asked = asked_of q known (place c.args.at) c.args.type_no c.in_ok-id.id c.in-Some.primary chosen (c.in_ok-id.ensures.id c.args.at.me known stands.services.store) in
+    rw (sym asked) (c.in_ok-send_request.ensures after stand)
 
 pub returns-clause-noted : goal.returns-clause-noted
 returns-clause-noted g c = λ known stands.

@@ -1,58 +1,43 @@
-use Rattle.std.proofs.Common.{◌∙◌, Err, Ok, ap, option_map, subst, sym}
+use Rattle.std.proofs.Common.{◌∙◌, option_map, refl, sym}
 use Rattle.std.proofs.lemmas.Result.{err_from_is_err_and}
 use Rattle.alfred_store.specs.Answers.{answered}
-use Rattle.mesh_model.specs.Acts.FactRows.{brought_acts}
-use Rattle.mesh_model.specs.Clients.Settings.{Settings}
-use Rattle.mesh_model.specs.Knowledge.FactStore.{after_answering, after_brought, after_push, txn_call}
+use Rattle.mesh_model.specs.Knowledge.FactStore.{txn_call}
 use Rattle.mesh_model.specs.Services.Transactions.{AnEnd, TxnCall}
 use Rattle.node_ground.specs.KnowledgeStands.{place}
-use Rattle.node_ground.specs.Puts.{Puts}
-use Rattle.node_facts.proofs.KeptLemmas.{answer_is, answered_at, answering_beside, push_beside, pushed_at, stands_as, stands_with, told_at}
+use Rattle.node_facts.proofs.KeptLemmas.{answer_printed, answered_stands, pushed_stands}
 use Rattle.node_facts.proofs.messages.end.Goals as goal
 
 pub returns-then-push-clause-noted : goal.returns-then-push-clause-noted
 returns-then-push-clause-noted g c = λ known stands before.
-    let mode = c.args.kept.now.services.settings.fact_store in
-    let same = ap (λ (s : Settings). s.fact_store) stands.services.settings in
+    let a = c.args in
     let taken = sym c.takes.ensures ∙ c.if-not-takes.false in
-    let push = c.args.transaction.push in
-    let call : TxnCall = txn_call c.args.at.now c.args.sender c.args.transaction.id (AnEnd c.args.count) in
-    stands_as g.A.Algo.stands _ c.args.at.me _ _ (pushed_at mode push call known taken c.if-push.true ∙ ap (λ m. after_brought m push call known) same)
-    (stands_with g.A.Algo.stands c.args.kept.now c.push_end.new.self c.args.at.me known (after_push call known) (push_beside call known) stands
-    (c.in_ok-push_end.ensures.ok c.args.at.me known stands.services.store before))
+    let call : TxnCall = txn_call a.at.now a.sender a.transaction.id (AnEnd a.count) in
+    pushed_stands g.A.Algo.stands a.kept.now a.at.me known stands a.transaction.push taken call call refl c.push_end.new.self c.if-push.true
+    (c.in_ok-push_end.ensures.ok a.at.me known stands.services.store before)
 
 pub returns-in_err-tell_answer-clause-puts : goal.returns-in_err-tell_answer-clause-puts
 returns-in_err-tell_answer-clause-puts g c = λ known stands before.
     let p = err_from_is_err_and c.from_residual-in_err-tell_answer.result c.from_residual-in_err-tell_answer.ensures.1 in
-    let mode = c.args.kept.now.services.settings.fact_store in
-    let same = ap (λ (s : Settings). s.fact_store) stands.services.settings in
+    let a = c.args in
     let taken = sym c.takes.ensures ∙ c.if-not-takes.false in
-    let push = c.args.transaction.push in
-    let call : TxnCall = txn_call c.args.at.now c.args.sender c.args.transaction.id (AnEnd c.args.count) in
-    rw (p.1, p.2) (subst (λ acts. Puts g.P.Port.takes g.P.Port.same g.P.Port.over c.args.port.now acts (Err c.in_err-tell_answer.field-0.0) c.tell_answer.new.port)
-    (answer_is known.services (place c.args.at) call (option_map answered c.in_ok-answer.answer) (c.in_ok-answer.ensures.told c.args.at.me known stands.services.store before)
-    ∙ told_at mode push known.services (place c.args.at) call taken c.if-push.false ∙ ap (λ m. brought_acts m known.services (place c.args.at) push call) same)
-    c.in_err-tell_answer.ensures)
+    let call : TxnCall = txn_call a.at.now a.sender a.transaction.id (AnEnd a.count) in
+    let printed = answer_printed g.A.Algo.stands a.kept.now a.at.me known stands a.transaction.push taken call call refl (place a.at) (option_map answered c.in_ok-answer.answer) c.if-push.false
+    (c.in_ok-answer.ensures.told a.at.me known stands.services.store before) in
+    rw (p.1, p.2, sym printed) c.in_err-tell_answer.ensures
 
 pub returns-clause-puts : goal.returns-clause-puts
 returns-clause-puts g c = λ known stands before.
-    let mode = c.args.kept.now.services.settings.fact_store in
-    let same = ap (λ (s : Settings). s.fact_store) stands.services.settings in
+    let a = c.args in
     let taken = sym c.takes.ensures ∙ c.if-not-takes.false in
-    let push = c.args.transaction.push in
-    let call : TxnCall = txn_call c.args.at.now c.args.sender c.args.transaction.id (AnEnd c.args.count) in
-    subst (λ acts. Puts g.P.Port.takes g.P.Port.same g.P.Port.over c.args.port.now acts (Ok tt) c.tell_answer.new.port)
-    (answer_is known.services (place c.args.at) call (option_map answered c.in_ok-answer.answer) (c.in_ok-answer.ensures.told c.args.at.me known stands.services.store before)
-    ∙ told_at mode push known.services (place c.args.at) call taken c.if-push.false ∙ ap (λ m. brought_acts m known.services (place c.args.at) push call) same)
-    c.in_ok-tell_answer.ensures
+    let call : TxnCall = txn_call a.at.now a.sender a.transaction.id (AnEnd a.count) in
+    let printed = answer_printed g.A.Algo.stands a.kept.now a.at.me known stands a.transaction.push taken call call refl (place a.at) (option_map answered c.in_ok-answer.answer) c.if-push.false
+    (c.in_ok-answer.ensures.told a.at.me known stands.services.store before) in
+    rw (sym printed) c.in_ok-tell_answer.ensures
 
 pub returns-clause-noted : goal.returns-clause-noted
 returns-clause-noted g c = λ known stands before.
-    let mode = c.args.kept.now.services.settings.fact_store in
-    let same = ap (λ (s : Settings). s.fact_store) stands.services.settings in
+    let a = c.args in
     let taken = sym c.takes.ensures ∙ c.if-not-takes.false in
-    let push = c.args.transaction.push in
-    let call : TxnCall = txn_call c.args.at.now c.args.sender c.args.transaction.id (AnEnd c.args.count) in
-    stands_as g.A.Algo.stands _ c.args.at.me _ _ (answered_at mode push call known taken c.if-push.false ∙ ap (λ m. after_brought m push call known) same)
-    (stands_with g.A.Algo.stands c.args.kept.now c.answer_end.new.self c.args.at.me known (after_answering call known) (answering_beside call known) stands
-    (c.in_ok-answer.ensures.noted c.args.at.me known stands.services.store before))
+    let call : TxnCall = txn_call a.at.now a.sender a.transaction.id (AnEnd a.count) in
+    answered_stands g.A.Algo.stands a.kept.now a.at.me known stands a.transaction.push taken call call refl c.answer_end.new.self c.if-push.false
+    (c.in_ok-answer.ensures.noted a.at.me known stands.services.store before)

@@ -1,15 +1,8 @@
 use Rattle.std.proofs.Common.{◌∙◌, ap, length, nat_lt, refl, sym}
-use Rattle.std.proofs.lemmas.Result.{err_from_is_err_and}
 use Rattle.mesh_model.specs.Knowledge.FactStore.{facts_marked, is_own, with_ids}
-use Rattle.node_ground.proofs.PutsLemmas.{stops_free}
 use Rattle.node_facts.proofs.KeptLemmas.{stands_as, stands_with}
 use Rattle.node_facts.proofs.RoundLemmas.{secondary_pushes}
 use Rattle.node_facts.proofs.rounds.secondary_round.Goals as goal
-
-pub returns-in_err-primary-clause-puts : goal.returns-in_err-primary-clause-puts
-returns-in_err-primary-clause-puts g c = λ known stands.
-    let p = err_from_is_err_and c.from_residual.result c.from_residual.ensures.1 in
-    rw (p.1, p.2) (stops_free g.P.Port.takes g.P.Port.same g.P.Port.over c.args.port.now _ (g.met.P.Port.same_refl c.args.port.now))
 
 pub returns-clause-noted : goal.returns-clause-noted
 returns-clause-noted g c = λ known stands.
