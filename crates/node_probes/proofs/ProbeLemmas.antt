@@ -29,9 +29,9 @@ use Rattle.node_ground.specs.Puts.{Puts}
 use Rattle.node_ground.proofs.PutsLemmas.{puts_behind}
 
 -- once the sessions took a call
-pub with_sessions : {A : Type 0} (stands : A → Mac → RouteLog → Type 0) (kept : NodeKnowledge A) (sessions : Waiting) (me : Mac) (calls : List ProbeCall) (known : Knowledge) → KnowledgeStands stands kept me known
+pub with_sessions : {A : Type 0} {stands : A → Mac → RouteLog → Type 0} {kept : NodeKnowledge A} {sessions : Waiting} {me : Mac} {calls : List ProbeCall} {known : Knowledge} → KnowledgeStands stands kept me known
     → SessionsStand sessions calls → KnowledgeStands stands (record kept { sessions = sessions }) me (record known { probes = calls })
-with_sessions stands kept sessions me calls known is noted = record {
+with_sessions is noted = record {
   routes = is.routes;
   tables = is.tables;
   marks = is.marks;

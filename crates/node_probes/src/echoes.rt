@@ -2,7 +2,7 @@
 //! another one.
 
 ghost use Rattle.std.specs.Prelude.{◌&&◌, if◌then◌else◌, OnOk};
-ghost use Rattle.mesh_model.specs.Acts.ProbeRows.{answered_by, icmp_here, passed_icmp};
+ghost use Rattle.mesh_model.specs.Acts.ProbeRows.{answered_by, passed_icmp};
 ghost use Rattle.mesh_model.specs.Acts.Rows.{icmp_acts};
 ghost use Rattle.mesh_model.specs.Knowledge.Known.{Knowledge};
 ghost use Rattle.mesh_model.specs.Knowledge.Steps.{after_reply};
@@ -48,30 +48,6 @@ fn reply<A: Algo, P: Port>(
     Ok(())
 }
 
-// A message for this node.
-#[tactic(auto, unfolding(mesh_model::specs::Acts::ProbeRows::icmp_here))]
-fn icmp_here<A: Algo, P: Port>(
-    kept: &mut NodeKnowledge<A>,
-    port: &mut P,
-    at: Place,
-    message: IcmpMessage,
-) -> Result<(), NodeErr>
-    ensures puts { (known : Knowledge) → KnowledgeStands A.stands kept.old at.me known →
-        Puts P.takes P.same P.over port.old
-        (icmp_here (A.queries at.me) known (place at) (icmp_of message)) result port.new }
-    ensures noted { (known : Knowledge) → KnowledgeStands A.stands kept.old at.me known →
-        OnOk result (KnowledgeStands A.stands kept.new at.me
-        (if is_answer message.kind
-        then after_reply (A.queries at.me) at.now message.kind message.seq known else known)) }
-{
-    if message.is_answer() {
-        answer(kept, port, at, message)?;
-    } else {
-        reply(kept, port, at, ECHO_REPLY, message)?;
-    }
-    Ok(())
-}
-
 // A message for another node, which goes on while hops are left and a route leads there.
 #[tactic(auto, unfolding(mesh_model::specs::Acts::ProbeRows::passed_icmp))]
 fn icmp_past<A: Algo, P: Port>(
@@ -100,7 +76,8 @@ fn icmp_past<A: Algo, P: Port>(
     Ok(())
 }
 
-/// A message of ping or traceroute.
+/// A message of ping or traceroute, for this node or for another one.
+#[tactic(auto, unfolding(mesh_model::specs::Acts::ProbeRows::icmp_here))]
 pub fn icmp<A: Algo, P: Port>(
     kept: &mut NodeKnowledge<A>,
     port: &mut P,
@@ -115,10 +92,12 @@ pub fn icmp<A: Algo, P: Port>(
         (if same_mac message.dst at.me && is_answer message.kind
         then after_reply (A.queries at.me) at.now message.kind message.seq known else known)) }
 {
-    if message.dst == at.me {
-        icmp_here(kept, port, at, message)?;
-    } else {
+    if message.dst != at.me {
         icmp_past(kept, port, at, message)?;
+    } else if message.is_answer() {
+        answer(kept, port, at, message)?;
+    } else {
+        reply(kept, port, at, ECHO_REPLY, message)?;
     }
     Ok(())
 }

@@ -1,5 +1,5 @@
 -- What is known once an announcement came.
-use Rattle.std.proofs.Common.{◌≡◌, ℕ, Bool, true, false, List, ◌∷◌, refl, sym, ap, ◌∙◌, Option, Some, None}
+use Rattle.std.proofs.Common.{◌≡◌, ℕ, true, false, List, ◌∷◌, refl, sym, ap, ◌∙◌, Option, Some, None}
 use Rattle.std.specs.Prelude.{is_some, is_none, option_map, ◌&&◌, if◌then◌else◌}
 use Rattle.std.proofs.lemmas.Option.{same_Some}
 use Rattle.mesh_base.specs.declared.address.Mac.{Mac}
@@ -8,7 +8,7 @@ use Rattle.mesh_model.specs.declared.table_change.Change.{Change}
 use Rattle.mesh_model.specs.Knowledge.Known.{Knowledge, agreed_byte}
 use Rattle.mesh_model.specs.Knowledge.Steps.{Coming, after_announcement, after_answer, asked_by_request, may_ask, released_under, request_out, with_head, with_offered}
 use Rattle.mesh_model.specs.Knowledge.Served.{offer_in}
-use Rattle.mesh_model.specs.Knowledge.Told.{Answers, Neither, carried_told, message_changes, part_told, stamp_told}
+use Rattle.mesh_model.specs.Knowledge.Told.{Answers, Neither, message_changes, part_told, stamp_told}
 use Rattle.mesh_model.specs.Marks.Calls.{Calls}
 use Rattle.mesh_model.specs.Marks.Requests.{too_soon}
 use Rattle.mesh_model.specs.Packets.Bodies.{TtData, TtPart}
@@ -22,12 +22,15 @@ use Rattle.node_ground.specs.declared.knowledge.NodeKnowledge.{NodeKnowledge}
 use Rattle.node_ground.specs.KnowledgeStands.{KnowledgeStands}
 use Rattle.node_ground.proofs.StandsLemmas.{with_algo, with_services}
 use Rattle.mesh_model.specs.Tables.Judging.{InPart, announcement_row, wanted_request}
-use Rattle.mesh_model.specs.Tables.Known.{Announced, Answered, known_by}
+use Rattle.mesh_model.specs.Tables.Known.{Announced, Answered, TableCalls, known_by}
 use Rattle.mesh_model.specs.Tables.Versions.{Stamp}
 use Rattle.mesh_serv.specs.OffersStand.{OffersStand}
 use Rattle.mesh_serv.specs.declared.offers.Offer.{Offer}
 use Rattle.mesh_tvlv.specs.Translation.{table_and_place}
 use Rattle.node_ground.specs.Reading.{Tells, message}
+use Rattle.node_tables.specs.AnswerKinds.{carried_by}
+use Rattle.node_tables.specs.declared.answers.AnswerKind.{AnswerKind}
+use Rattle.tt_global.specs.Globals.{GlobalsStand, Kept}
 use Rattle.tt_global.specs.Kept.{stamp_in}
 use Rattle.tt_table.specs.declared.announcement.Announcement.{Announcement}
 
@@ -88,15 +91,6 @@ offer_noted stands kept offers me orig tail known is noted = with_services stand
   store = is.services.store;
 })
 
--- what is known once a part of an answer came
-pub part_is : (q : Queries) (now : ℕ) (orig : Mac) (number count : ℕ) (part : Announcement) (table : TtData) (known : Knowledge) → Tells part table → q.live known.routes now orig ≡ true
-    → released_more orig (record known { tables = Answered orig (stamp_in part) (InPart number count part.changes) ∷ known.tables })
-    ≡ after_answer q now orig (Answers (stamp_told table) (InPart number count (message_changes table))) known
-part_is q now orig number count part table known tells live =
-    let here : Stamp → List Change → Knowledge = λ s cs. released_more orig (record known { tables = Answered orig s (InPart number count cs) ∷ known.tables }) in
-    ap (λ s. here s part.changes) tells.stamp ∙ ap (λ cs. here (stamp_told table) cs) tells.changes
-    ∙ sym (ap (λ b. if b then here (stamp_told table) (message_changes table) else known) live)
-
 -- the part in containers, by its table, its number and how many there are
 part_from : (o : Option TtPart) (table : TtData) (number count : ℕ) → Some (table, number, count) ≡ option_map table_and_place o → o ≡ Some (record { table = table; number = number; count = count })
 part_from None table number count is = absurd cc
@@ -124,12 +118,25 @@ part_passed q now orig o table number count known is flags =
 pub no_part : (q : Queries) (now : ℕ) (orig : Mac) (o : Option TtPart) (known : Knowledge) → None ≡ option_map table_and_place o → known ≡ after_answer q now orig (part_told o) known
 no_part q now orig o known is = ap (λ p. after_answer q now orig (part_told p) known) (sym (none_from o is))
 
--- what is known once an answer came, with the byte, the sums and the changes that it tells
-pub answered_is : (q : Queries) (now : ℕ) (orig : Mac) (full told_full : Bool) (answered : Announcement) (table : TtData) (known : Knowledge) → Tells answered table → full ≡ told_full
-    → q.live known.routes now orig ≡ true
-    → released_more orig (record known { tables = Answered orig (stamp_in answered) (carried_told full answered.changes) ∷ known.tables })
-    ≡ after_answer q now orig (Answers (stamp_told table) (carried_told told_full (message_changes table))) known
-answered_is q now orig full told_full answered table known tells flag live =
-    let whole : Bool → Stamp → List Change → Knowledge = λ f s cs. released_more orig (record known { tables = Answered orig s (carried_told f cs) ∷ known.tables }) in
-    ap (λ f. whole f (stamp_in answered) answered.changes) flag ∙ ap (λ s. whole told_full s answered.changes) tells.stamp ∙ ap (λ cs. whole told_full (stamp_told table) cs) tells.changes
-    ∙ sym (ap (λ b. if b then whole told_full (stamp_told table) (message_changes table) else known) live)
+-- once more came for the tables
+pub with_tables : {A : Type 0} (stands : A → Mac → RouteLog → Type 0) (kept : NodeKnowledge A) (globals : Kept) (me : Mac) (calls : TableCalls) (known : Knowledge) → KnowledgeStands stands kept me known
+    → GlobalsStand globals calls → KnowledgeStands stands (record kept { globals = globals }) me (record known { tables = calls })
+with_tables stands kept globals me calls known is noted = record {
+  routes = is.routes;
+  tables = noted;
+  marks = is.marks;
+  probes = is.probes;
+  taken = is.taken;
+  parts = is.parts;
+  sent = is.sent;
+  services = is.services;
+}
+
+-- what is known once an answer of a kind came, with the byte, the sums and the changes that it tells
+pub answered_is : (q : Queries) (now : ℕ) (orig : Mac) (kind : AnswerKind) (answered : Announcement) (table : TtData) (known : Knowledge) → Tells answered table → q.live known.routes now orig ≡ true
+    → released_more orig (record known { tables = Answered orig (stamp_in answered) (carried_by kind answered.changes) ∷ known.tables })
+    ≡ after_answer q now orig (Answers (stamp_told table) (carried_by kind (message_changes table))) known
+answered_is q now orig kind answered table known tells live =
+    let whole : Stamp → List Change → Knowledge = λ s cs. released_more orig (record known { tables = Answered orig s (carried_by kind cs) ∷ known.tables }) in
+    ap (λ s. whole s answered.changes) tells.stamp ∙ ap (λ cs. whole (stamp_told table) cs) tells.changes
+    ∙ sym (ap (λ b. if b then whole (stamp_told table) (message_changes table) else known) live)

@@ -13,12 +13,18 @@ use Rattle.mesh_model.specs.Acts.Packing.{request_containers, sent_over}
 use Rattle.mesh_model.specs.Acts.Rows.{accepted_acts, message_acts, ogm_acts}
 use Rattle.mesh_model.specs.Acts.TableRows.{request_acts}
 use Rattle.mesh_model.specs.Knowledge.Known.{Knowledge}
-use Rattle.mesh_model.specs.Knowledge.Steps.{Coming}
+use Rattle.mesh_model.specs.Knowledge.Steps.{Coming, request_out, with_head, with_life}
 use Rattle.mesh_model.specs.Knowledge.Told.{Message, stamp_told}
 use Rattle.mesh_model.specs.Routes.Queries.{Queries}
 use Rattle.node_ground.specs.declared.failure.NodeErr.{NodeErr}
 use Rattle.node_ground.specs.Puts.{TakesAll, StopsAt, Puts}
 use Rattle.node_ground.proofs.PutsLemmas.{puts_behind, stops_among}
+
+-- the request after a message that is accepted, where it was heard so
+abbrev acts_by : Queries → Mac → Coming → Head → Message → Knowledge → Hearing → List Act
+acts_by q me came head message known hearing =
+    let begun : Knowledge = with_life message.orig hearing.began (with_head came head known) in
+    request_acts me (q.route begun.routes came.now message.orig) message (request_out q begun came.now message)
 
 module _ {P : Type 0} (takes : P → Act → P → Type 0) (same : P → P → Type 0) (over : P → Act → Option LimitName) where
   -- a request that goes out is put as its containers
@@ -43,7 +49,7 @@ module _ {P : Type 0} (takes : P → Act → P → Type 0) (same : P → P → T
   pub ogm_puts : (q : Queries) (me : Mac) (came : Coming) (head : Head) (message : Message) (tail : List ℕ) (known : Knowledge) (hearing : Hearing) (old mid new : P) (result : Result Unit NodeErr)
       → hearing ≡ q.hear known.routes came.now came.from came.throughput head → hearing.accepted ≡ true
       → TakesAll takes over old (message_acts hearing.forward tail) mid
-      → Puts takes same over mid (accepted_acts q me came head message known) result new
+      → Puts takes same over mid (acts_by q me came head message known hearing) result new
       → Puts takes same over old (ogm_acts q me came head message tail known) result new
   unfolding ogm_acts
   ogm_puts q me came head message tail known hearing old mid new result is accepted all puts =
@@ -51,7 +57,8 @@ module _ {P : Type 0} (takes : P → Act → P → Type 0) (same : P → P → T
       (if (q.hear known.routes came.now came.from came.throughput head).accepted then accepted_acts q me came head message known else []) result
       (subst (λ (h : Hearing). TakesAll takes over old (message_acts h.forward tail) mid) is all)
       (subst (λ (b : Bool). Puts takes same over mid (if b then accepted_acts q me came head message known else []) result new)
-      (sym accepted ∙ ap (λ (h : Hearing). h.accepted) is) puts)
+      (sym accepted ∙ ap (λ (h : Hearing). h.accepted) is)
+      (subst (λ (h : Hearing). Puts takes same over mid (acts_by q me came head message known h) result new) is puts))
 
   -- nothing is put behind it where it isn't accepted
   pub ogm_only : (q : Queries) (me : Mac) (came : Coming) (head : Head) (message : Message) (tail : List ℕ) (known : Knowledge) (hearing : Hearing) (old new : P)

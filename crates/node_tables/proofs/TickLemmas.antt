@@ -1,18 +1,21 @@
 -- What a tick, and a reboot, tells of its commit: an alias, if the commit is new and has one, and an
 -- announcement that fits a packet.
-use Rattle.std.proofs.Common.{◌≡◌, ◌≤◌, ◌+◌, ◌*◌, ◌%◌, ℕ, suc, Bool, true, false, List, [], ◌∷◌, ◌++◌, length, map, refl, sym, ap, subst, ◌∙◌, arith, append_assoc, Some, None}
+use Rattle.std.proofs.Common.{◌≡◌, ◌≤◌, ◌+◌, ◌*◌, ◌%◌, ℕ, suc, Bool, true, false, List, [], ◌∷◌, ◌++◌, length, map, refl, sym, ap, subst, ◌∙◌, arith, append_assoc, Option, Some, None, Result}
 use Rattle.std.specs.Prelude.{◌==◌, ◌&&◌, nat_lt, nat_le, if◌then◌else◌}
 use Rattle.std.proofs.lemmas.Bool.{and_parts, leb-true}
 use Rattle.std.proofs.lemmas.Bool.Decides.{nat_tests}
 use Rattle.std.proofs.lemmas.List.{length-map}
 use Rattle.mesh_base.specs.declared.address.Mac.{Mac}
 use Rattle.mesh_base.specs.declared.client.Entry.{Entry}
+use Rattle.mesh_model.specs.declared.ending.LimitName.{LimitName}
+use Rattle.mesh_model.specs.declared.route.Beats.{Beats}
+use Rattle.mesh_model.specs.Acts.OwnContainers.{own_containers}
 use Rattle.mesh_model.specs.Acts.Packing.{table_told}
 use Rattle.mesh_model.specs.declared.table_row.LocalRow.{LocalRow}
 use Rattle.mesh_model.specs.Acts.BridgeRows.{round_acts}
 use Rattle.mesh_model.specs.declared.act.Act.{Act}
 use Rattle.mesh_model.specs.Clients.Lans.{Bridge}
-use Rattle.mesh_model.specs.Acts.Rows.{alias_acts, alias_event, commit_acts, elp_acts, reboot_acts, tick_acts}
+use Rattle.mesh_model.specs.Acts.Rows.{alias_acts, alias_event, commit_acts, elp_acts, message_acts, reboot_acts, tick_acts}
 use Rattle.mesh_model.specs.Clients.Limits.{clients_limit}
 use Rattle.mesh_model.specs.Clients.Mentions.{Mention}
 use Rattle.mesh_model.specs.Clients.Settings.{Settings}
@@ -24,12 +27,16 @@ use Rattle.mesh_model.specs.Commits.Versions.{last_commit, same_table}
 use Rattle.mesh_model.specs.Knowledge.Known.{Knowledge}
 use Rattle.mesh_model.specs.Knowledge.Offers.{choice_by}
 use Rattle.mesh_model.specs.Knowledge.Steps as steps
+use Rattle.mesh_model.specs.Packets.Containers.{containers_spelling}
 use Rattle.mesh_model.specs.Packets.Numbers.{ogm_diff_flag}
 use Rattle.mesh_model.specs.Routes.Queries.{Queries}
 use Rattle.mesh_model.specs.Routes.RouteLog.{RouteLog, OwnTick}
 use Rattle.node_tables.proofs.WayLemmas.{entry_sums_few}
 use Rattle.node_ground.specs.declared.knowledge.NodeKnowledge.{NodeKnowledge}
+use Rattle.node_ground.specs.declared.failure.NodeErr.{NodeErr}
 use Rattle.node_ground.specs.KnowledgeStands.{KnowledgeStands}
+use Rattle.node_ground.specs.Puts.{Puts, TakesAll}
+use Rattle.node_ground.proofs.PutsLemmas.{puts_behind}
 use Rattle.node_ground.proofs.StandsLemmas.{with_algo}
 use Rattle.tt_global.specs.Kept.{stamp_in}
 use Rattle.tt_local.specs.Announcing.{IsAnnouncement}
@@ -137,7 +144,7 @@ tick_by q me settings routes mentions history now index even is =
     sym (ap (λ b. elp_acts q routes index ++ (if b then commit_acts q me settings routes index history (committed (present_table mentions now) history) else [])) is)
 
 -- an even tick tells of its commit's alias behind its ELP, and then announces
-pub even_acts : (q : Queries) (me : Mac) (settings : Settings) (routes : RouteLog) (mentions : List Mention) (history : History) (now index : ℕ) → index % 2 ≡ 0
+even_acts : (q : Queries) (me : Mac) (settings : Settings) (routes : RouteLog) (mentions : List Mention) (history : History) (now index : ℕ) → index % 2 ≡ 0
     → elp_acts q routes index ++ commit_acts q me settings routes index history (committed (present_table mentions now) history) ≡ beat_acts q me settings routes mentions history now index
 even_acts q me settings routes mentions history now index even = tick_by q me settings routes mentions history now index true (is_even index even)
 
@@ -200,3 +207,18 @@ pub odd_stands : (view : LocalsView) (mentions : List Mention) (history : Histor
 odd_stands view mentions history since now index stands late odd =
     subst (λ even. LocalsStand view mentions (if even then with_message (committed (present_table mentions now) history) else history) now) (sym (is_odd index odd))
     (stands_later view mentions history since now stands late)
+
+module _ {P : Type 0} (takes : P → Act → P → Type 0) (same : P → P → Type 0) (over : P → Act → Option LimitName) where
+  -- an even tick puts its ELP, and then what its commit tells by the settings that are seen
+  pub even_puts : (q : Queries) (me : Mac) (seen settings : Settings) (routes : RouteLog) (mentions : List Mention) (history : History) (now index : ℕ) (beats : Beats) (old mid new : P) (result : Result Unit NodeErr)
+      → seen ≡ settings → beats ≡ q.beats routes index → index % 2 ≡ 0 → TakesAll takes over old (message_acts beats.elp []) mid
+      → (let after : History = committed (present_table mentions now) history in
+      Puts takes same over mid (alias_acts me history.commits after.commits ++ message_acts beats.ogm (containers_spelling (own_containers seen (announcement after)))) result new)
+      → Puts takes same over old (beat_acts q me settings routes mentions history now index) result new
+  even_puts q me seen settings routes mentions history now index beats old mid new result seen_is beats_are even all puts =
+      let after : History = committed (present_table mentions now) history in
+      let elp = subst (λ (b : Beats). TakesAll takes over old (message_acts b.elp []) mid) beats_are all in
+      let own = subst (λ s. Puts takes same over mid (commit_acts q me s routes index history after) result new) seen_is
+      (subst (λ (b : Beats). Puts takes same over mid (alias_acts me history.commits after.commits ++ message_acts b.ogm (containers_spelling (own_containers seen (announcement after)))) result new) beats_are puts) in
+      subst (λ acts. Puts takes same over old acts result new) (even_acts q me settings routes mentions history now index even)
+      (puts_behind takes same over old mid new (elp_acts q routes index) (commit_acts q me settings routes index history after) result elp own)

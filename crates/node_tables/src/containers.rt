@@ -1,13 +1,14 @@
 //! The row of containers that are for this node.
 
-ghost use Rattle.std.specs.Prelude.{◌≡◌, ◌++◌, ◌&&◌, OnOk};
+ghost use Rattle.std.specs.Prelude.{◌≡◌, ◌++◌, ◌&&◌, List, OnOk};
 ghost use Rattle.mesh_base.specs.declared.address.Mac.{Mac};
+ghost use Rattle.mesh_model.specs.declared.table_change.Change.{Change};
 ghost use Rattle.mesh_model.specs.Acts.BridgeRows.{unclaim_acts};
 ghost use Rattle.mesh_model.specs.Acts.TableRows.{own_answer};
 ghost use Rattle.mesh_model.specs.Acts.Rows.{Own};
 ghost use Rattle.mesh_model.specs.Knowledge.Known.{Knowledge};
 ghost use Rattle.mesh_model.specs.Knowledge.Steps.{after_answer, after_containers};
-ghost use Rattle.mesh_model.specs.Knowledge.Told.{Asks, message_in, part_told, stamp_told};
+ghost use Rattle.mesh_model.specs.Knowledge.Told.{Asks, carried_told, message_in, part_told, stamp_told};
 ghost use Rattle.mesh_model.specs.Packets.Containers.{containers_of};
 ghost use Rattle.mesh_model.specs.Packets.Contents.{first_part, first_roaming, first_table};
 ghost use Rattle.mesh_model.specs.Packets.Numbers.{full_table_flag, response_flag};
@@ -16,8 +17,9 @@ ghost use Rattle.node_ground.specs.KnowledgeStands.{KnowledgeStands, place};
 ghost use Rattle.node_ground.specs.OwnStands.{OwnStands};
 ghost use Rattle.node_ground.specs.Puts.{Puts};
 ghost use Rattle.node_lans.specs.BridgeStands.{BridgeStands};
+ghost use Rattle.node_tables.specs.AnswerKinds.{carried_by};
 
-use crate::answers::{mark_roamed, take_answer, take_part};
+use crate::answers::{AnswerKind, mark_roamed, take_answer};
 use crate::replies::{ReplyWay, send_reply};
 use mesh_algo::Algo;
 use mesh_base::{Mac, Millis, NoMemory};
@@ -59,6 +61,18 @@ fn answer_own<A: Algo, P: Port>(
     Ok(())
 }
 
+// What an answer in one packet brings, by its flags.
+fn kind_by_flags(flags: u8) -> AnswerKind
+    ensures { (records : List Change) → carried_by result records
+        ≡ carried_told (has_flag full_table_flag flags) records }
+{
+    if has_flag(flags, FULL_TABLE) {
+        AnswerKind::Full
+    } else {
+        AnswerKind::Changes
+    }
+}
+
 // Answers a request for the own table, or takes an answer, where containers hold one of them.
 #[tactic(auto, unfolding(mesh_model::specs::Acts::TableRows::own_answer))]
 fn table_here<A: Algo, P: Port>(
@@ -88,7 +102,7 @@ fn table_here<A: Algo, P: Port>(
         return Ok(());
     }
     if has_flag(table.flags(), RESPONSE) {
-        take_answer(kept, at.now, src, &table)?;
+        take_answer(kept, at.now, src, kind_by_flags(table.flags()), &table)?;
     }
     Ok(())
 }
@@ -118,7 +132,7 @@ fn part_here<A: Algo>(
     if !is_of_full_answer(table.flags()) {
         return Ok(());
     }
-    take_part(kept, now, src, &table, number, count)?;
+    take_answer(kept, now, src, AnswerKind::Part { number, count }, &table)?;
     Ok(())
 }
 

@@ -1,13 +1,11 @@
 //! How answers for tables are put: a packet, or one for each part.
 
-ghost use Rattle.std.specs.Prelude.{◌≡◌, ◌<◌};
+ghost use Rattle.std.specs.Prelude.{◌≡◌, ◌≤◌, length};
 ghost use Rattle.mesh_model.specs.declared.packet.Head.TheVariants.{Utvlv};
-ghost use Rattle.mesh_model.specs.Acts.TableRows.{part_acts};
+ghost use Rattle.mesh_model.specs.Acts.Packing.{sent_over};
 ghost use Rattle.mesh_model.specs.Packets.Numbers.{first_ttl};
-ghost use Rattle.mesh_model.specs.Tables.Answers.{numbered_part, whole_part};
-ghost use Rattle.mesh_model.specs.Tables.Pieces.{piece_count};
 ghost use Rattle.node_ground.specs.Puts.{Puts};
-ghost use Rattle.node_ground.specs.Sending.{FitsPacket, FitsParts};
+ghost use Rattle.node_ground.specs.Sending.{FitsParts};
 ghost use Rattle.node_tables.specs.Replies.{in_parts, numbered_acts, reply_acts};
 ghost use Rattle.tt_sync.specs.Answers.{answer_in};
 
@@ -28,51 +26,21 @@ pub(crate) struct ReplyWay {
 }
 
 impl ReplyWay {
-    // The head of each packet.
-    fn head(self) -> Head
-        ensures { result ≡ Utvlv first_ttl self.asker self.orig }
+    // Puts the containers of one packet.
+    fn send<P: Port>(self, alloc: Global, port: &mut P, containers: &[u8]) -> Result<(), NodeErr>
+        requires { length containers.now ≤ 65535 }
+        ensures { Puts P.takes P.same P.over port.old
+            (sent_over self.next (Utvlv first_ttl self.asker self.orig) containers.now)
+            result port.new }
     {
-        Head::Utvlv {
+        let head = Head::Utvlv {
             ttl: FIRST_TTL,
             dst: self.asker,
             src: self.orig,
-        }
+        };
+        send_over(alloc, port, self.next, &head, containers)?;
+        Ok(())
     }
-}
-
-// Puts an answer in one packet.
-fn send_whole<P: Port>(
-    alloc: Global,
-    port: &mut P,
-    way: ReplyWay,
-    reply: &Reply,
-) -> Result<(), NodeErr>
-    requires { FitsPacket (answer_in reply.now) }
-    ensures { Puts P.takes P.same P.over port.old
-        (part_acts way.next way.orig way.asker (whole_part (answer_in reply.now))) result port.new }
-{
-    let containers = reply_containers(alloc, reply)?;
-    send_over(alloc, port, way.next, &way.head(), containers.as_slice())?;
-    Ok(())
-}
-
-// Puts the part of an answer with a number.
-fn send_part<P: Port>(
-    alloc: Global,
-    port: &mut P,
-    way: ReplyWay,
-    reply: &Reply,
-    number: u16,
-) -> Result<(), NodeErr>
-    requires parts { FitsParts (answer_in reply.now) }
-    requires within { number < piece_count (answer_in reply.now).records }
-    ensures { Puts P.takes P.same P.over port.old
-        (part_acts way.next way.orig way.asker (numbered_part (answer_in reply.now) number))
-        result port.new }
-{
-    let containers = part_containers(alloc, reply, number)?;
-    send_over(alloc, port, way.next, &way.head(), containers.as_slice())?;
-    Ok(())
 }
 
 // Puts the parts of an answer from a number on, in order.
@@ -90,7 +58,8 @@ fn send_parts<P: Port>(
     if number >= part_count(reply) {
         return Ok(());
     }
-    send_part(alloc, port, way, reply, number)?;
+    let containers = part_containers(alloc, reply, number)?;
+    way.send(alloc, port, containers.as_slice())?;
     send_parts(alloc, port, way, reply, number + 1)?;
     Ok(())
 }
@@ -115,10 +84,11 @@ pub(crate) fn send_reply<P: Port>(
     ensures { Puts P.takes P.same P.over port.old
         (reply_acts way.next way.orig way.asker (answer_in reply.now)) result port.new }
 {
-    if !goes_in_parts(reply) {
-        send_whole(alloc, port, way, reply)?;
+    if goes_in_parts(reply) {
+        send_parts(alloc, port, way, reply, 0)?;
         return Ok(());
     }
-    send_parts(alloc, port, way, reply, 0)?;
+    let containers = reply_containers(alloc, reply)?;
+    way.send(alloc, port, containers.as_slice())?;
     Ok(())
 }

@@ -12,7 +12,7 @@ pub returns-in_err-follow-clause-puts : goal.returns-in_err-follow-clause-puts
 returns-in_err-follow-clause-puts g c = λ known stands.
     let p = err_from_is_err_and c.from_residual-in_err-follow.result c.from_residual-in_err-follow.ensures.1 in
     let calls = Answered c.args.at.now c.args.message.seq c.args.message.kind ∷ known.probes in
-    let stand = with_sessions g.A.Algo.stands c.args.kept.now c.answer-told.new.self c.args.at.me calls known stands (c.answer-told.ensures.taken known.probes stands.probes) in
+    let stand = with_sessions {calls = calls} stands (c.answer-told.ensures.taken known.probes stands.probes) in
     rw (p.1, p.2) (answer_puts g.P.Port.takes g.P.Port.same g.P.Port.over (g.A.Algo.queries c.args.at.me) known (place c.args.at) (icmp_of c.args.message)
     c.in-Some.asked c.answer-told.result c.answer_event.result c.args.port.now c.put.new.self c.follow.new.port (Err c.in_err-follow.field-0.0)
     (c.in-Some.ensures known.probes stands.probes) (c.answer-told.ensures.told known.probes stands.probes) c.answer_event.ensures
@@ -22,7 +22,7 @@ returns-in_err-follow-clause-puts g c = λ known stands.
 pub returns-clause-puts : goal.returns-clause-puts
 returns-clause-puts g c = λ known stands.
     let calls = Answered c.args.at.now c.args.message.seq c.args.message.kind ∷ known.probes in
-    let stand = with_sessions g.A.Algo.stands c.args.kept.now c.answer-told.new.self c.args.at.me calls known stands (c.answer-told.ensures.taken known.probes stands.probes) in
+    let stand = with_sessions {calls = calls} stands (c.answer-told.ensures.taken known.probes stands.probes) in
     answer_puts g.P.Port.takes g.P.Port.same g.P.Port.over (g.A.Algo.queries c.args.at.me) known (place c.args.at) (icmp_of c.args.message)
     c.in-Some.asked c.answer-told.result c.answer_event.result c.args.port.now c.put.new.self c.follow.new.port (Ok tt)
     (c.in-Some.ensures known.probes stands.probes) (c.answer-told.ensures.told known.probes stands.probes) c.answer_event.ensures
@@ -32,7 +32,7 @@ returns-clause-puts g c = λ known stands.
 pub returns-clause-noted : goal.returns-clause-noted
 returns-clause-noted g c = λ known stands.
     let calls = Answered c.args.at.now c.args.message.seq c.args.message.kind ∷ known.probes in
-    let stand = with_sessions g.A.Algo.stands c.args.kept.now c.answer-told.new.self c.args.at.me calls known stands (c.answer-told.ensures.taken known.probes stands.probes) in
+    let stand = with_sessions {calls = calls} stands (c.answer-told.ensures.taken known.probes stands.probes) in
     subst (λ (says : Told). KnowledgeStands g.A.Algo.stands c.follow.new.kept c.args.at.me (record known {
       probes = following (g.A.Algo.queries c.args.at.me) known.routes c.args.at.now says calls;
     }))

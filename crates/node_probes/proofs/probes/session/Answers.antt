@@ -14,7 +14,7 @@ unfolding session_acts
 returns-in_err-put_probe-clause-puts g c = λ known stands.
     let p = err_from_is_err_and c.from_residual-in_err-put_probe.result c.from_residual-in_err-put_probe.ensures.1 in
     let calls = Started c.args.at.now c.args.target c.args.trace ∷ known.probes in
-    let stand = with_sessions g.A.Algo.stands c.args.kept.now c.start.new.self c.args.at.me calls known stands (c.in_ok-probe.ensures.ok known.probes stands.probes) in
+    let stand = with_sessions {calls = calls} stands (c.in_ok-probe.ensures.ok known.probes stands.probes) in
     rw (p.1, p.2) (subst (λ (probe : Probe). Puts g.P.Port.takes g.P.Port.same g.P.Port.over c.args.port.now
     (probe_acts c.args.at.me c.args.trace probe ((g.A.Algo.queries c.args.at.me).route known.routes c.args.at.now probe.target))
     (Err c.in_err-put_probe.field-0.0) c.put_probe.new.port)
@@ -24,7 +24,7 @@ pub returns-clause-puts : goal.returns-clause-puts
 unfolding session_acts
 returns-clause-puts g c = λ known stands.
     let calls = Started c.args.at.now c.args.target c.args.trace ∷ known.probes in
-    let stand = with_sessions g.A.Algo.stands c.args.kept.now c.start.new.self c.args.at.me calls known stands (c.in_ok-probe.ensures.ok known.probes stands.probes) in
+    let stand = with_sessions {calls = calls} stands (c.in_ok-probe.ensures.ok known.probes stands.probes) in
     subst (λ (probe : Probe). Puts g.P.Port.takes g.P.Port.same g.P.Port.over c.args.port.now
     (probe_acts c.args.at.me c.args.trace probe ((g.A.Algo.queries c.args.at.me).route known.routes c.args.at.now probe.target))
     (Ok tt) c.put_probe.new.port)
@@ -33,7 +33,7 @@ returns-clause-puts g c = λ known stands.
 pub returns-clause-noted : goal.returns-clause-noted
 returns-clause-noted g c = λ known stands.
     let calls = Started c.args.at.now c.args.target c.args.trace ∷ known.probes in
-    let stand = with_sessions g.A.Algo.stands c.args.kept.now c.start.new.self c.args.at.me calls known stands (c.in_ok-probe.ensures.ok known.probes stands.probes) in
+    let stand = with_sessions {calls = calls} stands (c.in_ok-probe.ensures.ok known.probes stands.probes) in
     subst (λ (probe : Probe). KnowledgeStands g.A.Algo.stands c.put_probe.new.kept c.args.at.me (record known {
       probes = unless_sent ((g.A.Algo.queries c.args.at.me).route known.routes c.args.at.now probe.target) probe calls;
     }))

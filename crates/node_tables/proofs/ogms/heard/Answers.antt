@@ -2,13 +2,11 @@ use Rattle.std.proofs.Common.{◌∷◌, true, sym, ap, subst, ◌∙◌, Ok, Er
 use Rattle.std.proofs.lemmas.Result.{err_from_is_err_and}
 use Rattle.mesh_model.specs.declared.route.Hearing.{Hearing}
 use Rattle.mesh_model.specs.Acts.Rows.{ogm_acts}
-use Rattle.mesh_model.specs.Acts.TableRows.{request_acts}
 use Rattle.mesh_model.specs.Knowledge.Known.{Knowledge}
-use Rattle.mesh_model.specs.Knowledge.Steps.{after_announcement, request_out, with_head, with_life, with_offered}
+use Rattle.mesh_model.specs.Knowledge.Steps.{after_announcement, with_head, with_life, with_offered}
 use Rattle.mesh_serv.specs.OffersStand.{OffersStand}
 use Rattle.node_ground.proofs.PutsLemmas.{stops_last}
 use Rattle.node_ground.specs.KnowledgeStands.{KnowledgeStands, coming}
-use Rattle.node_ground.specs.Puts.{Puts}
 use Rattle.node_ground.specs.Reading.{message}
 use Rattle.node_tables.proofs.KnownLemmas.{head_came, offer_noted}
 use Rattle.node_tables.proofs.OgmLemmas.{ogm_only, ogm_puts, ogm_stops}
@@ -28,15 +26,10 @@ returns-in_err-accept-clause-puts g c = λ known number stands.
     let came = coming c.args.came number in
     let head = c.args.packet.now.head in
     let told = message c.args.orig c.args.table.now in
-    let after : Knowledge = with_head came head known in
     let stand = head_came g.A.Algo.stands c.args.kept.now c.hear.new.self c.args.me came head known stands (c.in_ok-hearing.ensures.noted c.args.me known.routes stands.routes) in
     rw (p.1, p.2) (ogm_puts g.P.Port.takes g.P.Port.same g.P.Port.over q c.args.me came head told c.args.packet.now.tail.now known c.in_ok-hearing.hearing
-    c.args.port.now c.send_message.new.port c.accept.new.port (Err c.in_err-accept.field-0.0)
-    (c.in_ok-hearing.ensures.heard c.args.me known.routes stands.routes) c.if-hearing.true c.in_ok-send_message.ensures
-    (subst (λ (h : Hearing). Puts g.P.Port.takes g.P.Port.same g.P.Port.over c.send_message.new.port
-    (request_acts c.args.me (q.route (with_life c.args.orig h.began after).routes c.args.came.now c.args.orig) told (request_out q (with_life c.args.orig h.began after) c.args.came.now told))
-    (Err c.in_err-accept.field-0.0) c.accept.new.port)
-    (c.in_ok-hearing.ensures.heard c.args.me known.routes stands.routes) (c.in_err-accept.ensures.puts after stand)))
+    c.args.port.now c.send_message.new.port c.accept.new.port (Err c.in_err-accept.field-0.0) (c.in_ok-hearing.ensures.heard c.args.me known.routes stands.routes) c.if-hearing.true c.in_ok-send_message.ensures
+    (c.in_err-accept.ensures.puts (with_head came head known) stand))
 
 pub returns-in_err-note-clause-puts : goal.returns-in_err-note-clause-puts
 returns-in_err-note-clause-puts g c = λ known number stands.
@@ -45,17 +38,11 @@ returns-in_err-note-clause-puts g c = λ known number stands.
     let came = coming c.args.came number in
     let head = c.args.packet.now.head in
     let told = message c.args.orig c.args.table.now in
-    let after : Knowledge = with_head came head known in
     let stand = head_came g.A.Algo.stands c.args.kept.now c.hear.new.self c.args.me came head known stands (c.in_ok-hearing.ensures.noted c.args.me known.routes stands.routes) in
-    rw (p.1, p.2) (stops_last g.P.Port.takes g.P.Port.same g.P.Port.over c.args.port.now c.accept.new.port
-    (ogm_acts q c.args.me came head told c.args.packet.now.tail.now known)
+    rw (p.1, p.2) (stops_last g.P.Port.takes g.P.Port.same g.P.Port.over c.args.port.now c.accept.new.port (ogm_acts q c.args.me came head told c.args.packet.now.tail.now known)
     (ogm_puts g.P.Port.takes g.P.Port.same g.P.Port.over q c.args.me came head told c.args.packet.now.tail.now known c.in_ok-hearing.hearing
-    c.args.port.now c.send_message.new.port c.accept.new.port (Ok tt)
-    (c.in_ok-hearing.ensures.heard c.args.me known.routes stands.routes) c.if-hearing.true c.in_ok-send_message.ensures
-    (subst (λ (h : Hearing). Puts g.P.Port.takes g.P.Port.same g.P.Port.over c.send_message.new.port
-    (request_acts c.args.me (q.route (with_life c.args.orig h.began after).routes c.args.came.now c.args.orig) told (request_out q (with_life c.args.orig h.began after) c.args.came.now told))
-    (Ok tt) c.accept.new.port)
-    (c.in_ok-hearing.ensures.heard c.args.me known.routes stands.routes) (c.in_ok-accept.ensures.puts after stand)))
+    c.args.port.now c.send_message.new.port c.accept.new.port (Ok tt) (c.in_ok-hearing.ensures.heard c.args.me known.routes stands.routes) c.if-hearing.true c.in_ok-send_message.ensures
+    (c.in_ok-accept.ensures.puts (with_head came head known) stand))
     (g.met.P.Port.same_refl c.accept.new.port))
 
 pub returns-in_ok-note-clause-puts : goal.returns-in_ok-note-clause-puts
@@ -64,15 +51,10 @@ returns-in_ok-note-clause-puts g c = λ known number stands.
     let came = coming c.args.came number in
     let head = c.args.packet.now.head in
     let told = message c.args.orig c.args.table.now in
-    let after : Knowledge = with_head came head known in
     let stand = head_came g.A.Algo.stands c.args.kept.now c.hear.new.self c.args.me came head known stands (c.in_ok-hearing.ensures.noted c.args.me known.routes stands.routes) in
     ogm_puts g.P.Port.takes g.P.Port.same g.P.Port.over q c.args.me came head told c.args.packet.now.tail.now known c.in_ok-hearing.hearing
-    c.args.port.now c.send_message.new.port c.accept.new.port (Ok tt)
-    (c.in_ok-hearing.ensures.heard c.args.me known.routes stands.routes) c.if-hearing.true c.in_ok-send_message.ensures
-    (subst (λ (h : Hearing). Puts g.P.Port.takes g.P.Port.same g.P.Port.over c.send_message.new.port
-    (request_acts c.args.me (q.route (with_life c.args.orig h.began after).routes c.args.came.now c.args.orig) told (request_out q (with_life c.args.orig h.began after) c.args.came.now told))
-    (Ok tt) c.accept.new.port)
-    (c.in_ok-hearing.ensures.heard c.args.me known.routes stands.routes) (c.in_ok-accept.ensures.puts after stand))
+    c.args.port.now c.send_message.new.port c.accept.new.port (Ok tt) (c.in_ok-hearing.ensures.heard c.args.me known.routes stands.routes) c.if-hearing.true c.in_ok-send_message.ensures
+    (c.in_ok-accept.ensures.puts (with_head came head known) stand)
 
 pub returns-in_ok-note-clause-noted : goal.returns-in_ok-note-clause-noted
 returns-in_ok-note-clause-noted g c = λ known number stands.

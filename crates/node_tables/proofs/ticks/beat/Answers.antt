@@ -1,17 +1,14 @@
-use Rattle.std.proofs.Common.{Err, Ok, [], ◌∷◌, ◌++◌, refl, subst, sym}
+use Rattle.std.proofs.Common.{Err, Ok, [], ◌∷◌, refl, subst, sym}
 use Rattle.std.specs.Prelude.{if◌then◌else◌}
 use Rattle.std.proofs.lemmas.Result.{err_from_is_err_and}
-use Rattle.mesh_model.specs.Acts.OwnContainers.{own_containers}
-use Rattle.mesh_model.specs.Acts.Rows.{alias_acts, commit_acts, elp_acts, message_acts}
-use Rattle.mesh_model.specs.Commits.Announcements.{announcement}
+use Rattle.mesh_model.specs.Acts.Rows.{commit_acts, elp_acts, message_acts}
 use Rattle.mesh_model.specs.Commits.History.{History, with_message, committed, is_commit_tick, present_table}
-use Rattle.mesh_model.specs.Packets.Containers.{containers_spelling}
 use Rattle.mesh_model.specs.Routes.RouteLog.{OwnTick}
 use Rattle.mesh_model.specs.declared.route.Beats.{Beats}
 use Rattle.node_ground.specs.SettingsSeen.{settings_seen}
 use Rattle.node_ground.specs.Puts.{Puts, TakesAll}
 use Rattle.node_ground.proofs.PutsLemmas.{puts_behind, stops_among, stops_last}
-use Rattle.node_tables.proofs.TickLemmas.{beat_acts, even_acts, even_known, is_even, odd_acts, odd_known, odd_stands, ticked}
+use Rattle.node_tables.proofs.TickLemmas.{beat_acts, even_known, even_puts, is_even, odd_acts, odd_known, odd_stands, ticked}
 use Rattle.node_tables.proofs.ticks.beat.Goals as goal
 use Rattle.tt_local.specs.Locals.{LocalsStand}
 
@@ -37,52 +34,25 @@ returns-then-index-ne0-clause-puts g c = λ known mentions history since is stan
 pub returns-in_err-own_message-clause-puts : goal.returns-in_err-own_message-clause-puts
 returns-in_err-own_message-clause-puts g c = λ known mentions history since is stands late.
     let p = err_from_is_err_and c.from_residual-in_err-own_message.result c.from_residual-in_err-own_message.ensures.1 in
-    let q = g.A.Algo.queries c.args.at.me in
-    let after : History = committed (present_table mentions c.args.at.now) history in
-    let tail = containers_spelling (own_containers (settings_seen c.args.kept.now.services.settings) (announcement after)) in
-    let beats_are = c.tick-beats.ensures.beats c.args.at.me known.routes is.routes in
-    let elp = subst (λ (beats : Beats). TakesAll g.P.Port.takes g.P.Port.over c.args.port.now (message_acts beats.elp []) c.send_elp.new.port) beats_are c.in_ok-send_elp.ensures in
-    let own = subst (λ settings. Puts g.P.Port.takes g.P.Port.same g.P.Port.over c.send_elp.new.port (commit_acts q c.args.at.me settings known.routes c.args.index history after) (Err c.in_err-own_message.field-0.0) c.own_message.new.port) is.services.settings
-    (subst (λ (beats : Beats). Puts g.P.Port.takes g.P.Port.same g.P.Port.over c.send_elp.new.port (alias_acts c.args.at.me history.commits after.commits ++ message_acts beats.ogm tail) (Err c.in_err-own_message.field-0.0) c.own_message.new.port)
-    beats_are (c.in_err-own_message.ensures.puts mentions history since stands late)) in
-    rw (p.1, p.2) (subst (λ acts. Puts g.P.Port.takes g.P.Port.same g.P.Port.over c.args.port.now acts (Err c.in_err-own_message.field-0.0) c.own_message.new.port)
-    (even_acts q c.args.at.me known.services.settings known.routes mentions history c.args.at.now c.args.index c.if-index-ne0.false)
-    (puts_behind g.P.Port.takes g.P.Port.same g.P.Port.over c.args.port.now c.send_elp.new.port c.own_message.new.port (elp_acts q known.routes c.args.index)
-    (commit_acts q c.args.at.me known.services.settings known.routes c.args.index history after) (Err c.in_err-own_message.field-0.0) elp own))
+    rw (p.1, p.2) (even_puts g.P.Port.takes g.P.Port.same g.P.Port.over (g.A.Algo.queries c.args.at.me) c.args.at.me (settings_seen c.args.kept.now.services.settings) known.services.settings known.routes mentions history
+    c.args.at.now c.args.index c.tick-beats.result c.args.port.now c.send_elp.new.port c.own_message.new.port (Err c.in_err-own_message.field-0.0) is.services.settings
+    (c.tick-beats.ensures.beats c.args.at.me known.routes is.routes) c.if-index-ne0.false c.in_ok-send_elp.ensures (c.in_err-own_message.ensures.puts mentions history since stands late))
 
 pub returns-in_err-choose_gateway-clause-puts : goal.returns-in_err-choose_gateway-clause-puts
 returns-in_err-choose_gateway-clause-puts g c = λ known mentions history since is stands late.
     let p = err_from_is_err_and c.from_residual-in_err-choose_gateway.result c.from_residual-in_err-choose_gateway.ensures.1 in
-    let q = g.A.Algo.queries c.args.at.me in
-    let after : History = committed (present_table mentions c.args.at.now) history in
-    let tail = containers_spelling (own_containers (settings_seen c.args.kept.now.services.settings) (announcement after)) in
-    let beats_are = c.tick-beats.ensures.beats c.args.at.me known.routes is.routes in
-    let elp = subst (λ (beats : Beats). TakesAll g.P.Port.takes g.P.Port.over c.args.port.now (message_acts beats.elp []) c.send_elp.new.port) beats_are c.in_ok-send_elp.ensures in
-    let own = subst (λ settings. Puts g.P.Port.takes g.P.Port.same g.P.Port.over c.send_elp.new.port (commit_acts q c.args.at.me settings known.routes c.args.index history after) (Ok tt) c.own_message.new.port) is.services.settings
-    (subst (λ (beats : Beats). Puts g.P.Port.takes g.P.Port.same g.P.Port.over c.send_elp.new.port (alias_acts c.args.at.me history.commits after.commits ++ message_acts beats.ogm tail) (Ok tt) c.own_message.new.port)
-    beats_are (c.in_ok-own_message.ensures.puts mentions history since stands late)) in
     rw (p.1, p.2) (stops_last g.P.Port.takes g.P.Port.same g.P.Port.over c.args.port.now c.own_message.new.port
-    (beat_acts q c.args.at.me known.services.settings known.routes mentions history c.args.at.now c.args.index)
-    (subst (λ acts. Puts g.P.Port.takes g.P.Port.same g.P.Port.over c.args.port.now acts (Ok tt) c.own_message.new.port)
-    (even_acts q c.args.at.me known.services.settings known.routes mentions history c.args.at.now c.args.index c.if-index-ne0.false)
-    (puts_behind g.P.Port.takes g.P.Port.same g.P.Port.over c.args.port.now c.send_elp.new.port c.own_message.new.port (elp_acts q known.routes c.args.index)
-    (commit_acts q c.args.at.me known.services.settings known.routes c.args.index history after) (Ok tt) elp own))
+    (beat_acts (g.A.Algo.queries c.args.at.me) c.args.at.me known.services.settings known.routes mentions history c.args.at.now c.args.index)
+    (even_puts g.P.Port.takes g.P.Port.same g.P.Port.over (g.A.Algo.queries c.args.at.me) c.args.at.me (settings_seen c.args.kept.now.services.settings) known.services.settings known.routes mentions history
+    c.args.at.now c.args.index c.tick-beats.result c.args.port.now c.send_elp.new.port c.own_message.new.port (Ok tt) is.services.settings
+    (c.tick-beats.ensures.beats c.args.at.me known.routes is.routes) c.if-index-ne0.false c.in_ok-send_elp.ensures (c.in_ok-own_message.ensures.puts mentions history since stands late))
     (g.met.P.Port.same_refl c.own_message.new.port))
 
 pub returns-clause-puts : goal.returns-clause-puts
 returns-clause-puts g c = λ known mentions history since is stands late.
-    let q = g.A.Algo.queries c.args.at.me in
-    let after : History = committed (present_table mentions c.args.at.now) history in
-    let tail = containers_spelling (own_containers (settings_seen c.args.kept.now.services.settings) (announcement after)) in
-    let beats_are = c.tick-beats.ensures.beats c.args.at.me known.routes is.routes in
-    let elp = subst (λ (beats : Beats). TakesAll g.P.Port.takes g.P.Port.over c.args.port.now (message_acts beats.elp []) c.send_elp.new.port) beats_are c.in_ok-send_elp.ensures in
-    let own = subst (λ settings. Puts g.P.Port.takes g.P.Port.same g.P.Port.over c.send_elp.new.port (commit_acts q c.args.at.me settings known.routes c.args.index history after) (Ok tt) c.own_message.new.port) is.services.settings
-    (subst (λ (beats : Beats). Puts g.P.Port.takes g.P.Port.same g.P.Port.over c.send_elp.new.port (alias_acts c.args.at.me history.commits after.commits ++ message_acts beats.ogm tail) (Ok tt) c.own_message.new.port)
-    beats_are (c.in_ok-own_message.ensures.puts mentions history since stands late)) in
-    subst (λ acts. Puts g.P.Port.takes g.P.Port.same g.P.Port.over c.args.port.now acts (Ok tt) c.own_message.new.port)
-    (even_acts q c.args.at.me known.services.settings known.routes mentions history c.args.at.now c.args.index c.if-index-ne0.false)
-    (puts_behind g.P.Port.takes g.P.Port.same g.P.Port.over c.args.port.now c.send_elp.new.port c.own_message.new.port (elp_acts q known.routes c.args.index)
-    (commit_acts q c.args.at.me known.services.settings known.routes c.args.index history after) (Ok tt) elp own)
+    even_puts g.P.Port.takes g.P.Port.same g.P.Port.over (g.A.Algo.queries c.args.at.me) c.args.at.me (settings_seen c.args.kept.now.services.settings) known.services.settings known.routes mentions history
+    c.args.at.now c.args.index c.tick-beats.result c.args.port.now c.send_elp.new.port c.own_message.new.port (Ok tt) is.services.settings
+    (c.tick-beats.ensures.beats c.args.at.me known.routes is.routes) c.if-index-ne0.false c.in_ok-send_elp.ensures (c.in_ok-own_message.ensures.puts mentions history since stands late)
 
 pub returns-then-index-ne0-clause-committed : goal.returns-then-index-ne0-clause-committed
 returns-then-index-ne0-clause-committed g c = λ mentions history since stands late.
