@@ -1,7 +1,7 @@
 -- Six bytes are one number, and the number tells them.
 use Rattle.std.specs.Prelude.{zero, suc}
-use Rattle.std.proofs.Common.{◌≡◌, ℕ, ◌<◌, length, nat_eq, Bool, true, false, ◌&&◌, List, [], ◌∷◌, ◌++◌, drop, take, get_or, arith, refl, sym, subst, ap, ap₂, ◌∙◌}
-use Rattle.std.specs.Int.{from_be_bytes, to_be_bytes, w32, w64}
+use Rattle.std.proofs.Common.{◌≡◌, ℕ, ◌<◌, ◌*◌, ◌+◌, length, nat_eq, Bool, true, false, ◌&&◌, List, [], ◌∷◌, ◌++◌, drop, take, get_or, arith, refl, sym, subst, ap, ap₂, ◌∙◌}
+use Rattle.std.specs.Int.{from_be_bytes, to_be_bytes, w16, w32, w64}
 use Rattle.std.specs.Cmp.Lexicographic.{pointwise}
 use Rattle.std.proofs.lemmas.List.{get_or_past, take-append-drop}
 use Rattle.std.proofs.lemmas.Nat.{be_bytes_8}
@@ -26,6 +26,17 @@ small bytes six a b c d e f (suc (suc (suc (suc (suc (suc (suc (suc i)))))))) =
 -- the number of six bytes has them
 pub bytes_back : (bytes : List ℕ) (n : ℕ) → length bytes ≡ 6 → get_or bytes 0 0 < 256 → get_or bytes 1 0 < 256 → get_or bytes 2 0 < 256 → get_or bytes 3 0 < 256 → get_or bytes 4 0 < 256 → get_or bytes 5 0 < 256 → n ≡ word bytes → to_be_bytes w64 n ≡ 0 ∷ 0 ∷ bytes
 bytes_back bytes n six a b c d e f is = be_bytes_8 (0 ∷ 0 ∷ bytes) n (omega (arith, six)) (small bytes six a b c d e f) is
+
+-- the number is that of the first four, with that of the last two behind it
+pub word_of_two : (bytes : List ℕ) → length bytes ≡ 6 → from_be_bytes w32 (take 4 bytes) * 65536 + from_be_bytes w16 (drop 4 bytes) ≡ word bytes
+word_of_two (a ∷ b ∷ c ∷ d ∷ e ∷ f ∷ []) six = omega arith
+word_of_two [] six = omega (arith, six)
+word_of_two (a ∷ []) six = omega (arith, six)
+word_of_two (a ∷ b ∷ []) six = omega (arith, six)
+word_of_two (a ∷ b ∷ c ∷ []) six = omega (arith, six)
+word_of_two (a ∷ b ∷ c ∷ d ∷ []) six = omega (arith, six)
+word_of_two (a ∷ b ∷ c ∷ d ∷ e ∷ []) six = omega (arith, six)
+word_of_two (a ∷ b ∷ c ∷ d ∷ e ∷ f ∷ g ∷ rest) six = omega (arith, six)
 
 same_self : (a : List ℕ) → pointwise nat_eq a a ≡ true
 same_self [] = refl

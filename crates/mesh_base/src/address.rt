@@ -119,13 +119,12 @@ impl Mac {
         u16::from_be_bytes([e, f])
     }
 
-    // The bytes as a number, the first the highest.
+    // The bytes as a number, the first the highest: read as an address is copied, four bytes and two.
     fn word(self) -> u64
         ensures value { result ≡ from_be_bytes w64 (0 ∷ 0 ∷ self.0) }
         ensures bytes { to_be_bytes w64 result ≡ 0 ∷ 0 ∷ self.0 }
     {
-        let [a, b, c, d, e, f] = self.0;
-        u64::from_be_bytes([0, 0, a, b, c, d, e, f])
+        u64::from(self.head()) * 65_536 + u64::from(self.tail())
     }
 
     /// Whether the address is one of a group, which all stations is too.
