@@ -26,6 +26,7 @@ pub struct Places {
 }
 
 /// Puts a row into a table whose keys stand in order. A new row takes memory.
+#[inline(always)]
 pub fn put<K: Copy + Ord + Hash, V: Copy>(
     table: &mut IndexMap<K, V>,
     key: K,
@@ -47,6 +48,7 @@ pub fn put<K: Copy + Ord + Hash, V: Copy>(
 }
 
 /// The place of a key's row, where it has one.
+#[inline(always)]
 pub fn place_of<K: Copy + Ord + Hash, V: Copy>(table: &IndexMap<K, V>, key: K) -> usize
     ensures { IfSome (index_of K.eq table.now key) (λ place. result ≡ place) }
 {
@@ -70,6 +72,14 @@ pub fn row_near<K: Copy + Ord + Hash, V: Copy>(
             return Some(*row);
         }
     }
+    row_anywhere(table, key)
+}
+
+// The row of a key, wherever it stands.
+#[inline(always)]
+fn row_anywhere<K: Copy + Ord + Hash, V: Copy>(table: &IndexMap<K, V>, key: K) -> Option<V>
+    ensures { result ≡ get K.eq table.now key }
+{
     table.get(&key).copied()
 }
 

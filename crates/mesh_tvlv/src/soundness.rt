@@ -26,6 +26,7 @@ pub fn is_long_enough(container: &Container<'_>) -> bool
 
 /// Why these containers can't be read to their end: the first that is too short for its type, or
 /// else a cut; `None` where they can.
+#[inline(always)]
 pub fn first_flaw(bytes: &[u8]) -> Option<TvlvErr>
     ensures { result ≡ flaw_of bytes.now }
 {

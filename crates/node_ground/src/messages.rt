@@ -68,20 +68,21 @@ pub fn send_over<P: Port>(
 
 /// Puts an originator message on all links, where there is a head for it.
 #[tactic(auto, unfolding(mesh_model::specs::Acts::Rows::message_acts))]
+#[inline(always)]
 pub fn send_message<P: Port>(
     alloc: Global,
     port: &mut P,
-    head: Option<Head>,
+    head: &Option<Head>,
     tail: &[u8],
 ) -> Result<(), NodeErr>
-    requires ogm { IfSome head (λ head. IsTrue (is_ogm head)) }
+    requires ogm { IfSome head.now (λ head. IsTrue (is_ogm head)) }
     requires fits { length tail.now ≤ 65535 }
-    ensures { Puts P.takes P.same P.over port.old (message_acts head tail.now) result port.new }
+    ensures { Puts P.takes P.same P.over port.old (message_acts head.now tail.now) result port.new }
 {
     let Some(head) = head else {
         return Ok(());
     };
-    send(alloc, port, None, None, &head, tail)?;
+    send(alloc, port, None, None, head, tail)?;
     Ok(())
 }
 

@@ -93,7 +93,7 @@ fn heard<A: Algo, P: Port>(
         (after_message q (coming came number) head (message orig table.now) known))) }
 {
     let hearing = kept.algo.hear(came.now, came.from, came.tp, &packet.head)?;
-    send_message(kept.alloc, port, hearing.forward, packet.tail)?;
+    send_message(kept.alloc, port, &hearing.forward, packet.tail)?;
     if hearing.accepted {
         accept(kept, port, me, came, orig, hearing.began, table)?;
         let offer = offer_in(packet.tail);

@@ -121,7 +121,7 @@ fn announce<P: Port>(
         OnOk result (LocalsStand locals.new mentions (with_message history) since) }
 {
     let containers = next_containers(alloc, locals, settings)?;
-    send_message(alloc, port, head, containers.as_slice())?;
+    send_message(alloc, port, &head, containers.as_slice())?;
     Ok(())
 }
 
