@@ -32,17 +32,6 @@ pub(crate) fn begin_life<A: Algo>(kept: &mut NodeKnowledge<A>, orig: Mac, begins
     }
 }
 
-// The byte under which the table of an originator is held in agreement.
-fn agreed_byte<A: Algo>(kept: &NodeKnowledge<A>, orig: Mac) -> Option<u8>
-    ensures { (me : Mac) (known : Knowledge) → KnowledgeStands A.stands kept.now me known →
-        result ≡ agreed_byte (known_by known.tables orig) }
-{
-    if !kept.globals.is_ok(orig) {
-        return None;
-    }
-    kept.globals.held(orig).map(|(byte, _)| byte)
-}
-
 /// Ends the marks of an originator that are answered by the table that is held of it in
 /// agreement.
 pub(crate) fn release<A: Algo>(kept: &mut NodeKnowledge<A>, orig: Mac)
@@ -52,7 +41,7 @@ pub(crate) fn release<A: Algo>(kept: &mut NodeKnowledge<A>, orig: Mac)
               released_under orig (agreed_byte (known_by known.tables orig)) known.marks;
         }) }
 {
-    if let Some(byte) = agreed_byte(kept, orig) {
+    if let Some(byte) = kept.globals.agreed_byte(orig) {
         kept.sync.release(orig, byte);
     }
 }

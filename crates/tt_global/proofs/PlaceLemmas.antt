@@ -1,15 +1,13 @@
 -- What is read of what is kept: by originator, and by place.
-use Rattle.std.proofs.Common.{◌≡◌, ℕ, Bool, true, false, cond, List, [], ◌∷◌, filter, filter_map, slice_get, Option, Some, None, is_some, option_map, option_and_then, Result, Err, IsOk, is_ok, refl, sym, ap, ap₂, ◌∙◌, Less}
+use Rattle.std.proofs.Common.{◌≡◌, ℕ, Bool, true, false, cond, List, [], ◌∷◌, filter, filter_map, slice_get, Option, Some, None, option_map, option_and_then, refl, sym, ap, ap₂, ◌∙◌, Less}
 use Rattle.std.proofs.Math.Path.{fun_ext}
 use Rattle.std.specs.List.{AllByRecursion, cons_option}
 use Rattle.std.specs.List.Sorted.{IsStrictlySortedBy}
 use Rattle.std.specs.Map.{keys_of, lookup}
-use Rattle.std.proofs.lemmas.Bool.{false≢true}
 use Rattle.std.proofs.lemmas.Option.{slice_get-map}
 use Rattle.mesh_base.specs.declared.address.Mac.{Mac}
 use Rattle.mesh_base.specs.declared.client.Key.{Key}
 use Rattle.mesh_model.specs.declared.table_row.GlobalRow.{GlobalRow}
-use Rattle.mesh_model.specs.Packets.Bodies.{VlanSum}
 use Rattle.mesh_model.specs.Routes.Addresses.{mac_order, same_mac}
 use Rattle.mesh_model.specs.Tables.Known.{TableCalls, agrees, holders_by, known_by, names, originators_by, global_row}
 use Rattle.mesh_model.specs.Tables.Versions.{Stamp, Version}
@@ -18,28 +16,12 @@ use Rattle.tt_global.specs.Globals.{GlobalsStand, Kept}
 use Rattle.tt_global.specs.Kept.{held_in, kept_row, told_in, version_of}
 use Rattle.tt_global.specs.declared.known.HeldTable.{HeldTable}
 use Rattle.tt_global.specs.declared.known.KnownTable.{KnownTable}
-use Rattle.tt_table.specs.Sums.{named_sums}
 use Rattle.tt_global.proofs.StandLemmas.{at}
 
 -- the byte that was told
 pub byte_told : (kept : Option KnownTable) → option_map (λ known. known.byte) kept ≡ option_map (λ stamp. stamp.byte) (told_in kept)
 byte_told None = refl
 byte_told (Some known) = refl
-
--- the sums of what was told
-abbrev told_sums : Option Stamp → List VlanSum
-told_sums None = []
-told_sums (Some told) = told.sums
-
-pub same_sums : (kept : Option KnownTable) (known : KnownTable) (told : Stamp) → kept ≡ Some known → told_in kept ≡ Some told → named_sums known.sums ≡ told.sums
-same_sums kept known told found is = ap told_sums (ap told_in (sym found) ∙ is)
-
-pub nothing_told : {X : Type 0} (kept : Option KnownTable) (told : Stamp) → kept ≡ None → told_in kept ≡ Some told → X
-nothing_told kept told absent is = absurd (false≢true (ap is_some (ap told_in (sym absent) ∙ is)))
-
--- a call that wants no memory isn't refused
-pub not_refused : {X T E : Type 0} (r : Result T E) (e : E) → r ≡ Err e → IsOk r → X
-not_refused r e is ok = absurd (false≢true (ap is_ok (sym is) ∙ ok))
 
 -- ---- rows
 key_placed : {X : Type 0} (es : List (Mac × X)) (i : ℕ) (orig : Mac) (x : X) → slice_get es i ≡ Some (orig, x) → slice_get (keys_of es) i ≡ Some orig

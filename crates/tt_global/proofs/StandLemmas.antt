@@ -8,22 +8,20 @@ use Rattle.std.proofs.lemmas.Map.{keys-set_value, lookup-set_value}
 use Rattle.mesh_base.specs.declared.address.Mac.{Mac}
 use Rattle.mesh_base.specs.declared.client.Entry.{Entry}
 use Rattle.mesh_model.specs.declared.table_change.Change.{Change}
-use Rattle.mesh_model.specs.declared.table_outcome.Heard.{Heard}
 use Rattle.mesh_model.specs.declared.table_outcome.Taken.{Taken}
 use Rattle.mesh_model.specs.declared.table_outcome.Taken.TheVariants.{BadPart, NotTold}
 use Rattle.mesh_model.specs.Routes.Addresses.{insert_mac, mac_order, same_mac}
-use Rattle.mesh_model.specs.Tables.Gathered.{Gathered, is_bad_part, none_gathered}
-use Rattle.mesh_model.specs.Tables.Judging.{Carried, InFull, InChanges, InPart, Row, announcement_row, answer_row, stays}
+use Rattle.mesh_model.specs.Tables.Gathered.{Gathered, is_bad_part}
+use Rattle.mesh_model.specs.Tables.Judging.{Carried, InFull, InChanges, InPart, announcement_row, answer_row, stays}
 use Rattle.mesh_model.specs.Tables.Known.{Announced, Answered, Dropped, Known, TableCalls, announced, answered, gathered_after, gathered_from, held_after, kept_under, known_by, matches_told, nothing, stamp_of}
 use Rattle.mesh_model.specs.Tables.Versions.{Stamp, Version}
 use Rattle.mesh_laws.proofs.AscendingKeys.{ascend_inserted, ascend_removed}
 use Rattle.mesh_laws.proofs.MacLemmas.{mac_exact, mac_total, same_equiv, same_exact, same_self}
 use Rattle.tt_global.specs.Globals.{GlobalsStand, Kept}
-use Rattle.tt_global.specs.Kept.{GathersAs, GathersBy, HoldsThen, IsGathered, IsHeld, IsTold, answer_of, gathered_in, held_in, row_in, told_in, version_of}
+use Rattle.tt_global.specs.Kept.{Announces, GathersAs, GathersBy, HoldsThen, IsAnnounced, IsGathered, IsHeld, answer_of, gathered_in, held_in, row_in, told_in, version_of}
 use Rattle.tt_global.specs.declared.judging.Judged.{Judged}
 use Rattle.tt_global.specs.declared.judging.Parts.{Parts}
 use Rattle.tt_global.specs.declared.judging.Parts.TheVariants as becomes
-use Rattle.tt_global.specs.declared.known.HeldTable.{HeldTable}
 use Rattle.tt_global.specs.declared.known.KnownTable.{KnownTable}
 use Rattle.tt_global.proofs.KeyLemmas.{key_again, keys_inserted, keys_removed}
 
@@ -36,85 +34,34 @@ pub nothing_stands : (kept : Kept) → kept ≡ [] → GlobalsStand kept []
 unfolding IsStrictlySortedBy
 nothing_stands kept is = subst (λ k. GlobalsStand k []) (sym is) (record { told = λ orig. refl; held = λ orig. refl; gathered = λ orig. refl; originators = refl; rise = tt })
 
--- where something was told, something is kept
-told_there : (orig : Mac) (told : Stamp) (old new : Kept) → IsTold orig told old new → IsSome (at orig new)
-told_there orig told old new is_told =
-    some (at orig new) (is_told.told_is orig ∙ ap (λ b. cond b (Some told) (told_in (at orig old))) (same_self orig))
-  where
-    some : (kept : Option KnownTable) → told_in kept ≡ Some told → IsSome kept
-    some None is = absurd (false≢true (ap is_some is))
-    some (Some known) is = refl
-
 -- without another table, what is held stays
 unchanged : (byte : ℕ) (b : Bool) (held : Option Version) → held ≡ cond b (held_after byte None held) held
 unchanged byte true held = refl
 unchanged byte false held = refl
 
 -- ---- announcements
-module _ (calls : TableCalls) (orig : Mac) (frame : ℕ) (stamp : Stamp) (changes : List Change) (old mid : Kept) (stands : GlobalsStand old calls) (is_told : IsTold orig stamp old mid) where
-  abbrev after : Mac → Known → Known
-  after other before = cond (same_mac orig other) (announced frame stamp changes before) before
+module _ (calls : TableCalls) (orig : Mac) (frame : ℕ) (stamp : Stamp) (changes : List Change) (old new : Kept) (stands : GlobalsStand old calls) (is : Announces orig stamp changes old new) where
+  abbrev then_known : Mac → Known
+  then_known other = announced frame stamp changes (known_by calls other)
 
-  told_then : (other : Mac) → told_in (at other mid) ≡ stamp_of (after other (known_by calls other))
-  told_then other =
-      is_told.told_is other
-      ∙ elim (same_mac orig other) as (λ b. cond b (Some stamp) (told_in (at other old)) ≡ stamp_of (cond b (announced frame stamp changes (known_by calls other)) (known_by calls other))) [
-        | true ↦ refl
-        | false ↦ stands.told other
-      ]
-
-  gathered_then : (other : Mac) → gathered_in (at other mid) ≡ (after other (known_by calls other)).gathered
-  gathered_then other =
-      is_told.gathered_is other
-      ∙ elim (same_mac orig other) as (λ b. cond b (kept_under (told_in (at other old)) stamp (gathered_in (at other old))) (gathered_in (at other old)) ≡ (cond b (announced frame stamp changes (known_by calls other)) (known_by calls other)).gathered) [
-        | true ↦ ap₂ (λ t g. kept_under t stamp g) (stands.told other) (stands.gathered other)
-        | false ↦ stands.gathered other
-      ]
-
-  -- what is held once the row is known
-  abbrev row : Option Version → Row Heard
-  row held = announcement_row held stamp changes
-
-  held_then : (table : Option (List Entry)) → (row (held_in (at orig old))).table ≡ table → (other : Mac)
-      → cond (same_mac orig other) (held_after stamp.byte table (held_in (at other old))) (held_in (at other old)) ≡ (after other (known_by calls other)).held
-  held_then table is other = go (same_mac orig other) refl
+  -- what a part of each row becomes
+  part_then : {X : Type 0} (part : Option KnownTable → X) (of : Known → X) → part (at orig new) ≡ of (then_known orig) → ((other : Mac) → part (at other old) ≡ of (known_by calls other))
+      → (other : Mac) → part (at other new) ≡ of (cond (same_mac orig other) (then_known other) (known_by calls other))
+  part_then {X} part of here others other = go (same_mac orig other) refl
     where
-      go : (b : Bool) → same_mac orig other ≡ b → cond b (held_after stamp.byte table (held_in (at other old))) (held_in (at other old)) ≡ (cond b (announced frame stamp changes (known_by calls other)) (known_by calls other)).held
-      go true t =
-          ap (λ x. held_after stamp.byte x (held_in (at other old))) (sym is ∙ ap (λ o. (row (held_in (at o old))).table) (same_exact orig other t))
-          ∙ ap (λ h. held_after stamp.byte (row h).table h) (stands.held other)
-      go false t = stands.held other
+      go : (b : Bool) → same_mac orig other ≡ b → part (at other new) ≡ of (cond b (then_known other) (known_by calls other))
+      go true t = subst (λ o. part (at o new) ≡ of (then_known o)) (same_exact orig other t) here
+      go false t = ap part (is.others_stay other t) ∙ others other
 
-  announced_kept : (row (held_in (at orig old))).table ≡ None → GlobalsStand mid (Announced orig frame stamp changes ∷ calls)
-  announced_kept is = record {
-    told = told_then;
-    held = λ other. is_told.held_stays other ∙ unchanged stamp.byte (same_mac orig other) _ ∙ held_then None is other;
-    gathered = gathered_then;
-    originators = is_told.keys_are stands.rise ∙ ap (insert_mac orig) stands.originators;
-    rise = is_told.rise stands.rise;
+  -- the announcement is noted
+  pub announced_stands : GlobalsStand new (Announced orig frame stamp changes ∷ calls)
+  announced_stands = record {
+    told = part_then told_in stamp_of is.row_is.told_is stands.told;
+    held = part_then held_in (λ known. known.held) (is.row_is.held_is ∙ ap (λ held. held_after stamp.byte (announcement_row held stamp changes).table held) (stands.held orig)) stands.held;
+    gathered = part_then gathered_in (λ known. known.gathered) (is.row_is.gathered_is ∙ ap₂ (λ told gathered. kept_under told stamp gathered) (stands.told orig) (stands.gathered orig)) stands.gathered;
+    originators = is.keys_are stands.rise ∙ ap (insert_mac orig) stands.originators;
+    rise = is.rise stands.rise;
   }
-
-  announced_held : (table : List Entry) (new : Kept) → (row (held_in (at orig old))).table ≡ Some table → IsHeld orig (record { byte = stamp.byte; table = table }) mid new → GlobalsStand new (Announced orig frame stamp changes ∷ calls)
-  announced_held table new is held = record {
-    told = λ other. held.told_stays other ∙ told_then other;
-    held = λ other. held.held_is other ∙ ap (cond (same_mac orig other) (Some (record { byte = stamp.byte; table = table }))) (is_told.held_stays other) ∙ held_then (Some table) is other;
-    gathered = λ other. held.gathered_stays other ∙ gathered_then other;
-    originators = held.keys_stay ∙ is_told.keys_are stands.rise ∙ ap (insert_mac orig) stands.originators;
-    rise = subst (IsStrictlySortedBy mac_order) (sym held.keys_stay) (is_told.rise stands.rise);
-  }
-
-  announced_then : (table : Option (List Entry)) (new : Kept) → (row (held_in (at orig old))).table ≡ table → HoldsThen orig stamp.byte table mid new → GlobalsStand new (Announced orig frame stamp changes ∷ calls)
-  announced_then None new is holds = subst (λ k. GlobalsStand k (Announced orig frame stamp changes ∷ calls)) (sym holds) (announced_kept is)
-  announced_then (Some table) new is holds = announced_held table new is (holds (told_there orig stamp old mid is_told))
-
-  -- the announcement is noted, by what was judged of it
-  pub announced_stands : (judged : Judged Heard) (held : Option Version) → held ≡ held_in (at orig old) → row_in judged ≡ row held → (new : Kept) → HoldsThen orig stamp.byte (row_in judged).table mid new
-      → GlobalsStand new (Announced orig frame stamp changes ∷ calls)
-  announced_stands judged held was is new holds = announced_then (row_in judged).table new (ap (λ h. (row h).table) (sym was) ∙ ap (λ r. r.table) (sym is)) holds
-
-  -- its outcome
-  pub heard_is : (judged : Judged Heard) (held : Option Version) → held ≡ held_in (at orig old) → row_in judged ≡ row held → judged.outcome ≡ (row (known_by calls orig).held).outcome
-  heard_is judged held was is = ap (λ r. r.outcome) is ∙ ap (λ h. (row h).outcome) (was ∙ stands.held orig)
 
 -- ---- answers
 -- an answer is taken only where something was told
@@ -276,41 +223,41 @@ module _ (orig : Mac) (old new : Kept) (before : Option KnownTable) (row : Known
       either false = refl
 
 -- of a row that is found this table is held
-pub held_written : (orig : Mac) (old new : Kept) (known : KnownTable) (held : HeldTable) → lookup (same_mac orig) old ≡ Some known
-    → new ≡ set_value (same_mac orig) old (record { byte = known.byte; sums = known.sums; held = Some held; gathered = known.gathered }) → IsHeld orig (version_of held) old new
-held_written orig old new known held found is =
-    let row : KnownTable = record { byte = known.byte; sums = known.sums; held = Some held; gathered = known.gathered } in
+pub held_written : (orig : Mac) (version : Version) (old new : Kept) (known row : KnownTable) → at orig old ≡ Some known → told_in (Some row) ≡ told_in (Some known) → held_in (Some row) ≡ Some version → row.gathered ≡ known.gathered
+    → new ≡ set_value (same_mac orig) old row → IsHeld orig version old new
+held_written orig version old new known row found row_told row_held row_gathered is =
     let updates = row_written orig old new known row found is in record {
-      told_stays = part_stays orig old new (Some known) row found updates told_in refl;
-      held_is = part_becomes orig old new (Some known) row found updates held_in (λ _. Some (version_of held)) refl;
-      gathered_stays = part_stays orig old new (Some known) row found updates gathered_in refl;
+      told_stays = part_stays orig old new (Some known) row found updates told_in row_told;
+      held_is = part_becomes orig old new (Some known) row found updates held_in (λ _. Some version) row_held;
+      gathered_stays = part_stays orig old new (Some known) row found updates gathered_in row_gathered;
       keys_stay = ap keys_of is ∙ keys-set_value (same_mac orig) old row;
     }
 
--- of a row that is found this was told
-pub told_written : (orig : Mac) (old new : Kept) (known row : KnownTable) (told : Stamp) → lookup (same_mac orig) old ≡ Some known → told_in (Some row) ≡ Some told → row.held ≡ known.held
-    → row.gathered ≡ kept_under (told_in (Some known)) told known.gathered → new ≡ set_value (same_mac orig) old row → IsTold orig told old new
-told_written orig old new known row told found row_told row_held row_gathered is =
-    let updates = row_written orig old new known row found is in
-    let keys : keys_of new ≡ keys_of old = ap keys_of is ∙ keys-set_value (same_mac orig) old row in record {
-      told_is = part_becomes orig old new (Some known) row found updates told_in (λ _. Some told) row_told;
-      held_stays = part_stays orig old new (Some known) row found updates held_in (ap (option_map version_of) row_held);
-      gathered_is = part_becomes orig old new (Some known) row found updates gathered_in (λ k. kept_under (told_in k) told (gathered_in k)) row_gathered;
-      keys_are = λ rise. keys ∙ sym (key_again orig old rise (ap is_some found));
-      rise = λ rise. subst (IsStrictlySortedBy mac_order) (sym keys) rise;
-    }
+-- a row is written that is what an announcement makes of what was there, which may be nothing
+module _ (orig : Mac) (stamp : Stamp) (changes : List Change) (old new : Kept) (row : KnownTable) where
+  announces : (before : Option KnownTable) → at orig old ≡ before → IsAnnounced stamp changes before (Some row) → ((other : Mac) → at other new ≡ cond (same_mac orig other) (Some row) (at other old))
+      → (IsStrictlySortedBy mac_order (keys_of old) → keys_of new ≡ insert_mac orig (keys_of old)) → (IsStrictlySortedBy mac_order (keys_of old) → IsStrictlySortedBy mac_order (keys_of new)) → Announces orig stamp changes old new
+  announces before was becomes updates keys rise = record {
+    row_is =
+        subst (λ after. IsAnnounced stamp changes (at orig old) after) (sym (updates orig ∙ ap (λ b. cond b (Some row) (at orig old)) (same_self orig)))
+        (subst (λ kept. IsAnnounced stamp changes kept (Some row)) (sym was) becomes);
+    others_stay = λ other f. updates other ∙ ap (λ b. cond b (Some row) (at other old)) f;
+    keys_are = keys;
+    rise = rise;
+  }
 
--- of a new originator this was told
-pub told_inserted : (orig : Mac) (old new : Kept) (row : KnownTable) (told : Stamp) → lookup (same_mac orig) old ≡ None → told_in (Some row) ≡ Some told → row.held ≡ None → row.gathered ≡ none_gathered
-    → ((other : Mac) → at other new ≡ cond (same_mac orig other) (Some row) (at other old))
-    → (IsStrictlySortedBy mac_order (keys_of old) → new ≡ insert_entry mac_order old orig row) → IsTold orig told old new
-told_inserted orig old new row told absent row_told row_held row_gathered updates inserted = record {
-  told_is = part_becomes orig old new None row absent updates told_in (λ _. Some told) row_told;
-  held_stays = part_stays orig old new None row absent updates held_in (ap (option_map version_of) row_held);
-  gathered_is = part_becomes orig old new None row absent updates gathered_in (λ k. kept_under (told_in k) told (gathered_in k)) row_gathered;
-  keys_are = λ rise. ap keys_of (inserted rise) ∙ keys_inserted old orig row;
-  rise = λ rise. subst (λ es. IsStrictlySortedBy mac_order (keys_of es)) (sym (inserted rise)) (ascend_inserted mac_total mac_exact old orig row rise);
-}
+  -- over a row that is found
+  pub announced_written : (known : KnownTable) → at orig old ≡ Some known → IsAnnounced stamp changes (Some known) (Some row) → new ≡ set_value (same_mac orig) old row → Announces orig stamp changes old new
+  announced_written known found becomes is =
+      let keys : keys_of new ≡ keys_of old = ap keys_of is ∙ keys-set_value (same_mac orig) old row in
+      announces (Some known) found becomes (row_written orig old new known row found is) (λ rise. keys ∙ sym (key_again orig old rise (ap is_some found))) (λ rise. subst (IsStrictlySortedBy mac_order) (sym keys) rise)
+
+  -- of a new originator
+  pub announced_inserted : at orig old ≡ None → IsAnnounced stamp changes None (Some row) → ((other : Mac) → at other new ≡ cond (same_mac orig other) (Some row) (at other old))
+      → (IsStrictlySortedBy mac_order (keys_of old) → new ≡ insert_entry mac_order old orig row) → Announces orig stamp changes old new
+  announced_inserted absent becomes updates inserted =
+      announces None absent becomes updates (λ rise. ap keys_of (inserted rise) ∙ keys_inserted old orig row)
+      (λ rise. subst (λ es. IsStrictlySortedBy mac_order (keys_of es)) (sym (inserted rise)) (ascend_inserted mac_total mac_exact old orig row rise))
 
 -- of a row that is found these parts are gathered
 pub gathered_written : (orig : Mac) (old new : Kept) (known row : KnownTable) → lookup (same_mac orig) old ≡ Some known → told_in (Some row) ≡ told_in (Some known) → row.held ≡ known.held → new ≡ set_value (same_mac orig) old row → IsGathered orig row.gathered old new

@@ -1,16 +1,18 @@
 -- What is kept of an originator, as the definitions see it: what was told, what is held and what is
 -- gathered. No public clause cites this file but for `stamp` and `stamp_in`.
-use Rattle.std.specs.Prelude.{◌≡◌, ℕ, List, Option, Some, None, IsSome, option_map, if◌then◌else◌}
+use Rattle.std.specs.Prelude.{◌≡◌, ℕ, false, List, Option, Some, None, IsSome, option_map, if◌then◌else◌}
 use Rattle.std.specs.List.Sorted.{IsStrictlySortedBy}
 use Rattle.std.specs.Map.{keys_of, lookup}
 use Rattle.mesh_base.specs.declared.address.Mac.{Mac}
 use Rattle.mesh_base.specs.declared.client.Entry.{Entry}
 use Rattle.mesh_model.specs.Routes.Addresses.{insert_mac, mac_order, same_mac}
+use Rattle.mesh_model.specs.declared.table_change.Change.{Change}
 use Rattle.mesh_model.specs.declared.table_row.GlobalRow.{GlobalRow}
+use Rattle.mesh_model.specs.declared.table_outcome.Heard.{Heard}
 use Rattle.mesh_model.specs.declared.table_outcome.Taken.{Taken}
 use Rattle.mesh_model.specs.Tables.Gathered.{Gathered, none_gathered}
-use Rattle.mesh_model.specs.Tables.Judging.{Carried, Row, Trial, Fails, Differs, Leads, answer_row, good_row}
-use Rattle.mesh_model.specs.Tables.Known.{agrees, kept_under}
+use Rattle.mesh_model.specs.Tables.Judging.{Carried, Row, Trial, Fails, Differs, Leads, announcement_row, answer_row, good_row}
+use Rattle.mesh_model.specs.Tables.Known.{agrees, held_after, kept_under}
 use Rattle.mesh_model.specs.Tables.Versions.{Stamp, Version}
 use Rattle.tt_global.specs.declared.judging.Judged.{Judged}
 use Rattle.tt_global.specs.declared.judging.Parts.{Parts}
@@ -58,6 +60,15 @@ kept_row orig known = record {
   ok = agrees (told_in (Some known)) (held_in (Some known));
 }
 
+-- the byte of what is held, where it agrees with what was told
+abbrev pub agreed_in : Option KnownTable → Option ℕ
+agreed_in kept = if agrees (told_in kept) (held_in kept)
+    then option_map (λ held. held.byte) (held_in kept) else None
+
+-- what an announcement makes of what is kept of an originator
+abbrev pub announcement_of : Option KnownTable → Stamp → List Change → Row Heard
+announcement_of kept stamp changes = announcement_row (held_in kept) stamp changes
+
 -- what an answer makes of what is kept of an originator
 abbrev pub answer_of : Option KnownTable → Stamp → Carried → Row Taken
 answer_of kept stamp carried =
@@ -93,15 +104,21 @@ trial_in (tried.Fails entry) = Fails entry
 trial_in (tried.Differs difference) = Differs difference
 trial_in (tried.Leads table) = Leads table.entries
 
--- of one originator this was told, and all else is as before
-pub record IsTold (orig : Mac) (told : Stamp) (old new : List (Mac × KnownTable)) : Type 0 where
-  pub told_is : (other : Mac) → told_in (lookup (same_mac other) new)
-      ≡ (if same_mac orig other then Some told else told_in (lookup (same_mac other) old))
-  pub held_stays : (other : Mac) →
-      held_in (lookup (same_mac other) new) ≡ held_in (lookup (same_mac other) old)
-  pub gathered_is : (other : Mac) → gathered_in (lookup (same_mac other) new)
-      ≡ (if same_mac orig other then kept_under (told_in (lookup (same_mac other) old)) told
-      (gathered_in (lookup (same_mac other) old)) else gathered_in (lookup (same_mac other) old))
+-- what is kept of an originator becomes this by an announcement
+pub record IsAnnounced (stamp : Stamp) (changes : List Change) (before after : Option KnownTable)
+    : Type 0 where
+  pub told_is : told_in after ≡ Some stamp
+  pub held_is : held_in after
+      ≡ held_after stamp.byte (announcement_of before stamp changes).table (held_in before)
+  pub gathered_is : gathered_in after ≡ kept_under (told_in before) stamp (gathered_in before)
+
+-- what is kept of one originator becomes what an announcement makes of it, and all else is as before
+pub record Announces (orig : Mac) (stamp : Stamp) (changes : List Change)
+    (old new : List (Mac × KnownTable)) : Type 0 where
+  pub row_is :
+      IsAnnounced stamp changes (lookup (same_mac orig) old) (lookup (same_mac orig) new)
+  pub others_stay : (other : Mac) → same_mac orig other ≡ false →
+      lookup (same_mac other) new ≡ lookup (same_mac other) old
   pub keys_are : IsStrictlySortedBy mac_order (keys_of old) →
       keys_of new ≡ insert_mac orig (keys_of old)
   pub rise : IsStrictlySortedBy mac_order (keys_of old) →

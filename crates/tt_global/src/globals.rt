@@ -1,7 +1,8 @@
-ghost use Rattle.std.specs.Prelude.{◌≡◌, ◌↔◌, ◌+◌, ◌≤◌, ℕ, List, [], ◌∷◌, ◌++◌, length, slice_get, option_map, option_and_then, IfOk, IfSome, IsNone, IsOk, IsTrue, OnErr, OnOk, Some};
+ghost use Rattle.std.specs.Prelude.{◌≡◌, ◌↔◌, ◌+◌, ◌≤◌, ℕ, List, [], ◌∷◌, ◌++◌, length, slice_get, option_map, option_and_then, IfOk, IfSome, IsNone, IsOk, IsTrue, None, OnErr, OnOk, Some};
 ghost use Rattle.std.specs.Map.{lookup};
 ghost use Rattle.mesh_base.specs.declared.address.Mac.{Mac};
 ghost use Rattle.mesh_model.specs.declared.table_change.Change.{Change};
+ghost use Rattle.mesh_model.specs.Knowledge.Known.{agreed_byte};
 ghost use Rattle.mesh_model.specs.Routes.Addresses.{same_mac};
 ghost use Rattle.mesh_model.specs.Tables.Judging.{InChanges, InFull, InPart, announcement_row, answer_row};
 ghost use Rattle.mesh_model.specs.Tables.Known.{Announced, Answered, Dropped, TableCalls, holders_by, is_agreed, known_by, originators_by, global_row, stamp_of};
@@ -11,7 +12,7 @@ ghost use Rattle.mesh_model.specs.declared.table_outcome.Taken.TheVariants.{Take
 ghost use Rattle.mesh_laws.specs.HeldLaws.{CameFrom, HoldsTold};
 ghost use Rattle.mesh_laws.specs.KnownLaws.{ArePartsOf, IsLastPart, IsToldWhole};
 ghost use Rattle.tt_global.specs.Globals.{GlobalsStand, KeepsAgreed, KeepsCommits, asked_version};
-ghost use Rattle.tt_global.specs.Kept.{GathersAs, HoldsThen, IsTold, gathered_in, stamp, stamp_in, told_in};
+ghost use Rattle.tt_global.specs.Kept.{Announces, GathersAs, HoldsThen, announcement_of, gathered_in, stamp, stamp_in};
 
 use crate::gathered::GatheredParts;
 use crate::judging::{Judged, Parts, judge_announcement, judge_changes, judge_full, judge_part};
@@ -82,10 +83,42 @@ impl Globals {
             IfSome (known_by calls orig).held (λ held. held.byte ≡ announced.now.byte) →
             IsOk result }
     {
-        let held = self.known.get(&orig).and_then(|known| known.held.as_ref());
-        let Judged { outcome, table } = judge_announcement(self.alloc, held, announced, steps)?;
-        self.tell(orig, announced.byte, &announced.sums)?;
-        self.hold(orig, announced.byte, table);
+        match self.known.get_mut(&orig) {
+            Some(known) => {
+                let heard = known.announce(self.alloc, announced, steps)?;
+                Ok(heard)
+            }
+            None => {
+                let heard = self.announce_first(orig, announced, steps)?;
+                Ok(heard)
+            }
+        }
+    }
+
+    // Takes the first announcement of an originator.
+    fn announce_first<L: Ledger>(
+        &mut self,
+        orig: Mac,
+        announced: &Announcement,
+        steps: &mut Steps<L>,
+    ) -> Result<Heard, NoMemory>
+        requires { IsNone (lookup (same_mac orig) self.now) }
+        ensures ok { OnOk result (Announces orig (stamp_in announced.now) announced.now.changes
+            self.old self.new) }
+        ensures heard { IfOk result (λ heard. heard ≡ (announcement_of None
+            (stamp_in announced.now) announced.now.changes).outcome) }
+        ensures err { OnErr result (self.new ≡ self.old) }
+        ensures steps { steps.new ≤ steps.old + length announced.now.changes }
+    {
+        let Judged { outcome, table } = judge_announcement(self.alloc, None, announced, steps)?;
+        let byte = announced.byte;
+        let known = KnownTable {
+            byte,
+            sums: announced.sums.copy()?,
+            held: table.map(|table| HeldTable { byte, table }),
+            gathered: GatheredParts::new(self.alloc),
+        };
+        self.known.insert_sorted(orig, known)?;
         Ok(outcome)
     }
 
@@ -242,6 +275,14 @@ impl Globals {
         }
     }
 
+    /// The byte under which the table of an originator is held in agreement.
+    pub fn agreed_byte(&self, orig: Mac) -> Option<u8>
+        ensures { (calls : TableCalls) → GlobalsStand self.now calls →
+            result ≡ agreed_byte (known_by calls orig) }
+    {
+        self.known.get(&orig)?.agreed_byte()
+    }
+
     /// The byte that an originator announced last, if any.
     pub fn told(&self, orig: Mac) -> Option<u8>
         ensures { (calls : TableCalls) → GlobalsStand self.now calls →
@@ -286,34 +327,6 @@ impl Globals {
         Some(known.row(*orig))
     }
 
-    // Notes what an originator announced.
-    fn tell(&mut self, orig: Mac, byte: u8, sums: &Sums) -> Result<(), NoMemory>
-        ensures ok { OnOk result (IsTold orig (stamp byte sums.now) self.old self.new) }
-        ensures err { OnErr result (self.new ≡ self.old) }
-        ensures same { told_in (lookup (same_mac orig) self.old) ≡ Some (stamp byte sums.now) →
-            IsOk result }
-    {
-        match self.known.get_mut(&orig) {
-            Some(known) => {
-                known.tell(byte, sums)?;
-                Ok(())
-            }
-            None => {
-                let sums = sums.copy()?;
-                let held = None;
-                let gathered = GatheredParts::new(self.alloc);
-                let known = KnownTable {
-                    byte,
-                    sums,
-                    held,
-                    gathered,
-                };
-                self.known.insert_sorted(orig, known)?;
-                Ok(())
-            }
-        }
-    }
-
     // Notes what becomes of the parts of an originator which announced something, where one came.
     fn gather(
         &mut self,
@@ -350,7 +363,7 @@ impl Globals {
             return;
         };
         if let Some(known) = self.known.get_mut(&orig) {
-            known.held = Some(HeldTable { byte, table });
+            known.hold(byte, table);
         }
     }
 }

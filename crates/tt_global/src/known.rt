@@ -1,12 +1,15 @@
-ghost use Rattle.std.specs.Prelude.{◌≡◌, IsOk, OnErr, OnOk, Some};
+ghost use Rattle.std.specs.Prelude.{◌≡◌, ◌+◌, ◌≤◌, length, IfOk, IfSome, IsOk, OnErr, OnOk, Some};
 ghost use Rattle.mesh_model.specs.Tables.Known.{agrees, kept_under, matches_told, names};
-ghost use Rattle.tt_global.specs.Kept.{held_in, kept_row, stamp, told_in};
+ghost use Rattle.tt_global.specs.Kept.{IsAnnounced, agreed_in, announcement_of, held_in, kept_row, stamp, stamp_in, told_in};
 ghost use Rattle.tt_table.specs.Sums.{named_sums};
 
 use crate::gathered::GatheredParts;
-use mesh_base::{Key, Mac, NoMemory};
-use mesh_model::GlobalRow;
-use tt_table::{Sums, Table};
+use crate::judging::{Judged, judge_announcement};
+use mesh_base::{Key, Mac, NoMemory, Steps};
+use mesh_model::{GlobalRow, Heard};
+use std::alloc::Global;
+use std::sync::ledger::Ledger;
+use tt_table::{Announcement, Sums, Table};
 
 /// A table under a byte.
 #[derive(Debug, Drop)]
@@ -36,6 +39,13 @@ impl KnownTable {
             }
             None => false,
         }
+    }
+
+    /// The byte of the held table, where it has the announced byte and sums.
+    pub(crate) fn agreed_byte(&self) -> Option<u8>
+        ensures { result ≡ agreed_in (Some self.now) }
+    {
+        self.is_agreed().then_some(self.byte)
     }
 
     /// Whether a client is in the held table, if any.
@@ -87,5 +97,48 @@ impl KnownTable {
             self.gathered.clear();
         }
         Ok(())
+    }
+
+    /// Holds a table under a byte.
+    pub(crate) fn hold(&mut self, byte: u8, table: Table)
+        ensures held { held_in (Some self.new)
+            ≡ Some (record { byte = byte; table = table.entries }) }
+        ensures told { told_in (Some self.new) ≡ told_in (Some self.old) }
+        ensures gathered { self.new.gathered ≡ self.old.gathered }
+    {
+        self.held = Some(HeldTable { byte, table });
+    }
+
+    /// Takes an announcement, and answers what it makes of the held table.
+    pub(crate) fn announce<L: Ledger>(
+        &mut self,
+        alloc: Global,
+        announced: &Announcement,
+        steps: &mut Steps<L>,
+    ) -> Result<Heard, NoMemory>
+        ensures ok { OnOk result (IsAnnounced (stamp_in announced.now) announced.now.changes
+            (Some self.old) (Some self.new)) }
+        ensures heard { IfOk result (λ heard. heard ≡ (announcement_of (Some self.old)
+            (stamp_in announced.now) announced.now.changes).outcome) }
+        ensures err { OnErr result (self.new ≡ self.old) }
+        ensures steps { steps.new ≤ steps.old + length announced.now.changes }
+
+        // No memory is wanted where the byte and the sums were told before, and what is held, if
+        // anything, is held under that byte.
+        ensures same { told_in (Some self.old) ≡ Some (stamp_in announced.now) →
+            IfSome (held_in (Some self.old)) (λ held. held.byte ≡ announced.now.byte) →
+            IsOk result }
+    {
+        let Judged { outcome, table } = judge_announcement(
+            alloc,
+            self.held.as_ref(),
+            announced,
+            steps,
+        )?;
+        self.tell(announced.byte, &announced.sums)?;
+        if let Some(table) = table {
+            self.hold(announced.byte, table);
+        }
+        Ok(outcome)
     }
 }

@@ -3,30 +3,23 @@ use Rattle.std.specs.Map.{lookup, set_value}
 use Rattle.std.proofs.lemmas.Bool.{false≢true}
 use Rattle.mesh_model.specs.Routes.Addresses.{same_mac}
 use Rattle.tt_global.specs.Kept.{HoldsThen}
-use Rattle.tt_global.specs.declared.known.HeldTable.{HeldTable}
 use Rattle.tt_global.proofs.StandLemmas.{held_written}
 use Rattle.tt_global.proofs.globals.Globals.hold.Goals as goal
-use Rattle.tt_global.proofs.globals.Globals.hold.Goals.{in-Some-get_mut+in-Some-1, in-Some-get_mut+in-None-1, in_default-get_mut}
+use Rattle.tt_global.proofs.globals.Globals.hold.Goals.{in-Some-get_mut, in_default-get_mut}
 use Rattle.tt_table.specs.Table.{TableView}
 
 pub returns : goal.returns
 returns c =
     let old = c.args.self.now in
     let new = c.match-get_mut.self-inside.known.entries in
-    let held : HeldTable = record { byte = c.args.byte; table = c.in-Some.table } in
     subst (λ (t : Option TableView). HoldsThen c.args.orig c.args.byte (option_map (λ (v : TableView). v.entries) t) old new) (sym c.in-Some.is)
     (λ some.
     elim c.match-get_mut.branch [
-      | in-Some-get_mut+in-Some-1 w ↦
+      | in-Some-get_mut w ↦
           let known = w.in-Some-get_mut.known.now in
           let found : lookup (same_mac c.args.orig) old ≡ Some known = search rules in
-          let written : new ≡ set_value (same_mac c.args.orig) old (record { byte = known.byte; sums = known.sums; held = Some held; gathered = known.gathered }) = search rules in
-          held_written c.args.orig old new known held found written
-      | in-Some-get_mut+in-None-1 w ↦
-          let known = w.in-Some-get_mut.known.now in
-          let found : lookup (same_mac c.args.orig) old ≡ Some known = search rules in
-          let written : new ≡ set_value (same_mac c.args.orig) old (record { byte = known.byte; sums = known.sums; held = Some held; gathered = known.gathered }) = search rules in
-          held_written c.args.orig old new known held found written
+          let written : new ≡ set_value (same_mac c.args.orig) old w.hold.new.self = search rules in
+          held_written c.args.orig _ old new known w.hold.new.self found w.hold.ensures.told w.hold.ensures.held w.hold.ensures.gathered written
       | in_default-get_mut w ↦
           let absent : lookup (same_mac c.args.orig) old ≡ None = search rules in
           absurd (false≢true (sym (ap is_some absent) ∙ some))
