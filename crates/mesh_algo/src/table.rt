@@ -75,7 +75,8 @@ pub fn row_near<K: Copy + Ord + Hash, V: Copy>(
     row_anywhere(table, key)
 }
 
-// The row of a key, wherever it stands.
+// The row of a key, wherever it stands. Its own copy of the key is lent to the table, so that the
+// one that was compared at a guess needn't stand in memory.
 #[inline(always)]
 fn row_anywhere<K: Copy + Ord + Hash, V: Copy>(table: &IndexMap<K, V>, key: K) -> Option<V>
     ensures { result ≡ get K.eq table.now key }

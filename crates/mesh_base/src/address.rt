@@ -119,7 +119,8 @@ impl Mac {
         u16::from_be_bytes([e, f])
     }
 
-    // The bytes as a number, the first the highest: read as an address is copied, four bytes and two.
+    // The bytes as a number, the first the highest. They are read as an address is copied, four and
+    // then two.
     fn word(self) -> u64
         ensures value { result ≡ from_be_bytes w64 (0 ∷ 0 ∷ self.0) }
         ensures bytes { to_be_bytes w64 result ≡ 0 ∷ 0 ∷ self.0 }

@@ -42,6 +42,7 @@ fn an_alias_is_taken_for_the_held_table(rt: HostRuntime) -> Result<(), NoMemory>
     let (heard, globals) = alias_announced::<Brand>(rt.alloc(), Blank::new(1))?;
     assert_eq!(rt; heard, [Heard::Emptied, Heard::Applied, Heard::Same]);
     assert_eq!(rt; globals.is_ok(TENTH), true);
+    assert_eq!(rt; globals.agreed_byte(TENTH), Some(1));
     for (last, holder) in [(1, Some(TENTH)), (2, Some(TENTH)), (5, None), (6, None)] {
         assert_eq!(rt;
             globals.holder(client(last).key, 0),

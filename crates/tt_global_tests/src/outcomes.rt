@@ -111,6 +111,7 @@ fn announcements_and_answers_have_their_outcomes(rt: HostRuntime) -> Result<(), 
         ok: false,
     };
     assert_eq!(rt; globals.row_at(0), Some(row));
+    assert_eq!(rt; globals.agreed_byte(TENTH), None);
     assert_eq!(rt; globals.holder(client(1).key, 0), Some(TENTH));
     globals.drop_orig(TENTH);
     assert_eq!(rt; globals.holder(client(1).key, 0), None);
