@@ -1,4 +1,4 @@
-ghost use Rattle.std.specs.Prelude.{◌≡◌, ◌+◌, ◌≤◌, length, IfOk, IfSome, IsOk, OnErr, OnOk, Some};
+ghost use Rattle.std.specs.Prelude.{◌≡◌, ◌+◌, ◌≤◌, [], length, true, IfOk, IfSome, IsOk, OnErr, OnOk, Some};
 ghost use Rattle.mesh_model.specs.Tables.Known.{agrees, kept_under, matches_told, names};
 ghost use Rattle.tt_global.specs.Kept.{IsAnnounced, agreed_in, announcement_of, held_in, kept_row, stamp, stamp_in, told_in};
 ghost use Rattle.tt_table.specs.Sums.{named_sums};
@@ -109,6 +109,22 @@ impl KnownTable {
         self.held = Some(HeldTable { byte, table });
     }
 
+    // Whether an announcement without VLANs tells what was told before, and no client is held under
+    // its byte. A node without clients announces so again and again.
+    fn is_emptied_again(&self, announced: &Announcement) -> bool
+        ensures sums { result ≡ true → named_sums announced.now.sums ≡ [] }
+        ensures told { result ≡ true → told_in (Some self.now) ≡ Some (stamp_in announced.now) }
+        ensures held { result ≡ true → held_in (Some self.now)
+            ≡ Some (record { byte = announced.now.byte; table = [] }) }
+    {
+        let byte = announced.byte;
+        let is_told = self.byte == byte && self.sums.len() == 0 && announced.sums.len() == 0;
+        match &self.held {
+            Some(held) => is_told && held.byte == byte && held.table.entry_at(0).is_none(),
+            None => false,
+        }
+    }
+
     /// Takes an announcement, and answers what it makes of the held table.
     pub(crate) fn announce<L: Ledger>(
         &mut self,
@@ -129,6 +145,9 @@ impl KnownTable {
             IfSome (held_in (Some self.old)) (λ held. held.byte ≡ announced.now.byte) →
             IsOk result }
     {
+        if self.is_emptied_again(announced) {
+            return Ok(Heard::Emptied);
+        }
         let Judged { outcome, table } = judge_announcement(
             alloc,
             self.held.as_ref(),
