@@ -13,7 +13,7 @@ use mesh_algo::Algo;
 use mesh_base::{Bytes, Mac};
 use mesh_model::LimitName;
 use mesh_node::Node;
-use mesh_post::{Row, place_of};
+use mesh_post::{Pattern, Row, place_of};
 
 /// The most nodes.
 const NODES_LIMIT: usize = 64;
@@ -110,7 +110,7 @@ impl<A: Algo + Drop> Net<A> {
             start: self.mac_at(from),
             end: self.mac_at(to),
             delay: link.delay,
-            pattern: Bytes::from_slice(self.alloc, link.pattern.as_slice())?,
+            pattern: Pattern::new(Bytes::from_slice(self.alloc, link.pattern.as_slice())?),
             tp: link.tp,
         };
         self.post.add_link(row)?;

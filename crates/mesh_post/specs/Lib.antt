@@ -2,6 +2,7 @@
 -- links or on a LAN does with it.
 pub mod Joining
 pub mod Waiting
+pub mod Patterns
 pub mod Posting
 pub mod Kept
 pub mod Lanes

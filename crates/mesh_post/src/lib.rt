@@ -7,6 +7,7 @@ mod arrivals;
 mod frames;
 mod leaving;
 mod marks;
+mod pattern;
 mod port;
 mod post;
 mod posted;
@@ -20,6 +21,7 @@ mod shown;
 mod turns;
 
 pub use frames::Frames;
+pub use pattern::Pattern;
 pub use port::NetPort;
 pub use post::{Post, place_of};
 pub use puts::Putting;

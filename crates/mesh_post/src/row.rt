@@ -1,9 +1,9 @@
-ghost use Rattle.std.specs.Prelude.{◌≡◌, ◌%◌, length, nat_eq, slice_index_or, filter, IfOk};
+ghost use Rattle.std.specs.Prelude.{◌≡◌, nat_eq, filter, IfOk};
 ghost use Rattle.std.specs.List.{list_any};
-ghost use Rattle.mesh_model.specs.Scenario.Terms.{held_mark};
 ghost use Rattle.mesh_post.specs.Lanes.{is_other};
 ghost use Rattle.mesh_post.specs.Links.{between};
 
+use crate::pattern::Pattern;
 use mesh_base::{Bytes, Mac, Millis, NoMemory, Reason};
 use std::alloc::Global;
 use std::marker::Model;
@@ -12,8 +12,6 @@ use std::marker::Model;
 pub(crate) const ONCE: u8 = b'.';
 /// The mark of a frame that is delivered twice.
 pub(crate) const TWICE: u8 = b'2';
-/// The mark of a frame that is held.
-const HELD: u8 = b'h';
 
 /// A link, by the places of its ends and their addresses.
 #[derive(Debug, Drop)]
@@ -22,9 +20,9 @@ pub struct Row {
     pub to: u32,
     pub start: Mac,
     pub end: Mac,
-    pub delay: Millis,
-    pub pattern: Bytes,
     pub tp: u32,
+    pub delay: Millis,
+    pub pattern: Pattern,
 }
 
 /// What a link does with its next frame.
@@ -156,17 +154,5 @@ impl Row {
         ensures { result ≡ between from to self.now }
     {
         self.from == from && self.to == to
-    }
-
-    // The mark of the frame of a turn.
-    pub(crate) fn mark(&self, turn: u32) -> u8
-        ensures { result
-            ≡ slice_index_or self.now.pattern (turn % length self.now.pattern) held_mark }
-    {
-        match self.pattern.as_slice() {
-            [] => HELD,
-            [mark] => *mark,
-            pattern => pattern[turn as usize % pattern.len()],
-        }
     }
 }

@@ -197,7 +197,7 @@ impl Post {
         let turn = *self.turns.get(way as usize)?;
         Some(Lane {
             turn,
-            mark: row.mark(turn),
+            mark: row.pattern.mark(turn),
             delay: row.delay,
             end: row.end,
         })
