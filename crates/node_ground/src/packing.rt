@@ -39,6 +39,9 @@ pub const PIECE_SIZE: usize = 1_024;
 /// The most VLANs that a node's clients are in.
 const VLANS_LIMIT: usize = 16;
 
+/// How many bytes the own containers have besides the VLANs and the changes, at the most.
+const OWN_ROOM: usize = 32;
+
 /// How many hops are before a packet that a node begins.
 pub const FIRST_TTL: u8 = 50;
 
@@ -85,6 +88,7 @@ fn table_body(
         ≡ 4 + 8 * length (named_sums sums.now) + 12 * length records.now) }
 {
     let mut body = Vec::new(alloc);
+    body.reserve(4 + 8 * sums.len() + 12 * records.len())?;
     write_tt_head(&mut body, flags, byte, sums.len() as u16)?;
     put_vlans(&mut body, sums)?;
     put_records(&mut body, records)?;
@@ -206,6 +210,7 @@ pub fn own_containers(
         changes,
     } = announced;
     let mut containers = Vec::new(alloc);
+    containers.reserve(OWN_ROOM + 8 * sums.len() + 12 * changes.len())?;
     put_gateway(&mut containers, settings.gateway)?;
     put_arp_table(&mut containers, settings.arp_table)?;
     put_table(
