@@ -109,8 +109,8 @@ impl KnownTable {
         self.held = Some(HeldTable { byte, table });
     }
 
-    // Whether an announcement without VLANs tells what was told before, and no client is held under
-    // its byte. A node without clients announces so again and again.
+    // Whether an announcement without VLANs tells what was told before, and a table without clients
+    // is held under its byte. A node without clients announces so again and again.
     fn is_emptied_again(&self, announced: &Announcement) -> bool
         ensures sums { result ≡ true → named_sums announced.now.sums ≡ [] }
         ensures told { result ≡ true → told_in (Some self.now) ≡ Some (stamp_in announced.now) }
