@@ -1,5 +1,5 @@
 -- How a node cuts by its log, and how its count of cuts goes on.
-use Rattle.std.proofs.Common.{◌≡◌, ◌+◌, ℕ, Bool, true, false, cond, List, [], ◌∷◌, filter, length, Option, Some, None, option_map, Result, Ok, Err, is_err, refl, ap, subst, ◌∙◌}
+use Rattle.std.proofs.Common.{◌≡◌, ◌+◌, ℕ, Bool, true, false, cond, List, [], ◌∷◌, filter, length, Option, Some, None, option_map, Result, Ok, Err, is_err, refl, sym, ap, subst, ◌∙◌, arith}
 use Rattle.std.specs.Prelude.{◌==◌, if◌then◌else◌}
 use Rattle.std.specs.Option.{option_or}
 use Rattle.std.specs.Result.{OnOk}
@@ -69,20 +69,28 @@ count_is q me log now given cutter cuts same counted =
     ∙ ap (λ (c : Cutter). c.cuts + cuts_among c.most (whole_acts q me log now given)) same
     ∙ ap (λ n. cuts_by q me log + n) (counted_as (settings log).longest_whole (whole_acts q me log now given))
 
--- a node stands for its log with one more input
-pub stands_on : {A : Type 0} (stands : A → Mac → RouteLog → Type 0) (queries : Mac → Queries) (node : Node A) (cuts : ℕ) (me : Mac) (log : Log) → KeepsLog stands queries node me log → cuts ≡ cuts_by (queries me) me log
-    → NodeStands stands queries (record node { cuts = cuts }) me log
-stands_on stands queries node cuts me log keeps count = record {
+-- where all packets go whole, the count stays
+pub none_counted : (cutter : Cutter) (acts : List Act) → cutter.most ≡ 0 → cutter.cuts ≡ cutter.cuts + cuts_among cutter.most acts
+none_counted cutter acts whole =
+    let none : cuts_among cutter.most acts ≡ 0 = ap length (ap (λ n. filter (is_cut n) acts) whole ∙ none_cut acts) in
+    omega (arith, none)
+
+-- a node stands for its log with one more input, where that is done
+pub stands_on : {A : Type 0} (stands : A → Mac → RouteLog → Type 0) (queries : Mac → Queries) (node : Node A) (cuts : ℕ) (dead : Bool) (answer : Result Unit NodeErr) (me : Mac) (log : Log)
+    → dead ≡ is_err answer → OnOk answer (KeepsLog stands queries node me log) → OnOk answer (cuts ≡ cuts_by (queries me) me log)
+    → OnOk answer (NodeStands stands queries (record node { cuts = cuts; dead = dead }) me log)
+stands_on stands queries node cuts dead (Ok done) me log is keeps count = record {
   keeps = record {
     mac = keeps.mac;
     kept = keeps.kept;
     clients = keeps.clients;
     bridge = keeps.bridge;
     rising = keeps.rising;
-    alive = keeps.alive;
+    alive = is;
   };
   cuts = count;
 }
+stands_on stands queries node cuts dead (Err error) me log is keeps count = tt
 
 -- ---- what comes before a sighting
 uncut_claim : (most : ℕ) (me : Mac) (log : Log) (now : ℕ) (frame : ClientFrame) (lan : Option LanOf) → filter (is_cut most) (claiming_acts me log now frame lan) ≡ []
@@ -111,6 +119,17 @@ uncut_before most me log now given = go (passed_limit me log now given)
     go None = tt
     go (Some limit) = uncut_acts most me log now given
 
+-- where all packets go whole, the acts are those of the rows
+none_too_long : (me : Mac) (cuts : ℕ) (acts : List Act) → cut_acts (seen_cutter me 0 cuts) acts ≡ acts
+none_too_long me cuts [] = refl
+none_too_long me cuts (Link to reason bytes ∷ acts) = ap (λ rest. Link to reason bytes ∷ rest) (none_too_long me cuts acts)
+none_too_long me cuts (Lan bytes ∷ acts) = ap (λ rest. Lan bytes ∷ rest) (none_too_long me cuts acts)
+none_too_long me cuts (Print event ∷ acts) = ap (λ rest. Print event ∷ rest) (none_too_long me cuts acts)
+
+alone : (own : Option NodeLimit) → option_or own None ≡ own
+alone None = refl
+alone (Some limit) = refl
+
 -- ---- what is handed over
 module _ {P : Type 0} (takes : P → Act → P → Type 0) (same : P → P → Type 0) (over : P → Act → Option LimitName) where
   -- what a port takes once the list of whole acts is handed over to it
@@ -125,10 +144,37 @@ module _ {P : Type 0} (takes : P → Act → P → Type 0) (same : P → P → T
       subst (λ (c : Cutter). Leaves takes same over (option_or (client_limit me log now given) (cut_limit c whole)) old (cut_acts c whole) result new) is
       (puts (client_limit me log now given) whole (uncut_before cutter.most me log now given) collected)
 
+  -- what a port takes where all packets go whole
+  pub left_whole : (q : Queries) (me : Mac) (log : Log) (now : ℕ) (given : Given) (old new : P) (result : Result Unit NodeErr) → (cutter_by q me log).most ≡ 0
+      → Leaves takes same over (client_limit me log now given) old (whole_acts q me log now given) result new
+      → Leaves takes same over (node_limit q me log now given) old (acts_of q me log now given) result new
+  left_whole q me log now given old new result none left =
+      let own = client_limit me log now given in
+      let whole = whole_acts q me log now given in
+      let cuts = cuts_by q me log in
+      subst (λ most. Leaves takes same over (option_or own (cut_limit (seen_cutter me most cuts) whole)) old (cut_acts (seen_cutter me most cuts) whole) result new) (sym none)
+      (subst (λ acts. Leaves takes same over (option_or own None) old acts result new) (sym (none_too_long me cuts whole))
+      (subst (λ limit. Leaves takes same over limit old whole result new) (sym (alone own)) left))
+
 -- what holds where a call succeeds, holds where it didn't fail
-pub where_done : (result : Result Unit NodeErr) (holds : Type 0) → is_err result ≡ false → OnOk result holds → holds
+where_done : (result : Result Unit NodeErr) (holds : Type 0) → is_err result ≡ false → OnOk result holds → holds
 where_done (Ok done) holds is what = what
 where_done (Err error) holds is what = absurd (true≢false is)
+
+-- what holds where a row succeeds, holds where its acts were handed over
+pub where_handed : (result answer : Result Unit NodeErr) (holds : Type 0) → OnOk result (is_err answer ≡ false) → OnOk answer holds → OnOk result holds
+where_handed (Ok done) answer holds is what = where_done answer holds is what
+where_handed (Err error) answer holds is what = tt
+
+-- what follows where a call succeeds
+pub on_done : (result : Result Unit NodeErr) (holds more : Type 0) → (holds → more) → OnOk result holds → OnOk result more
+on_done (Ok done) holds more so what = so what
+on_done (Err error) holds more so what = tt
+
+-- what holds anyhow, holds where a call succeeds
+pub on_any : (result : Result Unit NodeErr) (holds : Type 0) → holds → OnOk result holds
+on_any (Ok done) holds what = what
+on_any (Err error) holds what = tt
 
 -- what a row put into a list that was empty
 pub collected_from : (own : Option NodeLimit) (whole before list : List Act) (answer : Result Unit NodeErr) → before ≡ [] → Leaves Collects (λ old new. old ≡ new) (λ _ _. None) own before whole answer list

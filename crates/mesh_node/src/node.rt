@@ -137,18 +137,17 @@ impl<A: Algo> Node<A> {
             return Err(NodeErr::Dead);
         }
         let mut cutter = self.cutter();
-        let mut acts = Acts::new(self.kept.alloc);
-        let answer = self.carry_out(&mut acts, now, input);
-        match hand_over(&mut cutter, self.kept.alloc, port, acts, answer) {
-            Ok(()) => {
-                self.cuts = cutter.cuts;
-                Ok(())
-            }
-            Err(error) => {
-                self.dead = true;
-                Err(error)
-            }
-        }
+        let answer = if cutter.most == 0 {
+            // All packets go whole.
+            self.carry_out(port, now, input)
+        } else {
+            let mut acts = Acts::new(self.kept.alloc);
+            let collected = self.carry_out(&mut acts, now, input);
+            hand_over(&mut cutter, self.kept.alloc, port, acts, collected)
+        };
+        self.cuts = cutter.cuts;
+        self.dead = answer.is_err();
+        answer
     }
 
     // How it cuts.
