@@ -1,5 +1,5 @@
 -- Lists of happenings that rise, and what stands in several of them together.
-use Rattle.std.proofs.Common.{◌≡◌, ℕ, zero, suc, ◌<◌, ◌≤◌, ◌⊎◌, inl, inr, Bool, true, false, if◌then◌else◌, List, [], ◌∷◌, ◌++◌, drop, length, slice_get, Option, Some, None, refl, sym, ap, ◌∙◌, subst, arith}
+use Rattle.std.proofs.Common.{◌≡◌, ℕ, zero, suc, ◌<◌, ◌≤◌, ◌⊎◌, inl, inr, Bool, true, false, if◌then◌else◌, List, [], ◌∷◌, ◌++◌, drop, length, slice_get, Option, Some, None, append-nil, refl, sym, ap, ◌∙◌, subst, arith}
 use Rattle.mesh_model.specs.declared.happening.Happening.{Happening}
 use Rattle.mesh_model.specs.Net.Happenings.{Before, is_before}
 use Rattle.mesh_model.specs.Net.Next.{AtMost, Has}
@@ -206,3 +206,7 @@ low_here xs ys h low x p = low x (has_left xs ys x p)
 
 pub low_there : (xs ys : List Happening) (h : Happening) → ((x : Happening) → Has (xs ++ ys) x → AtMost h x) → (x : Happening) → Has ys x → AtMost h x
 low_there xs ys h low x p = low x (has_right xs ys x p)
+
+-- the first of two lists is that of them and of a third where nothing waits
+pub first_alone : (a b c : List Happening) (found : Option Happening) → c ≡ [] → IsEarliest (a ++ b) found → IsEarliest (a ++ (b ++ c)) found
+first_alone a b c found none is = subst (λ (q : List Happening). IsEarliest (a ++ (b ++ q)) found) (sym none) (subst (λ (q : List Happening). IsEarliest (a ++ q) found) (sym (append-nil b)) is)

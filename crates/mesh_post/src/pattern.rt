@@ -4,6 +4,10 @@ ghost use Rattle.mesh_model.specs.Scenario.Terms.{held_mark};
 use mesh_base::Bytes;
 use std::marker::Model;
 
+/// The mark of a frame that is delivered once.
+pub(crate) const ONCE: u8 = b'.';
+/// The mark of a frame that is delivered twice.
+pub(crate) const TWICE: u8 = b'2';
 /// The mark of a frame that is held.
 const HELD: u8 = b'h';
 

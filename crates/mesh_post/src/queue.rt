@@ -8,8 +8,8 @@ ghost use Rattle.mesh_post.specs.Refused.{stays};
 ghost use Rattle.mesh_post.specs.Sent.{Gained};
 ghost use Rattle.mesh_post.specs.Waiting.{IsEarliest, IsPopped, IsNoneDue, IsSomeDue, Joins, Leaves};
 
+use crate::pattern::{ONCE, TWICE};
 use crate::rising::{Rising, is_before, stays};
-use crate::row::{ONCE, TWICE};
 use mesh_base::{Millis, NoMemory};
 use mesh_model::{Class, Happening};
 use std::alloc::Global;
@@ -152,10 +152,14 @@ impl Queue {
     fn earliest(&self) -> Option<Happening>
         ensures { IsEarliest self.now result }
     {
-        let behind = earlier(self.third.earliest(), first_of(&self.others));
+        let ahead = earlier(self.first.earliest(), self.second.earliest());
+        // Most delays find a list of their own, so mostly nothing waits behind the first two.
+        if are_empty(&self.third, &self.others) {
+            return ahead;
+        }
         earlier(
-            self.first.earliest(),
-            earlier(self.second.earliest(), behind),
+            ahead,
+            earlier(self.third.earliest(), first_of(&self.others)),
         )
     }
 
@@ -167,9 +171,20 @@ impl Queue {
     {
         self.first.leave(h);
         self.second.leave(h);
+        if are_empty(&self.third, &self.others) {
+            return;
+        }
         self.third.leave(h);
         leave(&mut self.others, h);
     }
+}
+
+// Whether nothing waits here or there.
+#[inline(always)]
+fn are_empty(here: &Rising, there: &BTreeSet<Happening>) -> bool
+    ensures { result ≡ true → here.now ++ there.now.keys ≡ [] }
+{
+    here.is_empty() && there.is_empty()
 }
 
 // The earlier of two that are the first ones of those that wait here and there.

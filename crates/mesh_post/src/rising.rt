@@ -1,4 +1,4 @@
-ghost use Rattle.std.specs.Prelude.{◌≡◌, ◌++◌, [], ◌∷◌, true, filter, OnOk, OnErr};
+ghost use Rattle.std.specs.Prelude.{◌≡◌, ◌↔◌, ◌++◌, [], ◌∷◌, true, filter, OnOk, OnErr};
 ghost use Rattle.mesh_model.specs.declared.happening.Happening.{Happening};
 ghost use Rattle.mesh_model.specs.Net.Happenings.{Before, is_before};
 ghost use Rattle.mesh_model.specs.Net.Next.{AtMost, Has};
@@ -57,6 +57,14 @@ impl Rising {
     {
         self.waiting.push_back(h)?;
         Ok(())
+    }
+
+    /// Whether nothing is to come.
+    #[inline(always)]
+    pub fn is_empty(&self) -> bool
+        ensures { (result ≡ true) ↔ (self.now ≡ []) }
+    {
+        self.waiting.is_empty()
     }
 
     /// The first happening.

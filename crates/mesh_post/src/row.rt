@@ -8,11 +8,6 @@ use mesh_base::{Bytes, Mac, Millis, NoMemory, Reason};
 use std::alloc::Global;
 use std::marker::Model;
 
-/// The mark of a frame that is delivered once.
-pub(crate) const ONCE: u8 = b'.';
-/// The mark of a frame that is delivered twice.
-pub(crate) const TWICE: u8 = b'2';
-
 /// A link, by the places of its ends and their addresses.
 #[derive(Debug, Drop)]
 pub struct Row {
