@@ -40,12 +40,12 @@ pub const ISOLATED: u8 = 0x20;
 pub(crate) const CLIENT_FLAGS: u8 = WIFI | ISOLATED;
 
 /// The bytes of a container before its body: type 1, version 1, length 2.
-pub(crate) const HEADER_SIZE: usize = 4;
+pub const HEADER_SIZE: usize = 4;
 /// The offset of the length in a container.
 pub(crate) const LENGTH_OFFSET: usize = 2;
 
 /// The bytes of a translation table before its VLANs: flags 1, version 1, number of VLANs 2.
-pub(crate) const TT_HEAD_SIZE: usize = 4;
+pub const TT_HEAD_SIZE: usize = 4;
 /// The offset of the number of VLANs in a translation table.
 pub(crate) const VLANS_OFFSET: usize = 2;
 /// The bytes of a part of a translation table before its VLANs: those of a table, then number 2,
@@ -56,11 +56,11 @@ pub(crate) const PART_NUMBER_OFFSET: usize = 4;
 /// The offset of the count in a part of a translation table.
 pub(crate) const PART_COUNT_OFFSET: usize = 6;
 /// The bytes of a VLAN: checksum 4, wire number 2, reserved 2.
-pub(crate) const VLAN_SIZE: usize = 8;
+pub const VLAN_SIZE: usize = 8;
 /// The offset of the wire number in a VLAN.
 pub(crate) const VLAN_VID_OFFSET: usize = 4;
 /// The bytes of a record: flags 1, reserved 3, client 8.
-pub(crate) const CHANGE_SIZE: usize = 12;
+pub const CHANGE_SIZE: usize = 12;
 /// The offset of the client in a record.
 pub(crate) const CHANGE_KEY_OFFSET: usize = 4;
 
@@ -70,8 +70,8 @@ pub const KEY_SIZE: usize = 8;
 pub(crate) const KEY_VID_OFFSET: usize = 6;
 
 /// The least body of a gateway: download 4, upload 4.
-pub(crate) const GATEWAY_SIZE: usize = 8;
+pub const GATEWAY_SIZE: usize = 8;
 /// The offset of the upload in a gateway's body.
 pub(crate) const UPLOAD_OFFSET: usize = 4;
 /// The least body of multicast flags: flags 1, reserved 3.
-pub(crate) const MULTICAST_SIZE: usize = 4;
+pub const MULTICAST_SIZE: usize = 4;

@@ -24,5 +24,6 @@ pub use soundness::{first_flaw, is_long_enough};
 pub use translation::{TtView, read_tt, read_tt_part};
 pub use walk::{Container, TvlvIter};
 pub use writing::{
-    key_bytes, write_change, write_container, write_tt_head, write_tt_part_head, write_vlan,
+    key_bytes, write_change, write_container, write_container_head, write_tt_head,
+    write_tt_part_head, write_vlan,
 };

@@ -1,15 +1,41 @@
-ghost use Rattle.std.specs.Prelude.{◌≡◌, ◌+◌, ◌≤◌, ◌++◌, length, OnOk, OnErr};
+ghost use Rattle.std.specs.Prelude.{◌≡◌, ℕ, ◌+◌, ◌≤◌, ◌∷◌, ◌++◌, List, length, OnOk, OnErr};
+ghost use Rattle.byteorder.specs.Endian.{big_bytes};
 ghost use Rattle.mesh_model.specs.Packets.Containers.{container_spelling};
 ghost use Rattle.mesh_model.specs.Packets.Bodies.{change_of};
 ghost use Rattle.mesh_model.specs.Packets.BodySpellings.{tt_head_spelling, tt_part_head_spelling, key_spelling, vlan_spelling, change_spelling};
 
 use crate::layout::{
-    CHANGE_KEY_OFFSET, CHANGE_SIZE, CLIENT_FLAGS, DEL, HEADER_SIZE, KEY_SIZE, LENGTH_OFFSET,
-    PART_COUNT_OFFSET, PART_NUMBER_OFFSET, TT_HEAD_SIZE, TT_PART_HEAD_SIZE, VLAN_SIZE,
-    VLAN_VID_OFFSET, VLANS_OFFSET,
+    CHANGE_KEY_OFFSET, CHANGE_SIZE, CLIENT_FLAGS, DEL, HEADER_SIZE, KEY_SIZE, PART_COUNT_OFFSET,
+    PART_NUMBER_OFFSET, TT_HEAD_SIZE, TT_PART_HEAD_SIZE, VLAN_SIZE, VLAN_VID_OFFSET, VLANS_OFFSET,
 };
 use byteorder::{BigEndian, ByteOrder};
 use mesh_base::{Entry, Key, NoMemory, Vid};
+
+// What stands in a container before a body of this length.
+fn container_head(kind: u8, version: u8, size: u16) -> [u8; HEADER_SIZE]
+    ensures { result ≡ kind ∷ version ∷ big_bytes 2 size }
+{
+    let [high, low] = size.to_be_bytes();
+    [kind, version, high, low]
+}
+
+/// Appends what stands in a container before a body of this length: its type, its version, the
+/// length in 2 bytes.
+pub fn write_container_head(
+    out: &mut Vec<u8>,
+    kind: u8,
+    version: u8,
+    size: u16,
+) -> Result<(), NoMemory>
+    ensures ok { (body : List ℕ) → length body ≡ size → OnOk result (out.new.items ++ body
+        ≡ out.old.items
+        ++ container_spelling (record { kind = kind; version = version; body = body })) }
+    ensures longer { OnOk result (length out.new.items ≡ length out.old.items + HEADER_SIZE) }
+    ensures err { OnErr result (out.new.items ≡ out.old.items) }
+{
+    out.extend_from_slice(&container_head(kind, version, size))?;
+    Ok(())
+}
 
 /// Appends a container: its type, its version, the length of its body in 2 bytes, the body.
 pub fn write_container(
@@ -23,12 +49,9 @@ pub fn write_container(
         ++ container_spelling (record { kind = kind; version = version; body = body.now })) }
     ensures err { OnErr result (out.new.items ≡ out.old.items) }
 {
-    let mut header = [0; HEADER_SIZE];
-    header[0] = kind;
-    header[1] = version;
-    BigEndian::write_u16(&mut header[LENGTH_OFFSET..], body.len() as u16);
     out.reserve(HEADER_SIZE + body.len())?;
-    out.extend_from_slice(&header).unwrap();
+    out.extend_from_slice(&container_head(kind, version, body.len() as u16))
+        .unwrap();
     out.extend_from_slice(body).unwrap();
     Ok(())
 }
@@ -37,6 +60,7 @@ pub fn write_container(
 /// bytes.
 pub fn write_tt_head(out: &mut Vec<u8>, flags: u8, ttvn: u8, vlans: u16) -> Result<(), NoMemory>
     ensures ok { OnOk result (out.new.items ≡ out.old.items ++ tt_head_spelling flags ttvn vlans) }
+    ensures longer { OnOk result (length out.new.items ≡ length out.old.items + TT_HEAD_SIZE) }
     ensures err { OnErr result (out.new.items ≡ out.old.items) }
 {
     let mut head = [0; TT_HEAD_SIZE];

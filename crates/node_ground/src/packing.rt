@@ -24,10 +24,13 @@ use mesh_base::NoMemory;
 use mesh_model::{Change, Request};
 use mesh_serv::Bandwidth;
 use mesh_tvlv::layout::{
-    DAT, FULL_TABLE, GATEWAY, MULTICAST, MULTICAST_VERSION, OGM_DIFF, REQUEST, RESPONSE, TT,
-    TT_PART_VERSION, VERSION,
+    CHANGE_SIZE, DAT, FULL_TABLE, GATEWAY, HEADER_SIZE, MULTICAST, MULTICAST_VERSION, OGM_DIFF,
+    REQUEST, RESPONSE, TT, TT_HEAD_SIZE, TT_PART_VERSION, VERSION, VLAN_SIZE,
 };
-use mesh_tvlv::{write_change, write_container, write_tt_head, write_tt_part_head, write_vlan};
+use mesh_tvlv::{
+    write_change, write_container, write_container_head, write_tt_head, write_tt_part_head,
+    write_vlan,
+};
 use std::alloc::Global;
 use tt_local::CLIENTS_LIMIT;
 use tt_sync::Reply;
@@ -73,31 +76,16 @@ fn put_records(out: &mut Vec<u8>, changes: &[Change]) -> Result<(), NoMemory>
     Ok(())
 }
 
-// The body of a translation table.
-fn table_body(
-    alloc: Global,
-    flags: u8,
-    byte: u8,
-    sums: &Sums,
-    records: &[Change],
-) -> Result<Vec<u8>, NoMemory>
-    requires { length (named_sums sums.now) ≤ 65535 }
-    ensures body { IfOk result (λ body. body.items
-        ≡ tt_spelling (table_told flags (stamp byte sums.now) records.now)) }
-    ensures long { IfOk result (λ body. length body.items
-        ≡ 4 + 8 * length (named_sums sums.now) + 12 * length records.now) }
+// The size of the body of a translation table.
+fn table_size(sums: &Sums, records: &[Change]) -> usize
+    requires { 4 + 8 * length (named_sums sums.now) + 12 * length records.now ≤ 65535 }
+    ensures { result ≡ 4 + 8 * length (named_sums sums.now) + 12 * length records.now }
 {
-    let mut body = Vec::new(alloc);
-    body.reserve(4 + 8 * sums.len() + 12 * records.len())?;
-    write_tt_head(&mut body, flags, byte, sums.len() as u16)?;
-    put_vlans(&mut body, sums)?;
-    put_records(&mut body, records)?;
-    Ok(body)
+    TT_HEAD_SIZE + VLAN_SIZE * sums.len() + CHANGE_SIZE * records.len()
 }
 
-/// Appends the container of a translation table.
-pub fn put_table(
-    alloc: Global,
+// Appends the container of a translation table.
+fn put_table(
     out: &mut Vec<u8>,
     flags: u8,
     byte: u8,
@@ -109,10 +97,13 @@ pub fn put_table(
         (table_container (table_told flags (stamp byte sums.now) records.now) ∷ [])) }
     ensures longer { OnOk result (length out.new.items ≡ length out.old.items
         + (8 + 8 * length (named_sums sums.now) + 12 * length records.now)) }
-    ensures err { OnErr result (out.new.items ≡ out.old.items) }
 {
-    let body = table_body(alloc, flags, byte, sums, records)?;
-    write_container(out, TT, VERSION, body.as_slice())?;
+    let size = table_size(sums, records);
+    out.reserve(HEADER_SIZE + size)?;
+    write_container_head(out, TT, VERSION, size as u16)?;
+    write_tt_head(out, flags, byte, sums.len() as u16)?;
+    put_vlans(out, sums)?;
+    put_records(out, records)?;
     Ok(())
 }
 
@@ -140,7 +131,7 @@ pub fn request_containers(
     let mut containers = Vec::new(alloc);
     let flags = request_flags(request);
     let Announcement { byte, sums, .. } = announced;
-    put_table(alloc, &mut containers, flags, *byte, sums, &[])?;
+    put_table(&mut containers, flags, *byte, sums, &[])?;
     Ok(containers)
 }
 
@@ -210,17 +201,10 @@ pub fn own_containers(
         changes,
     } = announced;
     let mut containers = Vec::new(alloc);
-    containers.reserve(OWN_ROOM + 8 * sums.len() + 12 * changes.len())?;
+    containers.reserve(OWN_ROOM + VLAN_SIZE * sums.len() + CHANGE_SIZE * changes.len())?;
     put_gateway(&mut containers, settings.gateway)?;
     put_arp_table(&mut containers, settings.arp_table)?;
-    put_table(
-        alloc,
-        &mut containers,
-        OGM_DIFF,
-        *byte,
-        sums,
-        changes.as_slice(),
-    )?;
+    put_table(&mut containers, OGM_DIFF, *byte, sums, changes.as_slice())?;
     put_multicast(&mut containers, settings.multicast)?;
     Ok(containers)
 }
@@ -250,14 +234,7 @@ pub fn reply_containers(alloc: Global, reply: &Reply) -> Result<Vec<u8>, NoMemor
     } = reply;
     let mut containers = Vec::new(alloc);
     let flags = reply_flags(*full);
-    put_table(
-        alloc,
-        &mut containers,
-        flags,
-        *byte,
-        sums,
-        records.as_slice(),
-    )?;
+    put_table(&mut containers, flags, *byte, sums, records.as_slice())?;
     Ok(containers)
 }
 
