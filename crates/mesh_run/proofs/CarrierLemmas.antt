@@ -1,5 +1,5 @@
 -- What carries lines out of one kind carries them out by the words of both.
-use Rattle.std.proofs.Common.{ℕ, List, Option, Result, OnOk, IfErr}
+use Rattle.std.proofs.Common.{ℕ, List, Option, Result, Ok, Err, OnOk, IfErr}
 use Rattle.std.specs.Io.KnownBytes.{Appends}
 use Rattle.mesh_bisect.specs.declared.bisect.Bisect.{Bisect}
 use Rattle.mesh_model.specs.declared.input_kind.InputKind.{InputKind}
@@ -12,52 +12,37 @@ use Rattle.mesh_model.specs.Run.PlainRun.{after_reading}
 use Rattle.mesh_model.specs.Run.State.{State, text_of}
 use Rattle.mesh_model.specs.Scenario.Commands.{command_of_line}
 use Rattle.mesh_run.specs.Inner.Kinds.{CarrierStands, RoutesStand, StateOf, outcome_of, text_at_end, text_by}
-use Rattle.mesh_run.specs.Inner.Lines.{BreaksOff, CarriesOn, CarryFails, EndFails, StandsAt}
+use Rattle.mesh_run.specs.Inner.Lines.{CarriesLine, EndFails, LeavesLine, StandsAt}
 use Rattle.mesh_run.specs.declared.carrier.Carrier.TheVariants as carrier
 use Rattle.mesh_run.specs.declared.fault.Fault.{Fault}
 use Rattle.mesh_run.specs.declared.fault.Fault.TheVariants.{Halted, Read, Write, Memory}
 use Rattle.mesh_scene.specs.StageStands.{StageStands}
 use Rattle.mesh_scene.specs.declared.stage.Stage.{Stage}
-use Rattle.mesh_run.proofs.StageLemmas.{if_err, on_ok}
 
 module _ (old new : Option (List ℕ)) (line : List ℕ) (number : ℕ) (result : Result (Unit {0}) Fault) where
-  pub stage_carries : (kind : InputKind) (stage after : Stage) → CarriesOn text_of StageStands old new stage after (λ state. after_reading state (command_of_line line)) result
-      → CarriesOn (text_by kind) (CarrierStands kind) old new (carrier.Stage stage) (carrier.Stage after) (outcome_of kind line) result
-  stage_carries (Scenario choice) stage after carries = λ base state at.
-      on_ok result (λ done. record { after = done.after; carried = done.carried; standing = record { scene_is = done.standing.scene_is; printed = done.standing.printed } })
-      (carries base state (record { scene_is = at.scene_is; printed = at.printed }))
-  stage_carries Routes stage after carries = λ base state at. absurd at.scene_is
-
-  pub stage_breaks : (kind : InputKind) (stage : Stage) → BreaksOff text_of StageStands old new stage (λ state. after_reading state (command_of_line line)) number result
-      → BreaksOff (text_by kind) (CarrierStands kind) old new (carrier.Stage stage) (outcome_of kind line) number result
-  stage_breaks (Scenario choice) stage breaks = λ base state at.
-      if_err result (λ fault fails. fails_as (after_reading state (command_of_line line)) base fault fails) (breaks base state (record { scene_is = at.scene_is; printed = at.printed }))
+  pub stage_line : (kind : InputKind) (stage after : Stage) → CarriesLine text_of StageStands old new stage after (λ state. after_reading state (command_of_line line)) number result
+      → CarriesLine (text_by kind) (CarrierStands kind) old new (carrier.Stage stage) (carrier.Stage after) (outcome_of kind line) number result
+  stage_line (Scenario choice) stage after carries = λ base state at. either base (after_reading state (command_of_line line)) result (carries base state (record { scene_is = at.scene_is; printed = at.printed }))
     where
-      fails_as : (outcome : OutcomeOf State) (base : Option (List ℕ)) (fault : Fault) → CarryFails text_of outcome base new number fault → CarryFails (text_by (Scenario choice)) outcome base new number fault
-      fails_as outcome base (Halted at stop) h = record { after = h.after; ended = h.ended; numbered = h.numbered; printed = h.printed }
-      fails_as outcome base Read h = h
-      fails_as outcome base Write h = h
-      fails_as outcome base Memory h = h
-  stage_breaks Routes stage breaks = λ base state at. absurd at.scene_is
+      either : (base : Option (List ℕ)) (outcome : OutcomeOf State) (answer : Result (Unit {0}) Fault) → LeavesLine text_of StageStands outcome base new after number answer → LeavesLine (text_by (Scenario choice)) (CarrierStands (Scenario choice)) outcome base new (carrier.Stage after) number answer
+      either base outcome (Ok done) h = record { after = h.after; carried = h.carried; standing = record { scene_is = h.standing.scene_is; printed = h.standing.printed } }
+      either base outcome (Err (Halted at stop)) h = record { after = h.after; ended = h.ended; numbered = h.numbered; printed = h.printed }
+      either base outcome (Err Read) h = h
+      either base outcome (Err Write) h = h
+      either base outcome (Err Memory) h = h
+  stage_line Routes stage after carries = λ base state at. absurd at.scene_is
 
-  pub bisect_carries : (kind : InputKind) (bisect after : Bisect) → CarriesOn loop_text RoutesStand old new bisect after (λ state. after_route_reading state (route_of_line line)) result
-      → CarriesOn (text_by kind) (CarrierStands kind) old new (carrier.Bisect bisect) (carrier.Bisect after) (outcome_of kind line) result
-  bisect_carries (Scenario choice) bisect after carries = λ base state at. absurd at.scene_is
-  bisect_carries Routes bisect after carries = λ base state at.
-      on_ok result (λ done. record { after = done.after; carried = done.carried; standing = record { scene_is = done.standing.scene_is; printed = done.standing.printed } })
-      (carries base state (record { scene_is = at.scene_is; printed = at.printed }))
-
-  pub bisect_breaks : (kind : InputKind) (bisect : Bisect) → BreaksOff loop_text RoutesStand old new bisect (λ state. after_route_reading state (route_of_line line)) number result
-      → BreaksOff (text_by kind) (CarrierStands kind) old new (carrier.Bisect bisect) (outcome_of kind line) number result
-  bisect_breaks (Scenario choice) bisect breaks = λ base state at. absurd at.scene_is
-  bisect_breaks Routes bisect breaks = λ base state at.
-      if_err result (λ fault fails. fails_as (after_route_reading state (route_of_line line)) base fault fails) (breaks base state (record { scene_is = at.scene_is; printed = at.printed }))
+  pub bisect_line : (kind : InputKind) (bisect after : Bisect) → CarriesLine loop_text RoutesStand old new bisect after (λ state. after_route_reading state (route_of_line line)) number result
+      → CarriesLine (text_by kind) (CarrierStands kind) old new (carrier.Bisect bisect) (carrier.Bisect after) (outcome_of kind line) number result
+  bisect_line (Scenario choice) bisect after carries = λ base state at. absurd at.scene_is
+  bisect_line Routes bisect after carries = λ base state at. either base (after_route_reading state (route_of_line line)) result (carries base state (record { scene_is = at.scene_is; printed = at.printed }))
     where
-      fails_as : (outcome : OutcomeOf LoopState) (base : Option (List ℕ)) (fault : Fault) → CarryFails loop_text outcome base new number fault → CarryFails (text_by Routes) outcome base new number fault
-      fails_as outcome base (Halted at stop) h = record { after = h.after; ended = h.ended; numbered = h.numbered; printed = h.printed }
-      fails_as outcome base Read h = h
-      fails_as outcome base Write h = h
-      fails_as outcome base Memory h = h
+      either : (base : Option (List ℕ)) (outcome : OutcomeOf LoopState) (answer : Result (Unit {0}) Fault) → LeavesLine loop_text RoutesStand outcome base new after number answer → LeavesLine (text_by Routes) (CarrierStands Routes) outcome base new (carrier.Bisect after) number answer
+      either base outcome (Ok done) h = record { after = h.after; carried = h.carried; standing = record { scene_is = h.standing.scene_is; printed = h.standing.printed } }
+      either base outcome (Err (Halted at stop)) h = record { after = h.after; ended = h.ended; numbered = h.numbered; printed = h.printed }
+      either base outcome (Err Read) h = h
+      either base outcome (Err Write) h = h
+      either base outcome (Err Memory) h = h
 
 -- ---- the end of the input
 

@@ -7,7 +7,7 @@ ghost use Rattle.mesh_model.specs.declared.frame_choice.FrameChoice.{FrameChoice
 ghost use Rattle.mesh_model.specs.declared.input_kind.InputKind.{InputKind};
 ghost use Rattle.mesh_model.specs.declared.input_kind.InputKind.TheVariants.{Scenario};
 ghost use Rattle.mesh_run.specs.Inner.Kinds.{CarrierStands, IsReady, StateOf, first_of, outcome_of, text_at_end, text_by};
-ghost use Rattle.mesh_run.specs.Inner.Lines.{BreaksOff, CarriesOn, CountsWrites, EndFails, StandsAt};
+ghost use Rattle.mesh_run.specs.Inner.Lines.{CarriesLine, CountsWrites, EndFails, StandsAt};
 ghost use Rattle.mesh_scene.specs.Counts.{HasCounts};
 
 use crate::fault::Fault;
@@ -73,12 +73,9 @@ impl Carrier {
         number: u64,
     ) -> Result<(), Fault>
         requires ready { IsReady self.old }
-        ensures ok { (kind : InputKind) → CarriesOn (text_by kind) (CarrierStands kind)
+        ensures line { (kind : InputKind) → CarriesLine (text_by kind) (CarrierStands kind)
             (K.taken out.old) (K.taken out.new) self.old self.new (outcome_of kind line.now)
-            result }
-        ensures failed { (kind : InputKind) → BreaksOff (text_by kind) (CarrierStands kind)
-            (K.taken out.old) (K.taken out.new) self.old (outcome_of kind line.now) number
-            result }
+            number result }
         ensures faults { CountsWrites (K.faults out.old) (K.faults out.new) result }
         ensures ready { OnOk result (IsReady self.new) }
     {

@@ -1,6 +1,6 @@
 //! A line: it is read and carried out, and what it prints is written.
 
-ghost use Rattle.std.specs.Prelude.{◌≡◌, ℕ, List, Option, true, OnOk, IfErr};
+ghost use Rattle.std.specs.Prelude.{◌≡◌, ℕ, List, Option, true, OnOk};
 ghost use Rattle.mesh_laws.specs.LineLaws.{IsInRange};
 ghost use Rattle.mesh_model.specs.Scenario.Commands.{command_of_line};
 ghost use Rattle.mesh_model.specs.declared.line_form.Command.TheVariants as command;
@@ -9,7 +9,7 @@ ghost use Rattle.mesh_model.specs.Run.State.{text_of};
 ghost use Rattle.mesh_model.specs.Scenario.Readings.{Reading};
 ghost use Rattle.mesh_scenario.specs.LineErr.{Refuses};
 ghost use Rattle.mesh_run.specs.Inner.Faults.{HasReadingCause};
-ghost use Rattle.mesh_run.specs.Inner.Lines.{BreaksOff, CarriesOn, CountsWrites};
+ghost use Rattle.mesh_run.specs.Inner.Lines.{CarriesLine, CountsWrites};
 ghost use Rattle.mesh_scene.specs.CarriesOut.{HasGateways, is_for_scene, outcome_under};
 ghost use Rattle.mesh_scene.specs.SceneStands.{IsSomewhere, SceneStands};
 ghost use Rattle.mesh_scene.specs.StageStands.{IsOnStage, StageStands, outcome_on_stage};
@@ -54,10 +54,9 @@ fn carry_whole<A: Choosable + Drop, K: Sink>(
     requires ranges { IsInRange command }
     requires gateways { HasGateways command }
     requires other { is_for_scene command ≡ true }
-    ensures ok { CarriesOn text_of (SceneStands A.algorithm A.queries A.stands) (K.taken out.old)
-        (K.taken out.new) scene.old scene.new (outcome_under A.queries command) result }
-    ensures failed { BreaksOff text_of (SceneStands A.algorithm A.queries A.stands) (K.taken out.old)
-        (K.taken out.new) scene.old (outcome_under A.queries command) number result }
+    ensures line { CarriesLine text_of (SceneStands A.algorithm A.queries A.stands)
+        (K.taken out.old) (K.taken out.new) scene.old scene.new
+        (outcome_under A.queries command) number result }
     ensures faults { CountsWrites (K.faults out.old) (K.faults out.new) result }
     ensures somewhere { OnOk result (IsSomewhere A.algorithm A.queries A.stands scene.new) }
 {
@@ -83,10 +82,8 @@ fn carry_on_stage<K: Sink>(
     requires ranges { IsInRange command }
     requires gateways { HasGateways command }
     requires other { is_for_scene command ≡ true }
-    ensures ok { CarriesOn text_of StageStands (K.taken out.old) (K.taken out.new) stage.old stage.new
-        (outcome_on_stage command) result }
-    ensures failed { BreaksOff text_of StageStands (K.taken out.old) (K.taken out.new) stage.old
-        (outcome_on_stage command) number result }
+    ensures line { CarriesLine text_of StageStands (K.taken out.old) (K.taken out.new)
+        stage.old stage.new (outcome_on_stage command) number result }
     ensures faults { CountsWrites (K.faults out.old) (K.faults out.new) result }
     ensures somewhere { OnOk result (IsOnStage stage.new) }
 {
@@ -105,10 +102,8 @@ fn run_on_stage<K: Sink>(
     number: u64,
 ) -> Result<(), Fault>
     requires somewhere { IsOnStage stage.old }
-    ensures ok { CarriesOn text_of StageStands (K.taken out.old) (K.taken out.new) stage.old stage.new
-        (outcome_on_stage (command.Run time)) result }
-    ensures failed { BreaksOff text_of StageStands (K.taken out.old) (K.taken out.new) stage.old
-        (outcome_on_stage (command.Run time)) number result }
+    ensures line { CarriesLine text_of StageStands (K.taken out.old) (K.taken out.new)
+        stage.old stage.new (outcome_on_stage (command.Run time)) number result }
     ensures faults { CountsWrites (K.faults out.old) (K.faults out.new) result }
     ensures somewhere { OnOk result (IsOnStage stage.new) }
 {
@@ -121,10 +116,8 @@ fn run_on_stage<K: Sink>(
 /// `algo A`
 fn choose(stage: &mut Stage, algorithm: Algorithm, number: u64) -> Result<(), Fault>
     requires somewhere { IsOnStage stage.old }
-    ensures ok { (taken : Option (List ℕ)) → CarriesOn text_of StageStands taken taken stage.old stage.new
-        (outcome_on_stage (command.Algo algorithm)) result }
-    ensures failed { (taken : Option (List ℕ)) → BreaksOff text_of StageStands taken taken stage.old
-        (outcome_on_stage (command.Algo algorithm)) number result }
+    ensures line { (taken : Option (List ℕ)) → CarriesLine text_of StageStands taken taken
+        stage.old stage.new (outcome_on_stage (command.Algo algorithm)) number result }
     ensures faults { (count : ℕ) → CountsWrites count count result }
     ensures somewhere { OnOk result (IsOnStage stage.new) }
 {
@@ -143,18 +136,16 @@ pub fn carry_scenario<K: Sink>(
     number: u64,
 ) -> Result<(), Fault>
     requires somewhere { IsOnStage stage.old }
-    ensures ok { CarriesOn text_of StageStands (K.taken out.old) (K.taken out.new) stage.old
-        stage.new (λ state. after_reading state (command_of_line line.now)) result }
-    ensures failed { BreaksOff text_of StageStands (K.taken out.old) (K.taken out.new) stage.old
-        (λ state. after_reading state (command_of_line line.now)) number result }
+    ensures line { CarriesLine text_of StageStands (K.taken out.old) (K.taken out.new)
+        stage.old stage.new (λ state. after_reading state (command_of_line line.now)) number
+        result }
     ensures faults { CountsWrites (K.faults out.old) (K.faults out.new) result }
     ensures somewhere { OnOk result (IsOnStage stage.new) }
 {
     match read_line(stage.alloc(), line) {
-        Ok(Command::Algo(algorithm)) => choose(stage, algorithm, number)?,
-        Ok(Command::Run { time }) => run_on_stage(stage, text, out, time, number)?,
-        Ok(command) => carry_on_stage(stage, text, out, command, number)?,
-        Err(error) => return Err(Fault::at(number, reading_fault(error))),
+        Ok(Command::Algo(algorithm)) => choose(stage, algorithm, number),
+        Ok(Command::Run { time }) => run_on_stage(stage, text, out, time, number),
+        Ok(command) => carry_on_stage(stage, text, out, command, number),
+        Err(error) => Err(Fault::at(number, reading_fault(error))),
     }
-    Ok(())
 }

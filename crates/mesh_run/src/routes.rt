@@ -8,7 +8,7 @@ ghost use Rattle.mesh_model.specs.Run.InputRun.{loop_text};
 ghost use Rattle.mesh_model.specs.Run.LoopRun.{LoopState, after_route_reading, at_end};
 ghost use Rattle.mesh_run.specs.Inner.Faults.{route_fault};
 ghost use Rattle.mesh_run.specs.Inner.Kinds.{RoutesStand};
-ghost use Rattle.mesh_run.specs.Inner.Lines.{BreaksOff, CarriesOn, CountsWrites, EndFails, StandsAt};
+ghost use Rattle.mesh_run.specs.Inner.Lines.{CarriesLine, CountsWrites, EndFails, StandsAt};
 
 use crate::fault::Fault;
 use crate::output::put_text;
@@ -37,10 +37,9 @@ pub fn take_route<K: Sink>(
     line: &[u8],
     number: u64,
 ) -> Result<(), Fault>
-    ensures ok { CarriesOn loop_text RoutesStand (K.taken out.old) (K.taken out.new) bisect.old
-        bisect.new (λ state. after_route_reading state (route_of_line line.now)) result }
-    ensures failed { BreaksOff loop_text RoutesStand (K.taken out.old) (K.taken out.new) bisect.old
-        (λ state. after_route_reading state (route_of_line line.now)) number result }
+    ensures line { CarriesLine loop_text RoutesStand (K.taken out.old) (K.taken out.new)
+        bisect.old bisect.new (λ state. after_route_reading state (route_of_line line.now)) number
+        result }
     ensures faults { CountsWrites (K.faults out.old) (K.faults out.new) result }
 {
     text.clear();

@@ -5,7 +5,7 @@ ghost use Rattle.mesh_model.specs.Net.Limits.{clock_limit, scenario_setup};
 ghost use Rattle.mesh_model.specs.Run.Passing.{run_until};
 ghost use Rattle.mesh_model.specs.Run.State.{text_of};
 ghost use Rattle.mesh_model.specs.declared.line_form.Command.TheVariants as command;
-ghost use Rattle.mesh_run.specs.Inner.Lines.{BreaksOff, CarriesOn, CountsWrites, GoesOnBy};
+ghost use Rattle.mesh_run.specs.Inner.Lines.{CarriesLine, CarriesSlice, CountsWrites};
 ghost use Rattle.mesh_scene.specs.CarriesOut.{outcome_under};
 ghost use Rattle.mesh_scene.specs.Slices.{HasAdvanced};
 ghost use Rattle.mesh_scene.specs.SceneStands.{IsSomewhere, SceneStands};
@@ -30,10 +30,9 @@ fn run_slice<A: Choosable + Drop, K: Sink>(
     requires somewhere { IsSomewhere A.algorithm A.queries A.stands scene.old }
     requires later { scene.old.net.clock ≤ end }
     requires within { end ≤ clock_limit }
-    ensures ok { GoesOnBy (SceneStands A.algorithm A.queries A.stands) (scenario_setup A.queries)
-        (K.taken out.old) (K.taken out.new) scene.old scene.new end result }
-    ensures failed { BreaksOff text_of (SceneStands A.algorithm A.queries A.stands) (K.taken out.old)
-        (K.taken out.new) scene.old (run_until (scenario_setup A.queries) end) number result }
+    ensures slice { CarriesSlice (SceneStands A.algorithm A.queries A.stands)
+        (scenario_setup A.queries) (K.taken out.old) (K.taken out.new) scene.old scene.new end
+        number result }
     ensures faults { CountsWrites (K.faults out.old) (K.faults out.new) result }
     ensures advances { result ≡ Ok true → HasAdvanced end scene.old.net scene.new.net }
     ensures somewhere { OnOk result (IsSomewhere A.algorithm A.queries A.stands scene.new) }
@@ -64,10 +63,9 @@ fn run_until<A: Choosable + Drop, K: Sink>(
     requires somewhere { IsSomewhere A.algorithm A.queries A.stands scene.old }
     requires later { scene.old.net.clock ≤ end }
     requires within { end ≤ clock_limit }
-    ensures ok { CarriesOn text_of (SceneStands A.algorithm A.queries A.stands) (K.taken out.old)
-        (K.taken out.new) scene.old scene.new (run_until (scenario_setup A.queries) end) result }
-    ensures failed { BreaksOff text_of (SceneStands A.algorithm A.queries A.stands) (K.taken out.old)
-        (K.taken out.new) scene.old (run_until (scenario_setup A.queries) end) number result }
+    ensures line { CarriesLine text_of (SceneStands A.algorithm A.queries A.stands)
+        (K.taken out.old) (K.taken out.new) scene.old scene.new
+        (run_until (scenario_setup A.queries) end) number result }
     ensures faults { CountsWrites (K.faults out.old) (K.faults out.new) result }
     ensures somewhere { OnOk result (IsSomewhere A.algorithm A.queries A.stands scene.new) }
 {
@@ -101,10 +99,9 @@ pub fn run<A: Choosable + Drop, K: Sink>(
     number: u64,
 ) -> Result<(), Fault>
     requires somewhere { IsSomewhere A.algorithm A.queries A.stands scene.old }
-    ensures ok { CarriesOn text_of (SceneStands A.algorithm A.queries A.stands) (K.taken out.old)
-        (K.taken out.new) scene.old scene.new (outcome_under A.queries (command.Run time)) result }
-    ensures failed { BreaksOff text_of (SceneStands A.algorithm A.queries A.stands) (K.taken out.old)
-        (K.taken out.new) scene.old (outcome_under A.queries (command.Run time)) number result }
+    ensures line { CarriesLine text_of (SceneStands A.algorithm A.queries A.stands)
+        (K.taken out.old) (K.taken out.new) scene.old scene.new
+        (outcome_under A.queries (command.Run time)) number result }
     ensures faults { CountsWrites (K.faults out.old) (K.faults out.new) result }
     ensures somewhere { OnOk result (IsSomewhere A.algorithm A.queries A.stands scene.new) }
 {
@@ -114,6 +111,5 @@ pub fn run<A: Choosable + Drop, K: Sink>(
             stop: Stop::Limit(LimitName::Clock),
         });
     };
-    run_until(scene, text, out, end, number)?;
-    Ok(())
+    run_until(scene, text, out, end, number)
 }

@@ -1,16 +1,20 @@
 -- What a command does to a scene: the state after it and what it prints, or the cause of its fault.
--- The words are over what a scene stands for. The main words are `CarriesFrom` and `FailsFrom`.
-use Rattle.std.specs.Prelude.{◌≡◌, ◌<◌, Bool, true, false, List, ℕ, ◌++◌, length, Result, OnOk, IfErr}
+-- The main word is `AnswersCommand`; `AnswersFrom` says it over whatever stands for a state.
+use Rattle.std.specs.Prelude.{◌≡◌, ◌<◌, Bool, true, false, List, ℕ, ◌++◌, length, Result, Ok, Err}
 use Rattle.mesh_base.specs.declared.address.Mac.{Mac}
+use Rattle.mesh_model.specs.declared.line_form.Algorithm.{Algorithm}
 use Rattle.mesh_model.specs.declared.line_form.Command.{Command}
 use Rattle.mesh_model.specs.declared.line_form.Command.TheVariants.{Nothing, Algo, Node, Link, Lan, Frame, Gone, Join, Leave, Arp, Dhcp, Wifi, GwOff, GwServer, GwClient, Mcast, Dat, Frag, Vis, Alfred, Put, Get, Ping, Trace, Reboot, Run, Deliver, Show, Decode}
 use Rattle.mesh_model.specs.Net.Limits.{scenario_setup}
 use Rattle.mesh_model.specs.Routes.Queries.{Queries}
+use Rattle.mesh_model.specs.Routes.RouteLog.{RouteLog}
 use Rattle.mesh_model.specs.Run.Outcome.{Outcome, Goes, Ends}
 use Rattle.mesh_model.specs.Run.Rules.{carried_out}
 use Rattle.mesh_model.specs.Run.State.{State, text_of}
+use Rattle.mesh_scene.specs.SceneStands.{SceneStands}
 use Rattle.mesh_scene.specs.declared.fault.LineFault.{LineFault}
 use Rattle.mesh_scene.specs.declared.fault.LineFault.TheVariants.{Stopped, Memory}
+use Rattle.mesh_scene.specs.declared.scene.Scene.{Scene}
 
 -- a line that is carried out: the state after it, for which the scene stands, and what it printed
 pub record Carries {S : Type 0} (stands : S → State → Type 0) (outcome : Outcome) (before : State)
@@ -25,22 +29,31 @@ abbrev pub HasLineCause : State → Outcome → LineFault → Type 0
 HasLineCause before outcome (Stopped stop) = outcome ≡ Ends before stop
 HasLineCause before outcome Memory = Unit {0}
 
--- from each state that the scene stood for, a call carries out what has this outcome, and prints
-abbrev pub CarriesFrom : {S : Type 0} → (S → State → Type 0) → (old new : S) → (State → Outcome)
-    → List ℕ → Result (Unit {0}) LineFault → Type 0
-CarriesFrom stands old new outcome printed result =
-    (state : State) → stands old state
-    → OnOk result (Carries stands (outcome state) state new printed)
-
--- from each state that the scene stood for, a call's fault has its cause in this outcome
-abbrev pub FailsFrom : {S : Type 0} → (S → State → Type 0) → S → (State → Outcome)
+-- what a call for a line of this outcome answers: the line is carried out, or its fault has a cause
+abbrev pub AnswersLine : {S : Type 0} → (S → State → Type 0) → Outcome → State → S → List ℕ
     → Result (Unit {0}) LineFault → Type 0
-FailsFrom stands old outcome result =
-    (state : State) → stands old state → IfErr result (HasLineCause state (outcome state))
+AnswersLine stands outcome before scene printed (Ok done) =
+    Carries stands outcome before scene printed
+AnswersLine stands outcome before scene printed (Err fault) = HasLineCause before outcome fault
+
+-- from each state that the scene stood for, a call answers a line of this outcome, and prints
+abbrev pub AnswersFrom : {S : Type 0} → (S → State → Type 0) → (old new : S) → (State → Outcome)
+    → List ℕ → Result (Unit {0}) LineFault → Type 0
+AnswersFrom stands old new outcome printed result =
+    (state : State) → stands old state
+    → AnswersLine stands (outcome state) state new printed result
 
 -- the outcome of a command in a mesh whose nodes answer so
 abbrev pub outcome_under : (Mac → Queries) → Command → State → Outcome
 outcome_under queries command state = carried_out (scenario_setup queries) state command
+
+-- from each state that a scene stood for under an algorithm, a call answers a command, and prints
+abbrev pub AnswersCommand : {A : Type 0} → Algorithm → (Mac → Queries)
+    → (A → Mac → RouteLog → Type 0) → (old new : Scene A) → Command → List ℕ
+    → Result (Unit {0}) LineFault → Type 0
+AnswersCommand algorithm queries stands old new command printed result =
+    AnswersFrom (SceneStands algorithm queries stands) old new (outcome_under queries command)
+    printed result
 
 -- a command, where it is a LAN, has a gateway
 abbrev pub HasGateways : Command → Type 0

@@ -2,9 +2,9 @@
 
 ghost use Rattle.std.specs.Prelude.{◌≡◌, Bool, true, [], None};
 ghost use Rattle.mesh_laws.specs.LineLaws.{IsInRange};
-ghost use Rattle.mesh_scene.specs.CarriesOut.{CarriesFrom, FailsFrom, HasGateways, is_for_scene, outcome_under};
+ghost use Rattle.mesh_scene.specs.CarriesOut.{AnswersCommand, HasGateways, is_for_scene};
 ghost use Rattle.mesh_scene.specs.Inner.AtNodes.{given_of};
-ghost use Rattle.mesh_scene.specs.SceneStands.{IsSomewhere, SceneStands};
+ghost use Rattle.mesh_scene.specs.SceneStands.{IsSomewhere};
 
 use crate::fault::LineFault;
 use crate::given::given_of;
@@ -23,10 +23,8 @@ impl<A: Choosable + Drop> Scene<A> {
         requires ranges { IsInRange command }
         requires gateways { HasGateways command }
         requires other { is_for_scene command ≡ true }
-        ensures ok { CarriesFrom (SceneStands A.algorithm A.queries A.stands) self.old self.new
-            (outcome_under A.queries command) text.new.items result }
-        ensures refused { FailsFrom (SceneStands A.algorithm A.queries A.stands) self.old
-            (outcome_under A.queries command) result }
+        ensures { AnswersCommand A.algorithm A.queries A.stands self.old self.new
+            command text.new.items result }
     {
         if let Some((name, input)) = given_of(&command) {
             return self.give(name, &input, text);
@@ -42,14 +40,12 @@ impl<A: Choosable + Drop> Scene<A> {
         requires gateways { HasGateways command }
         requires other { is_for_scene command ≡ true }
         requires none { given_of command ≡ None }
-        ensures ok { CarriesFrom (SceneStands A.algorithm A.queries A.stands) self.old self.new
-            (outcome_under A.queries command) text.new.items result }
-        ensures refused { FailsFrom (SceneStands A.algorithm A.queries A.stands) self.old
-            (outcome_under A.queries command) result }
+        ensures { AnswersCommand A.algorithm A.queries A.stands self.old self.new
+            command text.new.items result }
     {
         match command {
-            Command::Nothing => {}
-            Command::Node { name, mac } => self.add_node(name.as_slice(), mac)?,
+            Command::Nothing => Ok(()),
+            Command::Node { name, mac } => self.add_node(name.as_slice(), mac),
             Command::Link {
                 from,
                 to,
@@ -62,9 +58,9 @@ impl<A: Choosable + Drop> Scene<A> {
                     pattern,
                     tp: throughput,
                 };
-                self.add_link(from.as_slice(), to.as_slice(), &link)?;
+                self.add_link(from.as_slice(), to.as_slice(), &link)
             }
-            Command::Lan { name, gateways } => self.add_lan(name.as_slice(), &gateways)?,
+            Command::Lan { name, gateways } => self.add_lan(name.as_slice(), &gateways),
             Command::Frame {
                 place,
                 src,
@@ -78,29 +74,30 @@ impl<A: Choosable + Drop> Scene<A> {
                     vid,
                     text: carried.as_slice(),
                 };
-                self.frame(place.as_slice(), &frame, text)?;
+                self.frame(place.as_slice(), &frame, text)
             }
-            Command::Gone { place, key } => self.gone(place.as_slice(), key, text)?,
+            Command::Gone { place, key } => self.gone(place.as_slice(), key, text),
             Command::Arp {
                 node,
                 mac,
                 own_ip,
                 asked_ip,
                 vid,
-            } => self.arp(node.as_slice(), mac, own_ip, asked_ip, vid, text)?,
+            } => self.arp(node.as_slice(), mac, own_ip, asked_ip, vid, text),
             Command::Dhcp {
                 node,
                 key,
                 text: call,
-            } => self.dhcp(node.as_slice(), key, call.as_slice(), text)?,
-            Command::Ping { node, target } => self.ping(node.as_slice(), target.as_slice(), text)?,
-            Command::Trace { node, target } => {
-                self.trace(node.as_slice(), target.as_slice(), text)?;
+            } => self.dhcp(node.as_slice(), key, call.as_slice(), text),
+            Command::Ping { node, target } => self.ping(node.as_slice(), target.as_slice(), text),
+            Command::Trace { node, target } => self.trace(node.as_slice(), target.as_slice(), text),
+            Command::Reboot { node } => self.reboot(node.as_slice(), text),
+            Command::Deliver { number } => self.deliver(number, text),
+            Command::Show { node, table } => self.show(node.as_slice(), table, text),
+            Command::Decode { bytes } => {
+                decode_text(text, bytes.as_slice())?;
+                Ok(())
             }
-            Command::Reboot { node } => self.reboot(node.as_slice(), text)?,
-            Command::Deliver { number } => self.deliver(number, text)?,
-            Command::Show { node, table } => self.show(node.as_slice(), table, text)?,
-            Command::Decode { bytes } => decode_text(text, bytes.as_slice())?,
             // These give a node something.
             Command::Join { .. }
             | Command::Leave { .. }
@@ -118,6 +115,5 @@ impl<A: Choosable + Drop> Scene<A> {
             // These change more than the scene.
             Command::Algo(_) | Command::Run { .. } => unreachable!(),
         }
-        Ok(())
     }
 }

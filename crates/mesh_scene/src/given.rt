@@ -5,7 +5,7 @@ ghost use Rattle.mesh_model.specs.declared.line_form.Command.TheVariants as comm
 ghost use Rattle.mesh_model.specs.Net.Limits.{scenario_setup};
 ghost use Rattle.mesh_net.specs.Reached.{IsOfLine};
 ghost use Rattle.mesh_node.specs.NodeStands.{given_by};
-ghost use Rattle.mesh_scene.specs.CarriesOut.{CarriesFrom, FailsFrom, outcome_under};
+ghost use Rattle.mesh_scene.specs.CarriesOut.{AnswersCommand, AnswersFrom};
 ghost use Rattle.mesh_scene.specs.SceneStands.{IsSomewhere, SceneStands};
 ghost use Rattle.mesh_scene.specs.Inner.AtNodes.{given_apart, given_at, given_of, given_step};
 
@@ -88,11 +88,9 @@ impl<A: Choosable + Drop> Scene<A> {
         requires somewhere { IsSomewhere A.algorithm A.queries A.stands self.old }
         requires line { IsOfLine (given_by 0 input.now) }
         requires empty { text.old.items ≡ [] }
-        ensures ok { CarriesFrom (SceneStands A.algorithm A.queries A.stands) self.old self.new
+        ensures { AnswersFrom (SceneStands A.algorithm A.queries A.stands) self.old self.new
             (given_at (scenario_setup A.queries) name.now (given_by 0 input.now))
             text.new.items result }
-        ensures refused { FailsFrom (SceneStands A.algorithm A.queries A.stands) self.old
-            (given_at (scenario_setup A.queries) name.now (given_by 0 input.now)) result }
     {
         let place = self.node_place(name)?;
         self.give_node(place, input, text)
@@ -108,10 +106,8 @@ impl<A: Choosable + Drop> Scene<A> {
     ) -> Result<(), LineFault>
         requires somewhere { IsSomewhere A.algorithm A.queries A.stands self.old }
         requires empty { text.old.items ≡ [] }
-        ensures ok { CarriesFrom (SceneStands A.algorithm A.queries A.stands) self.old self.new
-            (outcome_under A.queries (command.Dhcp name.now key call.now)) text.new.items result }
-        ensures refused { FailsFrom (SceneStands A.algorithm A.queries A.stands) self.old
-            (outcome_under A.queries (command.Dhcp name.now key call.now)) result }
+        ensures { AnswersCommand A.algorithm A.queries A.stands self.old self.new
+            (command.Dhcp name.now key call.now) text.new.items result }
     {
         let input = Input::Dhcp { key, text: call };
         self.give_apart(name, &input, text)
@@ -129,11 +125,8 @@ impl<A: Choosable + Drop> Scene<A> {
     ) -> Result<(), LineFault>
         requires somewhere { IsSomewhere A.algorithm A.queries A.stands self.old }
         requires empty { text.old.items ≡ [] }
-        ensures ok { CarriesFrom (SceneStands A.algorithm A.queries A.stands) self.old self.new
-            (outcome_under A.queries (command.Arp name.now mac own_ip asked_ip vid))
-            text.new.items result }
-        ensures refused { FailsFrom (SceneStands A.algorithm A.queries A.stands) self.old
-            (outcome_under A.queries (command.Arp name.now mac own_ip asked_ip vid)) result }
+        ensures { AnswersCommand A.algorithm A.queries A.stands self.old self.new
+            (command.Arp name.now mac own_ip asked_ip vid) text.new.items result }
     {
         let input = Input::Arp {
             mac,
@@ -148,10 +141,8 @@ impl<A: Choosable + Drop> Scene<A> {
     pub fn reboot(&mut self, name: &[u8], text: &mut Vec<u8>) -> Result<(), LineFault>
         requires somewhere { IsSomewhere A.algorithm A.queries A.stands self.old }
         requires empty { text.old.items ≡ [] }
-        ensures ok { CarriesFrom (SceneStands A.algorithm A.queries A.stands) self.old self.new
-            (outcome_under A.queries (command.Reboot name.now)) text.new.items result }
-        ensures refused { FailsFrom (SceneStands A.algorithm A.queries A.stands) self.old
-            (outcome_under A.queries (command.Reboot name.now)) result }
+        ensures { AnswersCommand A.algorithm A.queries A.stands self.old self.new
+            (command.Reboot name.now) text.new.items result }
     {
         self.give_apart(name, &Input::Reboot, text)
     }
@@ -166,11 +157,9 @@ impl<A: Choosable + Drop> Scene<A> {
         requires somewhere { IsSomewhere A.algorithm A.queries A.stands self.old }
         requires line { IsOfLine (given_by 0 input.now) }
         requires empty { text.old.items ≡ [] }
-        ensures ok { CarriesFrom (SceneStands A.algorithm A.queries A.stands) self.old self.new
+        ensures { AnswersFrom (SceneStands A.algorithm A.queries A.stands) self.old self.new
             (given_apart (scenario_setup A.queries) name.now (given_by 0 input.now))
             text.new.items result }
-        ensures refused { FailsFrom (SceneStands A.algorithm A.queries A.stands) self.old
-            (given_apart (scenario_setup A.queries) name.now (given_by 0 input.now)) result }
     {
         let place = self.node_place(name)?;
         if self.net.is_gateway(place) {
@@ -189,11 +178,9 @@ impl<A: Choosable + Drop> Scene<A> {
         requires somewhere { IsSomewhere A.algorithm A.queries A.stands self.old }
         requires line { IsOfLine (given_by 0 input.now) }
         requires empty { text.old.items ≡ [] }
-        ensures ok { CarriesFrom (SceneStands A.algorithm A.queries A.stands) self.old self.new
+        ensures { AnswersFrom (SceneStands A.algorithm A.queries A.stands) self.old self.new
             (given_step (scenario_setup A.queries) (given_by 0 input.now) place)
             text.new.items result }
-        ensures refused { FailsFrom (SceneStands A.algorithm A.queries A.stands) self.old
-            (given_step (scenario_setup A.queries) (given_by 0 input.now) place) result }
     {
         self.events.cut(0);
         self.net.input(place, input, &mut self.events)?;
@@ -205,10 +192,8 @@ impl<A: Choosable + Drop> Scene<A> {
     pub fn deliver(&mut self, number: u64, text: &mut Vec<u8>) -> Result<(), LineFault>
         requires somewhere { IsSomewhere A.algorithm A.queries A.stands self.old }
         requires empty { text.old.items ≡ [] }
-        ensures ok { CarriesFrom (SceneStands A.algorithm A.queries A.stands) self.old self.new
-            (outcome_under A.queries (command.Deliver number)) text.new.items result }
-        ensures refused { FailsFrom (SceneStands A.algorithm A.queries A.stands) self.old
-            (outcome_under A.queries (command.Deliver number)) result }
+        ensures { AnswersCommand A.algorithm A.queries A.stands self.old self.new
+            (command.Deliver number) text.new.items result }
     {
         if number == 0 {
             return Err(refused(Refusal::NoSuchFrame));

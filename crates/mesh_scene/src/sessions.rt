@@ -6,7 +6,7 @@ ghost use Rattle.mesh_model.specs.Clients.Log.{Line, LineGiven};
 ghost use Rattle.mesh_model.specs.Net.Mesh.{Setup};
 ghost use Rattle.mesh_model.specs.declared.line_form.Command.TheVariants as command;
 ghost use Rattle.mesh_model.specs.Run.State.{State};
-ghost use Rattle.mesh_scene.specs.CarriesOut.{CarriesFrom, FailsFrom, HasLineCause, outcome_under};
+ghost use Rattle.mesh_scene.specs.CarriesOut.{AnswersCommand, HasLineCause};
 ghost use Rattle.mesh_scene.specs.SceneStands.{IsSomewhere, SceneStands};
 ghost use Rattle.mesh_scene.specs.Inner.AtNodes.{given_at, session_at};
 
@@ -22,28 +22,22 @@ impl<A: Choosable + Drop> Scene<A> {
     pub fn ping(&mut self, node: &[u8], target: &[u8], text: &mut Vec<u8>) -> Result<(), LineFault>
         requires somewhere { IsSomewhere A.algorithm A.queries A.stands self.old }
         requires empty { text.old.items ≡ [] }
-        ensures ok { CarriesFrom (SceneStands A.algorithm A.queries A.stands) self.old self.new
-            (outcome_under A.queries (command.Ping node.now target.now)) text.new.items result }
-        ensures refused { FailsFrom (SceneStands A.algorithm A.queries A.stands) self.old
-            (outcome_under A.queries (command.Ping node.now target.now)) result }
+        ensures { AnswersCommand A.algorithm A.queries A.stands self.old self.new
+            (command.Ping node.now target.now) text.new.items result }
     {
         let target = self.target_of(node, target)?;
-        self.give(node, &Input::Ping { target }, text)?;
-        Ok(())
+        self.give(node, &Input::Ping { target }, text)
     }
 
     /// `traceroute NODE NODE`
     pub fn trace(&mut self, node: &[u8], target: &[u8], text: &mut Vec<u8>) -> Result<(), LineFault>
         requires somewhere { IsSomewhere A.algorithm A.queries A.stands self.old }
         requires empty { text.old.items ≡ [] }
-        ensures ok { CarriesFrom (SceneStands A.algorithm A.queries A.stands) self.old self.new
-            (outcome_under A.queries (command.Trace node.now target.now)) text.new.items result }
-        ensures refused { FailsFrom (SceneStands A.algorithm A.queries A.stands) self.old
-            (outcome_under A.queries (command.Trace node.now target.now)) result }
+        ensures { AnswersCommand A.algorithm A.queries A.stands self.old self.new
+            (command.Trace node.now target.now) text.new.items result }
     {
         let target = self.target_of(node, target)?;
-        self.give(node, &Input::Trace { target }, text)?;
-        Ok(())
+        self.give(node, &Input::Trace { target }, text)
     }
 
     /// The address of the target of a session, which is another node than the one of its beginning.

@@ -6,7 +6,7 @@ ghost use Rattle.mesh_model.specs.Net.Limits.{clock_limit};
 ghost use Rattle.mesh_model.specs.Net.Mesh.{begun_mesh};
 ghost use Rattle.mesh_model.specs.Run.State.{State, first_state, first_watch};
 ghost use Rattle.mesh_net.specs.Reached.{begun_watch};
-ghost use Rattle.mesh_scene.specs.CarriesOut.{CarriesFrom, FailsFrom};
+ghost use Rattle.mesh_scene.specs.CarriesOut.{AnswersFrom};
 ghost use Rattle.mesh_scene.specs.Counts.{HasCounts};
 ghost use Rattle.mesh_scene.specs.StageStands.{IsOnStage, StageStands, outcome_on_stage};
 
@@ -64,10 +64,8 @@ impl Stage {
     /// `algo A`: the scene begins anew, at the same moment. There is nothing in it without a node.
     pub fn choose(&mut self, algorithm: Algorithm) -> Result<(), LineFault>
         requires somewhere { IsOnStage self.old }
-        ensures ok { CarriesFrom StageStands self.old self.new
+        ensures answers { AnswersFrom StageStands self.old self.new
             (outcome_on_stage (command.Algo algorithm)) [] result }
-        ensures refused { FailsFrom StageStands self.old
-            (outcome_on_stage (command.Algo algorithm)) result }
         ensures err { OnErr result (self.new ≡ self.old) }
     {
         if self.has_nodes() {

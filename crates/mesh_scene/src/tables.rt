@@ -4,7 +4,7 @@ ghost use Rattle.std.specs.Prelude.{◌≡◌, [], IfErr, IfOk};
 ghost use Rattle.mesh_model.specs.declared.line_form.Command.TheVariants as command;
 ghost use Rattle.mesh_model.specs.Run.Names.{OfNode};
 ghost use Rattle.mesh_model.specs.Run.State.{State};
-ghost use Rattle.mesh_scene.specs.CarriesOut.{CarriesFrom, FailsFrom, outcome_under};
+ghost use Rattle.mesh_scene.specs.CarriesOut.{AnswersCommand};
 ghost use Rattle.mesh_scene.specs.Inner.AtNodes.{IsNameFault, IsNodeOf};
 ghost use Rattle.mesh_scene.specs.SceneStands.{IsSomewhere, SceneStands};
 
@@ -19,10 +19,8 @@ impl<A: Choosable + Drop> Scene<A> {
     pub fn show(&self, name: &[u8], table: Table, text: &mut Vec<u8>) -> Result<(), LineFault>
         requires somewhere { IsSomewhere A.algorithm A.queries A.stands self.now }
         requires empty { text.old.items ≡ [] }
-        ensures ok { CarriesFrom (SceneStands A.algorithm A.queries A.stands) self.now self.now
-            (outcome_under A.queries (command.Show name.now table)) text.new.items result }
-        ensures refused { FailsFrom (SceneStands A.algorithm A.queries A.stands) self.now
-            (outcome_under A.queries (command.Show name.now table)) result }
+        ensures { AnswersCommand A.algorithm A.queries A.stands self.now self.now
+            (command.Show name.now table) text.new.items result }
     {
         let node = self.node_of(name)?;
         let now = self.net.now();

@@ -3,8 +3,8 @@
 ghost use Rattle.std.specs.Prelude.{◌≡◌, false, []};
 ghost use Rattle.mesh_laws.specs.LineLaws.{HasLinkRanges};
 ghost use Rattle.mesh_model.specs.declared.line_form.Command.TheVariants as command;
-ghost use Rattle.mesh_scene.specs.CarriesOut.{CarriesFrom, FailsFrom, outcome_under};
-ghost use Rattle.mesh_scene.specs.SceneStands.{IsSomewhere, SceneStands};
+ghost use Rattle.mesh_scene.specs.CarriesOut.{AnswersCommand};
+ghost use Rattle.mesh_scene.specs.SceneStands.{IsSomewhere};
 
 use crate::fault::{LineFault, refused};
 use crate::link_ends::LinkEnds;
@@ -18,10 +18,8 @@ impl<A: Choosable + Drop> Scene<A> {
     /// `node NAME MAC`
     pub fn add_node(&mut self, name: &[u8], mac: Mac) -> Result<(), LineFault>
         requires somewhere { IsSomewhere A.algorithm A.queries A.stands self.old }
-        ensures ok { CarriesFrom (SceneStands A.algorithm A.queries A.stands) self.old self.new
-            (outcome_under A.queries (command.Node name.now mac)) [] result }
-        ensures refused { FailsFrom (SceneStands A.algorithm A.queries A.stands) self.old
-            (outcome_under A.queries (command.Node name.now mac)) result }
+        ensures { AnswersCommand A.algorithm A.queries A.stands self.old self.new
+            (command.Node name.now mac) [] result }
     {
         if self.is_taken(name) {
             return Err(refused(Refusal::NameTaken));
@@ -38,12 +36,8 @@ impl<A: Choosable + Drop> Scene<A> {
     pub fn add_link(&mut self, from: &[u8], to: &[u8], link: &Link) -> Result<(), LineFault>
         requires somewhere { IsSomewhere A.algorithm A.queries A.stands self.old }
         requires ranges { HasLinkRanges link.now.delay link.now.pattern link.now.tp }
-        ensures ok { CarriesFrom (SceneStands A.algorithm A.queries A.stands) self.old self.new
-            (outcome_under A.queries (command.Link from.now to.now link.now.delay
-            link.now.pattern link.now.tp)) [] result }
-        ensures refused { FailsFrom (SceneStands A.algorithm A.queries A.stands) self.old
-            (outcome_under A.queries (command.Link from.now to.now link.now.delay
-            link.now.pattern link.now.tp)) result }
+        ensures { AnswersCommand A.algorithm A.queries A.stands self.old self.new
+            (command.Link from.now to.now link.now.delay link.now.pattern link.now.tp) [] result }
     {
         let start = self.node_place(from)?;
         let end = self.node_place(to)?;

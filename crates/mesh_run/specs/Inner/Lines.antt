@@ -1,8 +1,8 @@
 -- What one line, or a slice of one, leaves, since out held what it held at some moment before:
 -- where the run stands after it, or the cause of the fault at which it broke off; and the counts of
 -- faults. The words are over what a scene stands for, and what a state has printed. The main words
--- are `CarriesOn` and `BreaksOff`, and for a slice `GoesOnBy`.
-use Rattle.std.specs.Prelude.{◌≡◌, ℕ, ◌≤◌, Bool, true, false, List, Option, Result, IfOk, OnOk, IfErr}
+-- are `CarriesLine` and, for a slice, `CarriesSlice`.
+use Rattle.std.specs.Prelude.{◌≡◌, ℕ, ◌≤◌, Bool, true, false, List, Option, Result, Ok, Err, IfErr}
 use Rattle.std.specs.Io.KnownBytes.{Appends}
 use Rattle.mesh_base.specs.Faults.{Rose}
 use Rattle.mesh_base.specs.Writes.{AppendsFront}
@@ -47,20 +47,21 @@ CarryFails text outcome base now number Read = ⊥
 CarryFails text outcome base now number Write = AppendsLess base now (text (reached outcome))
 CarryFails text outcome base now number Memory = AppendsFront base now (text (reached outcome))
 
--- from each state at which the scene stood, a call comes to the one that has this outcome
-abbrev pub CarriesOn : {S X : Type 0} → (X → List ℕ) → (S → X → Type 0)
-    → (old new : Option (List ℕ)) → (before after : S) → (X → OutcomeOf X)
-    → Result (Unit {0}) Fault → Type 0
-CarriesOn {X = X} text stands old new before after outcome result =
-    (base : Option (List ℕ)) (state : X) → StandsAt text stands base old before state
-    → OnOk result (Carried text stands (outcome state) base new after)
+-- what a call for a line of this outcome leaves: where the run goes on, or the cause of its fault
+abbrev pub LeavesLine : {S X : Type 0} → (X → List ℕ) → (S → X → Type 0) → OutcomeOf X
+    → (base now : Option (List ℕ)) → S → ℕ → Result (Unit {0}) Fault → Type 0
+LeavesLine text stands outcome base now scene number (Ok done) =
+    Carried text stands outcome base now scene
+LeavesLine text stands outcome base now scene number (Err fault) =
+    CarryFails text outcome base now number fault
 
--- from each state at which the scene stood, a call's fault has its cause in this outcome
-abbrev pub BreaksOff : {S X A : Type 0} → (X → List ℕ) → (S → X → Type 0)
-    → (old new : Option (List ℕ)) → S → (X → OutcomeOf X) → ℕ → Result A Fault → Type 0
-BreaksOff {X = X} text stands old new before outcome number result =
+-- from each state at which the scene stood, a call carries out a line of this number and outcome
+abbrev pub CarriesLine : {S X : Type 0} → (X → List ℕ) → (S → X → Type 0)
+    → (old new : Option (List ℕ)) → (before after : S) → (X → OutcomeOf X) → ℕ
+    → Result (Unit {0}) Fault → Type 0
+CarriesLine {X = X} text stands old new before after outcome number result =
     (base : Option (List ℕ)) (state : X) → StandsAt text stands base old before state
-    → IfErr result (CarryFails text (outcome state) base new number)
+    → LeavesLine text stands (outcome state) base new after number result
 
 -- the cause of a fault while the end of an input that prints this is carried out: nothing halts there
 abbrev pub EndFails : (base now : Option (List ℕ)) → List ℕ → Fault → Type 0
@@ -82,12 +83,21 @@ pub record Sliced {S : Type 0} (stands : S → State → Type 0) (setup : Setup)
   pub leads : LeadsBy setup t from mid more
   pub standing : StandsAt text_of stands base now scene mid
 
--- from each state at which the scene stood, a call carries out a slice of its run until a moment
-abbrev pub GoesOnBy : {S : Type 0} → (S → State → Type 0) → Setup → (old new : Option (List ℕ))
-    → (before after : S) → ℕ → Result Bool Fault → Type 0
-GoesOnBy stands setup old new before after t result =
+-- what a call for a slice of the run of a state leaves: where it stands, or the cause of its fault
+abbrev pub LeavesSlice : {S : Type 0} → (S → State → Type 0) → Setup → ℕ → State
+    → (base now : Option (List ℕ)) → S → ℕ → Result Bool Fault → Type 0
+LeavesSlice stands setup t from base now scene number (Ok more) =
+    Sliced stands setup t from base now scene more
+LeavesSlice stands setup t from base now scene number (Err fault) =
+    CarryFails text_of (run_until setup t from) base now number fault
+
+-- from each state at which the scene stood, a call carries out a slice of its run until a moment,
+-- for the line of a number
+abbrev pub CarriesSlice : {S : Type 0} → (S → State → Type 0) → Setup → (old new : Option (List ℕ))
+    → (before after : S) → ℕ → ℕ → Result Bool Fault → Type 0
+CarriesSlice stands setup old new before after t number result =
     (base : Option (List ℕ)) (state : State) → StandsAt text_of stands base old before state
-    → IfOk result (Sliced stands setup t state base new after)
+    → LeavesSlice stands setup t state base new after number result
 
 -- ---- counts of faults
 

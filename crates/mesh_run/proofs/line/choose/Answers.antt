@@ -8,17 +8,17 @@ use Rattle.mesh_scene.specs.StageStands.{outcome_on_stage}
 use Rattle.mesh_run.proofs.FaultLemmas.{line_blameless, line_fails}
 use Rattle.mesh_run.proofs.line.choose.Goals as goal
 
-pub returns-in-Err-clause-failed : goal.returns-in-Err-clause-failed
-returns-in-Err-clause-failed c = λ taken base state at. rw c.at.ensures
+pub returns-in-Err-clause-line : goal.returns-in-Err-clause-line
+returns-in-Err-clause-line c = λ taken base state at. rw c.at.ensures
     (line_fails base taken state (outcome_on_stage (Algo c.args.algorithm) state) c.args.number c.in-Err.fault (grows (setup_of state.algorithm) state (Algo c.args.algorithm))
-    at.printed (c.in-Err.ensures.refused state at.scene_is))
+    at.printed (c.in-Err.ensures.answers state at.scene_is))
 
 pub returns-in-Err-clause-faults : goal.returns-in-Err-clause-faults
 returns-in-Err-clause-faults c = λ count. record { kept = omega arith; cause = rw c.at.ensures (line_blameless _ _ c.args.number c.in-Err.fault) }
 
-pub returns-clause-ok : goal.returns-clause-ok
-returns-clause-ok c = λ taken base state at.
-    let carries = c.in_default.ensures.ok state at.scene_is in
+pub returns-clause-line : goal.returns-clause-line
+returns-clause-line c = λ taken base state at.
+    let carries = c.in_default.ensures.answers state at.scene_is in
     let T : List ℕ → Type 0 = λ text. Appends base taken text in
     record {
       after = carries.after;
@@ -29,5 +29,5 @@ returns-clause-ok c = λ taken base state at.
 pub returns-clause-somewhere : goal.returns-clause-somewhere
 returns-clause-somewhere c =
     let at = c.requires.somewhere in
-    let carries = c.in_default.ensures.ok at.state at.standing in
+    let carries = c.in_default.ensures.answers at.state at.standing in
     record { state = carries.after; standing = carries.standing }

@@ -9,7 +9,7 @@ use Rattle.mesh_scene.specs.declared.stage.Stage.{Stage}
 use Rattle.mesh_scene.specs.declared.stage.Stage.TheVariants.{Iv, V}
 use Rattle.mesh_show.specs.IvStands.{iv_stands}
 use Rattle.mesh_show.specs.VStands.{v_stands}
-use Rattle.mesh_run.proofs.StageLemmas.{OnStage, breaks_off_stage, carries_on_stage, on_ok}
+use Rattle.mesh_run.proofs.StageLemmas.{OnStage, line_on_stage, on_ok}
 use Rattle.mesh_run.proofs.line.run_on_stage.Goals as goal
 
 pub run-requires : goal.run-requires
@@ -17,45 +17,27 @@ run-requires g c =
     let at = c.requires.somewhere in
     record { somewhere = record { state = at.state; standing = subst (λ (s : Stage). StageStands s at.state) c.in-Iv.is at.standing } }
 
-pub returns-in-Iv-clause-ok : goal.returns-in-Iv-clause-ok
-returns-in-Iv-clause-ok g c =
+pub returns-in-Iv-clause-line : goal.returns-in-Iv-clause-line
+returns-in-Iv-clause-line g c =
     let on : OnStage (SceneStands chosen.Iv iv_queries iv_stands) StageStands chosen.Iv c.in-Iv.scene c.run.new.scene c.args.stage.now (Iv c.run.new.scene) = record {
       down = λ state stands. subst (λ (s : Stage). StageStands s state) c.in-Iv.is stands;
       up = λ state stands. stands;
       chosen = λ state stands. (subst (λ (s : Stage). StageStands s state) c.in-Iv.is stands).algorithm_is;
     } in
-    carries_on_stage (SceneStands chosen.Iv iv_queries iv_stands) StageStands chosen.Iv c.in-Iv.scene c.run.new.scene c.args.stage.now (Iv c.run.new.scene) on (g.K.Sink.taken c.args.out.now) (g.K.Sink.taken c.run.new.out) (Run c.args.time) c.run.result c.run.ensures.ok
-
-pub returns-in-Iv-clause-failed : goal.returns-in-Iv-clause-failed
-returns-in-Iv-clause-failed g c =
-    let on : OnStage (SceneStands chosen.Iv iv_queries iv_stands) StageStands chosen.Iv c.in-Iv.scene c.run.new.scene c.args.stage.now (Iv c.run.new.scene) = record {
-      down = λ state stands. subst (λ (s : Stage). StageStands s state) c.in-Iv.is stands;
-      up = λ state stands. stands;
-      chosen = λ state stands. (subst (λ (s : Stage). StageStands s state) c.in-Iv.is stands).algorithm_is;
-    } in
-    breaks_off_stage (SceneStands chosen.Iv iv_queries iv_stands) StageStands chosen.Iv c.in-Iv.scene c.run.new.scene c.args.stage.now (Iv c.run.new.scene) on (g.K.Sink.taken c.args.out.now) (g.K.Sink.taken c.run.new.out) (Run c.args.time) c.run.result c.args.number c.run.ensures.failed
+    line_on_stage (SceneStands chosen.Iv iv_queries iv_stands) StageStands chosen.Iv c.in-Iv.scene c.run.new.scene c.args.stage.now (Iv c.run.new.scene) on (g.K.Sink.taken c.args.out.now) (g.K.Sink.taken c.run.new.out) (Run c.args.time) c.args.number c.run.result c.run.ensures.line
 
 pub returns-in-Iv-clause-somewhere : goal.returns-in-Iv-clause-somewhere
 returns-in-Iv-clause-somewhere g c =
     on_ok c.run.result (λ (at : IsSomewhere chosen.Iv iv_queries iv_stands c.run.new.scene). record { state = at.state; standing = at.standing }) c.run.ensures.somewhere
 
-pub returns-in-V-clause-ok : goal.returns-in-V-clause-ok
-returns-in-V-clause-ok g c =
+pub returns-in-V-clause-line : goal.returns-in-V-clause-line
+returns-in-V-clause-line g c =
     let on : OnStage (SceneStands chosen.V v_queries v_stands) StageStands chosen.V c.in-V.scene c.run-in-V.new.scene c.args.stage.now (V c.run-in-V.new.scene) = record {
       down = λ state stands. subst (λ (s : Stage). StageStands s state) c.in-V.is stands;
       up = λ state stands. stands;
       chosen = λ state stands. (subst (λ (s : Stage). StageStands s state) c.in-V.is stands).algorithm_is;
     } in
-    carries_on_stage (SceneStands chosen.V v_queries v_stands) StageStands chosen.V c.in-V.scene c.run-in-V.new.scene c.args.stage.now (V c.run-in-V.new.scene) on (g.K.Sink.taken c.args.out.now) (g.K.Sink.taken c.run-in-V.new.out) (Run c.args.time) c.run-in-V.result c.run-in-V.ensures.ok
-
-pub returns-in-V-clause-failed : goal.returns-in-V-clause-failed
-returns-in-V-clause-failed g c =
-    let on : OnStage (SceneStands chosen.V v_queries v_stands) StageStands chosen.V c.in-V.scene c.run-in-V.new.scene c.args.stage.now (V c.run-in-V.new.scene) = record {
-      down = λ state stands. subst (λ (s : Stage). StageStands s state) c.in-V.is stands;
-      up = λ state stands. stands;
-      chosen = λ state stands. (subst (λ (s : Stage). StageStands s state) c.in-V.is stands).algorithm_is;
-    } in
-    breaks_off_stage (SceneStands chosen.V v_queries v_stands) StageStands chosen.V c.in-V.scene c.run-in-V.new.scene c.args.stage.now (V c.run-in-V.new.scene) on (g.K.Sink.taken c.args.out.now) (g.K.Sink.taken c.run-in-V.new.out) (Run c.args.time) c.run-in-V.result c.args.number c.run-in-V.ensures.failed
+    line_on_stage (SceneStands chosen.V v_queries v_stands) StageStands chosen.V c.in-V.scene c.run-in-V.new.scene c.args.stage.now (V c.run-in-V.new.scene) on (g.K.Sink.taken c.args.out.now) (g.K.Sink.taken c.run-in-V.new.out) (Run c.args.time) c.args.number c.run-in-V.result c.run-in-V.ensures.line
 
 pub returns-in-V-clause-somewhere : goal.returns-in-V-clause-somewhere
 returns-in-V-clause-somewhere g c =

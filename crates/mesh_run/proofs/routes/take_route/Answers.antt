@@ -11,8 +11,8 @@ use Rattle.mesh_run.proofs.FrontLemmas.{appends-after, less-after}
 use Rattle.mesh_run.proofs.RouteLemmas.{route_fails, state_after, taken_goes}
 use Rattle.mesh_run.proofs.routes.take_route.Goals as goal
 
-pub returns-in-Err-clause-failed : goal.returns-in-Err-clause-failed
-returns-in-Err-clause-failed g c = λ base state stands.
+pub returns-in-Err-clause-line : goal.returns-in-Err-clause-line
+returns-in-Err-clause-line g c = λ base state stands.
     let reading = route_of_line c.args.line.now in
     rw (c.at.ensures, c.route_fault.ensures)
     (route_fails base (g.K.Sink.taken c.args.out.now) state reading c.args.number c.in-Err.error (λ e. c.take.ensures.bad.0 (c.in-Err.is ∙ ap Err e)) (λ e. (c.take.ensures.late state.lines stands.scene_is).0 (c.in-Err.is ∙ ap Err e))
@@ -21,8 +21,8 @@ returns-in-Err-clause-failed g c = λ base state stands.
 pub returns-in-Err-clause-faults : goal.returns-in-Err-clause-faults
 returns-in-Err-clause-faults g c = record { kept = omega arith; cause = rw c.at.ensures (line_blameless _ _ c.args.number c.route_fault.result) }
 
-pub returns-in-Err-put_text-clause-failed : goal.returns-in-Err-put_text-clause-failed
-returns-in-Err-put_text-clause-failed g c = λ base state stands.
+pub returns-in-Err-put_text-clause-line : goal.returns-in-Err-put_text-clause-line
+returns-in-Err-put_text-clause-line g c = λ base state stands.
     let old = g.K.Sink.taken c.args.out.now in
     let new = g.K.Sink.taken c.put_text.new.sink in
     let reading = route_of_line c.args.line.now in
@@ -35,8 +35,8 @@ returns-in-Err-put_text-clause-failed g c = λ base state stands.
     let P : OutcomeOf LoopState → Type 0 = λ o. AppendsLess base new (loop_text (reached o)) in
     subst P (sym goes) less
 
-pub returns-clause-ok : goal.returns-clause-ok
-returns-clause-ok g c = λ base state stands.
+pub returns-clause-line : goal.returns-clause-line
+returns-clause-line g c = λ base state stands.
     let old = g.K.Sink.taken c.args.out.now in
     let new = g.K.Sink.taken c.put_text.new.sink in
     let reading = route_of_line c.args.line.now in

@@ -19,7 +19,7 @@ returns-in_err-carry_line-clause-failed g c = λ kind base read stands.
     rw (p.1, p.2)
     (Fails-newline kind base (g.K.Sink.taken c.args.out.now) (g.K.Sink.taken c.carry_line.new.out) runner read c.in_err-carry_line.field-0.0 stands
     (omega (arith, runner.line.ok.0, runner.short)) c.requires.within
-    (subst P said (c.in_err-carry_line.ensures.failed kind base state stands.at)))
+    (subst P said (c.in_err-carry_line.ensures.line kind base state stands.at)))
 
 pub returns-clause-ok : goal.returns-clause-ok
 returns-clause-ok g c = λ kind base read stands.
@@ -30,5 +30,5 @@ returns-clause-ok g c = λ kind base read stands.
     let P : List ℕ → Type 0 = λ line. Carried (text_by kind) (CarrierStands kind) (outcome_of kind line state) base (g.K.Sink.taken c.carry_line.new.out) c.carry_line.new.self in
     Stands-newline kind base (g.K.Sink.taken c.args.out.now) (g.K.Sink.taken c.carry_line.new.out) runner _ read stands
     (omega (arith, runner.line.ok.0, runner.short)) c.requires.within
-    (subst P said (c.in_ok-carry_line.ensures.ok kind base state stands.at))
+    (subst P said (c.in_ok-carry_line.ensures.line kind base state stands.at))
     c.clear.ensures.items refl refl

@@ -24,7 +24,7 @@ returns-in_err-carry_line-clause-failed g c = λ kind base read stands.
     rw (p.1, p.2)
     (FailsIn-last kind base old new runner read c.in_err-carry_line.field-0.0 stands (omega (arith, runner.line.ok.0, runner.short))
     (omega (arith, runner.line.ok.0, some)) runner.within
-    (subst P c.as_slice-line.ensures.value (c.in_err-carry_line.ensures.failed kind base state stands.at)))
+    (subst P c.as_slice-line.ensures.value (c.in_err-carry_line.ensures.line kind base state stands.at)))
 
 pub returns-clause-ok : goal.returns-clause-ok
 returns-clause-ok g c = λ kind base read stands.
@@ -36,4 +36,4 @@ returns-clause-ok g c = λ kind base read stands.
     let P : List ℕ → Type 0 = λ line. Carried (text_by kind) (CarrierStands kind) (outcome_of kind line state) base new c.carry_line.new.self in
     StandsBehind-last kind base old new runner c.carry_line.new.self read stands (omega (arith, runner.line.ok.0, runner.short))
     (omega (arith, runner.line.ok.0, some)) runner.within
-    (subst P c.as_slice-line.ensures.value (c.in_ok-carry_line.ensures.ok kind base state stands.at))
+    (subst P c.as_slice-line.ensures.value (c.in_ok-carry_line.ensures.line kind base state stands.at))

@@ -7,14 +7,14 @@ use Rattle.mesh_scene.proofs.NetLemmas.{of_line}
 use Rattle.mesh_scene.proofs.PrintLemmas.{attempt_carries, attempt_fails}
 use Rattle.mesh_scene.proofs.scene.Scene.give_node.Goals as goal
 
-pub returns-in_err-input-clause-refused : goal.returns-in_err-input-clause-refused
-returns-in_err-input-clause-refused g c = λ state stands.
+pub returns-in_err-input : goal.returns-in_err-input
+returns-in_err-input g c = λ state stands.
     let p = err_from_is_err_and c.from_residual.result c.from_residual.ensures.1 in
     let attempt = given_to (scenario_setup g.A.Algo.queries) c.args.place state.clock 0 (given_by 0 c.args.input.now) state.mesh in
     rw (p.1, p.2) (attempt_fails state attempt c.in_err-input.field-0.0 (c.in_err-input.ensures.cause state.choice state.clock state.mesh stands.net_is))
 
-pub returns-clause-ok : goal.returns-clause-ok
-returns-clause-ok g c = λ state stands.
+pub returns : goal.returns
+returns g c = λ state stands.
     let scene = c.args.self.now in
     let given = given_by 0 c.args.input.now in
     let setup = scenario_setup g.A.Algo.queries in

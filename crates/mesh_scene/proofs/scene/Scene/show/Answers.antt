@@ -5,13 +5,13 @@ use Rattle.mesh_show.specs.Shown.{IsNodeAt}
 use Rattle.mesh_scene.proofs.TableLemmas.{show_carries, show_fails}
 use Rattle.mesh_scene.proofs.scene.Scene.show.Goals as goal
 
-pub returns-in_err-node-clause-refused : goal.returns-in_err-node-clause-refused
-returns-in_err-node-clause-refused g c = λ state stands.
+pub returns-in_err-node : goal.returns-in_err-node
+returns-in_err-node g c = λ state stands.
     let p = err_from_is_err_and c.from_residual.result c.from_residual.ensures.1 in
     rw (p.1, p.2) (show_fails (scenario_setup g.A.Algo.queries) state c.args.name.now c.args.table c.in_err-node.field-0.0 (c.in_err-node.ensures.unknown state stands))
 
-pub returns-clause-ok : goal.returns-clause-ok
-returns-clause-ok g c = λ state stands.
+pub returns : goal.returns
+returns g c = λ state stands.
     let of = c.in_ok-node.ensures.found state stands in
     let now = c.now-now.ensures state.choice state.clock state.mesh stands.net_is in
     let old = c.args.text.now.items in

@@ -9,12 +9,12 @@ use Rattle.mesh_scene.proofs.stage.Stage.choose.Goals as goal
 pub begin-requires : goal.begin-requires
 begin-requires c = let at = c.requires.somewhere in record { low = (c.now.ensures at.state at.standing).1 }
 
-pub returns-then-has_nodes-clause-refused : goal.returns-then-has_nodes-clause-refused
-returns-then-has_nodes-clause-refused c = λ state stands.
+pub returns-then-has_nodes-clause-answers : goal.returns-then-has_nodes-clause-answers
+returns-then-has_nodes-clause-answers c = λ state stands.
     rw c.refused.ensures (algo_late (setup_of state.algorithm) state c.args.algorithm (sym (c.has_nodes.ensures.told state stands) ∙ c.if-has_nodes.true))
 
-pub returns-clause-ok : goal.returns-clause-ok
-returns-clause-ok c = λ state stands.
+pub returns-clause-answers : goal.returns-clause-answers
+returns-clause-answers c = λ state stands.
     let after = record state { algorithm = c.args.algorithm } in
     record {
       after = after;
