@@ -157,19 +157,9 @@ module _ {P : Type 0} (takes : P → Act → P → Type 0) (same : P → P → T
       (subst (λ limit. Leaves takes same over limit old whole result new) (sym (alone own)) left))
 
 -- what holds where a call succeeds, holds where it didn't fail
-where_done : (result : Result Unit NodeErr) (holds : Type 0) → is_err result ≡ false → OnOk result holds → holds
+pub where_done : (result : Result Unit NodeErr) (holds : Type 0) → is_err result ≡ false → OnOk result holds → holds
 where_done (Ok done) holds is what = what
 where_done (Err error) holds is what = absurd (true≢false is)
-
--- what holds where a row succeeds, holds where its acts were handed over
-pub where_handed : (result answer : Result Unit NodeErr) (holds : Type 0) → OnOk result (is_err answer ≡ false) → OnOk answer holds → OnOk result holds
-where_handed (Ok done) answer holds is what = where_done answer holds is what
-where_handed (Err error) answer holds is what = tt
-
--- what follows where a call succeeds
-pub on_done : (result : Result Unit NodeErr) (holds more : Type 0) → (holds → more) → OnOk result holds → OnOk result more
-on_done (Ok done) holds more so what = so what
-on_done (Err error) holds more so what = tt
 
 -- what holds anyhow, holds where a call succeeds
 pub on_any : (result : Result Unit NodeErr) (holds : Type 0) → holds → OnOk result holds

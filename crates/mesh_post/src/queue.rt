@@ -153,7 +153,7 @@ impl Queue {
         ensures { IsEarliest self.now result }
     {
         let ahead = earlier(self.first.earliest(), self.second.earliest());
-        // Most delays find a list of their own, so mostly nothing waits behind the first two.
+        // Most meshes have one delay, so that mostly nothing waits behind the first two lists.
         if are_empty(&self.third, &self.others) {
             return ahead;
         }

@@ -1,5 +1,5 @@
 -- A call on the scene of a stage is one on the stage, where the scene's algorithm is that of the state.
-use Rattle.std.proofs.Common.{◌≡◌, ℕ, List, Option, Result, Ok, Err, OnOk, sym, subst}
+use Rattle.std.proofs.Common.{◌≡◌, ℕ, List, Option, Result, Ok, Err, sym, subst}
 use Rattle.mesh_model.specs.declared.line_form.Algorithm.{Algorithm}
 use Rattle.mesh_model.specs.declared.line_form.Command.{Command}
 use Rattle.mesh_model.specs.Run.Outcome.{Outcome, Goes}
@@ -13,11 +13,6 @@ use Rattle.mesh_scene.specs.StageStands.{outcome_on_stage}
 -- the outcome of a command under an algorithm
 abbrev pub outcome_by : Algorithm → Command → State → Outcome
 outcome_by algorithm command state = carried_out (setup_of algorithm) state command
-
--- what is said of a result's value, said otherwise
-pub on_ok : {A E : Type 0} {P Q : Type 0} (result : Result A E) → (P → Q) → OnOk result P → OnOk result Q
-on_ok (Ok a) goes is = goes is
-on_ok (Err e) goes is = tt
 
 -- a scene before and after a call, and the stage that they stand on: where the stage stands for a
 -- state, the scene does, under the algorithm of the state; and behind the call the other way round

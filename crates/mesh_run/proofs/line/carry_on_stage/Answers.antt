@@ -1,4 +1,5 @@
 use Rattle.std.proofs.Common.{subst}
+use Rattle.std.proofs.lemmas.Result.{on_ok_weaker}
 use Rattle.mesh_model.specs.declared.line_form.Algorithm.TheVariants as chosen
 use Rattle.mesh_model.specs.Routes.AlgorithmIv.{iv_queries}
 use Rattle.mesh_model.specs.Routes.AlgorithmV.{v_queries}
@@ -8,7 +9,7 @@ use Rattle.mesh_scene.specs.declared.stage.Stage.{Stage}
 use Rattle.mesh_scene.specs.declared.stage.Stage.TheVariants.{Iv, V}
 use Rattle.mesh_show.specs.IvStands.{iv_stands}
 use Rattle.mesh_show.specs.VStands.{v_stands}
-use Rattle.mesh_run.proofs.StageLemmas.{OnStage, line_on_stage, on_ok}
+use Rattle.mesh_run.proofs.StageLemmas.{OnStage, line_on_stage}
 use Rattle.mesh_run.proofs.line.carry_on_stage.Goals as goal
 
 pub carry_whole-requires-clause-somewhere : goal.carry_whole-requires-clause-somewhere
@@ -27,7 +28,7 @@ returns-in-Iv-clause-line g c =
 
 pub returns-in-Iv-clause-somewhere : goal.returns-in-Iv-clause-somewhere
 returns-in-Iv-clause-somewhere g c =
-    on_ok c.carry_whole.result (λ (at : IsSomewhere chosen.Iv iv_queries iv_stands c.carry_whole.new.scene). record { state = at.state; standing = at.standing }) c.carry_whole.ensures.somewhere
+    on_ok_weaker c.carry_whole.result (λ (at : IsSomewhere chosen.Iv iv_queries iv_stands c.carry_whole.new.scene). record { state = at.state; standing = at.standing }) c.carry_whole.ensures.somewhere
 
 pub returns-in-V-clause-line : goal.returns-in-V-clause-line
 returns-in-V-clause-line g c =
@@ -40,4 +41,4 @@ returns-in-V-clause-line g c =
 
 pub returns-in-V-clause-somewhere : goal.returns-in-V-clause-somewhere
 returns-in-V-clause-somewhere g c =
-    on_ok c.carry_whole-in-V.result (λ (at : IsSomewhere chosen.V v_queries v_stands c.carry_whole-in-V.new.scene). record { state = at.state; standing = at.standing }) c.carry_whole-in-V.ensures.somewhere
+    on_ok_weaker c.carry_whole-in-V.result (λ (at : IsSomewhere chosen.V v_queries v_stands c.carry_whole-in-V.new.scene). record { state = at.state; standing = at.standing }) c.carry_whole-in-V.ensures.somewhere

@@ -1,4 +1,5 @@
 use Rattle.std.proofs.Common.{subst}
+use Rattle.std.proofs.lemmas.Result.{on_ok_weaker}
 use Rattle.mesh_model.specs.declared.line_form.Algorithm.TheVariants as chosen
 use Rattle.mesh_model.specs.declared.line_form.Command.TheVariants.{Run}
 use Rattle.mesh_model.specs.Routes.AlgorithmIv.{iv_queries}
@@ -9,7 +10,7 @@ use Rattle.mesh_scene.specs.declared.stage.Stage.{Stage}
 use Rattle.mesh_scene.specs.declared.stage.Stage.TheVariants.{Iv, V}
 use Rattle.mesh_show.specs.IvStands.{iv_stands}
 use Rattle.mesh_show.specs.VStands.{v_stands}
-use Rattle.mesh_run.proofs.StageLemmas.{OnStage, line_on_stage, on_ok}
+use Rattle.mesh_run.proofs.StageLemmas.{OnStage, line_on_stage}
 use Rattle.mesh_run.proofs.line.run_on_stage.Goals as goal
 
 pub run-requires : goal.run-requires
@@ -28,7 +29,7 @@ returns-in-Iv-clause-line g c =
 
 pub returns-in-Iv-clause-somewhere : goal.returns-in-Iv-clause-somewhere
 returns-in-Iv-clause-somewhere g c =
-    on_ok c.run.result (λ (at : IsSomewhere chosen.Iv iv_queries iv_stands c.run.new.scene). record { state = at.state; standing = at.standing }) c.run.ensures.somewhere
+    on_ok_weaker c.run.result (λ (at : IsSomewhere chosen.Iv iv_queries iv_stands c.run.new.scene). record { state = at.state; standing = at.standing }) c.run.ensures.somewhere
 
 pub returns-in-V-clause-line : goal.returns-in-V-clause-line
 returns-in-V-clause-line g c =
@@ -41,4 +42,4 @@ returns-in-V-clause-line g c =
 
 pub returns-in-V-clause-somewhere : goal.returns-in-V-clause-somewhere
 returns-in-V-clause-somewhere g c =
-    on_ok c.run-in-V.result (λ (at : IsSomewhere chosen.V v_queries v_stands c.run-in-V.new.scene). record { state = at.state; standing = at.standing }) c.run-in-V.ensures.somewhere
+    on_ok_weaker c.run-in-V.result (λ (at : IsSomewhere chosen.V v_queries v_stands c.run-in-V.new.scene). record { state = at.state; standing = at.standing }) c.run-in-V.ensures.somewhere

@@ -1,17 +1,14 @@
-use Rattle.std.proofs.Common.{◌≡◌, ◌∙◌, ◌+◌, ℕ, Err, is_err, ap, sym}
+use Rattle.std.proofs.Common.{◌∙◌, is_err, ap, sym}
 use Rattle.std.proofs.lemmas.Bool.{true≢false}
-use Rattle.mesh_base.specs.declared.address.Mac.{Mac}
-use Rattle.mesh_model.specs.Acts.Choosing.{acts_of, cuts_by, cutter_by, whole_acts}
-use Rattle.mesh_model.specs.Acts.Cuts.{Cutter, cuts_among}
-use Rattle.mesh_model.specs.Acts.NodeLimits.{client_limit, node_limit}
-use Rattle.mesh_model.specs.Clients.Log.{Log}
+use Rattle.std.proofs.lemmas.Result.{on_ok_weaker}
+use Rattle.mesh_model.specs.Acts.Choosing.{whole_acts}
+use Rattle.mesh_model.specs.Acts.Cuts.{Cutter}
+use Rattle.mesh_model.specs.Acts.NodeLimits.{client_limit}
 use Rattle.node_cuts.specs.Collected.{cutter_of}
-use Rattle.node_ground.specs.OwnStands.{newest_moment, with_input}
-use Rattle.node_ground.specs.Puts.{Leaves}
-use Rattle.node_ground.specs.declared.failure.NodeErr.{NodeErr}
+use Rattle.node_ground.specs.OwnStands.{with_input}
 use Rattle.node_ground.proofs.LeavesLemmas.{alive_error}
-use Rattle.mesh_node.specs.NodeStands.{KeepsLog, NodeStands, given_by}
-use Rattle.mesh_node.proofs.CutCounts.{collected_from, count_is, handed, left_whole, none_counted, on_any, on_done, stands_on, where_handed}
+use Rattle.mesh_node.specs.NodeStands.{KeepsLog, given_by}
+use Rattle.mesh_node.proofs.CutCounts.{collected_from, count_is, handed, left_whole, none_counted, on_any, stands_on, where_done}
 use Rattle.mesh_node.proofs.node.Node.take.Goals.{then-cutter-eq0, else-cutter-eq0}
 use Rattle.mesh_node.proofs.node.Node.take.Goals as goal
 
@@ -56,9 +53,10 @@ returns-clause-noted g c = λ me log number is late.
           rw (w.answer-is, w.self-is, w.cutter-is)
           (stands_on g.A.Algo.stands g.A.Algo.queries w.carry_out-collected.new.self w.hand_over-answer.new.cutter.cuts c.is_err-self.result w.hand_over-answer.result me after
           (c.is_err-self.ensures.value ∙ ap is_err w.answer-is)
-          (where_handed w.hand_over-answer.result w.carry_out-collected.result (KeepsLog g.A.Algo.stands g.A.Algo.queries w.carry_out-collected.new.self me after) w.hand_over-answer.ensures.done
-          (w.carry_out-collected.ensures.noted me log number is.keeps late))
-          (on_done w.hand_over-answer.result _ _
+          (on_ok_weaker w.hand_over-answer.result
+          (λ fine. where_done w.carry_out-collected.result (KeepsLog g.A.Algo.stands g.A.Algo.queries w.carry_out-collected.new.self me after) fine (w.carry_out-collected.ensures.noted me log number is.keeps late))
+          w.hand_over-answer.ensures.done)
+          (on_ok_weaker w.hand_over-answer.result
           (count_is q me log c.args.now given cutter w.hand_over-answer.new.cutter.cuts cuts)
           (w.hand_over-answer.ensures.counted (client_limit me log c.args.now given) whole collected)))
     ]
