@@ -163,6 +163,10 @@ impl Roster {
     {
         self.tell_order();
         table.tell_order();
+        // At most ticks nothing is pending.
+        if self.pending.len() == 0 {
+            return Ok(Changes::new(self.alloc));
+        }
         let gone = self.gone(now, table)?;
         let came = self.came(now, table)?;
         let mut changes = Changes::new(self.alloc);

@@ -1,7 +1,19 @@
-use Rattle.std.proofs.Common.{◌∙◌, ◌++◌, map, ap, ap₂}
-use Rattle.mesh_model.specs.Tables.Changes.{addition, deletion}
+use Rattle.std.proofs.Common.{◌≡◌, ◌∙◌, ◌++◌, [], map, filter_map, sym, ap, ap₂, subst, arith}
+use Rattle.std.proofs.lemmas.List.{nil_from_length}
+use Rattle.mesh_model.specs.Tables.Changes.{addition, changeset, deletion}
+use Rattle.tt_local.specs.Clients.{present_entries}
+use Rattle.tt_local.specs.Roster.{RosterView, gone_entry, new_entry}
 use Rattle.tt_local.proofs.ChangesLemmas.{changes_are}
 use Rattle.tt_local.proofs.roster.Roster.changes.Goals as goal
+
+pub returns-then-len-eq0 : goal.returns-then-len-eq0
+returns-then-len-eq0 c =
+    let roster = c.args.self.now in
+    let table = c.args.table.now.entries in
+    let none : roster.pending ≡ [] = sym (ap (λ (r : RosterView). r.pending) c.self.view_is) ∙ nil_from_length c.self.inside.pending.keys (omega (arith, c.len.ensures, c.if-len-eq0.true)) in
+    c.new.ensures
+    ∙ subst (λ keys. map deletion (filter_map (gone_entry c.args.now roster.clients table) keys) ++ map addition (filter_map (new_entry c.args.now roster.clients table) keys) ≡ changeset table (present_entries c.args.now roster.clients)) none
+    (changes_are c.args.now roster table c.requires.renewed c.requires.tracked c.tell_order-2.ensures c.tell_order.ensures.clients c.tell_order.ensures.pending)
 
 pub returns : goal.returns
 returns c =
