@@ -41,6 +41,9 @@ pub(crate) fn release<A: Algo>(kept: &mut NodeKnowledge<A>, orig: Mac)
               released_under orig (agreed_byte (known_by known.tables orig)) known.marks;
         }) }
 {
+    if !kept.sync.has_marks() {
+        return;
+    }
     if let Some(byte) = kept.globals.agreed_byte(orig) {
         kept.sync.release(orig, byte);
     }

@@ -1,4 +1,4 @@
-ghost use Rattle.std.specs.Prelude.{◌≡◌, [], ◌∷◌, slice_get, length, ◌≤◌, ◌↔◌, IfErr, IsNone, OnOk, OnErr, None};
+ghost use Rattle.std.specs.Prelude.{ℕ, false, ◌≡◌, [], ◌∷◌, slice_get, length, ◌≤◌, ◌↔◌, IfErr, IsNone, OnOk, OnErr, None};
 ghost use Rattle.mesh_model.specs.Marks.Calls.{Calls, Marked, Released, Unmarked, Advised, Asked, Forgotten};
 ghost use Rattle.mesh_model.specs.Marks.RoamingMarks.{is_ended, mark_of, marks_at, target_by};
 ghost use Rattle.mesh_model.specs.Marks.Requests.{too_soon};
@@ -73,6 +73,14 @@ impl Sync {
         };
         self.marks.insert_sorted(key, mark)?;
         Ok(())
+    }
+
+    /// Whether marks are remembered. Where none is, none can be ended.
+    pub fn has_marks(&self) -> bool
+        ensures none { result ≡ false → (made : Calls) → StandsFor self.now made →
+            (target : Mac) (byte : ℕ) → StandsFor self.now (Released target byte ∷ made) }
+    {
+        !self.marks.is_empty()
     }
 
     /// Ends the marks of a node that had told another byte than this one, or none.
