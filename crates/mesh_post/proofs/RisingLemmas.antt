@@ -1,11 +1,12 @@
 -- Lists of happenings that rise, and what stands in several of them together.
-use Rattle.std.proofs.Common.{◌≡◌, ℕ, zero, suc, ◌<◌, ◌≤◌, ◌⊎◌, inl, inr, Bool, true, false, if◌then◌else◌, List, [], ◌∷◌, ◌++◌, drop, length, slice_get, Option, Some, None, append-nil, refl, sym, ap, ◌∙◌, subst, arith}
+use Rattle.std.proofs.Common.{◌≡◌, ℕ, zero, suc, ◌<◌, ◌≤◌, ◌⊎◌, inl, inr, Bool, true, false, List, [], ◌∷◌, ◌++◌, drop, length, slice_get, Option, Some, None, append-nil, refl, sym, ap, ◌∙◌, subst, arith}
+use Rattle.std.specs.Option.{IfSome, IfNone}
 use Rattle.mesh_model.specs.declared.happening.Happening.{Happening}
 use Rattle.mesh_model.specs.Net.Happenings.{Before, is_before}
 use Rattle.mesh_model.specs.Net.Next.{AtMost, Has}
 use Rattle.mesh_laws.proofs.Schedule.Members.{has_either, has_left, has_right, one_some}
-use Rattle.mesh_laws.proofs.Schedule.Order.{at_most_before, at_most_trans, before_at_most, both_at_most, not_before, test_before}
-use Rattle.mesh_post.specs.Waiting.{IsEarliest, IsRising, Joins, Leaves}
+use Rattle.mesh_laws.proofs.Schedule.Order.{at_most_before, at_most_moments, at_most_trans, before_at_most, before_irrefl, both_at_most, not_before, test_before}
+use Rattle.mesh_post.specs.Waiting.{IsEarliest, IsNoneDue, IsPopped, IsRising, Joins, Leaves}
 
 -- ---- what stands in a list, by place
 pub has_at : {X : Type 0} (xs : List X) (i : ℕ) (x : X) → slice_get xs i ≡ Some x → Has xs x
@@ -36,11 +37,6 @@ rises_on xs h rising after i j x y l p q = by (last_or_there xs h i x p) (last_o
     by (inl a) (inr b) = subst (Before x) (sym b.1) (after x (has_at xs i x a.0))
     by (inr a) (inl b) = let e = a.0 in let k = b.1 in absurd (omega (arith, e, k, l))
     by (inr a) (inr b) = let e = a.0 in let k = b.0 in absurd (omega (arith, e, k, l))
-
--- whether the last was pushed or not
-pub rises_if : (pushed : Bool) (old new : List Happening) (h : Happening) → new ≡ (if pushed then old ++ h ∷ [] else old) → IsRising old → ((x : Happening) → Has old x → Before x h) → IsRising new
-rises_if true old new h is rising after = subst IsRising (sym is) (rises_on old h rising after)
-rises_if false old new h is rising after = subst IsRising (sym is) rising
 
 pub rest_rises : (xs : List Happening) → IsRising xs → IsRising (drop 1 xs)
 rest_rises [] rising = rising
@@ -210,3 +206,71 @@ low_there xs ys h low x p = low x (has_right xs ys x p)
 -- the first of two lists is that of them and of a third where nothing waits
 pub first_alone : (a b c : List Happening) (found : Option Happening) → c ≡ [] → IsEarliest (a ++ b) found → IsEarliest (a ++ (b ++ c)) found
 first_alone a b c found none is = subst (λ (q : List Happening). IsEarliest (a ++ (b ++ q)) found) (sym none) (subst (λ (q : List Happening). IsEarliest (a ++ q) found) (sym (append-nil b)) is)
+
+-- ---- the first of two lists is taken away, if it is until a moment
+not_before_itself : (h : Happening) → is_before h h ≡ false
+not_before_itself h = by (is_before h h) refl
+  where
+    by : (b : Bool) → is_before h h ≡ b → is_before h h ≡ false
+    by true e = absurd (before_irrefl h (test_before h h e))
+    by false e = e
+
+-- it leaves a list that rises
+pub first_leaves : (h : Happening) (xs : List Happening) → IsRising xs → IsEarliest xs (Some h) → Leaves h xs (drop 1 xs)
+first_leaves h xs rising is = front_leaves h h xs rising is (not_before_itself h) is.1
+
+-- those of the other list wait on, since all are after it
+pub popped_here : (h : Happening) (xs less ys : List Happening) (t : ℕ) → ((x : Happening) → Has ys x → Before h x) → IsPopped xs less t h → IsPopped (xs ++ ys) (less ++ ys) t h
+popped_here h xs less ys t after popped = record {
+  waited = has_left xs ys h popped.waited;
+  leaves =
+      leaves_both h xs less ys ys popped.leaves (record { kept = λ x p. inr p; had = λ x p. p; above = after });
+  within = popped.within;
+}
+
+pub popped_there : (h : Happening) (xs ys less : List Happening) (t : ℕ) → ((x : Happening) → Has xs x → Before h x) → IsPopped ys less t h → IsPopped (xs ++ ys) (xs ++ less) t h
+popped_there h xs ys less t after popped = record {
+  waited = has_right xs ys h popped.waited;
+  leaves =
+      leaves_both h xs xs ys less (record { kept = λ x p. inr p; had = λ x p. p; above = after }) popped.leaves;
+  within = popped.within;
+}
+
+-- none is, where the first isn't
+pub none_due : (h : Happening) (xs ys : List Happening) (t : ℕ) → t < h.moment → ((x : Happening) → Has xs x → AtMost h x) → ((x : Happening) → Has ys x → AtMost h x) → IsNoneDue (xs ++ ys) t
+none_due h xs ys t late here there x has = elim (has_either xs ys x has) as (λ _. t < x.moment) [
+  | inl p ↦ let m = at_most_moments h x (here x p) in omega (arith, late, m)
+  | inr p ↦ let m = at_most_moments h x (there x p) in omega (arith, late, m)
+]
+
+-- it comes before those of a list whose first is after it
+pub all_after : (h first : Happening) (xs : List Happening) → is_before h first ≡ true → IsEarliest xs (Some first) → (x : Happening) → Has xs x → Before h x
+all_after h first xs early is x has = before_at_most h first x (test_before h first early) (is.1 x has)
+
+pub some_here : (o : Option Happening) (first : Happening) (xs less ys : List Happening) (t : ℕ) → ((x : Happening) → Has ys x → Before first x) → IfSome o (λ h. (h ≡ first) × IsPopped xs less t h) → IfSome o (IsPopped (xs ++ ys) (less ++ ys) t)
+some_here None first xs less ys t after popped = tt
+some_here (Some h) first xs less ys t after popped = popped_here h xs less ys t (λ x has. subst (λ z. Before z x) (sym popped.0) (after x has)) popped.1
+
+pub some_there : (o : Option Happening) (first : Happening) (xs ys less : List Happening) (t : ℕ) → ((x : Happening) → Has xs x → Before first x) → IfSome o (λ h. (h ≡ first) × IsPopped ys less t h) → IfSome o (IsPopped (xs ++ ys) (xs ++ less) t)
+some_there None first xs ys less t after popped = tt
+some_there (Some h) first xs ys less t after popped = popped_there h xs ys less t (λ x has. subst (λ z. Before z x) (sym popped.0) (after x has)) popped.1
+
+pub none_here : (o : Option Happening) (first : Happening) (xs new ys : List Happening) (t : ℕ) → IsEarliest xs (Some first) → ((x : Happening) → Has ys x → AtMost first x) → IfNone o ((new ≡ xs) × (t < first.moment)) → IfNone o ((new ≡ xs) × (ys ≡ ys) × IsNoneDue (xs ++ ys) t)
+none_here None first xs new ys t is low late = (late.0, refl, none_due first xs ys t late.1 is.1 low)
+none_here (Some h) first xs new ys t is low late = tt
+
+pub none_there : (o : Option Happening) (first : Happening) (xs ys new : List Happening) (t : ℕ) → IsEarliest ys (Some first) → ((x : Happening) → Has xs x → AtMost first x) → IfNone o ((new ≡ ys) × (t < first.moment)) → IfNone o ((xs ≡ xs) × (new ≡ ys) × IsNoneDue (xs ++ ys) t)
+none_there None first xs ys new t is low late = (refl, late.0, none_due first xs ys t late.1 low is.1)
+none_there (Some h) first xs ys new t is low late = tt
+
+-- none waits at all
+pub none_at_all : (xs ys : List Happening) (t : ℕ) → IsEarliest xs None → IsEarliest ys None → IsNoneDue (xs ++ ys) t
+none_at_all xs ys t here there x has = elim (has_either xs ys x has) as (λ _. t < x.moment) [ inl p ↦ absurd (here x p) | inr p ↦ absurd (there x p) ]
+
+-- the same waits in both lists, as their first
+pub popped_both : (a : Happening) (xs less ys fewer : List Happening) (t : ℕ) → IsEarliest xs (Some a) → a.moment ≤ t → Leaves a xs less → Leaves a ys fewer → IsPopped (xs ++ ys) (less ++ fewer) t a
+popped_both a xs less ys fewer t is within here there = record {
+  waited = has_left xs ys a is.0;
+  leaves = leaves_both a xs less ys fewer here there;
+  within = within;
+}

@@ -76,9 +76,11 @@ impl Queue {
         ensures some { IfSome result (IsPopped self.old self.new t) }
         ensures none { IfNone result ((self.new ≡ self.old) × IsNoneDue self.old t) }
     {
-        let Some(h) = self.earliest() else {
-            return None;
-        };
+        // Most meshes have one delay, so that mostly nothing waits behind the first two lists.
+        if are_empty(&self.third, &self.others) {
+            return pop_due_of(&mut self.first, &mut self.second, t);
+        }
+        let h = self.earliest()?;
         if h.moment > t {
             return None;
         }
@@ -153,7 +155,6 @@ impl Queue {
         ensures { IsEarliest self.now result }
     {
         let ahead = earlier(self.first.earliest(), self.second.earliest());
-        // Most meshes have one delay, so that mostly nothing waits behind the first two lists.
         if are_empty(&self.third, &self.others) {
             return ahead;
         }
@@ -176,6 +177,34 @@ impl Queue {
         }
         self.third.leave(h);
         leave(&mut self.others, h);
+    }
+}
+
+// Takes the first of the happenings that wait here and there away, if it is until a moment.
+#[inline(always)]
+fn pop_due_of(here: &mut Rising, there: &mut Rising, t: Millis) -> Option<Happening>
+    ensures some { IfSome result (IsPopped (here.old ++ there.old) (here.new ++ there.new) t) }
+    ensures none { IfNone result ((here.new ≡ here.old) × (there.new ≡ there.old)
+        × IsNoneDue (here.old ++ there.old) t) }
+{
+    match (here.earliest(), there.earliest()) {
+        (None, None) => None,
+        (Some(a), None) => here.pop_due(a, t),
+        (None, Some(b)) => there.pop_due(b, t),
+        (Some(a), Some(b)) => {
+            if is_before(a, b) {
+                return here.pop_due(a, t);
+            }
+            if is_before(b, a) {
+                return there.pop_due(b, t);
+            }
+            if a.moment > t {
+                return None;
+            }
+            here.leave(a);
+            there.leave(a);
+            Some(a)
+        }
     }
 }
 

@@ -1,11 +1,12 @@
-ghost use Rattle.std.specs.Prelude.{◌≡◌, ◌↔◌, ◌++◌, [], ◌∷◌, true, filter, OnOk, OnErr};
+ghost use Rattle.std.specs.Prelude.{◌≡◌, ◌<◌, ◌↔◌, ◌++◌, [], ◌∷◌, true, filter, OnOk, OnErr, Some, IfSome, IfNone};
+ghost use Rattle.std.specs.VecDeque.{deque_capacity, deque_len};
 ghost use Rattle.mesh_model.specs.declared.happening.Happening.{Happening};
 ghost use Rattle.mesh_model.specs.Net.Happenings.{Before, is_before};
 ghost use Rattle.mesh_model.specs.Net.Next.{AtMost, Has};
 ghost use Rattle.mesh_post.specs.Refused.{stays};
-ghost use Rattle.mesh_post.specs.Waiting.{IsEarliest, IsRising, Leaves};
+ghost use Rattle.mesh_post.specs.Waiting.{IsEarliest, IsPopped, IsRising, Leaves};
 
-use mesh_base::NoMemory;
+use mesh_base::{Millis, NoMemory};
 use mesh_model::{Class, Happening};
 use std::alloc::Global;
 use std::collections::VecDeque;
@@ -55,7 +56,8 @@ impl Rising {
         ensures ok { OnOk result (self.new ≡ self.old ++ h ∷ []) }
         ensures err { OnErr result (self.new ≡ self.old) }
     {
-        self.waiting.push_back(h)?;
+        make_room(&mut self.waiting)?;
+        self.waiting.push_back_reserved(h);
         Ok(())
     }
 
@@ -93,6 +95,20 @@ impl Rising {
         self.waiting.pop_front();
     }
 
+    /// Takes the first happening away, which is known, if it is until a moment.
+    #[inline(always)]
+    pub fn pop_due(&mut self, first: Happening, t: Millis) -> Option<Happening>
+        requires { IsEarliest self.old (Some first) }
+        ensures some { IfSome result (λ h. (h ≡ first) × IsPopped self.old self.new t h) }
+        ensures none { IfNone result ((self.new ≡ self.old) × (t < first.moment)) }
+    {
+        if first.moment > t {
+            return None;
+        }
+        self.waiting.pop_front();
+        Some(first)
+    }
+
     /// Lets the deliveries of frames on links from one place on wait no more, nor those of frames
     /// on LANs from another.
     pub fn forget(&mut self, frames: usize, puts: usize)
@@ -100,6 +116,19 @@ impl Rising {
     {
         self.waiting.retain(|h| stays(*h, frames, puts));
     }
+}
+
+// Makes room for one more happening. What is called where there is none is too large to be put in
+// line.
+#[inline(always)]
+fn make_room(waiting: &mut VecDeque<Happening>) -> Result<(), NoMemory>
+    ensures items { waiting.new.items ≡ waiting.old.items }
+    ensures room { OnOk result (deque_len waiting.new < deque_capacity waiting.new) }
+{
+    if waiting.len() == waiting.capacity() {
+        waiting.reserve(1)?;
+    }
+    Ok(())
 }
 
 /// Whether a happening comes before another.
