@@ -1,5 +1,5 @@
 -- Parts that are put one after the other are put as they are spelled.
-use Rattle.std.proofs.Common.{◌≡◌, ℕ, ◌≤◌, ◌<◌, length, List, [], ◌∷◌, ◌++◌, refl, sym, ap, ◌∙◌, append_assoc, arith}
+use Rattle.std.proofs.Common.{◌≡◌, ℕ, ◌≤◌, ◌<◌, length, List, [], ◌∷◌, ◌++◌, refl, sym, ap, subst, ◌∙◌, append_assoc, arith}
 use Rattle.std.specs.Global.{Vec}
 use Rattle.std.specs.Vec.{vec_capacity}
 use Rattle.std.specs.List.{flat_map, AllByRecursion}
@@ -35,17 +35,19 @@ fitting_tail all_the_rest tail allowed = refl
 fitting_tail nothing [] allowed = refl
 fitting_tail nothing (first ∷ more) allowed = absurd (allowed (refl, omega arith))
 
--- what was put has a spelling
-pub put_has_spelling : (old new : Vec ℕ) (head : Head) (tail : List ℕ) → PutsParts old (header_of head (length tail)) new → (HasStrayTail head tail → ⊥) → HasSpelling head tail
-put_has_spelling old new head tail puts allowed = record {
-  parts = puts_fit old (header_of head (length tail)) new puts;
+-- what was put is the header of a packet that has a spelling
+pub put_has_spelling : (old new : Vec ℕ) (head : Head) (tail : List ℕ) (len : ℕ) → length tail ≡ len → PutsParts old (header_of head len) new → (HasStrayTail head tail → ⊥)
+    → HasSpelling head tail
+put_has_spelling old new head tail len is puts allowed = record {
+  parts =
+      subst (λ (n : ℕ). AllByRecursion Fits (header_of head n)) (sym is) (puts_fit old (header_of head len) new puts);
   tail_is = fitting_tail (shape_of head).tail tail allowed;
 }
 
--- the header and then the tail are the spelling
-pub put_spelling : (old mid new : Vec ℕ) (head : Head) (tail : List ℕ) → PutsParts old (header_of head (length tail)) mid → new.items ≡ mid.items ++ tail
-    → new.items ≡ old.items ++ spelling head tail
-put_spelling old mid new head tail puts last =
-    last
-    ∙ ap (λ (l : List ℕ). l ++ tail) (puts_items old (header_of head (length tail)) mid puts)
-    ∙ append_assoc old.items (flat_map part_spelling (header_of head (length tail))) tail
+-- the header, with the tail behind it, is the spelling
+pub put_spelling : (old new : Vec ℕ) (head : Head) (tail : List ℕ) (len : ℕ) → length tail ≡ len → PutsParts old (header_of head len) new
+    → new.items ++ tail ≡ old.items ++ spelling head tail
+put_spelling old new head tail len is puts =
+    ap (λ (l : List ℕ). l ++ tail) (puts_items old (header_of head len) new puts)
+    ∙ append_assoc old.items (flat_map part_spelling (header_of head len)) tail
+    ∙ ap (λ (n : ℕ). old.items ++ (flat_map part_spelling (header_of head n) ++ tail)) (sym is)

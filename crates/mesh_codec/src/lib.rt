@@ -27,4 +27,4 @@ pub use lan::{
 pub use link_frame::LinkFrame;
 pub use mesh_model::{Ending, Head, NoPacket, TvlvErr};
 pub use payload::{ClientFrame, read_client_frame, write_client_frame};
-pub use writing::encode;
+pub use writing::{encode, encode_head};

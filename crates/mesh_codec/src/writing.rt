@@ -1,6 +1,8 @@
-ghost use Rattle.std.specs.Prelude.{◌≡◌, ◌++◌, ◌+◌, ℕ, List, length, OnOk, OnErr, IfErr, IsErrOf, IsOk};
+ghost use Rattle.std.specs.Prelude.{◌≡◌, ◌++◌, ◌+◌, ◌≤◌, ℕ, List, length, OnOk, OnErr, IfErr, IsErrOf, IsOk};
+ghost use Rattle.std.specs.Vec.{vec_len, vec_capacity};
 ghost use Rattle.mesh_model.specs.Packets.Layout.{HasSpelling, spelling};
 ghost use Rattle.mesh_codec.specs.Encoding.{FitsFragment, IsTooLong, HasStrayTail, HasObstacle};
+ghost use Rattle.mesh_codec.specs.Inner.Writing.{CanTell};
 
 use crate::failure::CodecErr;
 use crate::numbers::LONGEST_HEADER;
@@ -8,14 +10,17 @@ use crate::put::put;
 use crate::put_header::put_header;
 use mesh_model::Head;
 
-// Whether a tail may follow the header of this head.
-fn check_tail(head: &Head, tail: &[u8]) -> Result<(), CodecErr>
-    ensures told { OnOk result (IsTooLong head.now tail.now → ⊥) }
-    ensures none { OnOk result (HasStrayTail head.now tail.now → ⊥) }
-    ensures cause { IfErr result (HasObstacle head.now tail.now) }
+// Whether a tail of so many bytes may follow the header of this head.
+fn check_tail(head: &Head, len: usize) -> Result<(), CodecErr>
+    ensures fits { OnOk result (CanTell head.now len) }
+    ensures told { (tail : List ℕ) → length tail ≡ len →
+        OnOk result (IsTooLong head.now tail → ⊥) }
+    ensures none { (tail : List ℕ) → length tail ≡ len →
+        OnOk result (HasStrayTail head.now tail → ⊥) }
+    ensures cause { (tail : List ℕ) → length tail ≡ len →
+        IfErr result (HasObstacle head.now tail) }
     ensures memory { result ≡ Err CodecErr.Memory → ⊥ }
 {
-    let len = tail.len();
     match head {
         Head::IvOgm { .. } | Head::Ogm2 { .. } | Head::Utvlv { .. } => {
             if len > usize::from(u16::MAX) {
@@ -29,6 +34,35 @@ fn check_tail(head: &Head, tail: &[u8]) -> Result<(), CodecErr>
         }
         Head::Bcast { .. } | Head::Unicast { .. } | Head::Frag { .. } | Head::Unicast4 { .. } => {}
     }
+    Ok(())
+}
+
+/// Appends the header of the packet with this head and a tail of so many bytes, which is to come
+/// behind it, and makes room for the tail.
+///
+/// `Short`, `Version`, `Kind` and `Length` are no answers of this call.
+pub fn encode_head(out: &mut Vec<u8>, head: &Head, tail_len: usize) -> Result<(), CodecErr>
+    requires fits { FitsFragment head.now }
+
+    // With its tail behind it, it is the one spelling, which can be read again.
+    ensures ok { (tail : List ℕ) → length tail ≡ tail_len →
+        OnOk result (out.new.items ++ tail ≡ out.old.items ++ spelling head.now tail) }
+    ensures written { (tail : List ℕ) → length tail ≡ tail_len →
+        OnOk result (HasSpelling head.now tail) }
+    ensures room { OnOk result (vec_len out.new + tail_len ≤ vec_capacity out.new) }
+
+    // A refusal has its cause, comes wherever that applies (memory aside), and changes nothing.
+    ensures cause { (tail : List ℕ) → length tail ≡ tail_len →
+        IfErr result (HasObstacle head.now tail) }
+    ensures long { (tail : List ℕ) → length tail ≡ tail_len → IsTooLong head.now tail →
+        IsErrOf result (CodecErr.Long tail_len) }
+    ensures stray { (tail : List ℕ) → length tail ≡ tail_len → HasStrayTail head.now tail →
+        IsErrOf result (CodecErr.Tail tail_len) }
+    ensures err { OnErr result (out.new.items ≡ out.old.items) }
+{
+    check_tail(head, tail_len)?;
+    out.reserve(LONGEST_HEADER.saturating_add(tail_len))?;
+    put_header(out, head, tail_len);
     Ok(())
 }
 
@@ -50,9 +84,7 @@ pub fn encode(out: &mut Vec<u8>, head: &Head, tail: &[u8]) -> Result<(), CodecEr
         IsErrOf result (CodecErr.Tail (length tail.now)) }
     ensures err { OnErr result (out.new.items ≡ out.old.items) }
 {
-    check_tail(head, tail)?;
-    out.reserve(LONGEST_HEADER + tail.len())?;
-    put_header(out, head, tail.len());
+    encode_head(out, head, tail.len())?;
     put(out, tail);
     Ok(())
 }
