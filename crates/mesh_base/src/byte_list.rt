@@ -52,6 +52,13 @@ impl Bytes {
         Bytes { bytes }
     }
 
+    /// The vector of the bytes, which are kept where they lie.
+    pub fn into_vec(self) -> Vec<u8>
+        ensures value { result.items ≡ self }
+    {
+        self.bytes
+    }
+
     /// The bytes, lent.
     pub fn as_slice(&self) -> &[u8]
         ensures value { result.now ≡ self.now }

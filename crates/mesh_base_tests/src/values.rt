@@ -6,6 +6,7 @@ const A: Mac = Mac([2, 0, 0, 0, 0, 0x0a]);
 fn values_hold_what_they_are_given(rt: HostRuntime) -> Result<(), NoMemory> {
     let bytes = Bytes::from_slice(rt.alloc(), b"bat")?;
     assert_eq!(rt; bytes.as_slice(), b"bat".as_slice());
+    assert_eq!(rt; bytes.into_vec().as_slice(), b"bat".as_slice());
     let mut names = Names::new(rt.alloc());
     names.add_node(A, b"A")?;
     names.add_lan(b"first")?;

@@ -28,6 +28,7 @@ use mesh_post::{Post, Put, place_of};
 pub(crate) fn give_all<A: Algo>(
     seats: &mut Vec<Seat<A>>,
     post: &mut Post,
+    spare: &mut Vec<u8>,
     log: &mut Events,
     places: &[u32],
     now: Millis,
@@ -54,7 +55,7 @@ pub(crate) fn give_all<A: Algo>(
             now,
             root: 0,
         };
-        give_at(seats, post, log, at, input)?;
+        give_at(seats, post, spare, log, at, input)?;
     }
     Ok(())
 }
@@ -91,6 +92,7 @@ impl<A: Algo + Drop> Net<A> {
         give_all(
             &mut self.seats,
             &mut self.post,
+            &mut self.spare,
             log,
             places.as_slice(),
             now,

@@ -31,6 +31,7 @@ pub struct Occasion {
 pub(crate) fn give<A: Algo>(
     node: &mut Node<A>,
     post: &mut Post,
+    spare: &mut Vec<u8>,
     log: &mut Events,
     sender: Sender,
     input: &Input<'_>,
@@ -56,7 +57,12 @@ pub(crate) fn give<A: Algo>(
     ensures grew { Grew log.old log.new }
 {
     let now = sender.now;
-    let mut port = NetPort { post, log, sender };
+    let mut port = NetPort {
+        post,
+        log,
+        sender,
+        spare,
+    };
     node.take(&mut port, now, input)
 }
 
@@ -65,6 +71,7 @@ pub(crate) fn give<A: Algo>(
 pub(crate) fn give_at<A: Algo>(
     seats: &mut Vec<Seat<A>>,
     post: &mut Post,
+    spare: &mut Vec<u8>,
     log: &mut Events,
     at: Occasion,
     input: &Input<'_>,
@@ -96,7 +103,7 @@ pub(crate) fn give_at<A: Algo>(
         now: at.now,
         root: at.root,
     };
-    give(&mut seat.node, post, log, sender, input)
+    give(&mut seat.node, post, spare, log, sender, input)
 }
 
 // How many ticks a node had with an input.

@@ -54,9 +54,13 @@ impl Kept {
         Some((self.store.get(place), u64::from(root)))
     }
 
-    /// Puts the sendings of a step behind the others, and lets them go.
+    /// Puts the sendings of a step behind the others, and lets them go but for a vector to spare.
     #[inline(always)]
-    pub(crate) fn keep(&mut self, fresh: &mut Vec<Sending>) -> Result<(), NoMemory>
+    pub(crate) fn keep(
+        &mut self,
+        fresh: &mut Vec<Sending>,
+        spare: &mut Vec<u8>,
+    ) -> Result<(), NoMemory>
         ensures ok { OnOk result ((self.new ≡ self.old ++ fresh.old.items)
             × (fresh.new.items ≡ [])) }
     {
@@ -64,17 +68,20 @@ impl Kept {
         if fresh.is_empty() {
             return Ok(());
         }
-        self.keep_each(fresh)?;
+        self.keep_each(fresh, spare)?;
         Ok(())
     }
 
     // Puts sendings behind the others one after another, as `keep` does.
-    fn keep_each(&mut self, fresh: &mut Vec<Sending>) -> Result<(), NoMemory>
+    fn keep_each(&mut self, fresh: &mut Vec<Sending>, spare: &mut Vec<u8>) -> Result<(), NoMemory>
         ensures ok { OnOk result ((self.new ≡ self.old ++ fresh.old.items)
             × (fresh.new.items ≡ [])) }
     {
         for sending in fresh.iter() {
             self.push(sending)?;
+        }
+        if let Some(last) = fresh.pop() {
+            *spare = last.bytes.into_vec();
         }
         fresh.clear();
         Ok(())

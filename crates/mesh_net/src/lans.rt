@@ -243,6 +243,7 @@ impl<A: Algo + Drop> Net<A> {
         give_all(
             &mut self.seats,
             &mut self.post,
+            &mut self.spare,
             log,
             places,
             self.clock,

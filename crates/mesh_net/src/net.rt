@@ -25,6 +25,8 @@ pub struct Net<A: Algo> {
     pub(crate) alloc: Global,
     pub(crate) seats: Vec<Seat<A>>,
     pub(crate) post: Post,
+    /// A vector whose room the bytes of the next act take.
+    pub(crate) spare: Vec<u8>,
     /// What was sent before the step under way.
     pub(crate) sent: Kept,
     pub(crate) clock: Millis,
@@ -45,6 +47,7 @@ impl<A: Algo + Drop> Net<A> {
             alloc,
             seats: Vec::new(alloc),
             post: Post::new(alloc),
+            spare: Vec::new(alloc),
             sent: Kept::new(alloc),
             clock: 0,
             last: Happening {

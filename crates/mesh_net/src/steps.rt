@@ -105,7 +105,14 @@ impl<A: Algo + Drop> Net<A> {
             now: self.clock,
             root: 0,
         };
-        give_at(&mut self.seats, &mut self.post, log, at, input)
+        give_at(
+            &mut self.seats,
+            &mut self.post,
+            &mut self.spare,
+            log,
+            at,
+            input,
+        )
     }
 
     // Gives the node at the end of its link the frame at a place.
@@ -138,7 +145,14 @@ impl<A: Algo + Drop> Net<A> {
             tp: arrival.tp,
             bytes,
         };
-        give_at(&mut self.seats, &mut self.post, log, at, &input)
+        give_at(
+            &mut self.seats,
+            &mut self.post,
+            &mut self.spare,
+            log,
+            at,
+            &input,
+        )
     }
 
     // The node at a place ticks.
@@ -162,7 +176,14 @@ impl<A: Algo + Drop> Net<A> {
             root: index,
         };
         let input = Input::Tick { index };
-        give_at(&mut self.seats, &mut self.post, log, at, &input)
+        give_at(
+            &mut self.seats,
+            &mut self.post,
+            &mut self.spare,
+            log,
+            at,
+            &input,
+        )
     }
 
     // The index of the next tick of the node at a place.
@@ -257,7 +278,7 @@ impl<A: Algo + Drop> Net<A> {
         ensures ok { OnOk result (Settled self.old self.new) }
         ensures err { IfErr result (λ error. error ≡ NetErr.Memory) }
     {
-        self.sent.keep(&mut self.post.fresh)?;
+        self.sent.keep(&mut self.post.fresh, &mut self.spare)?;
         self.post.older = self.sent.len();
         Ok(())
     }

@@ -134,7 +134,7 @@ fn pass<A: Algo, P: Port>(
     }
     let head = fragment.head(fragment.ttl - 1);
     let next = kept.algo.route(at.now, fragment.dst);
-    send_over(kept.alloc, port, next, &head, tail)?;
+    send_over(port, next, &head, tail)?;
     Ok(())
 }
 

@@ -3,6 +3,7 @@ use crate::row::Sender;
 use mesh_base::{Events, NoMemory};
 use mesh_model::Act;
 use node_ground::{Port, PortErr};
+use std::mem;
 
 /// What takes the acts of a node in a net.
 #[derive(Drop)]
@@ -10,6 +11,8 @@ pub struct NetPort<'a> {
     pub post: &'a mut Post,
     pub log: &'a mut Events,
     pub sender: Sender,
+    /// A vector whose room the bytes of the next act take.
+    pub spare: &'a mut Vec<u8>,
 }
 
 impl Port for NetPort<'_> {
@@ -44,6 +47,14 @@ impl Port for NetPort<'_> {
       };
       told = refl;
     } };
+
+    #[inline(always)]
+    fn blank(&mut self) -> Vec<u8> {
+        let none = Vec::new(self.post.alloc);
+        let mut blank = mem::replace(self.spare, none);
+        blank.clear();
+        blank
+    }
 
     fn put(&mut self, act: Act) -> Result<(), PortErr> {
         match act {

@@ -60,7 +60,7 @@ fn pass<A: Algo, P: Port>(
         subtype,
     };
     let next = kept.algo.route(at.now, dst);
-    send_over(kept.alloc, port, next, &passed, tail)?;
+    send_over(port, next, &passed, tail)?;
     Ok(())
 }
 

@@ -56,7 +56,7 @@ pub(crate) fn send_to<A: Algo, P: Port>(
         subtype,
     };
     let next = kept.algo.route(at.now, dst);
-    send_over(kept.alloc, port, next, &head, payload)?;
+    send_over(port, next, &head, payload)?;
     Ok(())
 }
 

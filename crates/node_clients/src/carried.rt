@@ -55,7 +55,7 @@ pub fn broadcast<A: Algo, P: Port>(
         return Ok(());
     }
     out_carried(kept.alloc, port, bridge, at, orig, tail)?;
-    send_broadcast_on(kept.alloc, port, ttl, seq, orig, tail)?;
+    send_broadcast_on(port, ttl, seq, orig, tail)?;
     Ok(())
 }
 
@@ -145,6 +145,6 @@ pub fn passed<A: Algo, P: Port>(
         ttvn,
         dst,
     };
-    send(kept.alloc, port, Some(next), Some(Reason::Fwd), &head, tail)?;
+    send(port, Some(next), Some(Reason::Fwd), &head, tail)?;
     Ok(())
 }

@@ -54,7 +54,7 @@ pub(crate) fn flood<A: Algo, P: Port>(
         seq: number,
         orig: at.me,
     };
-    send(kept.alloc, port, None, None, &head, payload.as_slice())?;
+    send(port, None, None, &head, payload.as_slice())?;
     kept.sent = number;
     Ok(())
 }

@@ -87,7 +87,7 @@ fn send_advert<P: Port>(
         src: me,
     };
     let next = Some(to.next);
-    send(alloc, port, next, None, &head, containers.as_slice())?;
+    send(port, next, None, &head, containers.as_slice())?;
     Ok(())
 }
 

@@ -51,6 +51,10 @@ impl Port for Acts {
 
     ghost same_refl = { λ _. refl };
 
+    fn blank(&mut self) -> Vec<u8> {
+        Vec::new(*self.acts.allocator())
+    }
+
     fn put(&mut self, act: Act) -> Result<(), PortErr> {
         match self.acts.push(act) {
             Ok(()) => Ok(()),

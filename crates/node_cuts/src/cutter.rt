@@ -53,7 +53,6 @@ fn is_for_one_node(bytes: &[u8]) -> bool
 
 // Puts a fragment on the way of its packet.
 fn put_fragment<P: Port>(
-    alloc: Global,
     port: &mut P,
     to: Option<Mac>,
     head: &Head,
@@ -63,17 +62,12 @@ fn put_fragment<P: Port>(
     ensures { Puts P.takes P.same P.over port.old
         (fragment_act to (head.now, tail.now) ∷ []) result port.new }
 {
-    send(alloc, port, to, None, head, tail)?;
+    send(port, to, None, head, tail)?;
     Ok(())
 }
 
 // Puts the fragments of a cut, in order.
-fn put_cuts<P: Port>(
-    alloc: Global,
-    port: &mut P,
-    to: Option<Mac>,
-    cuts: &Cuts,
-) -> Result<(), NodeErr>
+fn put_cuts<P: Port>(port: &mut P, to: Option<Mac>, cuts: &Cuts) -> Result<(), NodeErr>
     ensures { Puts P.takes P.same P.over port.old (map (fragment_act to) cuts.now)
         result port.new }
 {
@@ -81,7 +75,7 @@ fn put_cuts<P: Port>(
         let Some((head, tail)) = cuts.at(place) else {
             unreachable!()
         };
-        put_fragment(alloc, port, to, &head, tail)?;
+        put_fragment(port, to, &head, tail)?;
     }
     Ok(())
 }
@@ -122,7 +116,7 @@ impl Cutter {
         self.cuts += 1;
         let most = usize::from(self.most);
         let cuts = cut(alloc, bytes.as_slice(), most, self.me, self.cuts)?;
-        put_cuts(alloc, port, to, &cuts)?;
+        put_cuts(port, to, &cuts)?;
         Ok(())
     }
 

@@ -44,7 +44,7 @@ fn announce<A: Algo, P: Port>(
         orig: at.me,
     };
     let bytes = primary_bytes(Mac::BROADCAST, at.me);
-    send(kept.alloc, port, None, None, &head, bytes.as_slice())?;
+    send(port, None, None, &head, bytes.as_slice())?;
     Ok(())
 }
 

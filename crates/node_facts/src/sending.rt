@@ -29,13 +29,7 @@ pub(crate) struct Transaction {
 }
 
 // What is carried goes to a node over a neighbour.
-fn send_over<P: Port>(
-    alloc: Global,
-    port: &mut P,
-    next: Mac,
-    dst: Mac,
-    bytes: &[u8],
-) -> Result<(), NodeErr>
+fn send_over<P: Port>(port: &mut P, next: Mac, dst: Mac, bytes: &[u8]) -> Result<(), NodeErr>
     ensures { Puts P.takes P.same P.over port.old (carried_over next dst bytes.now ∷ [])
         result port.new }
 {
@@ -45,7 +39,7 @@ fn send_over<P: Port>(
         dst,
     };
     let reason = Some(Reason::Alfred);
-    send(alloc, port, Some(next), reason, &head, bytes)?;
+    send(port, Some(next), reason, &head, bytes)?;
     Ok(())
 }
 
@@ -67,7 +61,7 @@ fn send_part<P: Port>(
     let Transaction { push, id } = transaction;
     let mut bytes = Vec::new(alloc);
     write_part(&mut bytes, dst, at.me, push, id, part)?;
-    send_over(alloc, port, next, dst, bytes.as_slice())?;
+    send_over(port, next, dst, bytes.as_slice())?;
     Ok(())
 }
 
@@ -90,7 +84,7 @@ fn send_transaction_over<P: Port>(
     }
     let Transaction { push, id } = transaction;
     let end = end_bytes(dst, at.me, push, id, part_count(facts));
-    send_over(alloc, port, next, dst, end.as_slice())?;
+    send_over(port, next, dst, end.as_slice())?;
     Ok(())
 }
 
@@ -134,6 +128,6 @@ pub(crate) fn send_request<A: Algo, P: Port>(
         return Ok(());
     };
     let request = request_bytes(primary, at.me, id, type_no);
-    send_over(kept.alloc, port, next, primary, request.as_slice())?;
+    send_over(port, next, primary, request.as_slice())?;
     Ok(())
 }

@@ -8,6 +8,7 @@ pub mod ServicesStand
 pub mod KnowledgeStands
 pub mod OwnStands
 pub mod Ways
+pub mod OwnSize
 pub mod Sending
 pub mod Reading
 pub mod Tables

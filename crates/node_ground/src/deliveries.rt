@@ -106,7 +106,6 @@ pub fn lose_carried<P: Port>(
 
 /// A broadcast is sent on, while hops are left.
 pub fn send_broadcast_on<P: Port>(
-    alloc: Global,
     port: &mut P,
     ttl: u8,
     seq: u32,
@@ -125,7 +124,7 @@ pub fn send_broadcast_on<P: Port>(
         seq,
         orig,
     };
-    send(alloc, port, None, None, &head, tail)?;
+    send(port, None, None, &head, tail)?;
     Ok(())
 }
 
@@ -149,6 +148,6 @@ pub fn address<A: Algo, P: Port>(
         dst: to.orig,
     };
     let reason = Some(to.reason);
-    send(kept.alloc, port, Some(to.next), reason, &head, payload)?;
+    send(port, Some(to.next), reason, &head, payload)?;
     Ok(())
 }

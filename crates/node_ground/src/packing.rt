@@ -12,6 +12,7 @@ ghost use Rattle.mesh_model.specs.Packets.Numbers.{ogm_diff_flag, response_flag}
 ghost use Rattle.mesh_model.specs.Tables.Answers.{numbered_part};
 ghost use Rattle.mesh_model.specs.Tables.Pieces.{piece_at, piece_count};
 ghost use Rattle.mesh_serv.specs.OffersStand.{bandwidth};
+ghost use Rattle.node_ground.specs.OwnSize.{own_size};
 ghost use Rattle.node_ground.specs.Sending.{FitsPacket, FitsParts};
 ghost use Rattle.node_ground.specs.SettingsSeen.{part_seen, settings_seen};
 ghost use Rattle.tt_global.specs.Kept.{stamp, stamp_in};
@@ -24,8 +25,9 @@ use mesh_base::NoMemory;
 use mesh_model::{Change, Request};
 use mesh_serv::Bandwidth;
 use mesh_tvlv::layout::{
-    CHANGE_SIZE, DAT, FULL_TABLE, GATEWAY, HEADER_SIZE, MULTICAST, MULTICAST_VERSION, OGM_DIFF,
-    REQUEST, RESPONSE, TT, TT_HEAD_SIZE, TT_PART_VERSION, VERSION, VLAN_SIZE,
+    CHANGE_SIZE, DAT, FULL_TABLE, GATEWAY, GATEWAY_SIZE, HEADER_SIZE, MULTICAST, MULTICAST_SIZE,
+    MULTICAST_VERSION, OGM_DIFF, REQUEST, RESPONSE, TT, TT_HEAD_SIZE, TT_PART_VERSION, VERSION,
+    VLAN_SIZE,
 };
 use mesh_tvlv::{
     write_change, write_container, write_container_head, write_tt_head, write_tt_part_head,
@@ -41,9 +43,6 @@ pub const PIECE_SIZE: usize = 1_024;
 
 /// The most VLANs that a node's clients are in.
 const VLANS_LIMIT: usize = 16;
-
-/// How many bytes the own containers have besides the VLANs and the changes, at the most.
-const OWN_ROOM: usize = 32;
 
 /// How many hops are before a packet that a node begins.
 pub const FIRST_TTL: u8 = 50;
@@ -145,11 +144,21 @@ fn gateway_body(offered: Bandwidth) -> [u8; 8]
     body
 }
 
+// How long the container of a gateway is, where the node is one.
+fn gateway_size(part: GatewayPart) -> usize
+    ensures is { result ≡ length (containers_spelling (gateway_part (part_seen part))) }
+    ensures few { result ≤ 12 }
+{
+    match part {
+        GatewayPart::Serves(_) => HEADER_SIZE + GATEWAY_SIZE,
+        GatewayPart::NoPart | GatewayPart::Chooses(_) => 0,
+    }
+}
+
 // Appends the container of a gateway, where the node is one.
 fn put_gateway(out: &mut Vec<u8>, part: GatewayPart) -> Result<(), NoMemory>
     ensures ok { OnOk result (out.new.items
         ≡ out.old.items ++ containers_spelling (gateway_part (part_seen part))) }
-    ensures longer { OnOk result (length out.new.items ≤ length out.old.items + 12) }
 {
     let GatewayPart::Serves(offered) = part else {
         return Ok(());
@@ -158,11 +167,18 @@ fn put_gateway(out: &mut Vec<u8>, part: GatewayPart) -> Result<(), NoMemory>
     Ok(())
 }
 
+// How long the container of the distributed ARP table is, where the node takes part in it.
+fn arp_table_size(on: bool) -> usize
+    ensures is { result ≡ length (containers_spelling (arp_table_part on)) }
+    ensures few { result ≤ 4 }
+{
+    if on { HEADER_SIZE } else { 0 }
+}
+
 // Appends the container of the distributed ARP table, where the node takes part in it.
 fn put_arp_table(out: &mut Vec<u8>, on: bool) -> Result<(), NoMemory>
     ensures ok { OnOk result (out.new.items
         ≡ out.old.items ++ containers_spelling (arp_table_part on)) }
-    ensures longer { OnOk result (length out.new.items ≤ length out.old.items + 4) }
 {
     if on {
         write_container(out, DAT, VERSION, &[])?;
@@ -170,11 +186,22 @@ fn put_arp_table(out: &mut Vec<u8>, on: bool) -> Result<(), NoMemory>
     Ok(())
 }
 
+// How long the container of multicast flags is, where any is set.
+fn multicast_size(flags: u8) -> usize
+    ensures is { result ≡ length (containers_spelling (multicast_part flags)) }
+    ensures few { result ≤ 8 }
+{
+    if flags == 0 {
+        0
+    } else {
+        HEADER_SIZE + MULTICAST_SIZE
+    }
+}
+
 // Appends the container of multicast flags, where any is set.
 fn put_multicast(out: &mut Vec<u8>, flags: u8) -> Result<(), NoMemory>
     ensures ok { OnOk result (out.new.items
         ≡ out.old.items ++ containers_spelling (multicast_part flags)) }
-    ensures longer { OnOk result (length out.new.items ≤ length out.old.items + 8) }
 {
     if flags != 0 {
         write_container(out, MULTICAST, MULTICAST_VERSION, &[flags, 0, 0, 0])?;
@@ -182,31 +209,47 @@ fn put_multicast(out: &mut Vec<u8>, flags: u8) -> Result<(), NoMemory>
     Ok(())
 }
 
-/// The containers of the own originator message, by the node's settings, with what it announces.
-pub fn own_containers(
-    alloc: Global,
-    settings: Settings,
-    announced: &Announcement,
-) -> Result<Vec<u8>, NoMemory>
+/// How long the containers of the own originator message are, by the node's settings, with what it
+/// announces.
+pub fn own_size(settings: Settings, announced: &Announcement) -> usize
     requires { 32 + 8 * length (named_sums announced.now.sums)
         + 12 * length announced.now.changes ≤ 65535 }
-    ensures ok { IfOk result (λ bytes. bytes.items ≡ containers_spelling
+    ensures is { result ≡ own_size settings announced.now }
+    ensures fits { result ≤ 65535 }
+{
+    let records = announced.changes.as_slice();
+    gateway_size(settings.gateway)
+        + arp_table_size(settings.arp_table)
+        + HEADER_SIZE
+        + table_size(&announced.sums, records)
+        + multicast_size(settings.multicast)
+}
+
+/// Appends the containers of the own originator message, by the node's settings, with what it
+/// announces.
+pub fn put_own(
+    out: &mut Vec<u8>,
+    settings: Settings,
+    announced: &Announcement,
+) -> Result<(), NoMemory>
+    requires { 32 + 8 * length (named_sums announced.now.sums)
+        + 12 * length announced.now.changes ≤ 65535 }
+    ensures ok { OnOk result (out.new.items ≡ out.old.items ++ containers_spelling
         (own_containers (settings_seen settings)
         (table_told ogm_diff_flag (stamp_in announced.now) announced.now.changes))) }
-    ensures fits { IfOk result (λ bytes. length bytes.items ≤ 65535) }
+    ensures longer { OnOk result (length out.new.items
+        ≡ length out.old.items + own_size settings announced.now) }
 {
     let Announcement {
         byte,
         sums,
         changes,
     } = announced;
-    let mut containers = Vec::new(alloc);
-    containers.reserve(OWN_ROOM + VLAN_SIZE * sums.len() + CHANGE_SIZE * changes.len())?;
-    put_gateway(&mut containers, settings.gateway)?;
-    put_arp_table(&mut containers, settings.arp_table)?;
-    put_table(&mut containers, OGM_DIFF, *byte, sums, changes.as_slice())?;
-    put_multicast(&mut containers, settings.multicast)?;
-    Ok(containers)
+    put_gateway(out, settings.gateway)?;
+    put_arp_table(out, settings.arp_table)?;
+    put_table(out, OGM_DIFF, *byte, sums, changes.as_slice())?;
+    put_multicast(out, settings.multicast)?;
+    Ok(())
 }
 
 // The flags of an answer, which has a whole table or not.

@@ -1,4 +1,4 @@
-ghost use Rattle.std.specs.Prelude.{◌≡◌, Option, None, OnOk, IfErr, OnErr};
+ghost use Rattle.std.specs.Prelude.{◌≡◌, [], Option, None, OnOk, IfErr, OnErr};
 ghost use Rattle.mesh_model.specs.declared.act.Act.{Act};
 ghost use Rattle.mesh_model.specs.declared.ending.LimitName.{LimitName};
 ghost use Rattle.node_ground.specs.Errors.{HasPortCause};
@@ -16,6 +16,14 @@ pub trait Port {
 
     /// The limit that all frames of an act together would pass: `Frames`, or else `FrameBytes`.
     ghost over: { Self → Act → Option LimitName };
+
+    /// A vector without bytes, for those of an act. The port stays as it is.
+    fn blank(&mut self) -> Vec<u8>
+        ensures empty { result.items ≡ [] }
+        ensures takes { (act : Act) (new : Self) → takes self.new act new →
+            takes self.old act new }
+        ensures over { (act : Act) → over self.new act ≡ over self.old act }
+        ensures same { (new : Self) → same self.new new → same self.old new };
 
     /// Takes an act.
     fn put(&mut self, act: Act) -> Result<(), PortErr>

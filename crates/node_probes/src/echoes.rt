@@ -44,7 +44,7 @@ fn reply<A: Algo, P: Port>(
         ..message
     };
     let next = kept.algo.route(at.now, message.orig);
-    send_over(kept.alloc, port, next, &answer.head(), &[])?;
+    send_over(port, next, &answer.head(), &[])?;
     Ok(())
 }
 
@@ -72,7 +72,7 @@ fn icmp_past<A: Algo, P: Port>(
         ttl: message.ttl - 1,
         ..message
     };
-    send(kept.alloc, port, Some(next), None, &passed.head(), &[])?;
+    send(port, Some(next), None, &passed.head(), &[])?;
     Ok(())
 }
 

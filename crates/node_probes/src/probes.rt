@@ -91,7 +91,7 @@ fn put_probe<A: Algo, P: Port>(
         return Ok(());
     };
     let head = request_head(at.me, trace, probe);
-    send(kept.alloc, port, Some(next), None, &head, &[])?;
+    send(port, Some(next), None, &head, &[])?;
     Ok(())
 }
 

@@ -59,7 +59,7 @@ fn accept<A: Algo, P: Port>(
         src: me,
     };
     let next = kept.algo.route(came.now, orig);
-    send_over(kept.alloc, port, next, &head, containers.as_slice())?;
+    send_over(port, next, &head, containers.as_slice())?;
     Ok(())
 }
 
@@ -93,7 +93,7 @@ fn heard<A: Algo, P: Port>(
         (after_message q (coming came number) head (message orig table.now) known))) }
 {
     let hearing = kept.algo.hear(came.now, came.from, came.tp, &packet.head)?;
-    send_message(kept.alloc, port, &hearing.forward, packet.tail)?;
+    send_message(port, &hearing.forward, packet.tail)?;
     if hearing.accepted {
         accept(kept, port, me, came, orig, hearing.began, table)?;
         let offer = offer_in(packet.tail);

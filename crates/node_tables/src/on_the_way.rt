@@ -119,7 +119,7 @@ fn pass_on<A: Algo, P: Port>(
         src,
     };
     let next = kept.algo.route(at.now, dst);
-    send_over(kept.alloc, port, next, &head, tail)?;
+    send_over(port, next, &head, tail)?;
     Ok(())
 }
 

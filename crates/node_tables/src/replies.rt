@@ -27,7 +27,7 @@ pub(crate) struct ReplyWay {
 
 impl ReplyWay {
     // Puts the containers of one packet.
-    fn send<P: Port>(self, alloc: Global, port: &mut P, containers: &[u8]) -> Result<(), NodeErr>
+    fn send<P: Port>(self, port: &mut P, containers: &[u8]) -> Result<(), NodeErr>
         requires { length containers.now ≤ 65535 }
         ensures { Puts P.takes P.same P.over port.old
             (sent_over self.next (Utvlv first_ttl self.asker self.orig) containers.now)
@@ -38,7 +38,7 @@ impl ReplyWay {
             dst: self.asker,
             src: self.orig,
         };
-        send_over(alloc, port, self.next, &head, containers)?;
+        send_over(port, self.next, &head, containers)?;
         Ok(())
     }
 }
@@ -59,7 +59,7 @@ fn send_parts<P: Port>(
         return Ok(());
     }
     let containers = part_containers(alloc, reply, number)?;
-    way.send(alloc, port, containers.as_slice())?;
+    way.send(port, containers.as_slice())?;
     send_parts(alloc, port, way, reply, number + 1)?;
     Ok(())
 }
@@ -89,6 +89,6 @@ pub(crate) fn send_reply<P: Port>(
         return Ok(());
     }
     let containers = reply_containers(alloc, reply)?;
-    way.send(alloc, port, containers.as_slice())?;
+    way.send(port, containers.as_slice())?;
     Ok(())
 }

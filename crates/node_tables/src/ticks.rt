@@ -25,12 +25,10 @@ use crate::reboots::tell_alias;
 use mesh_algo::Algo;
 use mesh_base::{Millis, NoMemory, Steps};
 use mesh_codec::Head;
-use node_ground::messages::{send_elp, send_message};
-use node_ground::packing::own_containers;
+use node_ground::messages::{send_elp, send_own};
 use node_ground::{NodeErr, NodeKnowledge, Place, Port, Settings};
 use node_lans::Bridge;
 use node_lans::bridging::round;
-use std::alloc::Global;
 use std::marker::Brand;
 use std::sync::ledger::{Blank, Ledger};
 use tt_local::Locals;
@@ -76,32 +74,8 @@ fn commit<P: Port>(port: &mut P, locals: &mut Locals, at: Place) -> Result<(), N
     Ok(())
 }
 
-// The containers of the next originator message by the node's settings, which is counted.
-fn next_containers(
-    alloc: Global,
-    locals: &mut Locals,
-    settings: Settings,
-) -> Result<Vec<u8>, NoMemory>
-    requires { (mentions : List Mention) × (history : History) × (since : ℕ)
-        × LocalsStand locals.old mentions history since
-        × (length (last_commit history.commits).table ≤ clients_limit) }
-    ensures told { IfOk result (λ bytes. (mentions : List Mention) (history : History)
-        (since : ℕ) → LocalsStand locals.old mentions history since →
-        bytes.items ≡ containers_spelling
-        (own_containers (settings_seen settings) (announcement history))) }
-    ensures fits { IfOk result (λ bytes. length bytes.items ≤ 65535) }
-    ensures counted { (mentions : List Mention) (history : History) (since : ℕ) →
-        LocalsStand locals.old mentions history since →
-        OnOk result (LocalsStand locals.new mentions (with_message history) since) }
-{
-    let announcement = locals.announcement()?;
-    let containers = own_containers(alloc, settings, &announcement)?;
-    Ok(containers)
-}
-
 // Sends an originator message with what it announces of the last commit.
 fn announce<P: Port>(
-    alloc: Global,
     port: &mut P,
     locals: &mut Locals,
     settings: Settings,
@@ -120,14 +94,13 @@ fn announce<P: Port>(
         LocalsStand locals.old mentions history since →
         OnOk result (LocalsStand locals.new mentions (with_message history) since) }
 {
-    let containers = next_containers(alloc, locals, settings)?;
-    send_message(alloc, port, &head, containers.as_slice())?;
+    let announcement = locals.announcement()?;
+    send_own(port, &head, settings, &announcement)?;
     Ok(())
 }
 
 // An even tick: a commit, its event where it has an alias, and an originator message.
 fn own_message<P: Port>(
-    alloc: Global,
     port: &mut P,
     locals: &mut Locals,
     settings: Settings,
@@ -149,7 +122,7 @@ fn own_message<P: Port>(
         (with_message (committed (present_table mentions at.now) history)) at.now) }
 {
     commit(port, locals, at)?;
-    announce(alloc, port, locals, settings, head)?;
+    announce(port, locals, settings, head)?;
     Ok(())
 }
 
@@ -177,18 +150,11 @@ fn beat<A: Algo, P: Port>(
     ensures committed { HasTicked at.now index locals.old locals.new result }
 {
     let beats = kept.algo.tick(at.now, index);
-    send_elp(kept.alloc, port, beats.elp)?;
+    send_elp(port, beats.elp)?;
     if index % 2 != 0 {
         return Ok(());
     }
-    own_message(
-        kept.alloc,
-        port,
-        locals,
-        kept.services.settings,
-        at,
-        beats.ogm,
-    )?;
+    own_message(port, locals, kept.services.settings, at, beats.ogm)?;
     kept.choose_gateway(at.now)?;
     Ok(())
 }
