@@ -2,6 +2,7 @@ pub mod Behind
 pub mod Decoded
 pub mod Written
 pub mod Rewritten
+pub mod HeaderBytes
 pub mod Puts
 pub mod Taking
 pub mod EtherLemmas

@@ -1,20 +1,44 @@
 //! The headers of the nine kinds, put at the end of a list that has room for them.
 
 ghost use Rattle.std.specs.Prelude.{◌≡◌, ℕ, ◌+◌, ◌≤◌};
+ghost use Rattle.std.specs.List.{flat_map};
 ghost use Rattle.std.specs.Vec.{vec_len};
 ghost use Rattle.mesh_model.specs.declared.packet.Head.TheVariants.{IvOgm, Bcast, Elp, Ogm2, Unicast, Frag, Unicast4, Icmp, Utvlv};
-ghost use Rattle.mesh_model.specs.Packets.Layout.{header_of, FitsFragmentByte};
+ghost use Rattle.mesh_model.specs.Packets.Layout.{header_of, part_spelling, FitsFragmentByte};
 ghost use Rattle.mesh_codec.specs.Encoding.{FitsFragment};
-ghost use Rattle.mesh_codec.specs.Inner.Writing.{HasRoom, PutsParts, CanTell};
+ghost use Rattle.mesh_codec.specs.Inner.Writing.{HasRoom, PutsHeader, PutsParts, CanTell};
 
 use crate::numbers::{
     BCAST, BCAST_SIZE, ELP, ELP_SIZE, FRAG, FRAG_SIZE, ICMP, ICMP_SIZE, IV_OGM, IV_OGM_SIZE,
     LONGEST_HEADER, OGM2, OGM2_SIZE, UNICAST, UNICAST_SIZE, UNICAST4, UNICAST4_SIZE, UTVLV,
     UTVLV_SIZE, VERSION,
 };
-use crate::put::{put_fragment, put_mac, put_reserved, put_u8, put_u16, put_u32};
+use crate::put::{put, put_fragment, put_mac, put_reserved, put_u8, put_u16, put_u32};
 use mesh_base::Mac;
 use mesh_model::Head;
+
+// The header of an originator message of algorithm IV, in one piece: most packets have it.
+fn iv_ogm_bytes(
+    ttl: u8,
+    flags: u8,
+    seq: u32,
+    orig: Mac,
+    prev: Mac,
+    tq: u8,
+    told: u16,
+) -> [u8; IV_OGM_SIZE]
+    ensures { result
+        ≡ flat_map part_spelling (header_of (IvOgm ttl flags seq orig prev tq) told) }
+{
+    let [s, e, q, n] = seq.to_be_bytes();
+    let [a, b, c, d, f, g] = orig.0;
+    let [h, i, j, k, l, m] = prev.0;
+    let [high, low] = told.to_be_bytes();
+    [
+        IV_OGM, VERSION, ttl, flags, s, e, q, n, a, b, c, d, f, g, h, i, j, k, l, m, 0, tq, high,
+        low,
+    ]
+}
 
 fn put_iv_ogm(
     out: &mut Vec<u8>,
@@ -27,19 +51,11 @@ fn put_iv_ogm(
     told: u16,
 )
     requires room { HasRoom out.old IV_OGM_SIZE }
-    ensures parts { PutsParts out.old (header_of (IvOgm ttl flags seq orig prev tq) told) out.new }
+    ensures parts { PutsHeader out.old (header_of (IvOgm ttl flags seq orig prev tq) told)
+        out.new }
     ensures len { vec_len out.new ≡ vec_len out.old + IV_OGM_SIZE }
 {
-    put_u8(out, IV_OGM);
-    put_u8(out, VERSION);
-    put_u8(out, ttl);
-    put_u8(out, flags);
-    put_u32(out, seq);
-    put_mac(out, orig);
-    put_mac(out, prev);
-    put_reserved(out, 1);
-    put_u8(out, tq);
-    put_u16(out, told);
+    put(out, &iv_ogm_bytes(ttl, flags, seq, orig, prev, tq, told));
 }
 
 fn put_bcast(out: &mut Vec<u8>, ttl: u8, seq: u32, orig: Mac)
@@ -175,7 +191,7 @@ pub fn put_header(out: &mut Vec<u8>, head: &Head, tail_len: usize)
     requires fits { FitsFragment head.now }
     requires told { CanTell head.now tail_len }
     requires room { HasRoom out.old LONGEST_HEADER }
-    ensures parts { PutsParts out.old (header_of head.now tail_len) out.new }
+    ensures parts { PutsHeader out.old (header_of head.now tail_len) out.new }
     ensures len { vec_len out.new ≤ vec_len out.old + LONGEST_HEADER }
 {
     match *head {

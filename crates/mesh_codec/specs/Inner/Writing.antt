@@ -1,6 +1,7 @@
 -- What the steps of writing a packet leave.
 use Rattle.std.specs.Prelude.{◌≡◌, ◌≤◌, ◌+◌, ℕ, List, [], ◌∷◌, ◌++◌}
 use Rattle.std.specs.Global.{Vec}
+use Rattle.std.specs.List.{flat_map, AllByRecursion}
 use Rattle.std.specs.Vec.{vec_len, vec_capacity}
 use Rattle.mesh_model.specs.declared.packet.Head.{Head}
 use Rattle.mesh_model.specs.Packets.Layout.{Part, Fits, part_spelling}
@@ -22,6 +23,12 @@ pub record Puts (old : Vec ℕ) (part : Part) (new : Vec ℕ) : Type 0 where
 abbrev pub PutsParts : Vec ℕ → List Part → Vec ℕ → Type 0
 PutsParts old [] new = new ≡ old
 PutsParts old (part ∷ parts) new = (next : Vec ℕ) × Puts old part next × PutsParts next parts new
+
+-- a header of these parts was put at the end, and no room was given up
+pub record PutsHeader (old : Vec ℕ) (parts : List Part) (new : Vec ℕ) : Type 0 where
+  pub fits : AllByRecursion Fits parts
+  pub items : new.items ≡ old.items ++ flat_map part_spelling parts
+  pub room : vec_capacity old ≤ vec_capacity new
 
 -- a head whose header tells a length can tell this one
 abbrev pub CanTell : Head → ℕ → Type 0
