@@ -1,4 +1,5 @@
 -- What the methods of `Globals` rest on.
+pub mod AgainLemmas
 pub mod KeyLemmas
 pub mod PartLemmas
 pub mod StandLemmas

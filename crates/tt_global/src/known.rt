@@ -1,5 +1,7 @@
 ghost use Rattle.std.specs.Prelude.{◌≡◌, ◌+◌, ◌≤◌, [], length, true, IfOk, IfSome, IsOk, OnErr, OnOk, Some};
+ghost use Rattle.mesh_model.specs.Tables.Judging.{stays};
 ghost use Rattle.mesh_model.specs.Tables.Known.{agrees, kept_under, matches_told, names};
+ghost use Rattle.mesh_model.specs.declared.table_outcome.Heard.TheVariants.{Same};
 ghost use Rattle.tt_global.specs.Kept.{IsAnnounced, agreed_in, announcement_of, held_in, kept_row, stamp, stamp_in, told_in};
 ghost use Rattle.tt_table.specs.Sums.{named_sums};
 
@@ -125,6 +127,25 @@ impl KnownTable {
         }
     }
 
+    // Whether an announcement with VLANs tells what was told before, and the table that is held has
+    // its byte and its sums, as most announcements do.
+    fn is_told_again(&self, announced: &Announcement) -> bool
+        ensures told { result ≡ true → told_in (Some self.now) ≡ Some (stamp_in announced.now) }
+        ensures row { result ≡ true → announcement_of (Some self.now) (stamp_in announced.now)
+            announced.now.changes ≡ stays Same }
+        ensures matches { result ≡ true →
+            matches_told (told_in (Some self.now)) (stamp_in announced.now) ≡ true }
+    {
+        let Announcement { byte, sums, .. } = announced;
+        let Some(held) = &self.held else {
+            return false;
+        };
+        if self.byte != *byte || held.byte != *byte || sums.len() == 0 {
+            return false;
+        }
+        self.sums.is_same(sums) && held.table.sums().is_same(sums)
+    }
+
     /// Takes an announcement, and answers what it makes of the held table.
     pub(crate) fn announce<L: Ledger>(
         &mut self,
@@ -147,6 +168,9 @@ impl KnownTable {
     {
         if self.is_emptied_again(announced) {
             return Ok(Heard::Emptied);
+        }
+        if self.is_told_again(announced) {
+            return Ok(Heard::Same);
         }
         let Judged { outcome, table } = judge_announcement(
             alloc,
