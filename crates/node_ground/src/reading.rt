@@ -129,6 +129,9 @@ fn multicast_in(container: &Container<'_>) -> Option<u8>
 fn with_container(before: Offer, container: &Container<'_>) -> Offer
     ensures { offered result ≡ with_container (offered before) (seen container.now) }
 {
+    if container.kind == TT {
+        return before;
+    }
     Offer {
         gateway: before.gateway.or(gateway_in(container)),
         arp_table: before.arp_table || is_of_arp_table(container),
