@@ -32,6 +32,9 @@ use node_tables::on_the_way::containers_past;
 use tt_local::Locals;
 
 /// A packet of a link frame.
+// In line in the loop over packets, the addresses that its arms use would be computed for each
+// frame, whatever its packets are.
+#[inline(never)]
 #[tactic(auto, unfolding(mesh_model::specs::Acts::Rows::packet_acts))]
 fn packet<A: Algo, P: Port>(
     kept: &mut NodeKnowledge<A>,
