@@ -211,7 +211,7 @@ fn put_multicast(out: &mut Vec<u8>, flags: u8) -> Result<(), NoMemory>
 
 /// How long the containers of the own originator message are, by the node's settings, with what it
 /// announces.
-pub fn own_size(settings: Settings, announced: &Announcement) -> usize
+pub(crate) fn own_size(settings: Settings, announced: &Announcement) -> usize
     requires { 32 + 8 * length (named_sums announced.now.sums)
         + 12 * length announced.now.changes ≤ 65535 }
     ensures is { result ≡ own_size settings announced.now }
@@ -227,7 +227,7 @@ pub fn own_size(settings: Settings, announced: &Announcement) -> usize
 
 /// Appends the containers of the own originator message, by the node's settings, with what it
 /// announces.
-pub fn put_own(
+pub(crate) fn put_own(
     out: &mut Vec<u8>,
     settings: Settings,
     announced: &Announcement,
