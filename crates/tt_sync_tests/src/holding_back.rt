@@ -1,4 +1,4 @@
-use mesh_base::{Key, Mac, Vid};
+use mesh_base::{Key, Mac, NoMemory, Vid};
 use tt_sync::{AdviseErr, AskErr, Sync};
 
 /// A client.
@@ -34,4 +34,15 @@ fn a_second_request_waits(rt: HostRuntime) {
     for (now, asked) in [(10, Ok(())), (3_009, too_soon), (3_010, Ok(()))] {
         assert_eq!(rt; sync.ask(now, NODE), asked, "at {now}");
     }
+}
+
+#[test]
+fn marks_are_told_while_one_is_remembered(rt: HostRuntime) -> Result<(), NoMemory> {
+    let mut sync = Sync::new(rt.alloc());
+    assert!(rt; !sync.has_marks());
+    sync.mark(0, CLIENT, NODE, Some(1))?;
+    assert!(rt; sync.has_marks());
+    sync.unmark(CLIENT);
+    assert!(rt; !sync.has_marks());
+    Ok(())
 }
