@@ -9,7 +9,7 @@ use Rattle.std.proofs.lemmas.Bool.{false≢true, true≢false}
 use Rattle.mesh_base.specs.declared.client.Key.{Key}
 use Rattle.mesh_model.specs.declared.table_row.LocalRow.{LocalRow}
 use Rattle.mesh_model.specs.Clients.Present.{same_key, sighting_age, entry_with}
-use Rattle.mesh_laws.proofs.PresentLemmas.{equal_from_same}
+use Rattle.mesh_laws.proofs.PresentLemmas.{equal_from_same, same_itself}
 use Rattle.std.proofs.lemmas.Cmp.{eq_by_cmp_equiv}
 use Rattle.std.proofs.lemmas.Map.Steps.{length-le_from_keys}
 use Rattle.mesh_laws.proofs.PresentLemmas.{key_total}
@@ -248,6 +248,11 @@ touched_more keys i key clients mid new within is same before tracks touched q a
 pub all_taken : {P Q : Key → Type 0} (keys : List Key) (i : ℕ) (those : List Key) → length keys ≤ i → keys ≡ those → ((q : Key) → has_key (take i keys) q ≡ true → P q → Q q) → (q : Key) → has_key those q ≡ true → P q → Q q
 all_taken keys i those all is touched q among =
     touched q (ap (λ ks. has_key ks q) (take_all i keys all ∙ is) ∙ among)
+
+-- a key that was given a client has one
+pub given_there : (key : Key) (client : Client) (old new : List (Key × Client)) → HasClient key (Some client) old new → IsSome (client_at new key)
+given_there key client old new given =
+    ap is_some (given key ∙ ap (λ b. cond b (Some client) (client_at old key)) (same_itself key))
 
 -- what was tracked in a table still is
 pub still_tracked : (old new : RosterView) (table : List Entry) → Tracks old new → IsTracked old table → IsTracked new table

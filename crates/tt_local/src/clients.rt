@@ -54,17 +54,32 @@ impl Clients {
         ensures longer { length self.new ≤ length self.old + 1 }
         ensures err { OnErr result (self.new ≡ self.old) }
     {
-        let known = self.known(key);
         let sighting = Sighting { flags, moment: now };
+        let Some(client) = self.map.get_mut(&key) else {
+            return self.add(key, sighting);
+        };
+        self.moments.change(key, client.moment(), now)?;
+        client.sighting = Some(sighting);
+        Ok(())
+    }
+
+    // Adds a key of which nothing is known, with its first sighting.
+    fn add(&mut self, key: Key, sighting: Sighting) -> Result<(), NoMemory>
+        requires { client_at self.old key ≡ None }
+        ensures news { OnOk result (HasNews sighting.moment key (Sighted sighting.flags)
+            self.old self.new) }
+        ensures longer { length self.new ≤ length self.old + 1 }
+        ensures err { OnErr result (self.new ≡ self.old) }
+    {
+        self.moments.change(key, None, sighting.moment)?;
         let client = Client {
             sighting: Some(sighting),
-            joined: known.joined,
+            joined: false,
         };
-        self.moments.change(key, known.moment(), now)?;
         let inserted: Result<_, _> = self.map.insert(key, client);
         if let Err(refused) = inserted {
-            // only a key that wasn't there is refused, and it had no moment before
-            self.moments.forget(key, Some(now));
+            // the key had no moment before
+            self.moments.forget(key, Some(sighting.moment));
             return Err(NoMemory::from(refused));
         }
         Ok(())

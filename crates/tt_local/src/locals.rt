@@ -76,20 +76,7 @@ impl Locals {
             IfErr result (HasLimit (limit_of_mention mentions mention)) }
         ensures err { OnErr result (self.new ≡ self.old) }
     {
-        self.keep_limits(now, key)?;
-        let newly = self.note(now, key, flags)?;
-        Ok(newly)
-    }
-
-    // Notes a sighting of a client, whatever the limits, and answers whether the client is newly
-    // present.
-    fn note(&mut self, now: Millis, key: Key, flags: u8) -> Result<bool, NoMemory>
-        ensures noted { Notes (record { moment = now; key = key; news = Sighted flags })
-            self.old self.new result }
-        ensures newly { TellsNew now key self.old result }
-        ensures err { OnErr result (self.new ≡ self.old) }
-    {
-        let newly = self.row(now, key).is_none();
+        let newly = self.keep_limits(now, key)?;
         name(&mut self.vlans, key.vid)?;
         self.roster.sight(now, key, flags)?;
         self.roster.tell_order();
@@ -146,8 +133,10 @@ impl Locals {
         self.roster.tell_order();
     }
 
-    // A client that isn't present is within the limits beside those that are.
-    fn keep_limits(&self, now: Millis, key: Key) -> Result<(), LocalErr>
+    // A client that isn't present is within the limits beside those that are. Answers whether the
+    // client is newly present.
+    fn keep_limits(&self, now: Millis, key: Key) -> Result<bool, LocalErr>
+        ensures newly { TellsNew now key self.now result }
         ensures within { (mentions : List Mention) (history : History) (since : ℕ) →
             LocalsStand self.now mentions history since → since ≤ now →
             OnOk result (limit_at mentions now key ≡ None) }
@@ -155,14 +144,30 @@ impl Locals {
             LocalsStand self.now mentions history since → since ≤ now →
             IfErr result (HasLimit (limit_at mentions now key)) }
     {
-        if self.row(now, key).is_some() || self.has_room(key.vid) {
+        let newly = self.row(now, key).is_none();
+        if newly {
+            self.keep_limits_beside(now, key.vid)?;
+        }
+        Ok(newly)
+    }
+
+    // One more client in this VLAN is within the limits beside those that are present.
+    fn keep_limits_beside(&self, now: Millis, vid: Vid) -> Result<(), LocalErr>
+        ensures within { (mentions : List Mention) (history : History) (since : ℕ) →
+            LocalsStand self.now mentions history since → since ≤ now →
+            OnOk result (limit_beside (present_clients mentions now) vid ≡ None) }
+        ensures limit { (mentions : List Mention) (history : History) (since : ℕ) →
+            LocalsStand self.now mentions history since → since ≤ now →
+            IfErr result (HasLimit (limit_beside (present_clients mentions now) vid)) }
+    {
+        if self.has_room(vid) {
             return Ok(());
         }
         let vids = self.roster.clients.vids(self.alloc, now)?;
         if vids.len() >= CLIENTS_LIMIT {
             return Err(LocalErr::Clients);
         }
-        if count_vlans(self.alloc, vids.as_slice(), key.vid)? > VLANS_LIMIT {
+        if count_vlans(self.alloc, vids.as_slice(), vid)? > VLANS_LIMIT {
             return Err(LocalErr::Vlans);
         }
         Ok(())

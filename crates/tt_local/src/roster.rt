@@ -56,7 +56,7 @@ impl Roster {
     {
         self.make_room()?;
         self.clients.sight(now, key, flags)?;
-        self.touch(key);
+        self.touch_known(key);
         Ok(())
     }
 
@@ -69,7 +69,7 @@ impl Roster {
     {
         self.make_room()?;
         self.clients.join(key)?;
-        self.touch(key);
+        self.touch_known(key);
         Ok(())
     }
 
@@ -92,17 +92,27 @@ impl Roster {
         self.touch(key);
     }
 
-    // The key of a client is pending from now on.
+    // A key is pending from now on, where there is a client of it.
     fn touch(&mut self, key: Key)
         ensures clients { self.new.clients ≡ self.old.clients }
         ensures tracks { Tracks self.old self.new }
         ensures touched { IsSome (client_at self.old.clients key) →
             has_key self.new.pending key ≡ true }
     {
-        self.pending.tell_order();
         if self.clients.get(key).is_some() {
-            self.pending.add(key);
+            self.touch_known(key);
         }
+    }
+
+    // The key of a client is pending from now on.
+    fn touch_known(&mut self, key: Key)
+        requires { IsSome (client_at self.old.clients key) }
+        ensures clients { self.new.clients ≡ self.old.clients }
+        ensures tracks { Tracks self.old self.new }
+        ensures touched { has_key self.new.pending key ≡ true }
+    {
+        self.pending.tell_order();
+        self.pending.add(key);
     }
 
     // There is room for the key of one more client.

@@ -3,7 +3,7 @@ use Rattle.mesh_base.specs.declared.client.Key.{Key}
 use Rattle.mesh_model.specs.Clients.Mentions.{Joined}
 use Rattle.tt_local.specs.Clients.{client_at, HasNews}
 use Rattle.tt_local.specs.Roster.{has_key, RosterView}
-use Rattle.tt_local.proofs.RosterLemmas.{fits_after, news_tracked}
+use Rattle.tt_local.proofs.RosterLemmas.{fits_after, given_there, news_tracked}
 use Rattle.tt_local.proofs.roster.Roster.join.Goals as goal
 
 pub invariant_of-self-2 : goal.invariant_of-self-2
@@ -15,14 +15,17 @@ invariant_of-self-2 c =
 pub returns-clause-news : goal.returns-clause-news
 returns-clause-news c = λ now other.
     let same = ap (λ (v : RosterView). v.clients) c.self.view_is ∙ c.make_room.ensures.same.0 in
-    ap (λ cs. client_at cs other) c.touch.ensures.clients
+    ap (λ cs. client_at cs other) c.touch_known.ensures.clients
     ∙ subst (λ cs. HasNews now c.args.key Joined cs c.join.new.self) same (c.in_ok-join.ensures.news now) other
 
 pub returns-clause-tracks : goal.returns-clause-tracks
 returns-clause-tracks c =
     let same = ap (λ (v : RosterView). v.clients) c.self.view_is ∙ c.make_room.ensures.same.0 in
     let pending = ap (λ (v : RosterView). v.pending) c.self.view_is ∙ c.make_room.ensures.same.1 in
-    news_tracked c.args.self.now c.touch.new.self c.join.new.self 0 c.args.key Joined
+    news_tracked c.args.self.now c.touch_known.new.self c.join.new.self 0 c.args.key Joined
     (subst (λ cs. HasNews 0 c.args.key Joined cs c.join.new.self) same (c.in_ok-join.ensures.news 0))
-    (subst (λ ps. (q : Key) → has_key c.touch.new.self.pending q ≡ false → (has_key ps q ≡ false) × (client_at c.touch.new.self.clients q ≡ client_at c.join.new.self q)) pending c.touch.ensures.tracks)
-    c.touch.ensures.touched
+    (subst (λ ps. (q : Key) → has_key c.touch_known.new.self.pending q ≡ false → (has_key ps q ≡ false) × (client_at c.touch_known.new.self.clients q ≡ client_at c.join.new.self q)) pending c.touch_known.ensures.tracks)
+    (λ _. c.touch_known.ensures.touched)
+
+pub touch_known-requires : goal.touch_known-requires
+touch_known-requires c = given_there c.args.key _ c.self.inside.clients c.join.new.self (c.in_ok-join.ensures.news 0)
