@@ -1,6 +1,6 @@
-ghost use Rattle.std.specs.Prelude.{ℕ, false, ◌≡◌, [], ◌∷◌, slice_get, length, ◌≤◌, ◌↔◌, IfErr, IsNone, OnOk, OnErr, None};
+ghost use Rattle.std.specs.Prelude.{ℕ, false, ◌≡◌, [], ◌∷◌, slice_get, length, ◌≤◌, ◌<◌, ◌↔◌, IfErr, IsNone, IsTrue, OnOk, OnErr, None};
 ghost use Rattle.mesh_model.specs.Marks.Calls.{Calls, Marked, Released, Unmarked, Advised, Asked, Forgotten};
-ghost use Rattle.mesh_model.specs.Marks.RoamingMarks.{is_ended, mark_of, marks_at, target_by};
+ghost use Rattle.mesh_model.specs.Marks.RoamingMarks.{is_ended, mark_of, marks_at, marks_by, target_by};
 ghost use Rattle.mesh_model.specs.Marks.Requests.{too_soon};
 ghost use Rattle.mesh_model.specs.Marks.Advertisements.{sent_by, too_many};
 ghost use Rattle.tt_sync.specs.Sync.{StandsFor, AskTells, AdviseTells, last_five};
@@ -77,6 +77,8 @@ impl Sync {
 
     /// Whether marks are remembered. Where none is, none can be ended.
     pub fn has_marks(&self) -> bool
+        ensures has { (made : Calls) → StandsFor self.now made →
+            IsTrue result ↔ (0 < length (marks_by made)) }
         ensures none { result ≡ false → (made : Calls) → StandsFor self.now made →
             (target : Mac) (byte : ℕ) → StandsFor self.now (Released target byte ∷ made) }
     {
