@@ -1,4 +1,5 @@
--- The words of the contracts, in reading order.
+-- The words of the contracts, in reading order. Under `Inner` stand those of the functions behind
+-- them.
 pub mod Errors
 pub mod Puts
 pub mod BroadcastsStand
@@ -8,9 +9,9 @@ pub mod ServicesStand
 pub mod KnowledgeStands
 pub mod OwnStands
 pub mod Ways
-pub mod OwnSize
 pub mod Sending
 pub mod Reading
 pub mod Tables
 pub mod ServiceRows
 pub mod PairRows
+pub mod Inner

@@ -1,6 +1,7 @@
 -- A packet that can be written: its containers aren't longer than its header can tell, and it has a
--- tail only where its kind has one. And an answer whose containers aren't longer, whole or in parts.
--- The main words are `IsWritable`, `FitsPacket` and `FitsParts`.
+-- tail only where its kind has one. And what an originator message announces, and an answer, whole
+-- or in parts, whose containers aren't longer. The main words are `IsWritable`, `FitsOgm`,
+-- `FitsPacket` and `FitsParts`.
 use Rattle.std.specs.Prelude.{◌≡◌, ◌≤◌, ◌+◌, ◌*◌, ℕ, false, List, [], length, ⊤}
 use Rattle.mesh_codec.specs.Encoding.{FitsFragment, longest_containers}
 use Rattle.mesh_model.specs.declared.packet.Head.{Head}
@@ -8,6 +9,8 @@ use Rattle.mesh_model.specs.Clients.Limits.{clients_limit}
 use Rattle.mesh_model.specs.Packets.Shapes.{TailKind, shape_of}
 use Rattle.mesh_model.specs.Packets.Shapes.TailKind.{containers, all_the_rest, nothing}
 use Rattle.mesh_model.specs.Tables.Answers.{Reply}
+use Rattle.tt_table.specs.declared.announcement.Announcement.{Announcement}
+use Rattle.tt_table.specs.Sums.{named_sums}
 
 -- a tail may follow the header of a kind that has this tail
 abbrev pub MayBeTail : TailKind → List ℕ → Type 0
@@ -19,6 +22,12 @@ MayBeTail nothing tail = tail ≡ []
 pub record IsWritable (head : Head) (tail : List ℕ) : Type 0 where
   pub fragment : FitsFragment head
   pub fits : MayBeTail (shape_of head).tail tail
+
+-- the containers of an originator message that announces this aren't longer: that of the table has
+-- 8 bytes, 8 more for each checksum and 12 for each change, and the others have at most 24
+abbrev pub FitsOgm : Announcement → Type 0
+FitsOgm announced =
+    32 + 8 * length (named_sums announced.sums) + 12 * length announced.changes ≤ longest_containers
 
 -- the container of an answer, with 8 bytes for each checksum and 12 for each record, isn't longer
 abbrev pub FitsPacket : Reply → Type 0

@@ -10,10 +10,9 @@ ghost use Rattle.mesh_model.specs.Packets.Layout.{spelling};
 ghost use Rattle.mesh_model.specs.Packets.Numbers.{ogm_diff_flag};
 ghost use Rattle.mesh_model.specs.Routes.Queries.{is_elp, is_ogm};
 ghost use Rattle.node_ground.specs.Puts.{Puts};
-ghost use Rattle.node_ground.specs.Sending.{IsWritable};
+ghost use Rattle.node_ground.specs.Sending.{FitsOgm, IsWritable};
 ghost use Rattle.node_ground.specs.SettingsSeen.{settings_seen};
 ghost use Rattle.tt_global.specs.Kept.{stamp_in};
-ghost use Rattle.tt_table.specs.Sums.{named_sums};
 
 use crate::failure::NodeErr;
 use crate::packing::{own_size, put_own};
@@ -95,8 +94,7 @@ fn own_packet(
     announced: &Announcement,
 ) -> Result<Bytes, NoMemory>
     requires writable { (tail : List ℕ) → length tail ≤ 65535 → IsWritable head.now tail }
-    requires few { 32 + 8 * length (named_sums announced.now.sums)
-        + 12 * length announced.now.changes ≤ 65535 }
+    requires few { FitsOgm announced.now }
     requires blank { bytes.items ≡ [] }
     ensures { IfOk result (λ packet. packet ≡ spelling head.now (containers_spelling
         (own_containers (settings_seen settings)
@@ -121,8 +119,7 @@ pub fn send_own<P: Port>(
     announced: &Announcement,
 ) -> Result<(), NodeErr>
     requires ogm { IfSome head.now (λ head. IsTrue (is_ogm head)) }
-    requires few { 32 + 8 * length (named_sums announced.now.sums)
-        + 12 * length announced.now.changes ≤ 65535 }
+    requires few { FitsOgm announced.now }
     ensures { Puts P.takes P.same P.over port.old (message_acts head.now (containers_spelling
         (own_containers (settings_seen settings)
         (table_told ogm_diff_flag (stamp_in announced.now) announced.now.changes))))

@@ -12,8 +12,8 @@ ghost use Rattle.mesh_model.specs.Packets.Numbers.{ogm_diff_flag, response_flag}
 ghost use Rattle.mesh_model.specs.Tables.Answers.{numbered_part};
 ghost use Rattle.mesh_model.specs.Tables.Pieces.{piece_at, piece_count};
 ghost use Rattle.mesh_serv.specs.OffersStand.{bandwidth};
-ghost use Rattle.node_ground.specs.OwnSize.{own_size};
-ghost use Rattle.node_ground.specs.Sending.{FitsPacket, FitsParts};
+ghost use Rattle.node_ground.specs.Inner.OwnSize.{own_size};
+ghost use Rattle.node_ground.specs.Sending.{FitsOgm, FitsPacket, FitsParts};
 ghost use Rattle.node_ground.specs.SettingsSeen.{part_seen, settings_seen};
 ghost use Rattle.tt_global.specs.Kept.{stamp, stamp_in};
 ghost use Rattle.tt_sync.specs.Answers.{answer_in};
@@ -212,8 +212,7 @@ fn put_multicast(out: &mut Vec<u8>, flags: u8) -> Result<(), NoMemory>
 /// How long the containers of the own originator message are, by the node's settings, with what it
 /// announces.
 pub(crate) fn own_size(settings: Settings, announced: &Announcement) -> usize
-    requires { 32 + 8 * length (named_sums announced.now.sums)
-        + 12 * length announced.now.changes ≤ 65535 }
+    requires { FitsOgm announced.now }
     ensures is { result ≡ own_size settings announced.now }
     ensures fits { result ≤ 65535 }
 {
@@ -232,8 +231,7 @@ pub(crate) fn put_own(
     settings: Settings,
     announced: &Announcement,
 ) -> Result<(), NoMemory>
-    requires { 32 + 8 * length (named_sums announced.now.sums)
-        + 12 * length announced.now.changes ≤ 65535 }
+    requires { FitsOgm announced.now }
     ensures ok { OnOk result (out.new.items ≡ out.old.items ++ containers_spelling
         (own_containers (settings_seen settings)
         (table_told ogm_diff_flag (stamp_in announced.now) announced.now.changes))) }
