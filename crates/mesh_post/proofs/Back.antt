@@ -10,7 +10,7 @@ use Rattle.mesh_post.specs.declared.row.Put.{Put}
 use Rattle.mesh_post.specs.declared.row.Row.{Row}
 use Rattle.mesh_post.specs.declared.row.Sending.{Sending}
 use Rattle.mesh_post.specs.Kept.{FrameIs, FramesAre, HasRow, PutIs, PutsAre, PostStands, RowIs, RowsAre}
-use Rattle.mesh_post.specs.Links.{back_among, back_over, between, throughput_of}
+use Rattle.mesh_post.specs.Inner.Links.{back_among, back_over, between, throughput_of}
 use Rattle.mesh_post.proofs.LookUps.{got_there, some_one}
 
 -- ---- the first link that leads so is the same, by the rows and in the mesh

@@ -4,7 +4,7 @@ use Rattle.std.specs.Option.{option_map_or, option_or}
 use Rattle.std.proofs.lemmas.Bool.{and_parts, cases_eq, eqb-true, eq-eqb, ne_eqb}
 use Rattle.std.proofs.lemmas.List.Folds.{find-append}
 use Rattle.mesh_post.specs.declared.row.Row.{Row}
-use Rattle.mesh_post.specs.Links.{back_among, backs_of, between, noted, throughput_of}
+use Rattle.mesh_post.specs.Inner.Links.{back_among, backs_of, between, noted, throughput_of}
 
 -- ---- a throughput is noted beside one link more, where that passes the test
 noted_next : (test : Row → Bool) (tp : ℕ) (rows : List Row) (numbers : List ℕ) (i : ℕ) (row : Row) (b : Bool) → slice_get rows i ≡ Some row → test row ≡ b → noted test tp (take (suc i) rows) numbers ≡ (if b then slice_set (noted test tp (take i rows) numbers) i tp else noted test tp (take i rows) numbers)

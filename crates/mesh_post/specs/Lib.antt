@@ -2,10 +2,9 @@
 -- links or on a LAN does with it.
 pub mod Joining
 pub mod Waiting
-pub mod Patterns
 pub mod Posting
 pub mod Kept
 pub mod Lanes
-pub mod Links
 pub mod Sent
 pub mod Refused
+pub mod Inner

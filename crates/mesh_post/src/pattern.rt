@@ -26,7 +26,7 @@ pub(crate) enum Marks {
 
 impl Model for Pattern {
     ghost use Rattle.std.specs.Prelude.{ℕ, List};
-    ghost use Rattle.mesh_post.specs.Patterns.{marks_in};
+    ghost use Rattle.mesh_post.specs.Inner.Patterns.{marks_in};
 
     ghost Value = { List ℕ };
 

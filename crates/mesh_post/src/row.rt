@@ -1,7 +1,7 @@
 ghost use Rattle.std.specs.Prelude.{◌≡◌, nat_eq, filter, IfOk};
 ghost use Rattle.std.specs.List.{list_any};
 ghost use Rattle.mesh_post.specs.Lanes.{is_other};
-ghost use Rattle.mesh_post.specs.Links.{between};
+ghost use Rattle.mesh_post.specs.Inner.Links.{between};
 
 use crate::pattern::Pattern;
 use mesh_base::{Bytes, Mac, Millis, NoMemory, Reason};

@@ -1,5 +1,5 @@
 ghost use Rattle.std.specs.Prelude.{◌≡◌, [], ◌∷◌, ◌++◌, find, length, option_map, slice_get, slice_set, OnOk, OnErr};
-ghost use Rattle.mesh_post.specs.Links.{back_over, between, noted, throughput_of};
+ghost use Rattle.mesh_post.specs.Inner.Links.{back_over, between, noted, throughput_of};
 
 use crate::row::Row;
 use mesh_base::NoMemory;
@@ -17,7 +17,7 @@ pub struct Rows {
 impl Model for Rows {
     ghost use Rattle.std.specs.Prelude.{◌≡◌, List};
     ghost use Rattle.mesh_post.specs.declared.row.Row.{Row};
-    ghost use Rattle.mesh_post.specs.Links.{backs_of};
+    ghost use Rattle.mesh_post.specs.Inner.Links.{backs_of};
 
     ghost Value = { List Row };
 

@@ -14,7 +14,7 @@ use Rattle.mesh_model.specs.Run.PlainRun.{RunOf, after_reading, begun}
 use Rattle.mesh_model.specs.Run.State.{State, text_of}
 use Rattle.mesh_run.specs.Inner.Faults.{fault_at}
 use Rattle.mesh_run.specs.Inner.Lines.{BlamesWrite, CarryFails}
-use Rattle.mesh_scene.specs.CarriesOut.{HasLineCause}
+use Rattle.mesh_scene.specs.AnswersCommand.{HasLineCause}
 use Rattle.mesh_run.specs.Inner.Faults.{HasReadingCause}
 use Rattle.mesh_run.specs.Inner.Progress.{Fails, HaltsFrom, Stands}
 use Rattle.mesh_laws.proofs.CutLemmas.{IsCut-newline}

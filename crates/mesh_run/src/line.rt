@@ -10,7 +10,7 @@ ghost use Rattle.mesh_model.specs.Scenario.Readings.{Reading};
 ghost use Rattle.mesh_scenario.specs.LineErr.{Refuses};
 ghost use Rattle.mesh_run.specs.Inner.Faults.{HasReadingCause};
 ghost use Rattle.mesh_run.specs.Inner.Lines.{CarriesLine, CountsWrites};
-ghost use Rattle.mesh_scene.specs.CarriesOut.{HasGateways, is_for_scene, outcome_under};
+ghost use Rattle.mesh_scene.specs.AnswersCommand.{HasGateways, is_for_scene, outcome_under};
 ghost use Rattle.mesh_scene.specs.SceneStands.{IsSomewhere, SceneStands};
 ghost use Rattle.mesh_scene.specs.StageStands.{IsOnStage, StageStands, outcome_on_stage};
 

@@ -6,7 +6,7 @@ ghost use Rattle.mesh_model.specs.Run.Passing.{run_until};
 ghost use Rattle.mesh_model.specs.Run.State.{text_of};
 ghost use Rattle.mesh_model.specs.declared.line_form.Command.TheVariants as command;
 ghost use Rattle.mesh_run.specs.Inner.Lines.{CarriesLine, CarriesSlice, CountsWrites};
-ghost use Rattle.mesh_scene.specs.CarriesOut.{outcome_under};
+ghost use Rattle.mesh_scene.specs.AnswersCommand.{outcome_under};
 ghost use Rattle.mesh_scene.specs.Slices.{HasAdvanced};
 ghost use Rattle.mesh_scene.specs.SceneStands.{IsSomewhere, SceneStands};
 

@@ -14,7 +14,7 @@ use Rattle.mesh_model.specs.Run.Outcome.{Ends, Goes}
 use Rattle.mesh_model.specs.Run.Rules.{names_refusal, unless_refused}
 use Rattle.mesh_model.specs.Run.State.{State, place_of}
 use Rattle.mesh_model.specs.Run.Steps.{at_node}
-use Rattle.mesh_scene.specs.CarriesOut.{HasLineCause}
+use Rattle.mesh_scene.specs.AnswersCommand.{HasLineCause}
 use Rattle.mesh_scene.specs.Inner.AtNodes.{IsNameFault, IsNodePlace, given_apart, given_step}
 use Rattle.mesh_scene.specs.declared.fault.LineFault.{LineFault}
 use Rattle.mesh_scene.proofs.NameLemmas.{first_fails}

@@ -12,7 +12,7 @@ use Rattle.mesh_model.specs.Run.Outcome.{Outcome, Ends, Goes}
 use Rattle.mesh_model.specs.Run.Rules.{name_refusal, names_refusal, unless_refused}
 use Rattle.mesh_model.specs.Run.State.{State, lan_place_of, place_of}
 use Rattle.mesh_model.specs.Run.Steps.{Step, at_place, at_node}
-use Rattle.mesh_scene.specs.CarriesOut.{HasLineCause}
+use Rattle.mesh_scene.specs.AnswersCommand.{HasLineCause}
 use Rattle.mesh_scene.specs.Inner.AtNodes.{IsNameFault}
 use Rattle.mesh_scene.specs.Inner.AtPlaces.{IsNamesFault, placed_at}
 use Rattle.mesh_scene.specs.declared.fault.LineFault.{LineFault}

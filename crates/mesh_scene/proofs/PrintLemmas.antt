@@ -20,7 +20,7 @@ use Rattle.mesh_net.specs.Tells.{Carried, StepTells}
 use Rattle.mesh_net.specs.declared.failure.NetErr.{NetErr}
 use Rattle.mesh_net.specs.declared.failure.NetErr.TheVariants.{Limit, Dead, Memory}
 use Rattle.mesh_net.specs.declared.net.Net.{Net}
-use Rattle.mesh_scene.specs.CarriesOut.{Carries, HasLineCause}
+use Rattle.mesh_scene.specs.AnswersCommand.{Carries, HasLineCause}
 use Rattle.mesh_net.specs.NetStands.{NetStands}
 use Rattle.mesh_scene.specs.SceneStands.{AreApart, SceneStands, ends_of}
 use Rattle.mesh_scene.specs.Inner.NetAnswers.{fault_of}

@@ -16,7 +16,7 @@ use Rattle.mesh_model.specs.Run.Outcome.{Ends, Goes}
 use Rattle.mesh_model.specs.Run.Rules.{carried_out, name_refusal, unless_refused}
 use Rattle.mesh_model.specs.Run.State.{State}
 use Rattle.mesh_model.specs.Run.Steps.{at_node, input_step, session_step}
-use Rattle.mesh_scene.specs.CarriesOut.{HasLineCause}
+use Rattle.mesh_scene.specs.AnswersCommand.{HasLineCause}
 use Rattle.mesh_scene.specs.Inner.AtNodes.{IsNameFault, IsNodePlace, given_at, session_at}
 use Rattle.mesh_scene.specs.declared.fault.LineFault.{LineFault}
 use Rattle.mesh_scene.proofs.GivenLemmas.{given_there}

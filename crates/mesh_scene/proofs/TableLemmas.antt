@@ -16,7 +16,7 @@ use Rattle.mesh_model.specs.Run.Rules.{carried_out, name_refusal, unless_refused
 use Rattle.mesh_model.specs.Run.Shown.{after_print, shown}
 use Rattle.mesh_model.specs.Run.Steps.{show_step}
 use Rattle.mesh_model.specs.Run.State.{Printed, State, place_of, printed_text}
-use Rattle.mesh_scene.specs.CarriesOut.{Carries, HasLineCause}
+use Rattle.mesh_scene.specs.AnswersCommand.{Carries, HasLineCause}
 use Rattle.mesh_scene.specs.Inner.AtNodes.{IsNameFault}
 use Rattle.mesh_scene.specs.declared.fault.LineFault.{LineFault}
 use Rattle.mesh_scene.proofs.NameLemmas.{first_fails}

@@ -29,7 +29,7 @@ use Rattle.mesh_model.specs.Run.Steps.{at_node, link_between, link_step, new_nod
 use Rattle.mesh_net.specs.Tells.{LinkTells, NodeTells}
 use Rattle.mesh_net.specs.declared.failure.NetErr.{NetErr}
 use Rattle.mesh_net.specs.declared.failure.NetErr.TheVariants.{Limit, Dead, Memory}
-use Rattle.mesh_scene.specs.CarriesOut.{Carries, HasLineCause}
+use Rattle.mesh_scene.specs.AnswersCommand.{Carries, HasLineCause}
 use Rattle.mesh_net.specs.NetStands.{NetStands}
 use Rattle.mesh_scene.specs.SceneStands.{AreApart, SceneStands, ends_of}
 use Rattle.mesh_scene.specs.Inner.AtNodes.{IsNameFault, IsNodePlace}

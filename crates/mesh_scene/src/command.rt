@@ -2,7 +2,7 @@
 
 ghost use Rattle.std.specs.Prelude.{◌≡◌, Bool, true, [], None};
 ghost use Rattle.mesh_laws.specs.LineLaws.{IsInRange};
-ghost use Rattle.mesh_scene.specs.CarriesOut.{AnswersCommand, HasGateways, is_for_scene};
+ghost use Rattle.mesh_scene.specs.AnswersCommand.{AnswersCommand, HasGateways, is_for_scene};
 ghost use Rattle.mesh_scene.specs.Inner.AtNodes.{given_of};
 ghost use Rattle.mesh_scene.specs.SceneStands.{IsSomewhere};
 

@@ -5,7 +5,7 @@ ghost use Rattle.mesh_model.specs.declared.line_form.Command.TheVariants as comm
 ghost use Rattle.mesh_model.specs.Net.Limits.{scenario_setup};
 ghost use Rattle.mesh_net.specs.Reached.{IsOfLine};
 ghost use Rattle.mesh_node.specs.NodeStands.{given_by};
-ghost use Rattle.mesh_scene.specs.CarriesOut.{AnswersCommand, AnswersFrom};
+ghost use Rattle.mesh_scene.specs.AnswersCommand.{AnswersCommand, AnswersFrom};
 ghost use Rattle.mesh_scene.specs.SceneStands.{IsSomewhere, SceneStands};
 ghost use Rattle.mesh_scene.specs.Inner.AtNodes.{given_apart, given_at, given_of, given_step};
 

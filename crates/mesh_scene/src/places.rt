@@ -5,7 +5,7 @@ ghost use Rattle.mesh_model.specs.Run.Demands.{is_attached, is_taken};
 ghost use Rattle.mesh_model.specs.Run.Names.{OfNode};
 ghost use Rattle.mesh_model.specs.Run.State.{State, lan_place_of, place_of};
 ghost use Rattle.mesh_model.specs.Run.Steps.{Step};
-ghost use Rattle.mesh_scene.specs.CarriesOut.{HasLineCause};
+ghost use Rattle.mesh_scene.specs.AnswersCommand.{HasLineCause};
 ghost use Rattle.mesh_scene.specs.Inner.AtNodes.{IsNameFault, IsNodePlace};
 ghost use Rattle.mesh_scene.specs.Inner.AtPlaces.{IsWithin, placed_at, step_there};
 ghost use Rattle.mesh_scene.specs.SceneStands.{IsSomewhere, SceneStands};

@@ -6,7 +6,7 @@ ghost use Rattle.mesh_model.specs.Clients.Log.{Line, LineGiven};
 ghost use Rattle.mesh_model.specs.Net.Mesh.{Setup};
 ghost use Rattle.mesh_model.specs.declared.line_form.Command.TheVariants as command;
 ghost use Rattle.mesh_model.specs.Run.State.{State};
-ghost use Rattle.mesh_scene.specs.CarriesOut.{AnswersCommand, HasLineCause};
+ghost use Rattle.mesh_scene.specs.AnswersCommand.{AnswersCommand, HasLineCause};
 ghost use Rattle.mesh_scene.specs.SceneStands.{IsSomewhere, SceneStands};
 ghost use Rattle.mesh_scene.specs.Inner.AtNodes.{given_at, session_at};
 

@@ -6,7 +6,7 @@ ghost use Rattle.mesh_model.specs.Net.Limits.{clock_limit};
 ghost use Rattle.mesh_model.specs.Net.Mesh.{begun_mesh};
 ghost use Rattle.mesh_model.specs.Run.State.{State, first_state, first_watch};
 ghost use Rattle.mesh_net.specs.Reached.{begun_watch};
-ghost use Rattle.mesh_scene.specs.CarriesOut.{AnswersFrom};
+ghost use Rattle.mesh_scene.specs.AnswersCommand.{AnswersFrom};
 ghost use Rattle.mesh_scene.specs.Counts.{HasCounts};
 ghost use Rattle.mesh_scene.specs.StageStands.{IsOnStage, StageStands, outcome_on_stage};
 

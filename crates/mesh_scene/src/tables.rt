@@ -4,7 +4,7 @@ ghost use Rattle.std.specs.Prelude.{◌≡◌, [], IfErr, IfOk};
 ghost use Rattle.mesh_model.specs.declared.line_form.Command.TheVariants as command;
 ghost use Rattle.mesh_model.specs.Run.Names.{OfNode};
 ghost use Rattle.mesh_model.specs.Run.State.{State};
-ghost use Rattle.mesh_scene.specs.CarriesOut.{AnswersCommand};
+ghost use Rattle.mesh_scene.specs.AnswersCommand.{AnswersCommand};
 ghost use Rattle.mesh_scene.specs.Inner.AtNodes.{IsNameFault, IsNodeOf};
 ghost use Rattle.mesh_scene.specs.SceneStands.{IsSomewhere, SceneStands};
 

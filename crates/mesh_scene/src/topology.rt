@@ -3,7 +3,7 @@
 ghost use Rattle.std.specs.Prelude.{◌≡◌, false, []};
 ghost use Rattle.mesh_laws.specs.LineLaws.{HasLinkRanges};
 ghost use Rattle.mesh_model.specs.declared.line_form.Command.TheVariants as command;
-ghost use Rattle.mesh_scene.specs.CarriesOut.{AnswersCommand};
+ghost use Rattle.mesh_scene.specs.AnswersCommand.{AnswersCommand};
 ghost use Rattle.mesh_scene.specs.SceneStands.{IsSomewhere};
 
 use crate::fault::{LineFault, refused};

@@ -1,6 +1,6 @@
 use Rattle.std.proofs.Common.{◌≡◌, true, false, List, slice_get, slice_set, Some, sym, ap, ◌∙◌, arith}
 use Rattle.mesh_post.specs.declared.row.Row.{Row}
-use Rattle.mesh_post.specs.Links.{between}
+use Rattle.mesh_post.specs.Inner.Links.{between}
 use Rattle.mesh_post.proofs.LookUps.{got}
 use Rattle.mesh_post.proofs.RowLemmas.{noted_more}
 use Rattle.mesh_post.proofs.rows.note.Goals as goal

@@ -1,5 +1,5 @@
 use Rattle.std.proofs.Common.{◌≡◌, take}
-use Rattle.mesh_post.specs.Links.{between, noted}
+use Rattle.mesh_post.specs.Inner.Links.{between, noted}
 use Rattle.mesh_post.proofs.rows.note.Given as goal
 
 abbrev pub invariant-loop-place : goal.invariant-loop-place

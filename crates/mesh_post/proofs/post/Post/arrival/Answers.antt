@@ -1,7 +1,7 @@
 use Rattle.std.proofs.Common.{rules, ◌≡◌, refl, sym, ap, ◌∙◌, subst, slice_get, None, Some}
 use Rattle.std.proofs.lemmas.Option.{none-some}
 use Rattle.mesh_post.specs.Kept.{FrameIs, RowIs}
-use Rattle.mesh_post.specs.Links.{back_over}
+use Rattle.mesh_post.specs.Inner.Links.{back_over}
 use Rattle.mesh_post.proofs.Back.{back_is, frame_there, no_frame}
 use Rattle.mesh_post.proofs.LookUps.{some_none, some_one}
 use Rattle.mesh_post.proofs.post.Post.arrival.Goals as goal

@@ -1,6 +1,6 @@
 -- What is noted is the throughput of each link back.
 use Rattle.std.proofs.Common.{◌≡◌, ◌++◌, ◌∷◌, [], ap, ◌∙◌, rules}
-use Rattle.mesh_post.specs.Links.{backs_of, between, noted}
+use Rattle.mesh_post.specs.Inner.Links.{backs_of, between, noted}
 use Rattle.mesh_post.proofs.RowLemmas.{backs_linked}
 use Rattle.mesh_post.proofs.rows.Rows.push.Goals as goal
 
