@@ -30,31 +30,40 @@ fn is_at(loops: &LoopList, place: usize, orig: Mac, nodes: &[Mac]) -> bool {
     }
 }
 
-// Whether there is one loop, which is of D and has these nodes.
-fn is_one(loops: &LoopList, nodes: &[Mac]) -> bool {
+// Whether these loops are one of D with these nodes; of no nodes there is no loop.
+fn are_one(loops: &LoopList, nodes: &[Mac]) -> bool {
+    if nodes.is_empty() {
+        return loops.len() == 0;
+    }
     loops.len() == 1 && is_at(loops, 0, D, nodes)
+}
+
+// Sets routes, looks at loops, and answers whether a loop of D with the first nodes is gone and one
+// with the others is new; of no nodes there is no loop.
+fn tells(
+    watch: &mut Watch,
+    routes: &[Route],
+    gone: &[Mac],
+    fresh: &[Mac],
+) -> Result<bool, WatchErr> {
+    let report = moment(watch, routes)?;
+    Ok(are_one(&report.gone, gone) && are_one(&report.fresh, fresh))
 }
 
 #[test]
 fn two_nodes_loop_and_part(rt: HostRuntime) -> Result<(), Fail> {
     let mut watch = Watch::new(rt.alloc());
-    let looped = moment(&mut watch, &[(A, D, Some(B)), (B, D, Some(A))])?;
-    assert_eq!(rt; looped.gone.len(), 0);
-    assert_eq!(rt; is_one(&looped.fresh, &[A, B]), true);
-    let parted = moment(&mut watch, &[(B, D, Some(D))])?;
-    assert_eq!(rt; is_one(&parted.gone, &[A, B]), true);
-    assert_eq!(rt; parted.fresh.len(), 0);
+    let pair = [(A, D, Some(B)), (B, D, Some(A))];
+    assert!(rt; tells(&mut watch, &pair, &[], &[A, B])?);
+    assert!(rt; tells(&mut watch, &[(B, D, Some(D))], &[A, B], &[])?);
     Ok(())
 }
 
 #[test]
 fn a_node_that_names_itself_is_a_loop(rt: HostRuntime) -> Result<(), Fail> {
     let mut watch = Watch::new(rt.alloc());
-    let looped = moment(&mut watch, &[(A, D, Some(A))])?;
-    assert_eq!(rt; is_one(&looped.fresh, &[A]), true);
-    let lost = moment(&mut watch, &[(A, D, None)])?;
-    assert_eq!(rt; is_one(&lost.gone, &[A]), true);
-    assert_eq!(rt; lost.fresh.len(), 0);
+    assert!(rt; tells(&mut watch, &[(A, D, Some(A))], &[], &[A])?);
+    assert!(rt; tells(&mut watch, &[(A, D, None)], &[A], &[])?);
     Ok(())
 }
 
@@ -62,36 +71,38 @@ fn a_node_that_names_itself_is_a_loop(rt: HostRuntime) -> Result<(), Fail> {
 fn what_comes_and_goes_between_two_looks_is_not_told(rt: HostRuntime) -> Result<(), Fail> {
     let mut watch = Watch::new(rt.alloc());
     let routes = [(A, D, Some(B)), (B, D, Some(A)), (B, D, Some(D))];
-    let came = moment(&mut watch, &routes)?;
-    assert_eq!(rt; came.gone.len() + came.fresh.len(), 0);
-    moment(&mut watch, &[(B, D, Some(A))])?;
-    let went = moment(&mut watch, &[(B, D, None), (B, D, Some(A))])?;
-    assert_eq!(rt; went.gone.len() + went.fresh.len(), 0);
+    assert!(rt; tells(&mut watch, &routes, &[], &[])?);
+    assert!(rt; tells(&mut watch, &[(B, D, Some(A))], &[], &[A, B])?);
+    assert!(rt; tells(&mut watch, &[(B, D, None), (B, D, Some(A))], &[], &[])?);
     Ok(())
 }
 
 #[test]
 fn a_loop_that_changes_its_nodes_is_gone_and_new(rt: HostRuntime) -> Result<(), Fail> {
     let mut watch = Watch::new(rt.alloc());
-    moment(&mut watch, &[(A, D, Some(B)), (B, D, Some(A))])?;
-    let changed = moment(&mut watch, &[(B, D, Some(C)), (C, D, Some(A))])?;
-    assert_eq!(rt; is_one(&changed.gone, &[A, B]), true);
-    assert_eq!(rt; is_one(&changed.fresh, &[A, B, C]), true);
+    let pair = [(A, D, Some(B)), (B, D, Some(A))];
+    assert!(rt; tells(&mut watch, &pair, &[], &[A, B])?);
+    let other = [(B, D, Some(C)), (C, D, Some(A))];
+    assert!(rt; tells(&mut watch, &other, &[A, B], &[A, B, C])?);
     Ok(())
+}
+
+// Whether there are three loops: of D itself, of A, and of B and C.
+fn are_three(loops: &LoopList) -> bool {
+    loops.len() == 3
+        && is_at(loops, 0, C, &[D])
+        && is_at(loops, 1, D, &[A])
+        && is_at(loops, 2, D, &[B, C])
 }
 
 #[test]
 fn loops_stand_by_originator_and_least_node(rt: HostRuntime) -> Result<(), Fail> {
     let mut watch = Watch::new(rt.alloc());
-    let pair = [(C, D, Some(B)), (B, D, Some(C))];
-    moment(&mut watch, &pair)?;
+    moment(&mut watch, &[(C, D, Some(B)), (B, D, Some(C))])?;
     moment(&mut watch, &[(B, D, None)])?;
     let routes = [(B, D, Some(C)), (A, D, Some(A)), (D, C, Some(D))];
     let report = moment(&mut watch, &routes)?;
-    assert_eq!(rt; report.fresh.len(), 3);
-    assert_eq!(rt; is_at(&report.fresh, 0, C, &[D]), true);
-    assert_eq!(rt; is_at(&report.fresh, 1, D, &[A]), true);
-    assert_eq!(rt; is_at(&report.fresh, 2, D, &[B, C]), true);
+    assert!(rt; are_three(&report.fresh));
     Ok(())
 }
 
@@ -115,10 +126,8 @@ fn one_pair_too_many_is_refused_and_leaves_all_as_before(rt: HostRuntime) -> Res
     let mut watch = Watch::new(rt.alloc());
     fill(&mut watch)?;
     assert_eq!(rt; watch.set(B, D, Some(B)), Err(WatchErr::Pairs));
-    let looped = moment(&mut watch, &[])?;
-    assert_eq!(rt; is_one(&looped.fresh, &[A]), true);
-    let changed = moment(&mut watch, &[(node(0), D, Some(A)), (A, D, Some(node(0)))])?;
-    assert_eq!(rt; is_one(&changed.gone, &[A]), true);
-    assert_eq!(rt; is_one(&changed.fresh, &[A, node(0)]), true);
+    assert!(rt; tells(&mut watch, &[], &[], &[A])?);
+    let routes = [(node(0), D, Some(A)), (A, D, Some(node(0)))];
+    assert!(rt; tells(&mut watch, &routes, &[A], &[A, node(0)])?);
     Ok(())
 }
