@@ -1,5 +1,6 @@
 use alfred_core::{Fact, Facts, Mark};
-use mesh_base::{Bytes, Mac};
+use mesh_base::{Bytes, Mac, NoMemory};
+use std::alloc::Global;
 use std::test::Fail;
 
 const A: Mac = Mac([2, 0, 0, 0, 0, 10]);
@@ -30,28 +31,39 @@ fn a_fact_is_live_for_ten_minutes(rt: HostRuntime) -> Result<(), Fail> {
     Ok(())
 }
 
+// A fact of A of type 64 with these bytes.
+fn fact_of(alloc: Global, bytes: &[u8]) -> Result<Fact, NoMemory> {
+    Ok(Fact {
+        source: A,
+        type_no: 64,
+        version: 0,
+        bytes: Bytes::from_slice(alloc, bytes)?,
+    })
+}
+
+// Whether such a fact is kept that came from a sender.
+fn keeps(
+    alloc: Global,
+    facts: &mut Facts,
+    now: u64,
+    sender: Mac,
+    bytes: &[u8],
+) -> Result<bool, NoMemory> {
+    let fact = fact_of(alloc, bytes)?;
+    facts.take(now, sender, &fact)
+}
+
 #[test]
 fn a_first_fact_stands_against_a_synced_one(rt: HostRuntime) -> Result<(), Fail> {
     let mut facts = Facts::new(rt.alloc(), B);
-    let fact = Fact {
-        source: A,
-        type_no: 64,
-        version: 0,
-        bytes: Bytes::from_slice(rt.alloc(), b"old")?,
-    };
-    let new = Fact {
-        source: A,
-        type_no: 64,
-        version: 0,
-        bytes: Bytes::from_slice(rt.alloc(), b"new")?,
-    };
-    assert_eq!(rt; facts.take(0, C, &fact)?, true);
+    let alloc = rt.alloc();
+    assert!(rt; keeps(alloc, &mut facts, 0, C, b"old")?);
     assert_eq!(rt; facts.mark_at(0, 0), Some(Mark::Synced));
-    assert_eq!(rt; facts.take(1, A, &fact)?, true);
+    assert!(rt; keeps(alloc, &mut facts, 1, A, b"old")?);
     assert_eq!(rt; facts.mark_at(1, 0), Some(Mark::First));
-    assert_eq!(rt; facts.take(600_000, C, &new)?, false);
-    assert_eq!(rt; is_at(&facts, 600_000, 0, A, 64, b"old"), true);
-    assert_eq!(rt; facts.take(600_001, C, &new)?, true);
-    assert_eq!(rt; is_at(&facts, 600_001, 0, A, 64, b"new"), true);
+    assert!(rt; !keeps(alloc, &mut facts, 600_000, C, b"new")?);
+    assert!(rt; is_at(&facts, 600_000, 0, A, 64, b"old"));
+    assert!(rt; keeps(alloc, &mut facts, 600_001, C, b"new")?);
+    assert!(rt; is_at(&facts, 600_001, 0, A, 64, b"new"));
     Ok(())
 }

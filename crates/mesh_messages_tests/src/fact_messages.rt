@@ -30,6 +30,14 @@ pub(crate) const PUSH: [u8; 44] = [
     2, 0, 0, 0, 0, 11, 255, 0, 0, 0,
 ];
 
+/// The first of these facts.
+const HI: FactRef<'static> = FactRef {
+    source: A,
+    type_no: 64,
+    version: 1,
+    bytes: b"hi",
+};
+
 /// The end of an answer of A to B by the id 258, without parts.
 pub(crate) const END: [u8; 22] = [
     2, 0, 0, 0, 0, 11, 2, 0, 0, 0, 0, 10, 0x42, 0x42, // addresses and type
@@ -122,13 +130,7 @@ fn the_facts_of_a_part_are_walked(rt: HostRuntime) -> Result<(), Fail> {
         panic!(rt; "no part");
     };
     assert_eq!(rt; (sender, push, id, number), (A, true, 7, 3));
-    let hi = FactRef {
-        source: A,
-        type_no: 64,
-        version: 1,
-        bytes: b"hi",
-    };
-    assert_eq!(rt; facts.next(), Some(hi));
+    assert_eq!(rt; facts.next(), Some(HI));
     let empty = FactRef {
         source: B,
         type_no: 255,
@@ -137,7 +139,12 @@ fn the_facts_of_a_part_are_walked(rt: HostRuntime) -> Result<(), Fail> {
     };
     assert_eq!(rt; facts.next(), Some(empty));
     assert_eq!(rt; facts.next(), None);
-    let own = hi.to_fact(rt.alloc())?;
+    Ok(())
+}
+
+#[test]
+fn a_fact_of_a_part_is_copied(rt: HostRuntime) -> Result<(), Fail> {
+    let own = HI.to_fact(rt.alloc())?;
     assert_eq!(rt; (own.source, own.type_no, own.version), (A, 64, 1));
     assert_eq!(rt; own.bytes.as_slice(), b"hi".as_slice());
     Ok(())

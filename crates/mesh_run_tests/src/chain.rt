@@ -127,27 +127,55 @@ fn front_of(bytes: &[u8], length: usize) -> &[u8] {
     bytes.get(..length).unwrap_or(bytes)
 }
 
+/// Whether a run that fails at this call of the intake prints the complete lines of the bytes that it
+/// was given, so many.
+fn prints_complete_lines(
+    alloc: Global,
+    lines: &str,
+    text: &str,
+    call: u64,
+    given: usize,
+) -> Result<bool, Fail> {
+    let ended = run_chain(alloc, lines, call, 0)?;
+    let printed = printed_by_lines(front_of(lines.as_bytes(), given));
+    let front = front_of(text.as_bytes(), printed);
+    Ok(ended.status == READ_FAULT && ended.out.taken() == front)
+}
+
+/// Whether a run that fails at this write of the output leaves a front of what it prints, and one
+/// fault.
+fn leaves_a_front(alloc: Global, lines: &str, text: &str, write: u64) -> Result<bool, Fail> {
+    let ended = run_chain(alloc, lines, 0, write)?;
+    Ok(
+        ended.status == WRITE_FAULT
+            && ended.out.faults() == 1
+            && text.as_bytes().starts_with(ended.out.taken()),
+    )
+}
+
+/// The status of a run whose intake or output would fail at this call or write.
+fn status_of(alloc: Global, lines: &str, call: u64, write: u64) -> Result<u8, Fail> {
+    let ended = run_chain(alloc, lines, call, write)?;
+    Ok(ended.status)
+}
+
 #[test]
 fn a_chain_that_can_not_be_read_prints_its_complete_lines(rt: HostRuntime) -> Result<(), Fail> {
     let text = chain_text(rt.alloc())?;
     let lines = chain_lines(rt.alloc())?;
+    let (lines, text) = (lines.as_str(), text.as_str());
     // Call 1 opens, each later one gives 50 bytes, and the last finds the end.
     let mut given = 0_usize;
     for call in 1..=READ_CALLS {
-        let ended = run_chain(rt.alloc(), lines.as_str(), call, 0)?;
-        assert_eq!(rt; ended.status, READ_FAULT, "at call {call}");
-        let printed = printed_by_lines(front_of(lines.as_bytes(), given));
-        assert_eq!(rt;
-            ended.out.taken(),
-            front_of(text.as_bytes(), printed),
+        assert!(rt;
+            prints_complete_lines(rt.alloc(), lines, text, call, given)?,
             "at call {call}"
         );
         if call > 1 {
             given = given.saturating_add(READ_PIECE);
         }
     }
-    let ended = run_chain(rt.alloc(), lines.as_str(), READ_CALLS + 1, 0)?;
-    assert_eq!(rt; ended.status, FINISHED);
+    assert_eq!(rt; status_of(rt.alloc(), lines, READ_CALLS + 1, 0)?, FINISHED);
     Ok(())
 }
 
@@ -155,20 +183,14 @@ fn a_chain_that_can_not_be_read_prints_its_complete_lines(rt: HostRuntime) -> Re
 fn a_chain_that_can_not_be_written_leaves_a_front(rt: HostRuntime) -> Result<(), Fail> {
     let text = chain_text(rt.alloc())?;
     let lines = chain_lines(rt.alloc())?;
+    let (lines, text) = (lines.as_str(), text.as_str());
     // Only one write fails: what is written after it would not continue the front.
     for write in 1..=WRITES {
-        let ended = run_chain(rt.alloc(), lines.as_str(), 0, write)?;
-        assert_eq!(rt;
-            (ended.status, ended.out.faults()),
-            (WRITE_FAULT, 1),
-            "at write {write}"
-        );
         assert!(rt;
-            text.as_bytes().starts_with(ended.out.taken()),
+            leaves_a_front(rt.alloc(), lines, text, write)?,
             "at write {write}"
         );
     }
-    let ended = run_chain(rt.alloc(), lines.as_str(), 0, WRITES + 1)?;
-    assert_eq!(rt; ended.status, FINISHED);
+    assert_eq!(rt; status_of(rt.alloc(), lines, 0, WRITES + 1)?, FINISHED);
     Ok(())
 }

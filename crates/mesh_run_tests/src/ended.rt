@@ -39,3 +39,17 @@ pub fn run_over(alloc: Global, mut intake: MemIntake, mut out: MemSink, mut err:
     let status = batmesh(alloc, &[], &mut intake, &mut out, &mut err);
     Ended { status, out, err }
 }
+
+/// Whether such a run ends with this status, and leaves these texts in out and in err.
+pub fn leaves(
+    alloc: Global,
+    intake: MemIntake,
+    out: MemSink,
+    err: MemSink,
+    status: u8,
+    printed: &[u8],
+    told: &[u8],
+) -> bool {
+    let ended = run_over(alloc, intake, out, err);
+    ended.status == status && ended.out.taken() == printed && ended.err.taken() == told
+}

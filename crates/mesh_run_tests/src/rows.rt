@@ -1,27 +1,23 @@
-use super::ended::{ROOM, SHOWN_TWICE, TABLE, TABLE_TWICE, UNKNOWN_AT_7, run_over};
+ghost use Rattle.std.specs.Prelude.{◌<◌};
+
+use super::ended::{ROOM, SHOWN_TWICE, TABLE, TABLE_TWICE, UNKNOWN_AT_7, leaves};
 use mesh_base::{MemIntake, MemSink};
 use mesh_run::{FINISHED, REFUSED};
 use std::alloc::Global;
-use std::process::Abort;
 use std::test::Fail;
 
 /// An input, the status of its run, and what the run writes to out and to err.
 type Row<'a> = (&'a [u8], u8, &'a [u8], &'a [u8]);
 
-/// Carries each input out in pieces of several sizes.
-fn carry_out(rt: &impl Abort, alloc: Global, rows: &[Row<'_>]) -> Result<(), Fail> {
-    for (input, status, printed, told) in rows {
-        for piece in [1, 3, 7, 5000] {
-            let intake = MemIntake::new(alloc, *input, piece, &[])?;
-            let out = MemSink::new(alloc, ROOM, piece, &[])?;
-            let err = MemSink::new(alloc, ROOM, piece, &[])?;
-            let ended = run_over(alloc, intake, out, err);
-            assert_eq!(rt; ended.status, *status, "in pieces of {piece}");
-            assert_eq!(rt; ended.out.taken(), *printed, "in pieces of {piece}");
-            assert_eq!(rt; ended.err.taken(), *told, "in pieces of {piece}");
-        }
-    }
-    Ok(())
+/// Whether an input that is carried out in pieces of a size leaves what its row says.
+fn is_carried_out(alloc: Global, row: &Row<'_>, piece: usize) -> Result<bool, Fail>
+    requires { 0 < piece }
+{
+    let (input, status, printed, told) = row;
+    let intake = MemIntake::new(alloc, *input, piece, &[])?;
+    let out = MemSink::new(alloc, ROOM, piece, &[])?;
+    let err = MemSink::new(alloc, ROOM, piece, &[])?;
+    Ok(leaves(alloc, intake, out, err, *status, *printed, *told))
 }
 
 #[test]
@@ -47,5 +43,13 @@ fn local_tables_are_printed(rt: HostRuntime) -> Result<(), Fail> {
         ),
         (SHOWN_TWICE, REFUSED, TABLE_TWICE, UNKNOWN_AT_7),
     ];
-    carry_out(&rt, rt.alloc(), &rows)
+    for row in &rows {
+        for piece in [1, 3, 7, 5000] {
+            assert!(rt;
+                is_carried_out(rt.alloc(), row, piece)?,
+                "in pieces of {piece}"
+            );
+        }
+    }
+    Ok(())
 }

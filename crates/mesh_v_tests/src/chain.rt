@@ -2,6 +2,7 @@ use mesh_algo::{Head, Hearing, OrigRow};
 use mesh_base::{Mac, Millis};
 use mesh_v::laws::keys_come_from_heads;
 use mesh_v::{Algo, V};
+use std::alloc::Global;
 
 const A: Mac = Mac([2, 0, 0, 0, 0, 10]);
 
@@ -44,27 +45,37 @@ fn sent_on(node: &mut V, k: Mac, link: u32, now: Millis, came: &Head) -> Option<
     }
 }
 
+// What a node that was just started sends on of it, and its metric for D.
+fn hop(alloc: Global, me: Mac, k: Mac, link: u32, now: Millis, came: &Head) -> Option<(Head, u32)> {
+    let mut node = V::new(alloc, me);
+    let sent = sent_on(&mut node, k, link, now, came)?;
+    Some((sent, node.metric(1500, D)))
+}
+
 // The chain A, B, C, D of links of 50, 100 and 20: at each hop 225 of 255 parts are left, floored.
 #[test]
 fn a_hop_takes_its_part_and_a_link_its_throughput(rt: HostRuntime) {
-    let mut c = V::new(rt.alloc(), C);
-    let mut b = V::new(rt.alloc(), B);
+    let alloc = rt.alloc();
+    assert_eq!(rt;
+        hop(alloc, C, D, 20, 1001, &ogm(50, u32::MAX)),
+        Some((ogm(49, 17), 20))
+    );
+    assert_eq!(rt;
+        hop(alloc, B, C, 100, 1002, &ogm(49, 17)),
+        Some((ogm(48, 15), 17))
+    );
+    assert_eq!(rt;
+        hop(alloc, A, B, 50, 1003, &ogm(48, 15)),
+        Some((ogm(47, 13), 15))
+    );
+}
+
+#[test]
+fn the_end_of_the_chain_has_one_row(rt: HostRuntime) {
     let mut a = V::new(rt.alloc(), A);
-    assert_eq!(rt;
-        sent_on(&mut c, D, 20, 1001, &ogm(50, u32::MAX)),
-        Some(ogm(49, 17))
-    );
-    assert_eq!(rt;
-        sent_on(&mut b, C, 100, 1002, &ogm(49, 17)),
-        Some(ogm(48, 15))
-    );
     assert_eq!(rt;
         sent_on(&mut a, B, 50, 1003, &ogm(48, 15)),
         Some(ogm(47, 13))
-    );
-    assert_eq!(rt;
-        (c.metric(1500, D), b.metric(1500, D), a.metric(1500, D)),
-        (20, 17, 15)
     );
     assert_eq!(rt; (a.route(1500, D), a.live(1500, D)), (Some(B), true));
     let row = OrigRow {

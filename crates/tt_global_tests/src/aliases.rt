@@ -1,12 +1,11 @@
 ghost use Rattle.std.specs.Prelude.{◌≡◌, ◌<◌};
 
-use super::telling::{TENTH, TWO_SUM, Told, added, client, hear, hear_empty};
+use super::telling::{TENTH, TWO_SUM, Told, client, hear, hear_empty};
 use mesh_base::{NoMemory, Steps};
 use std::alloc::Global;
 use std::marker::Brand;
 use std::sync::ledger::{Blank, Ledger};
 use tt_global::{Globals, Heard};
-use tt_table::Changes;
 
 /// The table of the first client and the second, and that of the fifth and the sixth, which has the
 /// same checksum: 1 xor 2 is 5 xor 6.
@@ -27,12 +26,10 @@ fn alias_announced<L: Ledger>(
 {
     let mut steps = Steps::<L>::new(blank);
     let mut globals = Globals::new(alloc);
-    let two = added(alloc, &[1, 2])?;
-    let none = Changes::new(alloc);
     let heard = [
         hear_empty(alloc, &mut globals, &mut steps)?,
-        hear(alloc, &mut globals, BOTH, &two, &mut steps)?,
-        hear(alloc, &mut globals, BOTH, &none, &mut steps)?,
+        hear(alloc, &mut globals, BOTH, &[1, 2], &mut steps)?,
+        hear(alloc, &mut globals, BOTH, &[], &mut steps)?,
     ];
     Ok((heard, globals))
 }

@@ -1,14 +1,11 @@
 ghost use Rattle.std.specs.Prelude.{◌≡◌, ◌<◌};
 
-use super::telling::{
-    FIRST_SUM, TENTH, TWO_SUM, Told, added, hear, hear_empty, take_changes, take_full,
-};
+use super::telling::{FIRST_SUM, TENTH, TWO_SUM, Told, hear, hear_empty, take_changes, take_full};
 use mesh_base::{NoMemory, Steps};
 use std::alloc::Global;
 use std::marker::Brand;
 use std::sync::ledger::{Blank, Ledger};
 use tt_global::{Globals, Heard, Taken};
-use tt_table::Changes;
 
 /// The table of the first client.
 const ONE: Told = Told {
@@ -34,13 +31,11 @@ fn announce_three<L: Ledger>(
     globals: &mut Globals,
     steps: &mut Steps<L>,
 ) -> Result<[Heard; 3], NoMemory> {
-    let none = Changes::new(alloc);
-    let first = added(alloc, &[1])?;
     hear_empty(alloc, globals, steps)?;
     Ok([
-        hear(alloc, globals, ONE, &first, steps)?,
-        hear(alloc, globals, TWO, &none, steps)?,
-        hear(alloc, globals, THREE, &none, steps)?,
+        hear(alloc, globals, ONE, &[1], steps)?,
+        hear(alloc, globals, TWO, &[], steps)?,
+        hear(alloc, globals, THREE, &[], steps)?,
     ])
 }
 
@@ -57,11 +52,9 @@ fn answer_late<L: Ledger>(
     globals: &mut Globals,
     steps: &mut Steps<L>,
 ) -> Result<(Taken, Option<u8>, Taken), NoMemory> {
-    let second = added(alloc, &[2])?;
-    let late = take_changes(alloc, globals, TWO, &second, steps)?;
+    let late = take_changes(alloc, globals, TWO, &[2], false, steps)?;
     let kept = held_byte(globals);
-    let whole = added(alloc, &[1, 2, 3])?;
-    let full = take_full(alloc, globals, THREE, &whole, steps)?;
+    let full = take_full(alloc, globals, THREE, &[1, 2, 3], steps)?;
     Ok((late, kept, full))
 }
 

@@ -1,14 +1,13 @@
 ghost use Rattle.std.specs.Prelude.{◌≡◌, ◌<◌};
 
 use super::telling::{
-    FIRST_SUM, TENTH, TWO_SUM, Told, client, hear, hear_empty, one, take_changes, take_full,
+    FIRST_SUM, TENTH, TWO_SUM, Told, client, hear, hear_empty, take_changes, take_full,
 };
 use mesh_base::{NoMemory, Steps, Vid};
 use std::alloc::Global;
 use std::marker::Brand;
 use std::sync::ledger::{Blank, Ledger};
 use tt_global::{GlobalRow, Globals, Heard, Taken};
-use tt_table::Changes;
 
 /// The table of the first client, under this byte.
 fn first_under(byte: u8) -> Told {
@@ -28,15 +27,13 @@ fn announce_all<L: Ledger>(
         byte: 1,
         sum: TWO_SUM,
     };
-    let none = Changes::new(alloc);
-    let first = one(alloc, client(1), false)?;
     Ok([
         hear_empty(alloc, globals, steps)?,
-        hear(alloc, globals, first_under(1), &first, steps)?,
-        hear(alloc, globals, other, &none, steps)?,
-        hear(alloc, globals, first_under(2), &first, steps)?,
-        hear(alloc, globals, first_under(2), &none, steps)?,
-        hear(alloc, globals, first_under(5), &none, steps)?,
+        hear(alloc, globals, first_under(1), &[1], steps)?,
+        hear(alloc, globals, other, &[], steps)?,
+        hear(alloc, globals, first_under(2), &[1], steps)?,
+        hear(alloc, globals, first_under(2), &[], steps)?,
+        hear(alloc, globals, first_under(5), &[], steps)?,
     ])
 }
 
@@ -46,14 +43,12 @@ fn answer_all<L: Ledger>(
     globals: &mut Globals,
     steps: &mut Steps<L>,
 ) -> Result<([Taken; 3], bool), NoMemory> {
-    let whole = one(alloc, client(1), false)?;
-    let early = take_full(alloc, globals, first_under(2), &whole, steps)?;
-    let full = take_full(alloc, globals, first_under(5), &whole, steps)?;
+    let early = take_full(alloc, globals, first_under(2), &[1], steps)?;
+    let full = take_full(alloc, globals, first_under(5), &[1], steps)?;
     let ok = globals.is_ok(TENTH);
     let next = first_under(6);
-    hear(alloc, globals, next, &Changes::new(alloc), steps)?;
-    let gone = one(alloc, client(9), true)?;
-    let changes = take_changes(alloc, globals, next, &gone, steps)?;
+    hear(alloc, globals, next, &[], steps)?;
+    let changes = take_changes(alloc, globals, next, &[9], true, steps)?;
     Ok(([early, full, changes], ok))
 }
 

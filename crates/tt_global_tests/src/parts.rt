@@ -1,12 +1,11 @@
 ghost use Rattle.std.specs.Prelude.{◌≡◌, ◌<◌};
 
-use super::telling::{TENTH, TWO_SUM, Told, added, hear, hear_empty, take_part};
+use super::telling::{TENTH, TWO_SUM, Told, hear, hear_empty, take_part};
 use mesh_base::{NoMemory, Steps};
 use std::alloc::Global;
 use std::marker::Brand;
 use std::sync::ledger::{Blank, Ledger};
 use tt_global::{Globals, Taken};
-use tt_table::Changes;
 
 /// The outcomes of the parts of a table with the first client and the second, the later one first
 /// and twice, behind one with a bad number; and whether the tables agree then.
@@ -21,16 +20,13 @@ fn exchange<L: Ledger>(alloc: Global, blank: Blank) -> Result<([Taken; 4], bool)
         byte: 3,
         sum: TWO_SUM,
     };
-    let none = Changes::new(alloc);
-    let first = added(alloc, &[1])?;
-    let second = added(alloc, &[2])?;
     hear_empty(alloc, &mut globals, &mut steps)?;
-    hear(alloc, &mut globals, told, &none, &mut steps)?;
+    hear(alloc, &mut globals, told, &[], &mut steps)?;
     let taken = [
-        take_part(alloc, &mut globals, told, 2, &none, &mut steps)?,
-        take_part(alloc, &mut globals, told, 1, &second, &mut steps)?,
-        take_part(alloc, &mut globals, told, 1, &first, &mut steps)?,
-        take_part(alloc, &mut globals, told, 0, &first, &mut steps)?,
+        take_part(alloc, &mut globals, told, 2, &[], &mut steps)?,
+        take_part(alloc, &mut globals, told, 1, &[2], &mut steps)?,
+        take_part(alloc, &mut globals, told, 1, &[1], &mut steps)?,
+        take_part(alloc, &mut globals, told, 0, &[1], &mut steps)?,
     ];
     Ok((taken, globals.is_ok(TENTH)))
 }

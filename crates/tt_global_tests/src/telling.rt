@@ -25,25 +25,18 @@ pub fn client(last: u8) -> Entry {
 }
 
 /// The sums that name the untagged VLAN alone.
-pub fn untagged(alloc: Global, sum: u32) -> Result<Sums, NoMemory> {
+fn untagged(alloc: Global, sum: u32) -> Result<Sums, NoMemory> {
     let mut sums = Sums::new(alloc);
     sums.set(Vid::UNTAGGED, sum)?;
     Ok(sums)
 }
 
-/// The change of one client.
-pub fn one(alloc: Global, entry: Entry, del: bool) -> Result<Changes, NoMemory> {
-    let mut changes = Changes::new(alloc);
-    changes.push(Change { entry, del })?;
-    Ok(changes)
-}
-
-/// The additions of clients, by the last bytes of their addresses.
-pub fn added(alloc: Global, clients: &[u8]) -> Result<Changes, NoMemory> {
+/// The additions of clients, or their removals, by the last bytes of their addresses.
+fn changes_of(alloc: Global, clients: &[u8], del: bool) -> Result<Changes, NoMemory> {
     let mut changes = Changes::new(alloc);
     for last in clients {
         let entry = client(*last);
-        changes.push(Change { entry, del: false })?;
+        changes.push(Change { entry, del })?;
     }
     Ok(changes)
 }
@@ -69,56 +62,59 @@ pub fn hear_empty<L: Ledger>(
     globals.announce(TENTH, &announced, steps)
 }
 
-/// Takes an announcement with changes.
+/// Takes an announcement that adds these clients.
 pub fn hear<L: Ledger>(
     alloc: Global,
     globals: &mut Globals,
     told: Told,
-    changes: &Changes,
+    clients: &[u8],
     steps: &mut Steps<L>,
 ) -> Result<Heard, NoMemory> {
-    let sums = untagged(alloc, told.sum)?;
     let announced = Announcement {
         byte: told.byte,
-        sums,
-        changes: changes.copy()?,
+        sums: untagged(alloc, told.sum)?,
+        changes: changes_of(alloc, clients, false)?,
     };
     globals.announce(TENTH, &announced, steps)
 }
 
-/// Takes an answer with a whole table.
+/// Takes an answer with a whole table, of these clients.
 pub fn take_full<L: Ledger>(
     alloc: Global,
     globals: &mut Globals,
     told: Told,
-    records: &Changes,
+    clients: &[u8],
     steps: &mut Steps<L>,
 ) -> Result<Taken, NoMemory> {
     let sums = untagged(alloc, told.sum)?;
-    globals.take_full(TENTH, told.byte, &sums, records, steps)
+    let records = changes_of(alloc, clients, false)?;
+    globals.take_full(TENTH, told.byte, &sums, &records, steps)
 }
 
-/// Takes an answer with changes.
+/// Takes an answer with changes, which adds these clients or removes them.
 pub fn take_changes<L: Ledger>(
     alloc: Global,
     globals: &mut Globals,
     told: Told,
-    records: &Changes,
+    clients: &[u8],
+    del: bool,
     steps: &mut Steps<L>,
 ) -> Result<Taken, NoMemory> {
     let sums = untagged(alloc, told.sum)?;
-    globals.take_changes(TENTH, told.byte, &sums, records, steps)
+    let records = changes_of(alloc, clients, del)?;
+    globals.take_changes(TENTH, told.byte, &sums, &records, steps)
 }
 
-/// Takes one of two parts of an answer with a whole table.
+/// Takes one of two parts of an answer with a whole table, which has these clients.
 pub fn take_part<L: Ledger>(
     alloc: Global,
     globals: &mut Globals,
     told: Told,
     number: u16,
-    records: &Changes,
+    clients: &[u8],
     steps: &mut Steps<L>,
 ) -> Result<Taken, NoMemory> {
     let sums = untagged(alloc, told.sum)?;
-    globals.take_part(TENTH, told.byte, &sums, number, 2, records, steps)
+    let records = changes_of(alloc, clients, false)?;
+    globals.take_part(TENTH, told.byte, &sums, number, 2, &records, steps)
 }
