@@ -1,4 +1,4 @@
-use super::ended::ROOM;
+use super::ended::{ROOM, owned};
 use mesh_base::{MemIntake, MemSink};
 use mesh_run::{FINISHED, USAGE, batmesh};
 use std::alloc::Global;
@@ -10,15 +10,6 @@ const SHOWN: &[u8] = b"node A 02:00:00:00:00:0a\nshow A tl\n";
 /// The words of a call, the status, what is written to out and to err, and whether the intake is
 /// opened.
 type Row<'a> = (&'a [&'a str], u8, &'a [u8], &'a [u8], bool);
-
-/// Words that the program owns.
-pub fn owned(alloc: Global, words: &[&str]) -> Result<Vec<String>, Fail> {
-    let mut owned = Vec::new(alloc);
-    for word in words {
-        owned.push(String::from_str(alloc, word)?)?;
-    }
-    Ok(owned)
-}
 
 /// Whether the program, called with the words of a row, leaves what the row says. The intake fails
 /// at its first call where it isn't to be opened.

@@ -127,8 +127,8 @@ fn front_of(bytes: &[u8], length: usize) -> &[u8] {
     bytes.get(..length).unwrap_or(bytes)
 }
 
-/// Whether a run that fails at this call of the intake prints the complete lines of the bytes that it
-/// was given, so many.
+/// Whether a run that fails at this call of the intake prints the complete lines of the bytes that
+/// it was given, so many.
 fn prints_complete_lines(
     alloc: Global,
     lines: &str,

@@ -3,6 +3,7 @@
 use mesh_base::{MemIntake, MemSink};
 use mesh_run::batmesh;
 use std::alloc::Global;
+use std::test::Fail;
 
 /// The table twice, the second time after line 6, which ends at byte 99; line 7 is refused.
 pub const SHOWN_TWICE: &[u8] = b"node A 02:00:00:00:00:0a\n\
@@ -32,6 +33,15 @@ pub struct Ended {
     pub status: u8,
     pub out: MemSink,
     pub err: MemSink,
+}
+
+/// Words that the program owns.
+pub fn owned(alloc: Global, words: &[&str]) -> Result<Vec<String>, Fail> {
+    let mut owned = Vec::new(alloc);
+    for word in words {
+        owned.push(String::from_str(alloc, word)?)?;
+    }
+    Ok(owned)
 }
 
 /// A run without words, over an intake and outputs that the test made.

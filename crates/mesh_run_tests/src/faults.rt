@@ -1,5 +1,4 @@
-use super::calls::owned;
-use super::ended::{ROOM, SHOWN_TWICE, TABLE_TWICE, UNKNOWN_AT_7, leaves, run_over};
+use super::ended::{ROOM, SHOWN_TWICE, TABLE_TWICE, UNKNOWN_AT_7, leaves, owned, run_over};
 use mesh_base::{MemIntake, MemSink};
 use mesh_run::{LIMITED, READ_FAULT, REFUSED, USAGE, WRITE_FAULT, batmesh};
 use std::alloc::Global;
