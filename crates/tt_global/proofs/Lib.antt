@@ -3,5 +3,6 @@ pub mod AgainLemmas
 pub mod KeyLemmas
 pub mod PartLemmas
 pub mod StandLemmas
+pub mod SettledLemmas
 pub mod CommitLemmas
 pub mod PlaceLemmas

@@ -1,13 +1,14 @@
 -- How what is kept of originators stands for all that came for them. The main word is
 -- `GlobalsStand`.
-use Rattle.std.specs.Prelude.{◌≡◌, ℕ, List, IsTrue}
+use Rattle.std.specs.Prelude.{◌≡◌, ℕ, List, Option, Some, None, IsTrue}
 use Rattle.std.specs.Borrow.{Bor}
 use Rattle.std.specs.List.Sorted.{IsStrictlySortedBy}
 use Rattle.std.specs.Map.{keys_of, lookup}
 use Rattle.mesh_base.specs.declared.address.Mac.{Mac}
 use Rattle.mesh_model.specs.Routes.Addresses.{mac_order, same_mac}
 use Rattle.mesh_model.specs.Tables.Known.{TableCalls, agrees, known_by, originators_by, stamp_of}
-use Rattle.mesh_model.specs.Tables.Versions.{Version}
+use Rattle.mesh_model.specs.Tables.Sums.{sums_of}
+use Rattle.mesh_model.specs.Tables.Versions.{Stamp, Version}
 use Rattle.mesh_laws.specs.HeldLaws.{AreOfCommits}
 use Rattle.tt_global.specs.Kept.{gathered_in, held_in, told_in}
 use Rattle.tt_global.specs.declared.known.KnownTable.{KnownTable}
@@ -39,6 +40,13 @@ KeepsCommits made orig kept = AreOfCommits made (told_in (lookup (same_mac orig)
 abbrev pub KeepsAgreed : Mac → Kept → Type 0
 KeepsAgreed orig kept = IsTrue (agrees (told_in (lookup (same_mac orig) kept))
     (held_in (lookup (same_mac orig) kept)))
+
+-- what is held has the byte that was told, and its sums are the told ones, VLAN by VLAN: more than
+-- agreement, since an unnamed VLAN isn't one with the sum 0
+abbrev pub IsSettled : Option Stamp → Option Version → Type 0
+IsSettled None held = ⊥
+IsSettled (Some told) None = ⊥
+IsSettled (Some told) (Some held) = (held.byte ≡ told.byte) × (sums_of held.table ≡ told.sums)
 
 -- a table that is lent with its byte, as a version
 abbrev pub asked_version : ℕ × Bor TableView → Version

@@ -1,18 +1,20 @@
-ghost use Rattle.std.specs.Prelude.{◌≡◌, ◌↔◌, ◌+◌, ◌≤◌, ℕ, List, [], ◌∷◌, ◌++◌, length, slice_get, option_map, option_and_then, IfOk, IfSome, IsNone, IsOk, IsTrue, None, OnErr, OnOk, Some};
+ghost use Rattle.std.specs.Prelude.{◌≡◌, ◌↔◌, ◌+◌, ◌≤◌, ℕ, List, [], ◌∷◌, ◌++◌, length, slice_get, option_map, option_and_then, IfOk, IfSome, IsNone, IsOk, IsSome, IsTrue, None, OnErr, OnOk, Some};
 ghost use Rattle.std.specs.Map.{lookup};
 ghost use Rattle.mesh_base.specs.declared.address.Mac.{Mac};
 ghost use Rattle.mesh_model.specs.declared.table_change.Change.{Change};
 ghost use Rattle.mesh_model.specs.Knowledge.Known.{agreed_byte};
+ghost use Rattle.mesh_model.specs.Knowledge.Told.{sums_told};
 ghost use Rattle.mesh_model.specs.Routes.Addresses.{same_mac};
-ghost use Rattle.mesh_model.specs.Tables.Judging.{InChanges, InFull, InPart, announcement_row, answer_row};
+ghost use Rattle.mesh_model.specs.Tables.Judging.{InChanges, InFull, InPart, announcement_row, answer_row, wanted_request};
 ghost use Rattle.mesh_model.specs.Tables.Known.{Announced, Answered, Dropped, TableCalls, holders_by, is_agreed, known_by, originators_by, global_row, stamp_of};
 ghost use Rattle.mesh_model.specs.Tables.Gathered.{gathered_records, with_table_part};
 ghost use Rattle.mesh_model.specs.Tables.Versions.{Stamp, Version};
 ghost use Rattle.mesh_model.specs.declared.table_outcome.Taken.TheVariants.{Taken as IsTaken};
 ghost use Rattle.mesh_laws.specs.HeldLaws.{CameFrom, HoldsTold};
 ghost use Rattle.mesh_laws.specs.KnownLaws.{ArePartsOf, IsLastPart, IsToldWhole};
-ghost use Rattle.tt_global.specs.Globals.{GlobalsStand, KeepsAgreed, KeepsCommits, asked_version};
+ghost use Rattle.tt_global.specs.Globals.{GlobalsStand, IsSettled, KeepsAgreed, KeepsCommits, asked_version};
 ghost use Rattle.tt_global.specs.Kept.{Announces, GathersAs, HoldsThen, announcement_of, gathered_in, stamp, stamp_in};
+ghost use Rattle.tt_table.specs.Sums.{named_sums};
 
 use crate::gathered::GatheredParts;
 use crate::judging::{Judged, Parts, judge_announcement, judge_changes, judge_full, judge_part};
@@ -281,6 +283,35 @@ impl Globals {
             result ≡ agreed_byte (known_by calls orig) }
     {
         self.known.get(&orig)?.agreed_byte()
+    }
+
+    /// The byte and the sums that an originator announced last, where the table that is held has
+    /// both. An announcement of them again changes nothing and asks for nothing, whatever changes
+    /// it has.
+    #[inline(always)]
+    pub fn settled(&self, orig: Mac) -> Option<(u8, &Sums)>
+        ensures again { IfSome result (λ told. (calls : TableCalls) (frame : ℕ)
+            (changes : List Change) → GlobalsStand self.now calls → GlobalsStand self.now
+            (Announced orig frame (stamp told.0 told.1.now) changes ∷ calls)) }
+        ensures unasked { IfSome result (λ told. (calls : TableCalls) (changes : List Change) →
+            GlobalsStand self.now calls →
+            wanted_request (announcement_row (known_by calls orig).held
+            (stamp told.0 told.1.now) changes).outcome ≡ None) }
+        ensures told { (calls : TableCalls) → GlobalsStand self.now calls →
+            IfSome result (λ told.
+            stamp_of (known_by calls orig) ≡ Some (stamp told.0 told.1.now)) }
+        ensures some { (calls : TableCalls) → GlobalsStand self.now calls →
+            IsSome result ↔ IsSettled (stamp_of (known_by calls orig)) (known_by calls orig).held }
+
+        // They stand by wire number, each VLAN once, so that they are told as they are.
+        ensures sums { IfSome result (λ told.
+            sums_told (named_sums told.1.now) ≡ named_sums told.1.now) }
+    {
+        let known = self.known.get(&orig)?;
+        if !known.is_settled() {
+            return None;
+        }
+        Some((known.byte, &known.sums))
     }
 
     /// The byte that an originator announced last, if any.

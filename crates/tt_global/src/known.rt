@@ -1,7 +1,6 @@
-ghost use Rattle.std.specs.Prelude.{◌≡◌, ◌+◌, ◌≤◌, [], length, true, IfOk, IfSome, IsOk, OnErr, OnOk, Some};
-ghost use Rattle.mesh_model.specs.Tables.Judging.{stays};
+ghost use Rattle.std.specs.Prelude.{◌≡◌, ◌↔◌, ◌+◌, ◌≤◌, length, IfOk, IfSome, IsOk, IsTrue, OnErr, OnOk, Some};
 ghost use Rattle.mesh_model.specs.Tables.Known.{agrees, kept_under, matches_told, names};
-ghost use Rattle.mesh_model.specs.declared.table_outcome.Heard.TheVariants.{Same};
+ghost use Rattle.tt_global.specs.Globals.{IsSettled};
 ghost use Rattle.tt_global.specs.Kept.{IsAnnounced, agreed_in, announcement_of, held_in, kept_row, stamp, stamp_in, told_in};
 ghost use Rattle.tt_table.specs.Sums.{named_sums};
 
@@ -39,6 +38,17 @@ impl KnownTable {
             Some(held) => {
                 held.byte == self.byte && held.table.sums().first_difference(&self.sums).is_none()
             }
+            None => false,
+        }
+    }
+
+    /// Whether the held table has the announced byte, and its sums are those that were announced,
+    /// VLAN by VLAN.
+    pub(crate) fn is_settled(&self) -> bool
+        ensures { IsTrue result ↔ IsSettled (told_in (Some self.now)) (held_in (Some self.now)) }
+    {
+        match &self.held {
+            Some(held) => held.byte == self.byte && held.table.sums().is_same(&self.sums),
             None => false,
         }
     }
@@ -111,41 +121,6 @@ impl KnownTable {
         self.held = Some(HeldTable { byte, table });
     }
 
-    // Whether an announcement without VLANs tells what was told before, and a table without clients
-    // is held under its byte. A node without clients announces so again and again.
-    fn is_emptied_again(&self, announced: &Announcement) -> bool
-        ensures sums { result ≡ true → named_sums announced.now.sums ≡ [] }
-        ensures told { result ≡ true → told_in (Some self.now) ≡ Some (stamp_in announced.now) }
-        ensures held { result ≡ true → held_in (Some self.now)
-            ≡ Some (record { byte = announced.now.byte; table = [] }) }
-    {
-        let byte = announced.byte;
-        let is_told = self.byte == byte && self.sums.len() == 0 && announced.sums.len() == 0;
-        match &self.held {
-            Some(held) => is_told && held.byte == byte && held.table.entry_at(0).is_none(),
-            None => false,
-        }
-    }
-
-    // Whether an announcement with VLANs tells what was told before, and the table that is held has
-    // its byte and its sums, as most announcements do.
-    fn is_told_again(&self, announced: &Announcement) -> bool
-        ensures told { result ≡ true → told_in (Some self.now) ≡ Some (stamp_in announced.now) }
-        ensures row { result ≡ true → announcement_of (Some self.now) (stamp_in announced.now)
-            announced.now.changes ≡ stays Same }
-        ensures matches { result ≡ true →
-            matches_told (told_in (Some self.now)) (stamp_in announced.now) ≡ true }
-    {
-        let Announcement { byte, sums, .. } = announced;
-        let Some(held) = &self.held else {
-            return false;
-        };
-        if self.byte != *byte || held.byte != *byte || sums.len() == 0 {
-            return false;
-        }
-        self.sums.is_same(sums) && held.table.sums().is_same(sums)
-    }
-
     /// Takes an announcement, and answers what it makes of the held table.
     pub(crate) fn announce<L: Ledger>(
         &mut self,
@@ -166,12 +141,6 @@ impl KnownTable {
             IfSome (held_in (Some self.old)) (λ held. held.byte ≡ announced.now.byte) →
             IsOk result }
     {
-        if self.is_emptied_again(announced) {
-            return Ok(Heard::Emptied);
-        }
-        if self.is_told_again(announced) {
-            return Ok(Heard::Same);
-        }
         let Judged { outcome, table } = judge_announcement(
             alloc,
             self.held.as_ref(),

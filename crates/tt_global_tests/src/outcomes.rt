@@ -37,7 +37,14 @@ fn announce_all<L: Ledger>(
     ])
 }
 
-/// The outcomes of answers, one after another, and whether the second made the tables agree.
+/// The byte that was told last, where the held table has it and the sums.
+fn settled_byte(globals: &Globals) -> Option<u8> {
+    let (byte, _sums) = globals.settled(TENTH)?;
+    Some(byte)
+}
+
+/// The outcomes of answers, one after another, and whether the second made the tables agree, so
+/// that what was told would change nothing.
 fn answer_all<L: Ledger>(
     alloc: Global,
     globals: &mut Globals,
@@ -45,7 +52,7 @@ fn answer_all<L: Ledger>(
 ) -> Result<([Taken; 3], bool), NoMemory> {
     let early = take_full(alloc, globals, first_under(2), &[1], steps)?;
     let full = take_full(alloc, globals, first_under(5), &[1], steps)?;
-    let ok = globals.is_ok(TENTH);
+    let ok = globals.is_ok(TENTH) && settled_byte(globals) == Some(5);
     let next = first_under(6);
     hear(alloc, globals, next, &[], steps)?;
     let changes = take_changes(alloc, globals, next, &[9], true, steps)?;
