@@ -1,8 +1,10 @@
 -- Lists that are read or spelled one element at a time.
-use Rattle.std.proofs.Common.{◌≡◌, ℕ, zero, suc, ◌+◌, ◌<◌, List, [], ◌∷◌, ◌++◌, length, take, refl, sym, ap, ◌∙◌, arith, append_assoc}
+use Rattle.std.proofs.Common.{◌≡◌, ℕ, zero, suc, ◌+◌, ◌<◌, Bool, true, false, nat_lt, List, [], ◌∷◌, ◌++◌, length, take, refl, sym, ap, ap₂, subst, ◌∙◌, arith, append_assoc}
 use Rattle.std.specs.Prelude.{Some, None, Option, option_map, slice_get, map, fold}
 use Rattle.std.specs.List.{flat_map}
 use Rattle.std.proofs.lemmas.List.{append-nil}
+use Rattle.std.proofs.lemmas.Bool.{ltb-false, ltb-true}
+use Rattle.std.proofs.lemmas.Option.{same_Some}
 
 -- there is an element at each place below the length
 pub some_at : {X Y : Type 0} (g : X → Y) (xs : List X) (i : ℕ) → i < length xs → option_map g (slice_get xs i) ≡ None → ⊥
@@ -59,3 +61,19 @@ spelled_mapped g spell (x ∷ xs) = ap (λ rest. spell (g x) ++ rest) (spelled_m
 pub same_option : {X : Type 0} (o : Option X) → option_map (λ x. x) o ≡ o
 same_option None = refl
 same_option (Some x) = refl
+
+-- lists with the same at each place are the same
+pub same_lists : {X Y : Type 0} (g : X → Y) (xs ys : List X) → ((x y : X) → g x ≡ g y → x ≡ y) → length xs ≡ length ys → ((i : ℕ) → i < length xs → option_map g (slice_get xs i) ≡ option_map g (slice_get ys i)) → xs ≡ ys
+same_lists g [] [] exact counted same = refl
+same_lists g [] (y ∷ ys) exact counted same = absurd (omega (arith, counted))
+same_lists g (x ∷ xs) [] exact counted same = absurd (omega (arith, counted))
+same_lists g (x ∷ xs) (y ∷ ys) exact counted same =
+    ap₂ (λ z zs. z ∷ zs) (exact x y (same_Some (g x) (g y) (same 0 (omega arith)))) (same_lists g xs ys exact (omega (arith, counted)) (λ i lt. same (suc i) (omega (arith, lt))))
+
+-- what is the same below a number, and at it, is the same up to it
+pub same_up_to : {X : Type 0} (p q : ℕ → X) (n : ℕ) → ((i : ℕ) → i < n → p i ≡ q i) → p n ≡ q n → (i : ℕ) → i < n + 1 → p i ≡ q i
+same_up_to p q n below here i lt = go (nat_lt i n) refl
+  where
+    go : (b : Bool) → nat_lt i n ≡ b → p i ≡ q i
+    go true e = below i (ltb-true i n e)
+    go false e = let at : n ≡ i = (let past = ltb-false i n e in omega (arith, past, lt)) in subst (λ k. p k ≡ q k) at here

@@ -1,6 +1,6 @@
 //! What a node reads of containers.
 
-ghost use Rattle.std.specs.Prelude.{◌≡◌, IfOk, option_map};
+ghost use Rattle.std.specs.Prelude.{◌≡◌, ◌↔◌, IfOk, IsTrue, option_map};
 ghost use Rattle.mesh_model.specs.Knowledge.Told.{message_changes, sums_told};
 ghost use Rattle.mesh_model.specs.Packets.Containers.{containers_of};
 ghost use Rattle.mesh_model.specs.Packets.Contents.{first_part, first_roaming, first_table, is_of};
@@ -187,6 +187,30 @@ fn changes_in(alloc: Global, table: &TtView<'_>) -> Result<Changes, NoMemory>
         }
     }
     Ok(changes)
+}
+
+/// Whether a translation table has this byte and names the VLANs of these sums, in their order and
+/// each with its checksum.
+#[inline(always)]
+pub fn tells(table: &TtView<'_>, byte: u8, sums: &Sums) -> bool
+    ensures { IsTrue result
+        ↔ ((table.now.ttvn ≡ byte) × (table.now.vlans ≡ named_sums sums.now)) }
+{
+    if table.ttvn() != byte || table.vlans() != sums.len() {
+        return false;
+    }
+    for i in 0..table.vlans() {
+        let Some((vid, sum)) = table.vlan_at(i) else {
+            return false;
+        };
+        let Some((named, kept)) = sums.at(i) else {
+            return false;
+        };
+        if vid.0 != named.0 || sum != kept {
+            return false;
+        }
+    }
+    true
 }
 
 /// What a translation table tells.
