@@ -1,5 +1,5 @@
 -- What is known once an announcement came.
-use Rattle.std.proofs.Common.{◌≡◌, ℕ, true, false, List, ◌∷◌, refl, sym, ap, ◌∙◌, Option, Some, None}
+use Rattle.std.proofs.Common.{◌≡◌, ℕ, Bool, true, false, List, ◌∷◌, refl, sym, ap, ap₂, ◌∙◌, Option, Some, None}
 use Rattle.std.specs.Prelude.{is_some, is_none, option_map, ◌&&◌, if◌then◌else◌}
 use Rattle.std.proofs.lemmas.Option.{same_Some}
 use Rattle.mesh_base.specs.declared.address.Mac.{Mac}
@@ -8,7 +8,7 @@ use Rattle.mesh_model.specs.declared.table_change.Change.{Change}
 use Rattle.mesh_model.specs.Knowledge.Known.{Knowledge, agreed_byte}
 use Rattle.mesh_model.specs.Knowledge.Steps.{Coming, after_announcement, after_answer, asked_by_request, may_ask, released_under, request_out, with_head, with_offered}
 use Rattle.mesh_model.specs.Knowledge.Served.{offer_in}
-use Rattle.mesh_model.specs.Knowledge.Told.{Answers, Neither, message_changes, part_told, stamp_told}
+use Rattle.mesh_model.specs.Knowledge.Told.{Answers, Neither, message_changes, part_told, stamp_told, sums_told}
 use Rattle.mesh_model.specs.Marks.Calls.{Calls}
 use Rattle.mesh_model.specs.Marks.Requests.{too_soon}
 use Rattle.mesh_model.specs.Packets.Bodies.{TtData, TtPart}
@@ -31,7 +31,8 @@ use Rattle.node_ground.specs.Reading.{Tells, message}
 use Rattle.node_tables.specs.AnswerKinds.{carried_by}
 use Rattle.node_tables.specs.declared.answers.AnswerKind.{AnswerKind}
 use Rattle.tt_global.specs.Globals.{GlobalsStand, Kept}
-use Rattle.tt_global.specs.Kept.{stamp_in}
+use Rattle.tt_global.specs.Kept.{stamp, stamp_in}
+use Rattle.tt_table.specs.Sums.{SumsView, named_sums}
 use Rattle.tt_table.specs.declared.announcement.Announcement.{Announcement}
 
 -- a release changes no moment of asking
@@ -72,6 +73,26 @@ announced_is q came orig announced table known request tells is =
     let whole : Stamp → List Change → Option Request → Knowledge = λ s cs r.
     let told = released_more orig (told_more orig came.number s cs known) in record told { marks = asked_by_request came.now orig r told.marks } in
     ap (λ s. whole s announced.changes request) tells.stamp ∙ ap (λ cs. whole (stamp_told table) cs request) tells.changes ∙ ap (λ r. whole (stamp_told table) (message_changes table) r) is
+
+-- a translation table that has a byte and names sums that are told as they are, tells these
+pub told_stamp : (table : TtData) (byte : ℕ) (sums : SumsView) → (table.ttvn ≡ byte) × (table.vlans ≡ named_sums sums) → sums_told (named_sums sums) ≡ named_sums sums → stamp byte sums ≡ stamp_told table
+told_stamp table byte sums is as_told = sym (ap₂ (λ b s. record { byte = b; sums = s }) is.0 (ap sums_told is.1 ∙ as_told))
+
+-- where nothing is wanted, nothing goes out, and only marks end
+either_way : (request : Option Request) (b : Bool) → (if b then request else request) ≡ request
+either_way request true = refl
+either_way request false = refl
+
+pub nothing_out : (q : Queries) (now : ℕ) (orig : Mac) (table : TtData) (known : Knowledge)
+    → wanted_request (announcement_row (known_by known.tables orig).held (stamp_told table) (message_changes table)).outcome ≡ None → request_out q known now (message orig table) ≡ None
+nothing_out q now orig table known unwanted = ap (λ w. if may_ask q known now orig then w else None) unwanted ∙ either_way None (may_ask q known now orig)
+
+pub unasked_is : (q : Queries) (came : Coming) (orig : Mac) (table : TtData) (known : Knowledge)
+    → wanted_request (announcement_row (known_by known.tables orig).held (stamp_told table) (message_changes table)).outcome ≡ None
+    → released_more orig (told_more orig came.number (stamp_told table) (message_changes table) known) ≡ after_announcement q came (message orig table) known
+unasked_is q came orig table known unwanted =
+    let told : Knowledge = released_more orig (told_more orig came.number (stamp_told table) (message_changes table) known) in
+    ap (λ (r : Option Request). record told { marks = asked_by_request came.now orig r told.marks }) (sym (nothing_out q came.now orig table known unwanted))
 
 -- once the algorithm was given a head
 pub head_came : {A : Type 0} (stands : A → Mac → RouteLog → Type 0) (kept : NodeKnowledge A) (algo : A) (me : Mac) (came : Coming) (head : Head) (known : Knowledge) → KnowledgeStands stands kept me known

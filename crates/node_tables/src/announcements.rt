@@ -1,9 +1,10 @@
 //! What a node does with an announcement of an originator, and with a life of it that begins.
 
-ghost use Rattle.std.specs.Prelude.{◌≡◌, ◌<◌, ◌∷◌, ℕ, if◌then◌else◌, None, IfOk, OnOk};
+ghost use Rattle.std.specs.Prelude.{◌≡◌, ◌<◌, ◌∷◌, ℕ, if◌then◌else◌, None, IfOk, IsTrue, OnOk};
 ghost use Rattle.mesh_base.specs.declared.address.Mac.{Mac};
 ghost use Rattle.mesh_model.specs.Knowledge.Known.{Knowledge, agreed_byte};
 ghost use Rattle.mesh_model.specs.Knowledge.Steps.{after_announcement, asked_by_request, may_ask, released_under, request_out, with_life};
+ghost use Rattle.mesh_model.specs.Knowledge.Told.{message_changes, stamp_told};
 ghost use Rattle.mesh_model.specs.Packets.Bodies.{TtData};
 ghost use Rattle.mesh_model.specs.Tables.Judging.{announcement_row, wanted_request};
 ghost use Rattle.mesh_model.specs.Tables.Known.{Announced, known_by};
@@ -14,6 +15,8 @@ ghost use Rattle.tt_global.specs.Kept.{stamp_in};
 use mesh_algo::Algo;
 use mesh_base::{Mac, Millis, NoMemory, Steps};
 use mesh_model::Request;
+use mesh_tvlv::TtView;
+use node_ground::reading::tells;
 use node_ground::{Coming, NodeKnowledge};
 use std::marker::Brand;
 use std::sync::ledger::{Blank, Ledger};
@@ -74,6 +77,28 @@ pub(crate) fn ask<A: Algo>(
         Ok(()) => Ok(wanted),
         Err(AskErr::TooSoon { .. }) => Ok(None),
         Err(AskErr::Memory) => Err(NoMemory),
+    }
+}
+
+/// Whether a translation table of an originator tells again what it announced last, which is held:
+/// nothing is noted of it then, and nothing is wanted.
+#[inline(always)]
+pub(crate) fn is_told_again<A: Algo>(kept: &NodeKnowledge<A>, orig: Mac, table: &TtView<'_>) -> bool
+    ensures noted { IsTrue result → (me : Mac) (known : Knowledge) (number : ℕ) →
+        KnowledgeStands A.stands kept.now me known →
+        KnowledgeStands A.stands kept.now me (record known {
+          tables =
+              Announced orig number (stamp_told table.now) (message_changes table.now)
+              ∷ known.tables;
+        }) }
+    ensures unwanted { IsTrue result → (me : Mac) (known : Knowledge) →
+        KnowledgeStands A.stands kept.now me known →
+        wanted_request (announcement_row (known_by known.tables orig).held
+        (stamp_told table.now) (message_changes table.now)).outcome ≡ None }
+{
+    match kept.globals.settled(orig) {
+        Some((byte, sums)) => tells(table, byte, sums),
+        None => false,
     }
 }
 

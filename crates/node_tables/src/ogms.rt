@@ -13,7 +13,7 @@ ghost use Rattle.node_ground.specs.KnowledgeStands.{KnowledgeStands, coming};
 ghost use Rattle.node_ground.specs.Puts.{Puts};
 ghost use Rattle.node_ground.specs.Reading.{message};
 
-use crate::announcements::{begin_life, take_announcement};
+use crate::announcements::{begin_life, is_told_again, release, take_announcement};
 use mesh_algo::Algo;
 use mesh_base::Mac;
 use mesh_codec::{Head, Packet};
@@ -48,6 +48,10 @@ fn accept<A: Algo, P: Port>(
         (with_life orig begins known))) }
 {
     begin_life(kept, orig, begins);
+    if is_told_again(kept, orig, table) {
+        release(kept, orig);
+        return Ok(());
+    }
     let announced = announcement_in(kept.alloc, table)?;
     let Some(request) = take_announcement(kept, came, orig, &announced)? else {
         return Ok(());
